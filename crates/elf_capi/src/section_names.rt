@@ -1,4 +1,4 @@
-//! Locates the string table of the section names.
+//! The string table of the section names.
 ghost use Rattle.elf_capi.specs.TableOpenings.{ReadsSectionNames};
 
 use crate::load_checks::held_file;

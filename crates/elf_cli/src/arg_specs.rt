@@ -119,7 +119,7 @@ fn index<'a>(alloc: Global, word: &ArgSpec, parser: ValueParser<'a>) -> Arg<'a>
     required(alloc, word).value_parser(parser)
 }
 
-/// Any number of arguments.
+/// Returns an argument with any number of values.
 fn any<'a>(alloc: Global, word: &ArgSpec) -> Arg<'a>
     ensures { IsArg (any_words word.now.name.now) result }
 {

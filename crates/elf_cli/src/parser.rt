@@ -1,4 +1,4 @@
-//! Parses arguments as the command line does.
+//! The parser of the command line.
 ghost use Rattle.std.specs.Prelude.{◌≡◌, IfErr, IfOk, map};
 ghost use Rattle.clap.specs.Words.{app_of, subcommand_rows_of};
 ghost use Rattle.elf_cli.specs.CommandLine.{PartWords, program};

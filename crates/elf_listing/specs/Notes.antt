@@ -1,4 +1,4 @@
--- Shows the notes of a table.
+-- The listing of the notes of a table.
 use Rattle.std.specs.Prelude.{ℕ, ◌≡◌, List, [], ◌∷◌, ◌++◌, length, take, Result}
 use Rattle.elf_model.specs.Prelude.{ListingItem, ListingStyle, Note, NoteScan, SHOWN_DESCRIPTOR, note_align, note_row, note_shown, slice, walk_rows, walked}
 use Rattle.elf_options.specs.Permitted.{style_of}

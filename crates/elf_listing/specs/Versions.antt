@@ -1,4 +1,4 @@
--- Shows the records of symbol versions.
+-- The listing of the records of symbol versions.
 use Rattle.std.specs.Prelude.{ℕ, ◌≡◌, ◌+◌, ◌*◌, List, ◌++◌, Some, Result}
 use Rattle.elf_model.specs.Prelude.{ListingItem, ListingStyle, SHT_GNU_VERDEF, SHT_GNU_VERNEED, TableKind, Versions, VisitedRecord, end_rows, name_bytes, record_size, version_records, version_row, visited_rows}
 use Rattle.elf_model.specs.declared.versions.VersionKind.TheVariants.{Definition, File, Need}

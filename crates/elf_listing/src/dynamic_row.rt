@@ -1,4 +1,4 @@
-//! Shows the row of a dynamic entry.
+//! The row of a dynamic entry.
 ghost use Rattle.std.specs.Prelude.{◌≡◌, ℕ, List};
 ghost use Rattle.elf_model.specs.Prelude.{d_tag, is_string_tag};
 ghost use Rattle.elf_record.specs.Dyn.{IsDyn};

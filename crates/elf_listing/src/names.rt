@@ -1,4 +1,4 @@
-//! Reads the names that rows refer to.
+//! The names that rows refer to.
 ghost use Rattle.std.specs.Prelude.{Some, IfSome};
 ghost use Rattle.elf_table.specs.Tables.{StringsInBounds};
 ghost use Rattle.elf_listing.specs.Fetched.{FetchesName};

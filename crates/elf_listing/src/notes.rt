@@ -1,4 +1,4 @@
-//! Shows the notes of a table.
+//! The listing of the notes of a table.
 ghost use Rattle.std.specs.Prelude.{◌≡◌, ◌≤◌, length};
 ghost use Rattle.elf_table.specs.Tables.{TableInBounds};
 ghost use Rattle.elf_listing.specs.Notes.{ListsNote, ListsNotes};

@@ -1,4 +1,4 @@
-//! Shows the version of a symbol, by its version index.
+//! The line of the version of a symbol, by its version index.
 ghost use Rattle.std.specs.Prelude.{◌≡◌};
 ghost use Rattle.elf_listing.specs.Choosing.{ShowsRows};
 ghost use Rattle.elf_listing.specs.Kinds.{ListsRow, RowFits};

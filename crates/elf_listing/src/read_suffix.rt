@@ -1,4 +1,4 @@
-//! Reads the version after the name of a symbol.
+//! The version after the name of a symbol.
 ghost use Rattle.std.specs.Prelude.{◌≡◌, ◌==◌, ◌<◌, ◌≤◌, ◌+◌, not, length};
 ghost use Rattle.elf_listing.specs.Suffixed.{FetchesSuffix, SuffixesWithin};
 ghost use Rattle.elf_listing.specs.SuffixNames.{FetchesNamed, FetchesWord, FetchesInto};

@@ -1,4 +1,4 @@
-//! Shows the row of a relocation entry.
+//! The row of a relocation entry.
 ghost use Rattle.std.specs.Prelude.{◌≡◌, IfSome};
 ghost use Rattle.elf_table.specs.Tables.{SymbolTableInBounds};
 ghost use Rattle.elf_listing.specs.Choosing.{ShowsRows};

@@ -1,4 +1,4 @@
-//! Shows the row of a table.
+//! The row of a table.
 ghost use Rattle.std.specs.Prelude.{◌≡◌, ◌≤◌, length};
 ghost use Rattle.elf_format.specs.Fronts.{front_of};
 ghost use Rattle.elf_listing.specs.Choosing.{ShowsRows};

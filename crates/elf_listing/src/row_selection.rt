@@ -1,4 +1,4 @@
-//! Selects which rows that end in the name of a symbol or of a version are shown.
+//! The selection of rows that end in the name of a symbol or of a version.
 ghost use Rattle.std.specs.Prelude.{◌≡◌, Bool, false as No, true as Yes};
 ghost use Rattle.elf_model.specs.Choice.{NoSuffix, chooses};
 ghost use Rattle.elf_table.specs.NamesRead.{shown_by};

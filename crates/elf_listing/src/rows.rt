@@ -1,4 +1,4 @@
-//! Shows the rows of a table.
+//! The listing of the rows of a table.
 ghost use Rattle.std.specs.Prelude.{◌≡◌};
 ghost use Rattle.elf_listing.specs.Choosing.{ShowsRows};
 ghost use Rattle.elf_listing.specs.Kinds.{IsTableOf, ListsRow, ListsRows, RowFits};
@@ -51,7 +51,7 @@ pub enum RowLayout<'f> {
         section: u16,
         /// The string table of their names.
         names: Names,
-        /// Finds their versions.
+        /// The lookup of their versions.
         suffixes: &'f VersionLookup,
     },
     /// The relocation entries of a section, an `R` line each, with the versions of their symbols.
@@ -60,7 +60,7 @@ pub enum RowLayout<'f> {
         section: u16,
         /// The symbols that they refer to, with their names.
         linked: Option<(Table, Names)>,
-        /// Finds their versions.
+        /// The lookup of their versions.
         suffixes: &'f VersionLookup,
     },
 }

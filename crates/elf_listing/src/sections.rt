@@ -28,7 +28,7 @@ impl<S: Source, W: Sink> Listing<'_, '_, '_, '_, S, W> {
         }
     }
 
-    /// Shows a note in the rendering of the style.
+    /// Shows the row in the rendering of the style.
     fn section_line<R: Render>(&mut self, section: u16) -> Result<(), RunFault>
         requires format { R.FORMAT ≡ self.old.style.format }
         requires below { section < self.old.file.store.now.loaded }

@@ -38,7 +38,7 @@ impl<'f, S: Source, W: Sink> Listing<'_, '_, 'f, '_, S, W> {
         }
     }
 
-    /// Shows a note in the rendering of the style.
+    /// Shows the row in the rendering of the style.
     fn segment_line<R: Render>(&mut self, segment: u16) -> Result<(), RunFault>
         requires format { R.FORMAT ≡ self.old.style.format }
         requires below { segment < self.old.file.store.now.segments }

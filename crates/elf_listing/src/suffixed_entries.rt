@@ -1,4 +1,4 @@
-//! Shows relocation entries with the versions of their symbols.
+//! The rows of relocation entries with the versions of their symbols.
 ghost use Rattle.std.specs.Prelude.{◌≡◌, IfSome};
 ghost use Rattle.elf_table.specs.Tables.{SymbolTableInBounds};
 ghost use Rattle.elf_listing.specs.Choosing.{ShowsRows};

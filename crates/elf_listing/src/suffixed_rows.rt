@@ -1,4 +1,4 @@
-//! Shows rows that end in the name of a symbol with its version.
+//! Rows that end in the name of a symbol with its version.
 ghost use Rattle.std.specs.Prelude.{◌≡◌};
 ghost use Rattle.elf_listing.specs.Choosing.{ShowsRows};
 ghost use Rattle.elf_listing.specs.Kinds.{ListsRow, RowFits};

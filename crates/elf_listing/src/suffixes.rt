@@ -1,4 +1,4 @@
-//! Finds the versions after the names of symbols.
+//! The lookup of the versions after the names of symbols.
 ghost use Rattle.elf_listing.specs.Suffixed.{FetchesSuffixes};
 
 use crate::listing::Listing;
@@ -7,7 +7,8 @@ use elf_note::ALL_PLACES;
 use elf_source::{Sink, Source};
 use elf_table::{Fault, Table};
 
-/// Finds the versions of the symbols of a table (Linux Standard Base Core, Symbol Versioning).
+/// The lookup of the versions of the symbols of a table (Linux Standard Base Core, Symbol
+/// Versioning).
 #[derive(Drop)]
 pub struct VersionLookup {
     /// The version indices, one entry per symbol.

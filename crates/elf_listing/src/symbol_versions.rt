@@ -1,4 +1,4 @@
-//! Shows the versions of symbols.
+//! The listing of the versions of symbols.
 ghost use Rattle.std.specs.Prelude.{◌≡◌, ◌<◌, length, min};
 ghost use Rattle.elf_options.specs.Permitted.{style_of};
 ghost use Rattle.elf_model.specs.declared.versions.VersionKind.TheVariants.{Need};

@@ -1,4 +1,4 @@
-//! Loads the program headers that describe the tables of a listing.
+//! The program headers that describe the tables of a listing.
 ghost use Rattle.std.specs.Prelude.{◌≡◌, ◌&&◌, ◌||◌, true, ℕ, List, Some, IfErr, OnOk};
 ghost use Rattle.elf_model.specs.Prelude.{DYNAMIC, NOTES, SEGMENTS, e_shnum, has, view_checks};
 ghost use Rattle.elf_source.specs.Source.{ReadsUpTo};

@@ -1,4 +1,4 @@
-//! Shows the records of symbol versions.
+//! The listing of the records of symbol versions.
 ghost use Rattle.std.specs.Prelude.{◌≡◌, ◌<◌, None};
 ghost use Rattle.elf_model.specs.declared.versions.VersionKind.TheVariants.{Need};
 ghost use Rattle.elf_table.specs.Tables.{TableInBounds, StringsInBounds};
@@ -117,7 +117,7 @@ impl<S: Source, W: Sink> Listing<'_, '_, '_, '_, S, W> {
         }
     }
 
-    /// Shows a note in the rendering of the style.
+    /// Shows the record in the rendering of the style.
     fn version_line<R: Render, C: RowSelection>(
         &mut self,
         given: &VersionRecord,

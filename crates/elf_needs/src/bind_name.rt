@@ -1,4 +1,4 @@
-//! Looks up a name in several files in order.
+//! The lookup of a name in several files in order.
 ghost use Rattle.elf_needs.specs.Binds.{BindsAcross};
 ghost use Rattle.elf_loader.specs.Lookups.{AreShort};
 ghost use Rattle.elf_options.specs.Wants.{query_of};

@@ -1,4 +1,4 @@
-//! Binds the symbols that the objects of a program reference.
+//! The bindings of the symbols that the objects of a program reference.
 ghost use Rattle.std.specs.Prelude.{◌≡◌, ◌<◌, ℕ, [], List, Ok, get_or, length};
 ghost use Rattle.elf_needs.specs.Binds.{AreObjectFiles};
 ghost use Rattle.elf_model.specs.BoundSymbols.{before_items, bound_item, bound_items, object_items};

@@ -66,7 +66,7 @@ impl StringArena {
         })
     }
 
-    /// Returns the number of objects.
+    /// Returns the number of texts.
     pub fn len(&self) -> usize
         ensures { result ≡ length self.now.texts }
     {

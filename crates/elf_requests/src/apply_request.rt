@@ -1,4 +1,4 @@
-//! Writes a section with its relocations applied.
+//! The request for a section with its relocations applied.
 ghost use Rattle.std.specs.Prelude.{◌≡◌, ◌^◌, ◌≤◌};
 ghost use Rattle.elf_requests.specs.Requests.{RunsApply};
 

@@ -1,4 +1,4 @@
-//! Looks up a name.
+//! The request for a lookup by the SysV hash table.
 ghost use Rattle.std.specs.Prelude.{◌≡◌, ◌^◌, ◌≤◌, ℕ, List, length, IfErr};
 ghost use Rattle.elf_hash.specs.Lookups.{AnswersSysvLookup as LooksInObject};
 ghost use Rattle.elf_model.specs.Hash.{Lookup as Looked};

@@ -1,4 +1,4 @@
-//! Parses arguments as layout items.
+//! Layout items given as arguments.
 ghost use Rattle.std.specs.Prelude.{◌≡◌, IfErr, IfOk, Ok, Err};
 ghost use Rattle.elf_model.specs.Placing.{no_items};
 ghost use Rattle.elf_requests.specs.Layouts.{LaysWords, PutsItem, RefusesItem};

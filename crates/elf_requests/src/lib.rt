@@ -1,7 +1,7 @@
 //! The requests of a command line, and the arguments that make them.
 //!
-//! Carries out a request: a listing, a lookup of a name by the SysV hash table or as a loader does
-//! it, or a section with its relocations applied; and returns the status of an archive's listing.
+//! A request is a listing, a lookup of a name by the SysV hash table or as a loader does it, or a
+//! section with its relocations applied. The status of an archive's listing is here too.
 #![tactic(auto)]
 
 mod apply_request;

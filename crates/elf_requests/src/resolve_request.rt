@@ -1,4 +1,4 @@
-//! Looks up a name as a loader does.
+//! The request for a lookup as a loader does it.
 ghost use Rattle.std.specs.Prelude.{◌≡◌, ◌^◌, ◌≤◌, ◌++◌, ℕ, List, length, IfErr, Some, option_map, true};
 ghost use Rattle.elf_format.specs.Named.{shown_as};
 ghost use Rattle.elf_listing.specs.Shows.{IsOfOutput};

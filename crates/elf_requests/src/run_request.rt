@@ -1,4 +1,4 @@
-//! Carries out a request.
+//! The call that carries out a request.
 ghost use Rattle.std.specs.Prelude.{◌≡◌, ◌^◌, ◌≤◌};
 ghost use Rattle.elf_requests.specs.Requests.{RunsShow, RunsTask};
 

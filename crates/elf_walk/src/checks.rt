@@ -26,7 +26,8 @@ pub struct CheckOptions {
     pub members: bool,
 }
 
-/// Checks files, and writes the line of each: how its own listing ends, within the limits.
+/// A visitor that checks files, and writes the line of each: how its own listing ends, within the
+/// limits.
 #[derive(Drop)]
 pub struct CheckFiles<'a> {
     store: HeaderStore<'a>,

@@ -6,7 +6,7 @@ ghost use Rattle.elf_source.specs.declared.faults.OutFault.{OutFault};
 
 use elf_source::{Counted, DeferredSink, Out, OutFault, RangeSource, Sink, Source};
 
-/// Visits files one after another, by the same rule: earlier files do not matter.
+/// A visitor of files, one after another, by the same rule: earlier files do not matter.
 pub trait FileVisitor {
     /// The rule by which files are visited: what is requested for each.
     type Rule;

@@ -15,7 +15,8 @@ use elf_source::{Counted, DeferredSink, Out, OutFault, RangeSource, Sink, Source
 use elf_table::{Caps, HeaderStore, Limits, RunFault};
 use std::marker::Model;
 
-/// Lists files: for each the line of its path, and after it its listing, within the limits.
+/// A visitor that lists files: for each the line of its path, and after it its listing, within the
+/// limits.
 #[derive(Drop)]
 pub struct ListFiles<'a> {
     store: HeaderStore<'a>,

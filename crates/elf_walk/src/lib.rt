@@ -1,11 +1,10 @@
-//! The names in a directory, sorted, in memory of a fixed size: those of a pass over a directory,
-//! the pending ones, and a path composed of them; and entries that end in NUL.
+//! Many files, visited one after another: paths, directories, and lists of paths that end in NUL.
 //!
-//! Visits many files one after another: paths, directories, and lists of entries that end in NUL;
-//! what is done with each file is one trait.
+//! What is done with each file is one trait: its check, its listing after the line of its path, or
+//! the line of how it is hardened. The store and buffers are reused for the next file.
 //!
-//! What is done with each of many files: its check, its listing after the line of its path, or the
-//! line of how it is hardened. The store and buffers are reused for the next file.
+//! The names in a directory are sorted in memory of a fixed size: those of a pass over a directory,
+//! the pending ones, and a path composed of them.
 #![tactic(auto)]
 
 mod batch;

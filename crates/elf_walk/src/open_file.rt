@@ -1,4 +1,4 @@
-//! Opens and visits one file.
+//! One file, opened and visited.
 ghost use Rattle.std.specs.Prelude.{◌≡◌, ◌⊎◌, IfErr};
 ghost use Rattle.elf_walk.specs.Telling.{StandsWhole, ReturnsFile};
 ghost use Rattle.elf_model.specs.declared.states.FileStatus.TheVariants.{Memory, Unread};

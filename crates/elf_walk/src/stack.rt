@@ -26,7 +26,7 @@ impl Model for NameStack {
 }
 
 impl NameStack {
-    /// Creates an empty list of names. Allocates its memory from `alloc`.
+    /// Creates an empty stack. Allocates its memory from `alloc`.
     ///
     /// # Errors
     /// Out of memory.

@@ -26,7 +26,7 @@ pub struct TraitOptions<'a> {
     pub required: &'a [RequiredTrait<'a>],
 }
 
-/// Reports how each of many files is hardened, and what it lacks of what is required.
+/// A visitor that reports how each of many files is hardened, and which required traits it lacks.
 #[derive(Drop)]
 pub struct TraitReport<'a> {
     store: HeaderStore<'a>,

@@ -1,4 +1,4 @@
-//! Visits directories in the order of their names.
+//! A walk over directories in the order of their names.
 use crate::batch::{DirEntryName, NameBatch};
 use crate::dir_walk::gather;
 use crate::each_file::FileVisitor;
