@@ -18,7 +18,7 @@ pub extern "C" fn elfsee_cost(file_len: u64, limits: &CallerLimits) -> u64
     }
 }
 
-/// An upper bound for the listing of any file of the given size.
+/// Returns an upper bound for the listing of any file of the given size.
 #[tactic(auto, unfolding(elf_model::specs::Cost::ceiling))]
 fn ceiling(size: u64, headers: u16, name: u16) -> u128
     ensures { result ≡ ceiling size headers name }
