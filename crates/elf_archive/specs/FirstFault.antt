@@ -45,7 +45,7 @@ FindsFirst caps parts file (Err (Refused refusal)) =
 FindsFirst caps parts file (Err (Source fault at)) = Unit {0}
 FindsFirst caps parts file (Err (Out fault)) = ⊥
 
--- what a fault says of the source if nothing is written
+-- what a fault implies for the source if nothing is written
 abbrev pub ReadTells : CountedState → CountedState → RunFault → Type 0
 ReadTells old new (Refused refusal) = Unit {0}
 ReadTells old new (Source fault at) = IsSourceFault old.seen new.seen fault

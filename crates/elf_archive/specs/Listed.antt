@@ -1,4 +1,4 @@
--- What the calls did that list the members of an archive.
+-- The effect of the calls that list the members of an archive.
 use Rattle.std.specs.Prelude.{ℕ, ◌≡◌, ◌<◌, ◌≤◌, ◌+◌, ◌-◌, ◌^◌, min, Bool, false, List, [], ◌∷◌, Option, None, Some, Result, Ok, Err, IfErr, IfOk, IfSome}
 use Rattle.elf_model.specs.Prelude.{Fault, FileRange, IsArchiveBudgeted, IsBudgetRefusal, ListingItem, ListingStyle, Member, MemberWalkState, NextMember, OneMember, allowance, any_refused, archive_ceiling, archive_length_checks, behind, first_refusal, header_cost, is_refused, member_cost, member_items, member_listing, next_member, placed_after, style_ceiling}
 use Rattle.elf_model.specs.declared.causes.Refusal.{Refusal}
@@ -26,12 +26,12 @@ pub record HoldsPart (c : CountedState) (part : FileRange) : Type 0 where
   pub size : c.seen.size < 2 ^ 63
   pub lies : IsInBounds c.seen.size part
 
--- what a refusal says of the source, by reads of at most n bytes: if it is for lack of budget, it
--- is at an offset of the file
+-- what a refusal implies for the source, by reads of at most n bytes: if it is for lack of budget,
+-- it is at an offset of the file
 abbrev pub BudgetSays : CountedState → CountedState → ℕ → Refusal → Type 0
 BudgetSays old new n refusal = IsBudgetRefusal refusal → (refusal.at < old.seen.size) × ExceedsBudget old new n
 
--- what a fault says of the source and the output
+-- what a fault implies for the source and the output
 abbrev pub StopTells : CountedState → CountedState → OutState → ℕ → RunFault → Type 0
 StopTells old new out n (Refused refusal) = BudgetSays old new n refusal
 StopTells old new out n (Source fault at) = IsSourceFault old.seen new.seen fault
@@ -45,9 +45,9 @@ ReadsAtMostIn old new out result n = ReadsUpTo old new n × IfErr result (StopTe
 abbrev pub after_start : ℕ → ℕ → ℕ
 after_start start at = min (start + at) (2 ^ 64 - 1)
 
--- WHAT A CALL DID that iterates over what an archive has, for any source: the store has as many
--- slots, what was written is kept, and at most the ceiling was read; and if the file is known, what
--- it cost and what it showed
+-- THE EFFECT OF A CALL that iterates over what an archive has, for any source: the store has as
+-- many slots, what was written is kept, and at most the ceiling was read; and if the file is known,
+-- what it cost and what it showed
 pub record GoesThrough {X : Type 0} (headers now : ℕ) (style : ListingStyle) (parts : ℕ) (a b : CountedState) (old new : OutState) (result : Result X RunFault) (most : ℕ → ListingStyle → ℕ) (costs : List ℕ → ℕ → ListingStyle → ℕ → ℕ) (shown : List ℕ → ℕ → ListingStyle → ℕ → Type 0) : Type 0 where
   pub slots : now ≡ headers
   pub grows : OutGrows old new
@@ -161,7 +161,7 @@ pub record ReportsArchive (alone : Bool) (file : List ℕ) (caps : Caps) (parts 
   pub wrote : WroteText old new result text fault
   pub refused : (any : Bool) → result ≡ Ok any → any ≡ any_refused file caps.limits.headers (style_of caps.style) parts
 
--- what a fault says of the source and the output
+-- what a fault implies for the source and the output
 abbrev pub ArchiveSays : CountedState → CountedState → OutState → RunFault → Type 0
 ArchiveSays old new out (Refused refusal) = Unit {0}
 ArchiveSays old new out (Source fault at) = IsSourceFault old.seen new.seen fault

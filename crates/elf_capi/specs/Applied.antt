@@ -34,8 +34,8 @@ pub record IsGood (limits : CallerLimits) (room : ℕ) (job : ApplyCall) (layout
   pub index : job.section < 2 ^ 16
   pub lays : LaysItems no_items job.items.now layout
 
--- what a call did with its arguments: within the cost and the budget it gives the section for the
--- layout that the items give, and if it is refused no byte counts as written
+-- the effect of a call with its arguments: within the cost and the budget it gives the section for
+-- the layout that the items give, and if it is refused no byte counts as written
 pub record Gave (file : List ℕ) (limits : CallerLimits) (job : ApplyCall) (room : ℕ) (out : List ℕ) (end : CallEnd) (told : CallStatus) : Type 0 where
   pub layout : Layout
   pub good : IsGood limits room job layout

@@ -96,8 +96,8 @@ ExplainsTold file headers budget section layout cost (Refused refusal) missing =
     (asked : ℕ) × (asked ≤ cost) × ExplainsRefusal file headers budget section layout asked refusal missing
 ExplainsTold file headers budget section layout cost _ missing = ReturnsMissing missing None
 
--- what a call did with its arguments: within the cost and the budget it gives the section for the
--- borrowed layout, and if it is refused what that lacks
+-- the effect of a call with its arguments: within the cost and the budget it gives the section for
+-- the borrowed layout, and if it is refused what that lacks
 pub record Places (file : List ℕ) (limits : CallerLimits) (section : ℕ) (layout : CallerLayout) (room : ℕ) (out : List ℕ) (end : CallEnd) (missing : CallerMissing) (told : CallStatus) : Type 0 where
   pub permitted : AreInRange limits room
   pub lent : MayBorrowLayout layout

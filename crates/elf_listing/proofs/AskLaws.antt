@@ -44,7 +44,7 @@ reported_late format s1 s2 a b out n (Refused first) (Out cause) tells says refu
 reported_late format s1 s2 a b out n (Source cause at) told tells says refusal is = let other = tells.1 in cc
 reported_late format s1 s2 a b out n (Out cause) told tells says refusal is = let other = tells.1 in cc
 
--- what was reported of a fault says of the source and the output what the fault did
+-- what was reported of a fault implies for the source and the output what the fault did
 pub told_says : (format : Format) (s0 s1 s2 s3 : CountedState) (a b : OutState) (n : ℕ) (budget : Option ℕ) (stop told : RunFault) → SetsLimit s0 s1 budget → SetsLimit s2 s3 None
     → ReturnsStop format a b stop told → StopSays s1 s2 a n stop → FaultSays s0 s3 b told
 told_says format s0 s1 s2 s3 a b n budget (Refused first) (Refused same) set unset tells says = tt

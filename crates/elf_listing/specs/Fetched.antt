@@ -1,4 +1,4 @@
--- What a call did that reads the name that an entry refers to.
+-- The effect of a call that reads the name that an entry refers to.
 use Rattle.std.specs.Prelude.{ℕ, ◌≡◌, ◌+◌, ◌==◌, not, false, List, Option, Some, Result, Ok, Err, IfOk}
 use Rattle.elf_model.specs.Prelude.{SHN_UNDEF, SYMBOL_SIZE, entry_at, linked_at, name_bytes, st_shndx, symbol_named}
 use Rattle.elf_source.specs.declared.source.Source.{Ghosts as Sources}

@@ -1,4 +1,4 @@
--- What a call did that lists the tables of a file, part by part and header by header.
+-- The effect of a call that lists the tables of a file, part by part and header by header.
 use Rattle.std.specs.Prelude.{ℕ, ◌+◌, ◌++◌, List, Result}
 use Rattle.elf_model.specs.Prelude.{ListingItem, ListingStyle, SEGMENTS, e_phnum, each, segment_row, table_items, where_asked}
 use Rattle.elf_options.specs.Permitted.{style_of}

@@ -108,15 +108,15 @@ pub record RowFits (size : ℕ) (kind : RowLayout) (row : Row) : Type 0 where
   pub within : KindWithin size kind
   pub fits : IndexFits kind row.index
 
--- what a call did that shows a row: if the row is the file's, its items
+-- the effect of a call that shows a row: if the row is the file's, its items
 abbrev pub ListsRow : {S W X : Type 0} {s : Sources S} {w : Sinks W} → Listing S W s w → Listing S W s w → Result X RunFault → RowLayout → Row → Type 0
 ListsRow old new result kind row =
     ListingCalls old new result (own_cost kind old.style.cap.bytes)
     ((file : List ℕ) → old.src.now.seen.file ≡ Some file → (table_at : ℕ) → KindOf file table_at kind → IsRowOf file table_at kind row
     → WroteSome old.out.now new.out.now result (row_items kind file (style_of old.style) table_at row.index))
 
--- what a call did that shows the rows of a table: if the table is the file's, the items of all that
--- are listed
+-- the effect of a call that shows the rows of a table: if the table is the file's, the items of all
+-- that are listed
 abbrev pub ListsRows : {S W X : Type 0} {s : Sources S} {w : Sinks W} → Listing S W s w → Listing S W s w → Result X RunFault → RowLayout → TableRange → Type 0
 ListsRows old new result kind table =
     ListingCalls old new result (rows_cost kind table old.style.cap.bytes)

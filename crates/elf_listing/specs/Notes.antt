@@ -20,14 +20,14 @@ pub record IsNoteRow (cap : ℕ) (note : Note) (row : NoteRow) (name : List ℕ)
   pub descsz : row.head.descsz ≡ length note.descriptor
   pub first_bytes : row.desc.now ≡ take SHOWN_DESCRIPTOR note.descriptor
 
--- what a call did that shows a note, whose header has an index: its row
+-- the effect of a call that shows a note, whose header has an index: its row
 abbrev pub ListsNote : {S W X : Type 0} {s : Sources S} {w : Sinks W} → Listing S W s w → Listing S W s w → Result X RunFault → NoteRow → ℕ → Type 0
 ListsNote old new result row index =
     ListingCalls old new result 0
     ((note : Note) → IsNoteRow old.style.cap.bytes note row old.name → WroteSome old.out.now new.out.now result (note_row (style_of old.style) index note ∷ []))
 
--- what a call did that shows the notes of a table: the rows of all notes, up to the offset where no
--- note is
+-- the effect of a call that shows the notes of a table: the rows of all notes, up to the offset
+-- where no note is
 abbrev pub ListsNotes : {S W X : Type 0} {s : Sources S} {w : Sinks W} → Listing S W s w → Listing S W s w → Result X RunFault → TableRange → ℕ → ℕ → Type 0
 ListsNotes old new result table align index =
     ListingCalls old new result table.count

@@ -36,7 +36,7 @@ reported_row file style numbered section entry_at index =
     let word = versym file entry_at in
     chosen_row style.choice (symbol_version_prefix style.format section index word) entry_at (version_told numbered file style.cap (number_in word))
 
--- what a call did that reads the name of a version index, for the entry at an offset
+-- the effect of a call that reads the name of a version index, for the entry at an offset
 pub record FetchesVersion {S W : Type 0} {s : Sources S} {w : Sinks W} (old new : Listing S W s w) (result : Result NameEnd Fault) (numbered : VersionStrings) (number at : ℕ) : Type 0 where
   pub fetches : ListingReads old new result (name_bytes old.style.cap.bytes)
   pub read : (file : List ℕ) → old.src.now.seen.file ≡ Some file → NameRead at result new.name (version_told numbered file old.style.cap.bytes number)

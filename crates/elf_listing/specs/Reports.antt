@@ -1,4 +1,4 @@
--- What the call that writes a listing did.
+-- The effect of the call that writes a listing.
 use Rattle.std.specs.Prelude.{ℕ, ◌≡◌, ◌<◌, ◌+◌, ◌≤◌, false, List, Option, None, Some, Result, Ok, Err, IfSome}
 use Rattle.elf_model.specs.Prelude.{IsBudgetRefusal, IsBudgeted, first_refusal, has_tables, known_parts, length_checks, refusal_line, style_ceiling}
 use Rattle.elf_model.specs.declared.formats.Format.{Format}
@@ -27,7 +27,7 @@ pub record WroteReport {X : Type 0} (file : List ℕ) (caps : Caps) (parts : ℕ
   pub listed : IsBudgeted caps.limits.budget file caps.limits.headers (style_of caps.style) parts text fault
   pub wrote : WroteText old new result text fault
 
--- what a fault says of the source and the output: the source's names the read that failed
+-- what a fault implies for the source and the output: the source's names the read that failed
 abbrev pub FaultSays : CountedState → CountedState → OutState → RunFault → Type 0
 FaultSays old new out (Refused refusal) = Unit {0}
 FaultSays old new out (Source fault at) = IsSourceFault old.seen new.seen fault × (at ≡ new.stopped)

@@ -1,4 +1,4 @@
--- What a call that writes a part of a listing did.
+-- The effect of a call that writes a part of a listing.
 use Rattle.std.specs.Prelude.{ℕ, ◌≡◌, ◌+◌, Bool, true, false, List, ◌∷◌, ◌++◌, None, Some, Result, Ok, Err, IfErr}
 use Rattle.elf_model.specs.Prelude.{DisplayedName, Fault, IsBudgetRefusal, LinePrefix, ListingItem, fault_of, lines_of, named_row}
 use Rattle.elf_model.specs.declared.causes.Cause.{Cause}
@@ -51,7 +51,7 @@ abbrev pub WroteSome : {X : Type 0} → OutState → OutState → Result X RunFa
 WroteSome old new (Ok x) items = WroteItems old new items
 WroteSome old new (Err stop) items = WroteUntilStop old new stop items
 
--- what a fault that stops a listing says of the source and the output
+-- what a fault that stops a listing implies for the source and the output
 abbrev pub StopSays : CountedState → CountedState → OutState → ℕ → RunFault → Type 0
 StopSays old new out n (Refused refusal) = IsReadRefusal old new n refusal
 StopSays old new out n (Source fault at) = IsSourceFault old.seen new.seen fault × (at ≡ new.stopped)
@@ -79,16 +79,16 @@ pub record SameFile {S W : Type 0} {s : Sources S} {w : Sinks W} (old new : List
 abbrev pub SpentCredit : {X : Type 0} → CountedState → CountedState → OutState → ℕ → ℕ → Result X RunFault → ℕ → Type 0
 SpentCredit old new out before after result n = ReadsOnCredit old new before after n × IfErr result (StopSays old new out (before + n))
 
--- WHAT A CALL OF A LISTING DID. For any source: what was written is kept, the listing is still of
--- the same file, and at most n bytes were requested. And what it showed
+-- THE EFFECT OF A CALL OF A LISTING. For any source: what was written is kept, the listing is still
+-- of the same file, and at most n bytes were requested. And what it showed
 pub record ListingCalls {S W X : Type 0} {s : Sources S} {w : Sinks W} (old new : Listing S W s w) (result : Result X RunFault) (n : ℕ) (shown : Type 0) : Type 0 where
   pub grows : OutGrows old.out.now new.out.now
   pub keeps : SameFile old new
   pub spent : SpentCredit old.src.now new.src.now new.out.now old.ahead.credit new.ahead.credit result n
   pub shows : shown
 
--- WHAT A CALL THAT WRITES NOTHING DID, for any source: the listing is still of the same file, at
--- most n bytes were requested, and a fault satisfies `IsReadFault`
+-- THE EFFECT OF A CALL THAT WRITES NOTHING, for any source: the listing is still of the same file,
+-- at most n bytes were requested, and a fault satisfies `IsReadFault`
 abbrev pub ListingReads : {S W X : Type 0} {s : Sources S} {w : Sinks W} → Listing S W s w → Listing S W s w → Result X Failure → ℕ → Type 0
 ListingReads old new result n =
     SameFile old new × (new.out.now ≡ old.out.now) × ReadsOnCredit old.src.now new.src.now old.ahead.credit new.ahead.credit n
@@ -103,8 +103,8 @@ abbrev pub cut_of : NameEnd → Bool
 cut_of NameWhole = false
 cut_of NameCut = true
 
--- what a call did that writes a line that ends in the name that was read: the line with the shown
--- part of the name
+-- the effect of a call that writes a line that ends in the name that was read: the line with the
+-- shown part of the name
 abbrev pub ListsLine : {S W X : Type 0} {s : Sources S} {w : Sinks W} → Listing S W s w → Listing S W s w → Result X RunFault → LinePrefix → NameEnd → Type 0
 ListsLine old new result front end =
     ListingCalls old new result 0 ((at : ℕ) (answer : Result DisplayedName Cause) → NameRead at (Ok end) old.name answer → WroteSome old.out.now new.out.now result (named_row front at answer))

@@ -1,4 +1,4 @@
--- What calls did that read the name of a version by its index.
+-- The effect of calls that read the name of a version by its index.
 use Rattle.std.specs.Prelude.{ℕ, ◌≡◌, ◌≤◌, nat_lt, Bool, false, List, Option, None, Some, Result, Ok, Err}
 use Rattle.elf_model.specs.Prelude.{Suffix, Suffixed, VERSYM_SIZE, VisitedRecord, name_bytes, name_index, named_at, shown, suffix_of, version_named, version_strings, versym}
 use Rattle.elf_model.specs.declared.causes.Refusal.{Refusal}

@@ -1,4 +1,5 @@
--- The versions after the names of symbols: how they are found, and what a call did that reads one.
+-- The versions after the names of symbols: how they are found, and the effect of a call that reads
+-- one.
 use Rattle.std.specs.Prelude.{ℕ, ◌≡◌, ◌+◌, ◌==◌, not, if◌then◌else◌, Bool, false, List, Option, None, Some, Result, Ok, Err, IfOk, IfSome, length, ◌⊎◌}
 use Rattle.elf_model.specs.Prelude.{DisplayedName, EveryRow, HeaderTable, IsBudgetRefusal, LinePrefix, NoSuffix, SHN_UNDEF, SYMBOL_SIZE, Suffix, Suffixed, VERSION_NUMBERS, VERSYM_SIZE, entry_count, first_numbers, name_bytes, section_at, sh_offset, st_shndx, suffixed_row, suffixes_refusal, symbol_suffix, version_numbers_of, walks_cost}
 use Rattle.elf_model.specs.declared.causes.Cause.{Cause}
@@ -51,7 +52,7 @@ SuffixesOr file table (Ok (Some suffixes)) = (suffixes_refusal file table ≡ No
 SuffixesOr file table (Err (Refused refusal)) = (IsBudgetRefusal refusal → ⊥) → suffixes_refusal file table ≡ Some refusal
 SuffixesOr file table (Err (Source fault at)) = Unit {0}
 
--- what a call did that looks for it, for a table of n symbols
+-- the effect of a call that looks for it, for a table of n symbols
 pub record FetchesSuffixes {S W : Type 0} {s : Sources S} {w : Sinks W} (old new : Listing S W s w) (result : Result (Option VersionLookup) Fault) (table symbols : ℕ) : Type 0 where
   pub fetches : ListingReads old new result (walks_asked (store_sections old.file.store.now) table symbols old.file.loaded.size)
   pub within : IfOk result (λ found. IfSome found (SuffixesWithin old.src.now.seen.size))
@@ -71,8 +72,8 @@ SuffixNamed (Ok end) version answer = (default : Bool) → answer default ≡ Ok
 SuffixNamed (Err (Refused refusal)) version answer = (IsBudgetRefusal refusal → ⊥) → (default : Bool) → answer default ≡ Err refusal
 SuffixNamed (Err (Source fault at)) version answer = Unit {0}
 
--- what a call did that reads the version of the symbol at an index, which is defined or not; the
--- name read before is kept
+-- the effect of a call that reads the version of the symbol at an index, which is defined or not;
+-- the name read before is kept
 pub record FetchesSuffix {S W : Type 0} {s : Sources S} {w : Sinks W} (old new : Listing S W s w) (version : List ℕ) (result : Result (Option VersionSuffixEnd) Fault) (suffixes : VersionLookup) (index : ℕ) (is_defined : Bool) : Type 0 where
   pub fetches : ListingReads old new result (VERSYM_SIZE + name_bytes old.style.cap.bytes)
   pub kept : new.name ≡ old.name
@@ -84,15 +85,15 @@ abbrev pub suffix_read : Option VersionSuffixEnd → List ℕ → Suffix
 suffix_read None version = NoSuffix
 suffix_read (Some suffix) version = Suffixed suffix.is_default (shown_by suffix.end version)
 
--- what a call did that writes a line that ends in the name that was read, with what follows it
+-- the effect of a call that writes a line that ends in the name that was read, with what follows it
 abbrev pub ListsSuffixed : {S W X : Type 0} {s : Sources S} {w : Sinks W} → Listing S W s w → Listing S W s w → Result X RunFault → LinePrefix → NameEnd → Suffix → Type 0
 ListsSuffixed old new result front end suffix =
     ListingCalls old new result 0
     ((at : ℕ) (answer : Result DisplayedName Cause) → NameRead at (Ok end) old.name answer
     → WroteSome old.out.now new.out.now result (suffixed_row EveryRow front at answer (Ok suffix)))
 
--- what a call did that reads the version of the symbol that a relocation entry names; symbol 0 has
--- none
+-- the effect of a call that reads the version of the symbol that a relocation entry names; symbol 0
+-- has none
 pub record FetchesOfEntry {S W : Type 0} {s : Sources S} {w : Sinks W} (old new : Listing S W s w) (version : List ℕ) (result : Result (Option VersionSuffixEnd) Fault) (suffixes : VersionLookup) (symbol : ℕ) (is_defined : Bool) : Type 0 where
   pub fetches : ListingReads old new result (VERSYM_SIZE + name_bytes old.style.cap.bytes)
   pub kept : new.name ≡ old.name
@@ -100,8 +101,8 @@ pub record FetchesOfEntry {S W : Type 0} {s : Sources S} {w : Sinks W} (old new 
       → ((symbol == 0) ≡ false → is_defined ≡ not (st_shndx file symbol_at == SHN_UNDEF))
       → SuffixRead result version (if symbol == 0 then Ok NoSuffix else symbol_suffix file old.style.cap.bytes table symbol_at symbol)
 
--- what a call did that looks for the version lookup of the symbols that relocation entries refer
--- to, if they refer to any
+-- the effect of a call that looks for the version lookup of the symbols that relocation entries
+-- refer to, if they refer to any
 abbrev pub linked_count : Option (TableRange × StringTableRange) → ℕ
 linked_count None = 0
 linked_count (Some found) = found.0.count

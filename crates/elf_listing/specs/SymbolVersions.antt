@@ -28,7 +28,7 @@ versioned_items file style numbered section table symbols place =
     each (λ i. reported_row file style numbered section (table.at + i * VERSYM_SIZE) i) 0 (min table.count symbols)
     ++ (if nat_lt table.count symbols then refused_row place VersionCut else [])
 
--- what a call did that shows them
+-- the effect of a call that shows them
 abbrev pub ListsVersioned : {S W X : Type 0} {s : Sources S} {w : Sinks W} → Listing S W s w → Listing S W s w → Result X RunFault → ℕ → TableRange → ℕ → VersionStrings → Type 0
 ListsVersioned old new result section table symbols numbered =
     ListingCalls old new result (min table.count symbols * (VERSYM_SIZE + name_bytes old.style.cap.bytes))
@@ -55,8 +55,8 @@ TakenOr file kind records after (Ok strings) = TakenIn file kind records after s
 TakenOr file kind records after (Err (Refused refusal)) = (IsBudgetRefusal refusal → ⊥) → walk_refusal kind (kind_type kind) file ≡ Some refusal
 TakenOr file kind records after (Err (Source fault at)) = Unit {0}
 
--- what a call did that adds them: they are added, or what refuses them is returned, unless a read
--- fails
+-- the effect of a call that adds them: they are added, or what refuses them is returned, unless a
+-- read fails
 pub record TakesRecords {S W : Type 0} {s : Sources S} {w : Sinks W} (old new : Listing S W s w) (before after : List ℕ → List VisitedRecord → Type 0) (result : Result StringTableRange Fault) (kind : VersionKind) : Type 0 where
   pub fetches : ListingReads old new result (walk_cost (store_sections old.file.store.now) old.file.loaded.size (kind_type kind) (record_size kind) (bytes_each kind))
   pub within : IfOk result (StringsInBounds old.src.now.seen.size)
@@ -77,7 +77,7 @@ NumberedOr file places (Ok numbered) = (walks_refusal file ≡ None) × AreNumbe
 NumberedOr file places (Err (Refused refusal)) = (IsBudgetRefusal refusal → ⊥) → walks_refusal file ≡ Some refusal
 NumberedOr file places (Err (Source fault at)) = Unit {0}
 
--- what a call did that finds them
+-- the effect of a call that finds them
 pub record FetchesNumbers {S W : Type 0} {s : Sources S} {w : Sinks W} (old new : Listing S W s w) (places : List ℕ) (result : Result VersionStrings Fault) : Type 0 where
   pub fetches : ListingReads old new result (walks_cost (store_sections old.file.store.now) old.file.loaded.size)
   pub within : IfOk result (NumberedWithin old.src.now.seen.size)

@@ -14,7 +14,7 @@ use Rattle.elf_listing.specs.Parts.{of_sections}
 use Rattle.elf_listing.specs.Shows.{ListingCalls, ListingWrote, WroteSome}
 use Rattle.elf_listing.specs.declared.listing.Listing.{Listing}
 
--- what a call did that shows a record, with its name in a string table: if the record is the
+-- the effect of a call that shows a record, with its name in a string table: if the record is the
 -- file's, its row
 abbrev pub ListsRecord : {S W X : Type 0} {s : Sources S} {w : Sinks W} → Listing S W s w → Listing S W s w → Result X RunFault → VersionRecord → ℕ → StringTableRange → Type 0
 ListsRecord old new result given section names =
@@ -30,8 +30,8 @@ versions_items file style section strings versions = visited_rows file style sec
 abbrev pub records_cost : VersionCursorState → ℕ → ℕ
 records_cost cursor cap = unread cursor + cursor.left * name_bytes cap
 
--- what a call did that shows the remaining records of a cursor: if the cursor is of the file, their
--- rows
+-- the effect of a call that shows the remaining records of a cursor: if the cursor is of the file,
+-- their rows
 abbrev pub ListsRecords : {S W X : Type 0} {s : Sources S} {w : Sinks W} → Listing S W s w → Listing S W s w → Result X RunFault → VersionCursorState → ℕ → StringTableRange → Type 0
 ListsRecords old new result cursor section names =
     ListingCalls old new result (records_cost cursor old.style.cap.bytes)
@@ -45,7 +45,7 @@ kind_type kind = elim kind [ Definition ↦ SHT_GNU_VERDEF | File ↦ SHT_GNU_VE
 abbrev pub records_kind : VersionKind → TableKind
 records_kind kind = version_records kind (kind_type kind) (record_size kind) (bytes_each kind)
 
--- what a call did that shows the records of a section, if it holds records of a kind
+-- the effect of a call that shows the records of a section, if it holds records of a kind
 abbrev pub ListsVersions : {S W X : Type 0} {s : Sources S} {w : Sinks W} → Listing S W s w → Listing S W s w → Result X RunFault → ℕ → VersionKind → Type 0
 ListsVersions old new result section kind =
     let listed = of_sections (records_kind kind) in

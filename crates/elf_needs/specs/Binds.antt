@@ -1,4 +1,4 @@
--- What a lookup over several files did.
+-- The effect of a lookup over several files.
 use Rattle.std.specs.Prelude.{ℕ, suc, ◌≡◌, ◌+◌, ◌<◌, ◌≤◌, List, [], ◌∷◌, length, get_or, Option, Some, Result, Ok, Err, IfErr}
 use Rattle.std.specs.List.{sum_by}
 use Rattle.elf_model.specs.Prelude.{BoundTo, BoundToNone, IsBudgetRefusal, StoppedIn, SymbolQuery, bound_in}
@@ -55,9 +55,9 @@ ReturnsBinding bound (Err blame) = elim blame.fault [
   | Source fault at ↦ Unit {0}
 ]
 
--- WHAT A LOOKUP OVER FILES DID: the files up to the one that defines the name were read, what is
--- left of the budget decreases by what was read from all, and if all files are known the result is
--- the definition's over them in order
+-- THE EFFECT OF A LOOKUP OVER FILES: the files up to the one that defines the name were read, what
+-- is left of the budget decreases by what was read from all, and if all files are known the result
+-- is the definition's over them in order
 pub record BindsAcross (wanted : SymbolQuery) (old new : List LookupObjectState) (left_old left_new : Option ℕ) (result : Result BindResult BindFault) : Type 0 where
   pub asked : AskedFirst wanted old new (reached (length old) result)
   pub pays : SpendsBudget left_old left_new (asked_of_all old) (asked_of_all new)

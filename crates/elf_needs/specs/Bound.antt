@@ -1,4 +1,4 @@
--- What binding the symbols of a program's objects did, over files that are kept open.
+-- The effect of binding the symbols of a program's objects, over files that are kept open.
 use Rattle.std.specs.Prelude.{ℕ, ◌≡◌, ◌<◌, ◌≤◌, ◌⊎◌, Bool, true, false, List, [], ◌++◌, length, get_or, Option, None, Some, Result, Ok, Err}
 use Rattle.elf_model.specs.Prelude.{BoundItem, BoundObjects, Faulty, IsBudgetRefusal, LookupTables as IsScopeOf, Told, any_unbound, before_items, bound_text, file_of_version, is_weak, lookup_tables_of, refusal_line, symbol_offset}
 use Rattle.elf_model.specs.declared.states.BindingState.{BindingState}
@@ -94,9 +94,9 @@ pub record WritesFront (format : Format) (all : List BoundItem) (old new : OutSt
   pub split : all ≡ front ++ rest
   pub takes : SinkTakes old new (bound_text format front)
 
--- WHAT WRITING THE LINES DID: all of them are written; or, only if the budget is short, a prefix of
--- them and the line that reports it; or a read failed after a prefix; or the output failed in one
--- of these texts
+-- THE EFFECT OF WRITING THE LINES: all of them are written; or, only if the budget is short, a
+-- prefix of them and the line that reports it; or a read failed after a prefix; or the output
+-- failed in one of these texts
 abbrev pub WritesLines : Format → List BoundItem → (short : Refusal → Type 0) → OutState → OutState → Result WriteEnd NeedsFault → Type 0
 WritesLines format all short old new (Ok (Whole fails)) = SinkTakes old new (bound_text format all) × (fails ≡ any_unbound all)
 WritesLines format all short old new (Ok Ended) = SinkTakes old new (bound_text format all) × (any_unbound all ≡ true)
@@ -112,13 +112,13 @@ LeadsItems item (Ok Ended) = (rest : List BoundItem) → before_items item rest 
 LeadsItems item (Ok Cut) = Unit {0}
 LeadsItems item (Err fault) = Unit {0}
 
--- WHAT WRITING THE LINE OF A SYMBOL DID
+-- THE EFFECT OF WRITING THE LINE OF A SYMBOL
 pub record WritesSymbol (format : Format) (item : Option BoundItem) (short : Refusal → Type 0) (old new : OutState) (result : Result WriteEnd NeedsFault) : Type 0 where
   pub writes : WritesLines format (before_items item []) short old new result
   pub leads : LeadsItems item result
 
--- what writing the line of a fault did: that of a refusal, which ends the lines of an object, or
--- all of them for lack of budget
+-- the effect of writing the line of a fault: that of a refusal, which ends the lines of an object,
+-- or all of them for lack of budget
 abbrev pub ReturnsFault : Format → Fault → OutState → OutState → Result WriteEnd NeedsFault → Type 0
 ReturnsFault format (Refused refusal) old new (Ok (Whole fails)) = ⊥
 ReturnsFault format (Refused refusal) old new (Ok Ended) = (IsBudgetRefusal refusal → ⊥) × SinkTakes old new (refusal_line format refusal)
@@ -148,7 +148,7 @@ status_after (Whole true) status = 1
 status_after Ended status = 1
 status_after Cut status = 1
 
--- WHAT WRITING THE BINDINGS OF ALL OBJECTS DID
+-- THE EFFECT OF WRITING THE BINDINGS OF ALL OBJECTS
 abbrev pub WritesBindings : Format → List BoundItem → (short : Refusal → Type 0) → OutState → OutState → (status : ℕ) → Result ℕ NeedsFault → Type 0
 WritesBindings format all short old new before (Ok status) =
     (came : WriteEnd) × WritesLines format all short old new (Ok came) × (status ≡ status_after came before)

@@ -1,4 +1,4 @@
--- What looking up the symbol of a file that defines a name did.
+-- The effect of looking up the symbol of a file that defines a name.
 use Rattle.std.specs.Prelude.{ℕ, ◌≡◌, ◌+◌, ◌≤◌, ◌==◌, if◌then◌else◌, Bool, List, Option, None, Some, Result, Ok, Err}
 use Rattle.elf_model.specs.Prelude.{CompareResult, DefinerLookup, DynamicSymbols as AreSymbolsOf, IsBudgetRefusal, LookupTables as IsScopeOf, SHN_UNDEF, SymbolQuery, definer_by, definer_walk, defines, definition_cost, is_among, unwalked}
 use Rattle.elf_model.specs.declared.causes.Refusal.{Refusal}
@@ -38,8 +38,8 @@ pub record DefinesAfter (wanted : SymbolQuery) (few before : ℕ) (looked : Defi
   pub within : before + spent ≤ few + definition_cost wanted looked
   pub tells : ReturnsDefiner looked result
 
--- what a call did that continues it: it read at most n bytes, and if the file is known, and the
--- lookup tables, it does what is left
+-- the effect of a call that continues it: it read at most n bytes, and if the file is known, and
+-- the lookup tables, it does what is left
 abbrev pub DefinesOn : CountedState → CountedState → LookupTables → SymbolQuery → Result (Option ℕ) Fault → (few n : ℕ) → (List ℕ → IsScopeOf → (ℕ → DefinerLookup → Type 0) → Type 0) → Type 0
 DefinesOn old new scope wanted result few n KeepsSourceUnlimited =
     CallDid old new (fault_of_result result) n

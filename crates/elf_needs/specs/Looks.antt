@@ -1,4 +1,4 @@
--- What a lookup in one file of several did, with a shared budget.
+-- The effect of a lookup in one file of several, with a shared budget.
 use Rattle.std.specs.Prelude.{ℕ, ◌≡◌, ◌+◌, ◌<◌, ◌≤◌, List, Option, None, Some, Result, IfSome}
 use Rattle.elf_model.specs.Prelude.{IsBudgetRefusal, SymbolQuery, definition_cost, definition_lookup}
 use Rattle.elf_source.specs.Source.{CountedState, IsSourceFault, KeepsSource, SameView, counted}
@@ -25,7 +25,7 @@ pub record OverLeft (old new : CountedState) (left : Option ℕ) (n : ℕ) : Typ
   pub above : counted old.asked bytes < old.asked + n
   pub late : counted old.asked bytes < new.asked + 4096
 
--- what a fault says of the source that was read
+-- what a fault implies for the source that was read
 abbrev pub FaultLeaves : CountedState → CountedState → Option ℕ → ℕ → Fault → Type 0
 FaultLeaves old new left n (Refused refusal) = IsBudgetRefusal refusal → (refusal.at < old.seen.size) × OverLeft old new left n × (refusal.at ≡ new.stopped)
 FaultLeaves old new left n (Source fault at) = IsSourceFault old.seen new.seen fault × (at ≡ new.stopped)
@@ -51,7 +51,7 @@ pub record DefinesIn (file : List ℕ) (wanted : SymbolQuery) (old new : LookupO
   pub costs : SpendsAtMost old.src new.src left (fault_of_result result) (kept_cost file old.headers wanted)
   pub tells : ReturnsDefiner (definition_lookup file old.headers wanted) result
 
--- WHAT A LOOKUP IN ONE FILE DID
+-- THE EFFECT OF A LOOKUP IN ONE FILE
 pub record LooksInObject (wanted : SymbolQuery) (old new : LookupObjectState) (left_old left_new : Option ℕ) (result : Result (Option ℕ) Fault) : Type 0 where
   pub costs : SpendsAtMost old.src new.src left_old (fault_of_result result) (lookup_bytes 28 old.src.seen.size wanted)
   pub same_headers : new.headers ≡ old.headers
@@ -64,8 +64,8 @@ pub record FailsIn (wanted : SymbolQuery) (old new : LookupObjectState) (left_ne
   pub pays : SpendsBudget left left_new old.src.asked new.src.asked
   pub says : FaultLeaves old.src new.src left (lookup_bytes 28 old.src.seen.size wanted) fault
 
--- WHAT READING ONCE WHAT LOOKUPS HAVE IN COMMON DID: at most that is read, and what is left of the
--- budget decreases by it
+-- THE EFFECT OF READING ONCE WHAT LOOKUPS HAVE IN COMMON: at most that is read, and what is left of
+-- the budget decreases by it
 pub record Prepares (old new : LookupObjectState) (left_old left_new : Option ℕ) : Type 0 where
   pub costs : SpendsAtMost old.src new.src left_old None (ready_bytes old.src.seen.size)
   pub same_headers : new.headers ≡ old.headers

@@ -61,8 +61,8 @@ SeeksOf file told result = IfOk result (λ found. IfSome found (λ sought. IsFil
 abbrev pub reference_bytes : ℕ → ℕ
 reference_bytes size = 24 + name_bytes SOUGHT_BYTES + (2 + size / 8 * 28 + name_bytes SOUGHT_BYTES)
 
--- WHAT READING ONE SYMBOL OF A FILE DID: at most that is read, what is left of the budget decreases
--- by it, and in a known file the result is the definition's, of a symbol that exists
+-- THE EFFECT OF READING ONE SYMBOL OF A FILE: at most that is read, what is left of the budget
+-- decreases by it, and in a known file the result is the definition's, of a symbol that exists
 pub record Seeks (index : ℕ) (name version : List ℕ) (old new : LookupObjectState) (left_old left_new : Option ℕ) (result : Result (Option SymbolReference) Fault) : Type 0 where
   pub costs : SpendsAtMost old.src new.src left_old (fault_of_result result) (reference_bytes old.src.seen.size)
   pub same_headers : new.headers ≡ old.headers
@@ -74,7 +74,8 @@ pub record Seeks (index : ℕ) (name version : List ℕ) (old new : LookupObject
       (file : List ℕ) (told : IsScopeOf) → old.src.seen.file ≡ Some file → lookup_tables_of file old.headers ≡ Ok told → index < told.table.symbols
       → SeeksOf file (file_of_version file told.symbols index) result
 
--- WHAT COUNTING THE SYMBOLS OF A FILE DID: at most the counts and the words of the table are read
+-- THE EFFECT OF COUNTING THE SYMBOLS OF A FILE: at most the counts and the words of the table are
+-- read
 pub record CountsHashed (old new : LookupObjectState) (left_old left_new : Option ℕ) (result : Result ℕ Fault) : Type 0 where
   pub costs : SpendsAtMost old.src new.src left_old (fault_of_result result) (16 + old.src.seen.size)
   pub same_headers : new.headers ≡ old.headers
@@ -83,7 +84,7 @@ pub record CountsHashed (old new : LookupObjectState) (left_old left_new : Optio
       (file : List ℕ) → old.src.seen.file ≡ Some file
       → (told : IsScopeOf) × (lookup_tables_of file old.headers ≡ Ok told) × ReturnsAs (symbols_hashed file told) result
 
--- WHAT A READ OF THE NAME OF A NEEDED FILE DID, which is at an index of the symbols' strings
+-- THE EFFECT OF A READ OF THE NAME OF A NEEDED FILE, which is at an index of the symbols' strings
 pub record ReadsFileName (index at : ℕ) (name : List ℕ) (old new : LookupObjectState) (left_old left_new : Option ℕ) (result : Result (Unit {0}) Fault) : Type 0 where
   pub costs : SpendsAtMost old.src new.src left_old (fault_of_result result) (name_bytes SOUGHT_BYTES)
   pub same_headers : new.headers ≡ old.headers
@@ -92,8 +93,8 @@ pub record ReadsFileName (index at : ℕ) (name : List ℕ) (old new : LookupObj
       (file : List ℕ) (told : IsScopeOf) → old.src.seen.file ≡ Some file → lookup_tables_of file old.headers ≡ Ok told → 0 < told.table.symbols
       → ReturnsWhole (whole_name told.symbols.strings index at) name result
 
--- WHAT A SEARCH FOR A VERSION AMONG THE DEFINITIONS DID: at most the records and as many names are
--- read, and in a known file the result is the definition's
+-- THE EFFECT OF A SEARCH FOR A VERSION AMONG THE DEFINITIONS: at most the records and as many names
+-- are read, and in a known file the result is the definition's
 pub record LooksForVersion (version : List ℕ) (old new : LookupObjectState) (left_old left_new : Option ℕ) (result : Result Bool Fault) : Type 0 where
   pub costs : SpendsAtMost old.src new.src left_old (fault_of_result result) (old.src.seen.size / 8 * record_cost (Version version))
   pub same_headers : new.headers ≡ old.headers

@@ -1,4 +1,4 @@
--- What calls did to a path that is composed.
+-- The effect of calls on a path that is composed.
 use Rattle.std.specs.Prelude.{ℕ, ◌≡◌, ◌+◌, ◌<◌, Bool, true, false, List, [], ◌++◌, length, map, Option, None, Some}
 use Rattle.std.specs.Borrow.{Bor}
 use Rattle.elf_needs.specs.Searching.{SearchPathText, MOST_PATH_BYTES, NeedingObject, Token, parted}

@@ -173,7 +173,7 @@ section_stops entries s1 s2 a b out file headers section layout n cost (Refused 
 section_stops entries s1 s2 a b out file headers section layout n cost (Source fault at) says wants wrote = front_of_answer (applied file headers section layout) wrote
 section_stops entries s1 s2 a b out file headers section layout n cost (Out fault) says wants wrote = front_of_answer (applied file headers section layout) wrote
 
--- what was reported of a fault says of the source and the output what the fault did
+-- what was reported of a fault implies for the source and the output what the fault did
 pub section_says : (s0 s1 s2 : CountedState) (b c : OutState) (n : ℕ) (budget : Option ℕ) (stop told : RunFault) → SetsLimit s0 s1 budget → ApplySays s1 s2 b n stop → ReturnsStop Columns b c stop told → FaultSays s0 s2 c told
 section_says s0 s1 s2 b c n budget (Refused refusal) (Refused same) set says tells = tt
 section_says s0 s1 s2 b c n budget (Refused refusal) (Source fault at) set says tells = absurd tells

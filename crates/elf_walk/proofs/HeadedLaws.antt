@@ -108,7 +108,7 @@ module _ (old mid before last : OutState) (line : List ℕ) (held : DeferredLine
             refused = tt;
           })
 
-  -- what a fault says of the source and the output
+  -- what a fault implies for the source and the output
   pub held_says : (a b : CountedState) (listed result : Result Bool RunFault) → OutGrows mid before → AnswersAfter listed last result → IfErr listed (ArchiveSays a b before) → IfErr result (ArchiveSays a b last)
   held_says a b (Ok refused) result grows is says = rw is tt
   held_says a b (Err (Refused refusal)) result grows is says = rw is tt

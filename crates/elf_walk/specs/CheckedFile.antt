@@ -1,4 +1,4 @@
--- What the check of one file did.
+-- The effect of the check of one file.
 use Rattle.std.specs.Prelude.{ℕ, ◌≡◌, ◌+◌, ◌≤◌, nat_lt, if◌then◌else◌, List, length, Option, Some, IfSome, ⊤}
 use Rattle.elf_model.specs.Prelude.{ELF_MAGIC_SIZE, FILE_HEADER_SIZE, IsStateOf, ListingStyle, listing_cost, style_ceiling}
 use Rattle.elf_model.specs.declared.states.FileStatus.{FileStatus}
@@ -28,9 +28,9 @@ pub record AsksNoMore (most : ℕ) (allowed : Option ℕ) (old new : CountedStat
   pub ceiling : new.asked ≤ old.asked + most
   pub budget : IfSome allowed (λ bytes. new.asked ≤ old.asked + bytes)
 
--- WHAT THE CHECK OF A FILE DID. For any source: the store has as many slots, the source is kept and
--- no limit is left, the file is unread only if a read failed, and at most the ceiling and the
--- budget are read. If the file is known: the state that was found, and what that may read
+-- THE EFFECT OF THE CHECK OF A FILE. For any source: the store has as many slots, the source is
+-- kept and no limit is left, the file is unread only if a read failed, and at most the ceiling and
+-- the budget are read. If the file is known: the state that was found, and what that may read
 pub record ChecksFile (headers now : ℕ) (caps : Caps) (parts : ℕ) (old new : CountedState) (found : FileStatus) (finds : Caps → ℕ → List ℕ → FileStatus → Type 0) (costs : List ℕ → ℕ → ListingStyle → ℕ → ℕ) (most : ℕ → ℕ → ListingStyle → ℕ) : Type 0 where
   pub slots : now ≡ headers
   pub leaves : KeepsSourceUnlimited old new

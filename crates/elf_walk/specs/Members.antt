@@ -1,4 +1,4 @@
--- What the check of an archive with its members did.
+-- The effect of the check of an archive with its members.
 use Rattle.std.specs.Prelude.{ℕ, ◌≡◌, ◌+◌, ⊤, true, List, length, None, Some}
 use Rattle.elf_model.specs.Prelude.{ListingStyle, archive_ceiling, archive_cost, budget_after, file_magic, front_size}
 use Rattle.elf_model.specs.declared.states.FileMagic.{FileMagic}

@@ -51,8 +51,8 @@ abbrev pub told_refusal : Result ℕ RunFault → Bool → Option Refusal
 told_refusal (Err (Refused refusal)) false = Some refusal
 told_refusal answer failed = None
 
--- WHAT THE LISTING OF AN ARCHIVE DID, by its caps and parts; the status says whether the listing of
--- a member was refused
+-- THE EFFECT OF THE LISTING OF AN ARCHIVE, by its caps and parts; the status says whether the
+-- listing of a member was refused
 pub record RunsArchive (caps : Caps) (parts : ℕ) (old new : CountedState) (before after : OutState) (answer : Result ℕ RunFault) : Type 0 where
   pub grows : OutGrows before after
   pub leaves : KeepsSourceUnlimited old new

@@ -25,7 +25,7 @@ places_by file limits section layout room before out end missing Full range lend
     record { permitted = range; lent = lend; applies = applies; explains = explains; cost = cost; budget = within }
 places_by file limits section layout room before out end missing BadCall range lend applies explains cost within = absurd applies
 
--- WHAT A CALL DID, from what it was made with
+-- THE EFFECT OF A CALL, from what it was made with
 pub places : (file : List ℕ) (limits : CallerLimits) (section : ℕ) (layout : CallerLayout) (room : ℕ) (before out : List ℕ) (end : CallEnd) (missing : CallerMissing) (told : CallStatus) (slots : ℕ) (budget : Option ℕ) (given : Layout)
     → slots ≡ headers_of limits room → budget ≡ budget_of limits → given ≡ lent_layout layout → AreInRange limits room → MayBorrowLayout layout
     → AppliesFor file slots budget section given out end.written told → ExplainsTold file slots budget section given (apply_cost_by_order file slots section given) told missing
