@@ -25,8 +25,12 @@ pub enum FileMagic {
     Elf,
     /// An archive, if archives are read.
     Archive,
+    /// An archive whose members are in other files, where archives are gone into.
+    Thin,
     /// A file of another type.
     Foreign,
+    /// The budget ends before the bytes that decide it.
+    Undecided,
 }
 
 /// The state of a symbol that an object references.

@@ -1,7 +1,6 @@
 -- How rows are shown if they are filtered by name.
 use Rattle.std.specs.Prelude.{ℕ, Bool, List, map, max, min, if◌then◌else◌}
-use Rattle.elf_model.specs.Choice.{RowsOf, most_bytes, wanted_text}
-use Rattle.elf_model.specs.Style.{ListingStyle}
+use Rattle.elf_model.specs.Prelude.{ListingStyle, RowsOf, most_bytes, wanted_text}
 
 -- the least number of bytes of a name that are compared: if versions are shown, no fewer than are
 -- shown

@@ -9,7 +9,7 @@ use crate::faults::ReadAtFault;
 ///
 /// A reader in memory knows its file, and each turn returns the bytes of that file. A reader of the
 /// operating system knows none.
-pub trait Reader {
+pub trait ReadAt {
     /// Its file, if known.
     ghost file: { Self → Option (List ℕ) };
 
