@@ -1,4 +1,5 @@
--- What a budget allows, by the number of lines and the offset of the read; and what is shown, by what a budget allows.
+-- What a budget allows, by the number of lines and the offset of the read; and what is shown, by
+-- what a budget allows.
 use Rattle.elf_model.specs.Prelude.{Answer, IsBudgetRefusal, IsBudgeted, IsCut, IsShown, ListingItem, fault_of, items, lines_of, refusal_line, report, report_fault, show_answer, standard, status_of}
 use Rattle.elf_model.specs.declared.formats.Format.TheVariants.{Columns}
 use Rattle.elf_model.specs.declared.causes.Refusal.{Refusal}

@@ -127,8 +127,9 @@ abbrev pub state_in : BoundObjects → List ℕ → DynamicSymbols → ℕ → S
 state_in objects file symbols y wanted =
     state_by objects file symbols y wanted (bound_in objects.headers wanted objects.files)
 
--- WHAT IS LISTED OF AN OBJECT: what binds a symbol of it, which has an index there, under the name that it asks for and with the
--- version, if it asks for one; or the refusal of its own symbol, name or version, with which it ends
+-- WHAT IS LISTED OF AN OBJECT: what binds a symbol of it, which has an index there, under its
+-- requested name and with the requested version, if there is one; or the refusal of its own symbol,
+-- name or version, with which it ends
 pub data BoundItem : Type 0 where
   Told : (object symbol : ℕ) → BindingState → (name : List ℕ) → (version : Option (List ℕ)) → BoundItem
   Faulty : Refusal → BoundItem
@@ -186,7 +187,8 @@ abbrev pub bound_text : Format → List BoundItem → List ℕ
 bound_text format [] = []
 bound_text format (item ∷ items) = item_line format item ++ bound_text format items
 
--- an item says that a symbol is missing, or that its state is not known; and one of some does, so that the exit status is 1
+-- an item says that a symbol is missing, or that its state is not known; and one of some does, so
+-- that the exit status is 1
 abbrev pub is_failed : BoundItem → Bool
 is_failed (Told object symbol found name version) = is_unbound found
 is_failed (Faulty refusal) = true

@@ -60,8 +60,8 @@ may_read_bytes (Some budget) n = not (nat_lt budget n)
 abbrev begins_with : ℕ → List ℕ → Bool
 begins_with magic file = nat_le MAGIC_SIZE (length file) && field file 0 8 == magic
 
--- WHAT A FILE IS, by its first bytes. One that has fewer than a magic number is of another kind; what one is whose first bytes
--- the budget has no room for is not decided
+-- WHAT A FILE IS, by its first bytes. One that has fewer than a magic number is not ELF; if its
+-- first bytes exceed the budget it is not decided
 unfoldable pub file_magic : (members : Bool) → Option ℕ → List ℕ → FileMagic
 file_magic members budget file =
     if nat_lt (length file) ELF_MAGIC_SIZE then sort.Foreign
@@ -80,7 +80,8 @@ abbrev pub budget_after : Option ℕ → ℕ → Option ℕ
 budget_after None n = None
 budget_after (Some budget) n = Some (if nat_lt budget n then budget else budget - n)
 
--- ARCHIVES CHECKED. A refusal of a member whose data begin at an offset, counted from the archive's first byte, as far as 64 bits go
+-- ARCHIVES CHECKED. A refusal of a member whose data begin at an offset, counted from the archive's
+-- first byte, as far as 64 bits go
 abbrev pub placed_after : ℕ → Refusal → Refusal
 placed_after start refusal = record { at = min (start + refusal.at) (2 ^ 64 - 1); cause = refusal.cause }
 
@@ -96,7 +97,8 @@ first_fault file headers style parts (m ∷ ms) walk = elim (member_fault file h
   | None ↦ first_fault file headers style parts ms walk
 ]
 
--- THE FAULT OF AN ARCHIVE: the first in order of its own checks, of its members' listings, and of the walk over them
+-- THE FAULT OF AN ARCHIVE: the first in order of its own checks, of its members' listings, and of
+-- the walk over them
 unfoldable pub archive_fault : List ℕ → ℕ → ListingStyle → ℕ → Option Refusal
 archive_fault file headers style parts = elim (first_refusal (archive_checks file)) [
   | Some refusal ↦ Some refusal

@@ -53,8 +53,9 @@ room_after room text = record { bytes = room.bytes - length text; texts = room.t
 abbrev pub is_link : ℕ → Bool
 is_link tag = tag == DT_NEEDED || (tag == DT_SONAME || (tag == DT_RPATH || tag == DT_RUNPATH))
 
--- THE TEXT of the entry at an offset, in the strings that entries locate by an address and a size: these and the text are refused at
--- the entry, and so is a text that is longer than is read or for which there is no room
+-- THE TEXT of the entry at an offset, in the strings that entries locate by an address and a size:
+-- these and the text are refused at the entry, and so is a text that is longer than is read or for
+-- which there is no room
 unfoldable pub link_text : List ℕ → (address size : Option ℕ) → TextRoom → ℕ → Result (List ℕ) Refusal
 link_text file address size room at = elim (strings_at file at address size) [
   | Err refusal ↦ Err refusal
@@ -155,8 +156,9 @@ unfoldable pub links_ceiling : (size headers : ℕ) → ℕ
 links_ceiling size headers =
     FILE_HEADER_SIZE + headers * PROGRAM_HEADER_SIZE + 3 * size + size / DYNAMIC_SIZE * name_bytes LINK_TEXT_BYTES
 
--- WHICH MACHINE A FILE IS FOR, so that a loader of that machine takes it as a library: one of 64 bits that is little-endian. None of
--- any other file (gABI 4, ELF Identification: the magic number, the class and the encoding; ELF Header, e_machine)
+-- WHICH MACHINE A FILE IS FOR, so that a loader of that machine takes it as a library: a file of 64
+-- bits that is little-endian. None for any other file (gABI 4, ELF Identification: the magic
+-- number, the class and the encoding; ELF Header, e_machine)
 abbrev pub MACHINE_END : ℕ
 MACHINE_END = 20
 

@@ -25,7 +25,7 @@ pub enum FileMagic {
     Elf,
     /// An archive, if archives are read.
     Archive,
-    /// An archive whose members are in other files, where archives are gone into.
+    /// An archive whose members are in other files, if archives are read.
     Thin,
     /// A file of another type.
     Foreign,
