@@ -73,8 +73,8 @@ impl<'a> Items<'a> {
     /// A text that was cut counts as followed by a line that is not an item.
     ///
     /// # Errors
-    /// Returns `BadItem` with the number of the first line that is not an item, counted from 1;
-    /// `Memory` if there is not enough memory for the items.
+    /// - `BadItem` with the number of the first line that is not an item, counted from 1.
+    /// - `Memory` if there is not enough memory for the items.
     pub fn gather(
         alloc: Global,
         layout: &'a Layout,
