@@ -27,7 +27,7 @@ pub enum FileMagic {
     Archive,
     /// An archive whose members are in other files, if archives are read.
     Thin,
-    /// A file of another type.
+    /// A file of any other type.
     Foreign,
     /// The budget ends before the bytes that decide it.
     Undecided,
