@@ -22,7 +22,7 @@ use crate::texts::TextEnd;
 use std::alloc::{AllocError, Global};
 use std::marker::Model;
 
-/// Why a file gives no items.
+/// Why the items of a file could not be read.
 pub enum LayoutFileFault {
     /// It can't be read, or is not text.
     Read,
