@@ -6,6 +6,7 @@ use Rattle.elf_model.specs.declared.causes.Cause.{Cause}
 use Rattle.elf_model.specs.declared.formats.Format.TheVariants.{Columns, Object}
 use Rattle.elf_model.specs.declared.causes.Cause.TheVariants.{MemberCut, NameOutside, NotArchive, Short, Thin}
 use Rattle.elf_model.specs.declared.causes.Refusal.{Refusal}
+use Rattle.elf_model.specs.declared.states.FileMagic.TheVariants.{Thin as ThinArchive, Undecided}
 
 -- the line of a path: spelt as names are, empty, and as an object
 abbrev pub PathLines : Type 0
@@ -34,13 +35,14 @@ magic = 127 ∷ 69 ∷ 76 ∷ 70 ∷ []
 abbrev pub FileSorts : Type 0
 FileSorts =
     (file_magic false None [] ≡ Foreign) × (file_magic false (Some 0) (127 ∷ 69 ∷ 76 ∷ []) ≡ Foreign)
-    × (file_magic false None magic ≡ Elf) × (file_magic true (Some 4) magic ≡ Elf)
+    × (file_magic false None magic ≡ Elf) × (file_magic true (Some 4) magic ≡ Elf) × (file_magic true (Some 3) magic ≡ Undecided)
     × (file_magic false None (codes "text") ≡ Foreign) × (file_magic false (Some 4) (codes "text") ≡ Foreign)
-    × (file_magic false (Some 3) (codes "text") ≡ Elf)
+    × (file_magic false (Some 3) (codes "text") ≡ Undecided) × (file_magic true (Some 7) (codes "hello world") ≡ Undecided)
     × (file_magic false None (archive_of []) ≡ Foreign) × (file_magic true None (archive_of []) ≡ Archive)
-    × (file_magic true (Some 8) (archive_of []) ≡ Archive) × (file_magic true (Some 7) (archive_of []) ≡ Elf)
+    × (file_magic true (Some 8) (archive_of []) ≡ Archive) × (file_magic true (Some 7) (archive_of []) ≡ Undecided)
     × (file_magic true None (codes "!<arch>") ≡ Foreign) × (file_magic true (Some 4) (codes "!<arch>") ≡ Foreign)
-    × (file_magic true None (codes "!<thin>\n") ≡ Foreign)
+    × (file_magic true (Some 8) (codes "!<thin>\n") ≡ ThinArchive) × (file_magic true (Some 7) (codes "!<thin>\n") ≡ Undecided)
+    × (file_magic false None (codes "!<thin>\n") ≡ Foreign)
 
 -- what is left of a budget behind them
 abbrev pub BudgetsAfter : Type 0

@@ -4,7 +4,8 @@ use Rattle.std.proofs.lemmas.Bool.{cases_lt}
 use Rattle.std.proofs.lemmas.Grind.{flat_map-append}
 use Rattle.std.proofs.lemmas.List.{take_all, drop_all, drop-drop}
 use Rattle.std.specs.List.{flat_map}
-use Rattle.elf_walk.specs.Prelude.{AreNamesOf, GathersNames, Insertion, IsNameable, KeepsFirstNames, KeptNames, PutsNames, is_dot_entry, last_entry, list_entries, rest_from, saturated, unnamed_count, whole_entries}
+use Rattle.elf_walk.specs.Prelude.{AreNamesOf, GathersNames, IsNameable, KeepsFirstNames, KeptNames, PutsNames, is_dot_entry, last_entry, list_entries, rest_from, saturated, unnamed_count, whole_entries}
+use Rattle.elf_walk.specs.declared.batch.Insertion.{Insertion}
 use Rattle.elf_walk.specs.declared.batch.Insertion.TheVariants.{Placed, Unnamed}
 use Rattle.elf_walk.proofs.EntryLaws.{all_left, first_ends, none_ends}
 
