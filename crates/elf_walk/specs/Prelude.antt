@@ -15,6 +15,3 @@ pub use Rattle.elf_walk.specs.Pass.{IsPass}
 pub use Rattle.elf_walk.specs.Passes.{AreAfter, Ascends, in_order, names_following}
 unfoldable pub use Rattle.elf_walk.specs.Passes.{passes}
 pub use Rattle.elf_walk.specs.ToldListings.{EndsListing, ListsFile, ReturnsListing, ToldOf}
-pub use Rattle.elf_walk.specs.declared.batch.Insertion.{Insertion}
-pub use Rattle.elf_walk.specs.declared.batch.Insertion.TheVariants.{Placed, Unnamed}
-pub use Rattle.elf_walk.specs.declared.options.ListOptions.{ListOptions}
