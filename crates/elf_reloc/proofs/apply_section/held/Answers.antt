@@ -15,7 +15,7 @@ returns-then-has_no_bytes-clause-held c = λ bytes belongs.
     let plain : is_compressed bytes at ≡ false = sym (c.is_compressed.ensures bytes at stands) ∙ c.if-is_compressed.false in
     holds_none bytes c.args.section relocatable machine index plain (sym (c.has_no_bytes.ensures bytes at stands) ∙ c.if-has_no_bytes.true)
 
-pub returns-then-is_out_of_bounds-clause-held : goal.returns-then-ends_outside-clause-held
+pub returns-then-is_out_of_bounds-clause-held : goal.returns-then-is_out_of_bounds-clause-held
 returns-then-is_out_of_bounds-clause-held c = λ bytes belongs.
     let at = section_at bytes c.args.section in
     let stands = c.section-found.ensures.stands bytes belongs in
