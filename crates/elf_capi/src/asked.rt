@@ -27,7 +27,7 @@ const NO_FLAGS: u16 = 0xffe2;
 /// Returns `None` if there are fewer bytes than these, if one after them is not 0, for an unknown
 /// flag, for versions after names in a listing that is not GNU, and for a part that such a listing
 /// does not have.
-pub fn listing_of(asked: &[u8]) -> Option<CallerListing<'static>>
+pub fn caller_listing_of(asked: &[u8]) -> Option<CallerListing<'static>>
     ensures { GivesListing asked.now None result }
 {
     if asked.len() < KNOWN_BYTES || !are_zeros(&asked[KNOWN_BYTES..]) {
@@ -58,7 +58,7 @@ pub fn listing_of(asked: &[u8]) -> Option<CallerListing<'static>>
 pub fn named_listing_of<'n>(asked: &[u8], names: &'n [&'n [u8]]) -> Option<CallerListing<'n>>
     ensures { GivesListing asked.now (Some names.now) result }
 {
-    let every = listing_of(asked)?;
+    let every = caller_listing_of(asked)?;
     if !is_chosen_part(every.parts) {
         return None;
     }

@@ -20,7 +20,7 @@ pub struct CallOutcome {
 
 /// Lists a file to the start of a buffer, and returns how many bytes were written. The store has a
 /// slot for each header that the caps allow.
-pub fn list(
+pub fn write_listing(
     file: &[u8],
     store: &mut HeaderStore,
     caps: Caps,

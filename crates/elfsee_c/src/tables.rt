@@ -4,7 +4,9 @@ ghost use Rattle.elf_capi.specs.Prelude.{OpensRows, ReturnsOpened};
 ghost use Rattle.elf_capi.specs.declared.kind.RowKind.TheVariants.{Relocations, Symbols, VersionWords};
 ghost use Rattle.elf_capi.specs.declared.kind.RowKind.TheVariants.{Dynamic};
 
-use elf_capi::{CallEnd, CallerLimits, RowKind, RowPosition, limits_of, report_opened, rows_in};
+use elf_capi::{
+    CallEnd, CallerLimits, RowKind, RowPosition, checked_limits, report_opened, rows_in,
+};
 
 /// Checks the symbol table that a section of a file holds, and sets `rows` before its first row.
 ///
@@ -28,7 +30,7 @@ pub extern "C" fn elfsee_symbols(
         result rows.old rows.new end.new }
 {
     report_opened(
-        limits_of(limits, room.len()).map(|limits| rows_in(
+        checked_limits(limits, room.len()).map(|limits| rows_in(
             file,
             limits.headers,
             section,
@@ -55,7 +57,7 @@ pub extern "C" fn elfsee_relocations(
         result rows.old rows.new end.new }
 {
     report_opened(
-        limits_of(limits, room.len()).map(|limits| rows_in(
+        checked_limits(limits, room.len()).map(|limits| rows_in(
             file,
             limits.headers,
             section,
@@ -82,7 +84,7 @@ pub extern "C" fn elfsee_dynamic(
         result rows.old rows.new end.new }
 {
     report_opened(
-        limits_of(limits, room.len()).map(|limits| rows_in(
+        checked_limits(limits, room.len()).map(|limits| rows_in(
             file,
             limits.headers,
             section,
@@ -111,7 +113,7 @@ pub extern "C" fn elfsee_version_words(
         result rows.old rows.new end.new }
 {
     report_opened(
-        limits_of(limits, room.len()).map(|limits| rows_in(
+        checked_limits(limits, room.len()).map(|limits| rows_in(
             file,
             limits.headers,
             section,
