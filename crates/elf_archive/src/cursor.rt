@@ -51,11 +51,14 @@ impl MemberCursor {
     /// the member's name are then in `name`. Returns `None` at the file's end, which is below 2^63.
     ///
     /// # Errors
-    /// Refused at the offset of the member's header: `MemberCut` if there is no header, or it or
-    /// the data extend past the end of the file, or the name past the end of the data that it is
-    /// said to precede; `NameOutside` if the name begins past the table of names, or there is none,
-    /// and `NameUnended` if the table ends before the name does. A read fault, or a refusal for
-    /// lack of budget, is at the offset that was requested. The cursor is unchanged then.
+    /// - `MemberCut` at the offset of the member's header if there is no header, or it or the data
+    ///   extend past the end of the file, or the name past the end of the data that it is said to
+    ///   precede.
+    /// - `NameOutside` there if the name begins past the table of names, or there is none.
+    /// - `NameUnended` there if the table ends before the name does.
+    /// - A read fault, or a refusal for lack of budget, at the offset that was requested.
+    ///
+    /// The cursor is unchanged then.
     pub fn advance<S: Source>(
         &mut self,
         src: &mut Counted<S>,

@@ -25,8 +25,13 @@ const ELF_MAGIC: u32 = 0x464c_457f;
 /// length alone refuses the file.
 ///
 /// # Errors
-/// Refused at offset 0: `TooLong` if the length is 2^63 or more, `Short` if it is below 8, both
-/// with nothing read; `Thin` for the magic string of a thin archive, `NotArchive` for other bytes.
+/// Refused at offset 0:
+///
+/// - `TooLong` if the length is 2^63 or more; nothing is read.
+/// - `Short` if it is below 8; nothing is read.
+/// - `Thin` for the magic string of a thin archive.
+/// - `NotArchive` for other bytes.
+///
 /// Otherwise a read fault, or a refusal for lack of budget, at offset 0.
 pub fn magic<S: Source>(src: &mut Counted<S>) -> Result<(), Fault>
     ensures asks { AsksAtMost src.old src.new result 8 }

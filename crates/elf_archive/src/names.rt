@@ -25,8 +25,9 @@ pub(crate) const LONG_NAME_BYTES: usize = 4098;
 /// read: at most `cap + 2` bytes, never past the table's end or its own.
 ///
 /// # Errors
-/// Refused at `at`: `NameOutside` if there is no table of names or the name begins past its end,
-/// `NameUnended` if the table ends before the name does. Otherwise a read fault, at its offset.
+/// - `NameOutside` at `at` if there is no table of names or the name begins past its end.
+/// - `NameUnended` at `at` if the table ends before the name does.
+/// - Otherwise a read fault, at its offset.
 pub(crate) fn read_name<S: Source>(
     src: &mut Counted<S>,
     names: Option<FileRange>,

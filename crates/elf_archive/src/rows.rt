@@ -64,8 +64,11 @@ struct MemberName {
 /// Returns a position before the first member; there is always one, or a refusal.
 ///
 /// # Errors
-/// Refused at offset 0 if the file is not an archive: `Short` if it has fewer than 8 bytes, `Thin`
-/// for the magic string of a thin archive, `NotArchive` for other bytes.
+/// Refused at offset 0 if the file is not an archive:
+///
+/// - `Short` if it has fewer than 8 bytes.
+/// - `Thin` for the magic string of a thin archive.
+/// - `NotArchive` for other bytes.
 pub fn open_members(file: &[u8]) -> Result<Option<MemberPosition>, Refusal>
     ensures { OpensMembers file.now result }
 {
@@ -88,11 +91,14 @@ pub fn open_members(file: &[u8]) -> Result<Option<MemberPosition>, Refusal>
 /// size, including a name at their start, is odd; returns `None` at or after the file's end.
 ///
 /// # Errors
-/// Refused at the offset of the member's header: `MemberCut` if there is no header, or it or the
-/// data extend past the end of the file, or the name past the end of the data that it is said to
-/// precede; `NameOutside` if the name begins past the table of names, or there is none, and
-/// `NameUnended` if the table, as far as it lies in the file, ends before the name does. The
-/// position is unchanged then.
+/// Refused at the offset of the member's header:
+///
+/// - `MemberCut` if there is no header, or it or the data extend past the end of the file, or the
+///   name past the end of the data that it is said to precede.
+/// - `NameOutside` if the name begins past the table of names, or there is none.
+/// - `NameUnended` if the table, as far as it lies in the file, ends before the name does.
+///
+/// The position is unchanged then.
 pub fn next_member(file: &[u8], members: &mut MemberPosition) -> Result<Option<MemberRow>, Refusal>
     ensures { StepsMember file.now members.old members.new result }
 {

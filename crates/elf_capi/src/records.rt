@@ -45,10 +45,14 @@ pub struct VersionRecordPosition {
 /// Core, Symbol Versioning).
 ///
 /// # Errors
-/// If there is no valid record: `VersionCut` at what led there, if it is not in the table or if as
-/// many records were visited as fit, and at the record whose name is not in the table; `BadVersion`
-/// at one of another layout; `VersionIndex` at one whose version index is 1,024 or more. The
-/// position is unchanged then.
+/// If there is no valid record:
+///
+/// - `VersionCut` at what led there, if it is not in the table or if as many records were visited
+///   as fit, and at the record whose name is not in the table.
+/// - `BadVersion` at one of another layout.
+/// - `VersionIndex` at one whose version index is 1,024 or more.
+///
+/// The position is unchanged then.
 pub fn next_record(
     file: &[u8],
     records: &mut VersionRecordPosition,

@@ -20,10 +20,11 @@ use elf_table::is_out_of_bounds;
 /// the entries have (gABI 5, Dynamic Section).
 ///
 /// # Errors
-/// The first check that fails of those that a listing makes before it reads the headers, with the
-/// maximum number of headers allowed; then, at the program header and of a segment that has bytes
-/// in the file, `SizeNotWhole` if p_filesz is not a multiple of 16, `TableOutside` if the segment
-/// extends past the end of the file.
+/// - The first check that fails of those that a listing makes before it reads the headers, with the
+///   maximum number of headers allowed.
+/// - Then, at the program header and of a segment that has bytes in the file: `SizeNotWhole` if
+///   p_filesz is not a multiple of 16, `TableOutside` if the segment extends past the end of the
+///   file.
 pub fn segment_dynamic(file: &[u8], segment: u16) -> Result<Option<RowPosition>, Refusal>
     ensures { ReadsSegmentDynamic file.now segment result }
 {

@@ -50,7 +50,8 @@ pub enum ShowRequest<'a> {
 /// listing of one file or the version.
 ///
 /// # Errors
-/// `Words` for arguments that request neither, or help; `Memory` if out of memory.
+/// - `Words` for arguments that request neither, or help.
+/// - `Memory` if out of memory.
 pub fn parse_show<'a, S: AsStr>(
     alloc: Global,
     words: &'a [S],

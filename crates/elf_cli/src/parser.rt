@@ -24,8 +24,8 @@ pub(crate) static MEMBER_PARTS: [&str; 9] = [
 /// Parses arguments, without the program's name: a command with the values of its arguments.
 ///
 /// # Errors
-/// `Words` for arguments that the command line rejects, or that request help; `Memory` if out of
-/// memory.
+/// - `Words` for arguments that the command line rejects, or that request help.
+/// - `Memory` if out of memory.
 pub fn parse_arguments<'a, S: AsStr>(
     alloc: Global,
     words: &'a [S],

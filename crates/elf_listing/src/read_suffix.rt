@@ -25,9 +25,10 @@ impl<S: Source, W: Sink> Listing<'_, '_, '_, '_, S, W> {
     /// not; returns `None` for version indices 0 and 1. The name read before is kept.
     ///
     /// # Errors
-    /// `VersionCut` at the section of version indices if it has no entry for the symbol;
-    /// `VersionIndex` at the entry if no record names its index; the fault of the name, at the
-    /// record that holds it; a read fault.
+    /// - `VersionCut` at the section of version indices if it has no entry for the symbol.
+    /// - `VersionIndex` at the entry if no record names its index.
+    /// - The fault of the name, at the record that holds it.
+    /// - A read fault.
     pub(crate) fn read_suffix(
         &mut self,
         suffixes: &VersionLookup,

@@ -27,9 +27,9 @@ pub(crate) struct DynamicTexts<'v, 'f> {
 /// once.
 ///
 /// # Errors
-/// At an entry: `Unmapped` and `TableOutside` as for [`ExecutionView::mapped`], a fault of its
-/// text, and `TooLong` if that has more than 4,096 bytes or there is no room for it. Otherwise a
-/// read fault, or a refusal for lack of budget.
+/// - At an entry: `Unmapped` and `TableOutside` as for [`ExecutionView::mapped`], a fault of its
+///   text, and `TooLong` if that has more than 4,096 bytes or there is no room for it.
+/// - Otherwise a read fault, or a refusal for lack of budget.
 pub(crate) fn list_link_info<S: Source>(
     src: &mut Counted<S>,
     strings: &DynamicTexts<'_, '_>,

@@ -53,10 +53,14 @@ pub fn machine_of<S: Source>(src: &mut Counted<S>) -> Result<Option<u16>, Fault>
 /// and so is the refusal.
 ///
 /// # Errors
-/// The first that fails: those of [`load_by_segments`]; of [`find_in_segments`], except `NoHash`;
-/// of the first segment of dynamic entries; of each entry with a text, at the entry: its string
-/// table, its text, and `TooLong` if that has more than 4,096 bytes or there is no room for it.
-/// Otherwise a read fault, or a refusal for lack of budget.
+/// The first that fails:
+///
+/// - Those of [`load_by_segments`].
+/// - Those of [`find_in_segments`], except `NoHash`.
+/// - Those of the first segment of dynamic entries.
+/// - For each entry with a text, at the entry: those of its string table and of its text, and
+///   `TooLong` if that has more than 4,096 bytes or there is no room for it.
+/// - Otherwise a read fault, or a refusal for lack of budget.
 pub fn read_link_info<S: Source>(
     src: &mut Counted<S>,
     store: &mut HeaderStore,

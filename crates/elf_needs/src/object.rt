@@ -165,8 +165,9 @@ impl<S: Source> LookupObject<S> {
     /// return no limit is set.
     ///
     /// # Errors
-    /// Those of the name, at the record: `NameOutside`, `NameUnended`, and `TooLong` if it has more
-    /// than 4,096 bytes. Otherwise a read fault, or a refusal for lack of budget.
+    /// - Those of the name, at the record: `NameOutside`, `NameUnended`, and `TooLong` if it has
+    ///   more than 4,096 bytes.
+    /// - Otherwise a read fault, or a refusal for lack of budget.
     pub fn needed_file(
         &mut self,
         left: &mut Option<u64>,

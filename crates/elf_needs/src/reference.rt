@@ -50,11 +50,14 @@ const NO_VERSION: VersionReference = VersionReference {
 /// or has no name, or an empty one. After `None` or a fault their contents are unspecified.
 ///
 /// # Errors
-/// At the symbol: those of its name, as for [`Names::read`], and `TooLong` if that has more than
-/// 4,096 bytes. `VersionCut` at the structure that locates the version entries if there is none for
-/// the symbol. Those of the records up to the first that has its version index; `VersionIndex` at
-/// the entry if none has; at the structure that holds the name of the version the same as for the
-/// symbol's. Otherwise a read fault.
+/// - At the symbol: those of its name, as for [`Names::read`], and `TooLong` if that has more than
+///   4,096 bytes.
+/// - `VersionCut` at the structure that locates the version entries if there is none for the
+///   symbol.
+/// - Those of the records up to the first that has its version index.
+/// - `VersionIndex` at the entry if none has.
+/// - At the structure that holds the name of the version: the same as for the symbol's.
+/// - Otherwise a read fault.
 pub(crate) fn reference_symbol<S: Source>(
     src: &mut Counted<S>,
     symbols: &DynamicSymbols,

@@ -10,10 +10,12 @@ use elf_layout::{Layout, LayoutFault, item};
 /// Adds the items given by arguments to a layout, from the first to the last, and no other items.
 ///
 /// # Errors
-/// `BadItem` for an argument that is not an item; `LayoutRepeat` for an item of the same type with
-/// the same index or name as an earlier one; otherwise `LayoutFull` if there are already 64
-/// sections, 32 definitions or 32 entries of its type. The first such argument is reported; the
-/// layout keeps the items before it.
+/// - `BadItem` for an argument that is not an item.
+/// - `LayoutRepeat` for an item of the same type with the same index or name as an earlier one.
+/// - Otherwise `LayoutFull` if there are already 64 sections, 32 definitions or 32 entries of its
+///   type.
+///
+/// The first such argument is reported; the layout keeps the items before it.
 pub fn lay(layout: &mut Layout, words: &[&str]) -> Result<(), RequestFault>
     ensures laid { IfOk result (λ _. LaysWords no_items (texts words.now) (Ok layout.new)) }
     ensures refused { IfErr result (λ fault. LaysWords no_items (texts words.now) (Err fault)) }

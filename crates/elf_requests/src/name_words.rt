@@ -20,8 +20,10 @@ const MOST_NAMES: usize = 64;
 /// Returns the names whose rows are requested, or `None` if every row is.
 ///
 /// # Errors
-/// `BadName` if one is not of 1 to 4,096 bytes without NUL, or with versions has an empty name or
-/// version; `NamesFull` if there are more than 64; `Memory` if out of memory for them.
+/// - `BadName` if one is not of 1 to 4,096 bytes without NUL, or with versions has an empty name or
+///   version.
+/// - `NamesFull` if there are more than 64.
+/// - `Memory` if out of memory for them.
 pub(crate) fn names_of<'a>(
     alloc: Global,
     options: &ArgMatches<'a>,

@@ -35,11 +35,13 @@ use std::convert::AsStr;
 /// Parses the arguments of a command line, without the program's name.
 ///
 /// # Errors
-/// `Words` for arguments that are invalid or request help; `BadName` if they give a name that is
-/// not of 1 to 4,096 bytes without NUL; `NamesFull` if they request the rows of more than 64 names;
-/// `BadItem`, `LayoutRepeat` and `LayoutFull` for the first layout item that is malformed, repeats
-/// an item, or is one more of its type than a layout holds; `BadTrait` if a required trait is
-/// invalid; `Memory` if out of memory.
+/// - `Words` for arguments that are invalid or request help.
+/// - `BadName` if they give a name that is not of 1 to 4,096 bytes without NUL.
+/// - `NamesFull` if they request the rows of more than 64 names.
+/// - `BadItem`, `LayoutRepeat` and `LayoutFull` for the first layout item that is malformed,
+///   repeats an item, or is one more of its type than a layout holds.
+/// - `BadTrait` if a required trait is invalid.
+/// - `Memory` if out of memory.
 pub fn request<'a, S: AsStr>(
     alloc: Global,
     words: &'a [S],
