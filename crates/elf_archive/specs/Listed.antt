@@ -37,7 +37,8 @@ StopTells old new out n (Refused refusal) = BudgetSays old new n refusal
 StopTells old new out n (Source fault at) = IsSourceFault old.seen new.seen fault
 StopTells old new out n (Out fault) = IsOutFault out fault
 
--- WHAT A CALL READS of the source: it requested at most n bytes, and a fault satisfies `StopTells`
+-- WHAT A CALL REQUESTS of the source: it requested at most n bytes, and a fault satisfies
+-- `StopTells`
 abbrev pub ReadsAtMostIn : {X : Type 0} → CountedState → CountedState → OutState → Result X RunFault → ℕ → Type 0
 ReadsAtMostIn old new out result n = ReadsUpTo old new n × IfErr result (StopTells old new out n)
 
@@ -46,8 +47,8 @@ abbrev pub after_start : ℕ → ℕ → ℕ
 after_start start at = min (start + at) (2 ^ 64 - 1)
 
 -- THE EFFECT OF A CALL that iterates over what an archive has, for any source: the store has as
--- many slots, what was written is kept, and at most the ceiling was read; and if the file is known,
--- what it cost and what it showed
+-- many slots, what was written is kept, and at most the ceiling was requested; and if the file is
+-- known, what it cost and what it showed
 pub record GoesThrough {X : Type 0} (headers now : ℕ) (style : ListingStyle) (parts : ℕ) (a b : CountedState) (old new : OutState) (result : Result X RunFault) (most : ℕ → ListingStyle → ℕ) (costs : List ℕ → ℕ → ListingStyle → ℕ → ℕ) (shown : List ℕ → ℕ → ListingStyle → ℕ → Type 0) : Type 0 where
   pub slots : now ≡ headers
   pub grows : OutGrows old new
@@ -167,9 +168,9 @@ ArchiveSays old new out (Refused refusal) = Unit {0}
 ArchiveSays old new out (Source fault at) = IsSourceFault old.seen new.seen fault
 ArchiveSays old new out (Out fault) = IsOutFault out fault
 
--- WHAT IS READ, for any source: at most the ceiling, and nothing if the length refuses the file;
--- never more than the budget; and if the result is that the budget is exhausted, fewer than 4,096
--- bytes of it are left, and the result names an offset of the file
+-- WHAT IS REQUESTED, for any source: at most the ceiling, and nothing if the length refuses the
+-- file; never more than the budget; and if the result is that the budget is exhausted, fewer than
+-- 4,096 bytes of it are left, and the result names an offset of the file
 pub record AsksInArchive {X : Type 0} (caps : Caps) (old new : CountedState) (result : Result X RunFault) : Type 0 where
   pub ceiling : new.asked ≤ old.asked + archive_ceiling old.seen.size caps.limits.headers (style_of caps.style)
   pub unread : (refusal : Refusal) → first_refusal (archive_length_checks old.seen.size) ≡ Some refusal → new.seen ≡ old.seen × new.asked ≡ old.asked

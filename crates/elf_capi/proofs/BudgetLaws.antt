@@ -1,4 +1,4 @@
--- A read budget, from a source of which nothing was read before.
+-- A read budget, from a source from which nothing was requested before.
 use Rattle.std.proofs.Common.{◌≡◌, ℕ, ◌+◌, ◌-◌, ◌<◌, ◌≤◌, Option, None, Some, option_map, refl, sym, ◌∙◌, arith}
 use Rattle.std.specs.Prelude.{IfSome}
 use Rattle.elf_model.specs.declared.causes.Refusal.{Refusal}

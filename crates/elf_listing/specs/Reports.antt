@@ -33,8 +33,8 @@ FaultSays old new out (Refused refusal) = Unit {0}
 FaultSays old new out (Source fault at) = IsSourceFault old.seen new.seen fault × (at ≡ new.stopped)
 FaultSays old new out (Out fault) = IsOutFault out fault
 
--- WHAT IS READ, for any source: at most the ceiling, nothing if the length refuses the file, and
--- the file header alone if no table is listed; never more than the budget; and if the result is
+-- WHAT IS REQUESTED, for any source: at most the ceiling, nothing if the length refuses the file,
+-- and the file header alone if no table is listed; never more than the budget; and if the result is
 -- that the budget is exhausted, fewer than 4,096 bytes of it are left, and the result names the
 -- read that did not fit
 pub record AsksWithin {X : Type 0} (caps : Caps) (parts : ℕ) (old new : CountedState) (result : Result X RunFault) : Type 0 where

@@ -1,4 +1,4 @@
--- What was read from objects, one call after another.
+-- What was requested from objects, one call after another.
 use Rattle.std.proofs.Common.{◌≡◌, ℕ, zero, suc, ◌+◌, ◌<◌, ◌≤◌, ◌-◌, ◌^◌, ◌⊎◌, min, List, [], ◌∷◌, length, length-set, get_or, get_or-set_other, get_or-set_same, set, inl, inr, Option, None, Some, Result, Err, refl, sym, ap, subst, ◌∙◌, arith}
 use Rattle.std.proofs.lemmas.Bool.{cases_eq, cases_lt}
 use Rattle.std.proofs.lemmas.List.Sums.{sum_by-set}
@@ -32,7 +32,7 @@ pays_one (Some l0) (Some l1) one more all next p same = omega (arith, p, same)
 pays_one None (Some l1) one more all next p same = absurd p
 pays_one (Some l0) None one more all next p same = absurd p
 
--- nothing was read
+-- nothing was requested
 pub asks_none : (objects : List LookupObjectState) (left : Option ℕ) → AsksAll objects objects left left
 asks_none objects left = record { objects = record { same_length = refl; each = λ k d less. same_none (get_or objects k d) }; pays = pays_none left (asked_of_all objects) }
 

@@ -25,7 +25,7 @@ pays_then None (Some l1) l2 all now next one more p q same = absurd p
 pays_then (Some l0) None l2 all now next one more p q same = absurd p
 pays_then (Some l0) (Some l1) None all now next one more p q same = absurd q
 
--- what one lookup read
+-- what one lookup requested
 asked_by : (wanted : SymbolQuery) (old new : LookupObjectState) (left_old left_new : Option ℕ) (result : Result (Option ℕ) Fault) → LooksInObject wanted old new left_old left_new result → AskedOf wanted old new
 asked_by wanted old new left_old left_new result looks = record {
   keeps = looks.costs.keeps;

@@ -19,7 +19,7 @@ at_least (Some l0) (Some l1) a b c d pays within = omega (arith, pays, within)
 at_least None (Some l1) a b c d pays within = absurd pays
 at_least (Some l0) None a b c d pays within = absurd pays
 
--- what was read when it was opened
+-- what was requested when it was opened
 pays_off : (left left_new : Option ℕ) (d : ℕ) → left_new ≡ option_map (λ bytes. bytes - d) left → IfSome left (λ bytes. d ≤ 0 + bytes) → SpendsBudget left left_new 0 d
 pays_off None left_new d is within = rw is tt
 pays_off (Some bytes) left_new d is within = rw is (omega (arith, within))

@@ -12,7 +12,7 @@ use Rattle.elf_needs.specs.declared.bind_name.BindResult.{BindResult}
 use Rattle.elf_needs.specs.declared.bind_name.BindResult.TheVariants.{Bound, Unbound}
 use Rattle.elf_needs.specs.declared.bind_name.BindFault.{BindFault}
 
--- how many bytes were read from all of them
+-- how many bytes were requested from all of them
 abbrev pub asked_of_all : List LookupObjectState → ℕ
 asked_of_all objects = sum_by (λ (o : LookupObjectState). o.src.asked) objects
 
@@ -24,8 +24,8 @@ AreObjectFiles headers (object ∷ objects) (file ∷ files) =
 AreObjectFiles headers [] (file ∷ files) = ⊥
 AreObjectFiles headers (object ∷ objects) [] = ⊥
 
--- what was read from one of them, for any source: it is kept, and from a known file at most the
--- cost of the lookup in it
+-- what was requested from one of them, for any source: it is kept, and from a known file at most
+-- the cost of the lookup in it
 pub record AskedOf (wanted : SymbolQuery) (old new : LookupObjectState) : Type 0 where
   pub keeps : KeepsSource old.src.seen new.src.seen
   pub view : SameView old.src new.src
@@ -56,8 +56,8 @@ ReturnsBinding bound (Err blame) = elim blame.fault [
 ]
 
 -- THE EFFECT OF A LOOKUP OVER FILES: the files up to the one that defines the name were read, what
--- is left of the budget decreases by what was read from all, and if all files are known the result
--- is the definition's over them in order
+-- is left of the budget decreases by what was requested from all, and if all files are known the
+-- result is the definition's over them in order
 pub record BindsAcross (wanted : SymbolQuery) (old new : List LookupObjectState) (left_old left_new : Option ℕ) (result : Result BindResult BindFault) : Type 0 where
   pub asked : AskedFirst wanted old new (reached (length old) result)
   pub pays : SpendsBudget left_old left_new (asked_of_all old) (asked_of_all new)

@@ -29,7 +29,7 @@ bound_of headers files indexes known = record { files = files; indexes = indexes
 abbrev pub bound_among : (headers : ℕ) → List (List ℕ) → SearchScope → BoundObjects
 bound_among headers files among = bound_of headers files among.indexes.now among.known.now
 
--- an object is unchanged, except how many bytes were read from it; and each of some
+-- an object is unchanged, except how many bytes were requested from it; and each of some
 pub record SameObject (old new : LookupObjectState) : Type 0 where
   pub same_file : new.src.seen.file ≡ old.src.seen.file
   pub same_headers : new.headers ≡ old.headers
@@ -39,14 +39,14 @@ pub record SameObjects (old new : List LookupObjectState) : Type 0 where
   pub same_length : length new ≡ length old
   pub each : (k : ℕ) (d : LookupObjectState) → k < length old → SameObject (get_or old k d) (get_or new k d)
 
--- WHAT WAS READ FROM OBJECTS, for any sources: what is left of the budget decreases by what was
--- read from all of them
+-- WHAT WAS REQUESTED FROM OBJECTS, for any sources: what is left of the budget decreases by what
+-- was requested from all of them
 pub record AsksAll (old new : List LookupObjectState) (left_old left_new : Option ℕ) : Type 0 where
   pub objects : SameObjects old new
   pub pays : SpendsBudget left_old left_new (asked_of_all old) (asked_of_all new)
 
--- a budget is exhausted at an offset of a file: what is left of it, after what was read from the
--- file, is fewer than 4,096 bytes
+-- a budget is exhausted at an offset of a file: what is left of it, counted from what was requested
+-- from the file, is fewer than 4,096 bytes
 pub record UsesUp (object : LookupObjectState) (left : Option ℕ) (refusal : Refusal) : Type 0 where
   pub inside : refusal.at < object.src.seen.size
   pub bytes : ℕ

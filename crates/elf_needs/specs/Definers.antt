@@ -38,8 +38,8 @@ pub record DefinesAfter (wanted : SymbolQuery) (few before : ℕ) (looked : Defi
   pub within : before + spent ≤ few + definition_cost wanted looked
   pub tells : ReturnsDefiner looked result
 
--- the effect of a call that continues it: it read at most n bytes, and if the file is known, and
--- the lookup tables, it does what is left
+-- the effect of a call that continues it: it requested at most n bytes, and if the file is known,
+-- and the lookup tables, it does what is left
 abbrev pub DefinesOn : CountedState → CountedState → LookupTables → SymbolQuery → Result (Option ℕ) Fault → (few n : ℕ) → (List ℕ → IsScopeOf → (ℕ → DefinerLookup → Type 0) → Type 0) → Type 0
 DefinesOn old new scope wanted result few n KeepsSourceUnlimited =
     CallDid old new (fault_of_result result) n

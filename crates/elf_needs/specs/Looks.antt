@@ -10,7 +10,7 @@ use Rattle.elf_needs.specs.Definers.{ReturnsDefiner}
 use Rattle.elf_needs.specs.Kept.{LookupObjectState}
 use Rattle.elf_needs.specs.Ready.{ready_bytes}
 
--- what is left of a budget decreases by what is read
+-- what is left of a budget decreases by what is requested
 abbrev pub SpendsBudget : (left_old left_new : Option ℕ) → (asked_old asked_new : ℕ) → Type 0
 SpendsBudget None None asked_old asked_new = Unit {0}
 SpendsBudget (Some left_old) (Some left_new) asked_old asked_new = left_new + asked_new ≡ left_old + asked_old
@@ -30,8 +30,8 @@ abbrev pub FaultLeaves : CountedState → CountedState → Option ℕ → ℕ �
 FaultLeaves old new left n (Refused refusal) = IsBudgetRefusal refusal → (refusal.at < old.seen.size) × OverLeft old new left n × (refusal.at ≡ new.stopped)
 FaultLeaves old new left n (Source fault at) = IsSourceFault old.seen new.seen fault × (at ≡ new.stopped)
 
--- WHAT A CALL WITH THIS MUCH LEFT OF A BUDGET COSTS, for any source: it read at most n bytes, it
--- kept the source, it leaves no limit, and if it stopped the fault satisfies `FaultLeaves`
+-- WHAT A CALL WITH THIS MUCH LEFT OF A BUDGET COSTS, for any source: it requested at most n bytes,
+-- it kept the source, it leaves no limit, and if it stopped the fault satisfies `FaultLeaves`
 pub record SpendsAtMost (old new : CountedState) (left : Option ℕ) (stop : Option Fault) (n : ℕ) : Type 0 where
   pub keeps : KeepsSource old.seen new.seen
   pub view : SameView old new

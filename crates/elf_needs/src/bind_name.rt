@@ -34,9 +34,9 @@ pub struct BindFault {
 /// Looks up a name in files in order, and returns the first file that defines it.
 ///
 /// In that file a symbol with the name is exported ([`elf_loader::is_exported`]), is not undefined,
-/// and its version matches. Reads at most what is left of the budget, if there is one, from all of
-/// them together; what was read is subtracted. The files after the one that defines the name are
-/// not read.
+/// and its version matches. Requests at most the bytes left of the budget, if there is one, from
+/// all of them together; those requested are subtracted. The files after the one that defines the
+/// name are not read.
 ///
 /// # Errors
 /// That of the first file in which the lookup fails, as [`elf_loader::look_up`] has it after

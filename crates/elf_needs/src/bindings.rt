@@ -25,7 +25,7 @@ impl<W: Sink> DependencyWalk<'_, '_, W> {
     /// the name among its defined symbols.
     ///
     /// Returns the exit status: 1 also if one is missing, or a lookup is refused. A fault of an
-    /// object's own symbol, name or version ends its lines. Reads at most what is left of the
+    /// object's own symbol, name or version ends its lines. Requests at most the bytes left of the
     /// budget from all files together.
     ///
     /// # Errors

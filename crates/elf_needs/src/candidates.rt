@@ -14,8 +14,8 @@ use std::{fs, str};
 pub(crate) type FileSource<F> = StreamSource<FileReader<F>>;
 
 /// Opens the file at a path, if it is a regular one that can be opened, 64-bit, little-endian and
-/// for this machine. Reads at most what is left of the budget, if there is one; what was read is
-/// subtracted. A file that is skipped is closed.
+/// for this machine. Requests at most the bytes left of the budget, if there is one; those
+/// requested are subtracted. A file that is skipped is closed.
 ///
 /// # Errors
 /// A read failed.
@@ -43,8 +43,8 @@ where
     }
 }
 
-/// Checks whether a file is 64-bit, little-endian and for this machine. Reads at most what is left
-/// of the budget, if there is one; what was read is subtracted.
+/// Checks whether a file is 64-bit, little-endian and for this machine. Requests at most the bytes
+/// left of the budget, if there is one; those requested are subtracted.
 ///
 /// # Errors
 /// A read failed.

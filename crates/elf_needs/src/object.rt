@@ -73,8 +73,9 @@ impl<S: Source> LookupObject<S> {
     /// Reads once what its lookups have in common: the counts of the hash table, and whether the
     /// records of versions have no fault.
     ///
-    /// What is refused or fails is skipped, and each lookup reports it. Reads at most what is left
-    /// of the budget, if there is one; what was read is subtracted. On return no limit is set.
+    /// What is refused or fails is skipped, and each lookup reports it. Requests at most the bytes
+    /// left of the budget, if there is one; those requested are subtracted. On return no limit is
+    /// set.
     pub fn prepare(&mut self, left: &mut Option<u64>)
         ensures { Prepares self.old self.new left.old left.new }
     {
@@ -93,8 +94,8 @@ impl<S: Source> LookupObject<S> {
         self.source.asked()
     }
 
-    /// Looks up the symbol that defines a name. Reads at most what is left of the budget, if there
-    /// is one; what was read is subtracted. On return no limit is set.
+    /// Looks up the symbol that defines a name. Requests at most the bytes left of the budget, if
+    /// there is one; those requested are subtracted. On return no limit is set.
     ///
     /// # Errors
     /// Those of [`find_definer`].
@@ -117,8 +118,8 @@ impl<S: Source> LookupObject<S> {
     /// Returns the number of its symbols, by its hash table, of those that there is room for: the
     /// first is none (gABI 4, Symbol Table).
     ///
-    /// Reads at most what is left of the budget, if there is one; what was read is subtracted. On
-    /// return no limit is set.
+    /// Requests at most the bytes left of the budget, if there is one; those requested are
+    /// subtracted. On return no limit is set.
     ///
     /// # Errors
     /// Those of [`hashed_symbols`].
@@ -137,8 +138,8 @@ impl<S: Source> LookupObject<S> {
     /// needs, into `version`.
     ///
     /// Returns `None` if it references nothing, and after the last symbol that there is room for.
-    /// Reads at most what is left of the budget, if there is one; what was read is subtracted. On
-    /// return no limit is set.
+    /// Requests at most the bytes left of the budget, if there is one; those requested are
+    /// subtracted. On return no limit is set.
     ///
     /// # Errors
     /// Those of [`reference_symbol`].
@@ -161,8 +162,8 @@ impl<S: Source> LookupObject<S> {
 
     /// Reads the name of the needed file whose record is returned by [`LookupObject::sought`].
     ///
-    /// Reads at most what is left of the budget, if there is one; what was read is subtracted. On
-    /// return no limit is set.
+    /// Requests at most the bytes left of the budget, if there is one; those requested are
+    /// subtracted. On return no limit is set.
     ///
     /// # Errors
     /// - Those of the name, at the record: `NameOutside`, `NameUnended`, and `TooLong` if it has
@@ -189,8 +190,8 @@ impl<S: Source> LookupObject<S> {
 
     /// Checks whether it defines versions, and none with a name of at most 4,096 bytes.
     ///
-    /// Reads at most what is left of the budget, if there is one; what was read is subtracted. On
-    /// return no limit is set.
+    /// Requests at most the bytes left of the budget, if there is one; those requested are
+    /// subtracted. On return no limit is set.
     ///
     /// # Errors
     /// The first record of its definitions that is refused, or whose name has a fault, at the

@@ -52,9 +52,9 @@ impl<S: Source + Drop> OpenObjects<CachedSource<S>> {
     /// Keeps the file of the object with an index open, if there is room for it and it has a hash
     /// table.
     ///
-    /// Lookups in it use its program headers, as a loader's do, ignoring its section headers. Reads
-    /// at most what is left of the budget, if there is one; what was read is subtracted. Without a
-    /// budget it is read by whole pages.
+    /// Lookups in it use its program headers, as a loader's do, ignoring its section headers.
+    /// Requests at most the bytes left of the budget, if there is one; those requested are
+    /// subtracted. Without a budget it is read by whole pages.
     ///
     /// # Errors
     /// Those of [`LookupObject::open`] except `NoHash`.

@@ -34,7 +34,7 @@ pub(crate) struct Search<'s> {
     pub machine: u16,
     /// The path that is tried.
     pub path: CandidatePath,
-    /// What is left of the budget, and what was read.
+    /// What is left of the budget, and what was requested.
     pub account: ReadAccount,
 }
 

@@ -130,7 +130,7 @@ impl<W: Sink> DependencyWalk<'_, '_, W> {
     /// object in order each library that it needs and that is not one of those before.
     ///
     /// A line for each. Returns the exit status, 1 if one is missing or refused, or there are more
-    /// than 512, and whether all are listed. Reads at most the budget, if there is one, from all
+    /// than 512, and whether all are listed. Requests at most the budget, if there is one, from all
     /// files together. `path` is the program's as it is shown, and the directory of `real` replaces
     /// `$ORIGIN`. The files of those that are found are kept open, as far as there is room for
     /// them.
@@ -301,7 +301,7 @@ impl<W: Sink> DependencyWalk<'_, '_, W> {
         .map_err(NeedsFault::Out)
     }
 
-    /// Reads what a file needs. What was read from it is subtracted from the budget. It is not
+    /// Reads what a file needs. What was requested from it is subtracted from the budget. It is not
     /// inlined: the stack of its callers would hold its buffers twice.
     #[inline(never)]
     fn read<S: Source>(&mut self, file: &mut ObjectFile<S>) -> Result<ObjectReport, NeedsFault>

@@ -21,8 +21,8 @@ pub record AsksUpTo (budget : Option ℕ) (old new : CountedState) (n : ℕ) : T
   pub within : IfSome budget (λ bytes. new.asked ≤ old.asked + bytes)
 
 -- THE EFFECT OF A TASK. For any source: what was written is kept, the source is kept and no limit
--- is left, a fault says what happened, and this is read. If the file is known: it writes this of
--- it, and reads at most what this costs
+-- is left, a fault says what happened, and this is requested. If the file is known: it writes this
+-- of it, and requests at most what this costs
 pub record Runs (old new : CountedState) (before after : OutState) (result : Result ℕ RunFault) (CountsRead : Type 0) (costs : List ℕ → ℕ) (Gives : List ℕ → Type 0) : Type 0 where
   pub grows : OutGrows before after
   pub leaves : KeepsSourceUnlimited old new

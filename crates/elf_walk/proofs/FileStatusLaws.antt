@@ -80,7 +80,7 @@ pub refused_read : (a b : CountedState) (t : Bool) (refusal : Refusal) (found : 
 refused_read a b true refusal found is = rw is tt
 refused_read a b false refusal found is = rw is tt
 
--- what the check of a short file may read, and of one large enough for a file header
+-- what the check of a short file may request, and of one large enough for a file header
 pub cost_short : (file : List ℕ) (headers : ℕ) (style : ListingStyle) (parts : ℕ) → length file < 64 → check_cost file headers style parts ≡ 4
 cost_short file headers style parts short = let few : nat_lt (length file) 64 ≡ true = grind (arith, nat_tests) in rw few refl
 

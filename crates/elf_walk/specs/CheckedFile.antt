@@ -14,7 +14,7 @@ abbrev pub FindsState : Caps → ℕ → List ℕ → FileStatus → Type 0
 FindsState caps parts file state.Unread = ⊤
 FindsState caps parts file found = IsStateOf caps.limits.budget file caps.limits.headers (style_of caps.style) parts found
 
--- what a file's check may read: of one that is too short for a file header its first bytes
+-- what a file's check may request: of one that is too short for a file header its first bytes
 abbrev pub check_cost : List ℕ → ℕ → ListingStyle → ℕ → ℕ
 check_cost file headers style parts =
     if nat_lt (length file) FILE_HEADER_SIZE then ELF_MAGIC_SIZE else listing_cost file headers style parts
@@ -23,14 +23,15 @@ check_cost file headers style parts =
 abbrev pub check_ceiling : (size headers : ℕ) → ListingStyle → ℕ
 check_ceiling size headers style = if nat_lt size FILE_HEADER_SIZE then ELF_MAGIC_SIZE else style_ceiling size headers style
 
--- what is read: at most a ceiling, and at most the budget
+-- what is requested: at most a ceiling, and at most the budget
 pub record AsksNoMore (most : ℕ) (allowed : Option ℕ) (old new : CountedState) : Type 0 where
   pub ceiling : new.asked ≤ old.asked + most
   pub budget : IfSome allowed (λ bytes. new.asked ≤ old.asked + bytes)
 
 -- THE EFFECT OF THE CHECK OF A FILE. For any source: the store has as many slots, the source is
 -- kept and no limit is left, the file is unread only if a read failed, and at most the ceiling and
--- the budget are read. If the file is known: the state that was found, and what that may read
+-- the budget are requested. If the file is known: the state that was found, and what that may
+-- request
 pub record ChecksFile (headers now : ℕ) (caps : Caps) (parts : ℕ) (old new : CountedState) (found : FileStatus) (finds : Caps → ℕ → List ℕ → FileStatus → Type 0) (costs : List ℕ → ℕ → ListingStyle → ℕ → ℕ) (most : ℕ → ℕ → ListingStyle → ℕ) : Type 0 where
   pub slots : now ≡ headers
   pub leaves : KeepsSourceUnlimited old new

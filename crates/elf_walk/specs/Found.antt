@@ -27,7 +27,7 @@ abbrev pub FindsWithin : Option ℕ → (headers : ℕ) → List ℕ → Result 
 FindsWithin budget headers file (Err state.Unread) = ⊤
 FindsWithin budget headers file found = IsFoundWithin budget headers file found
 
--- what a file's traits may read: of one that is too short for a file header its first bytes
+-- what a file's traits may request: of one that is too short for a file header its first bytes
 abbrev pub file_traits_cost : List ℕ → (headers : ℕ) → ℕ
 file_traits_cost file headers = if nat_lt (length file) FILE_HEADER_SIZE then ELF_MAGIC_SIZE else traits_cost file headers
 

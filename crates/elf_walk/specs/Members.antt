@@ -42,7 +42,7 @@ abbrev pub FindsSorted : Caps → ℕ → List ℕ → FileStatus → Type 0
 FindsSorted caps parts file state.Unread = ⊤
 FindsSorted caps parts file found = FindsSortedState caps parts file found
 
--- what such a check may read: the magic bytes, and what its type costs
+-- what such a check may request: the magic bytes, and what its type costs
 abbrev pub cost_by : FileMagic → List ℕ → ℕ → ListingStyle → ℕ → ℕ
 cost_by sort.Elf file headers style parts = check_cost file headers style parts
 cost_by sort.Archive file headers style parts = archive_cost file headers style parts

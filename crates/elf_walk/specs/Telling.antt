@@ -60,7 +60,7 @@ pub record ReturnsUnopenedFile {A X : Type 0} (path : List ℕ) (result : Result
   pub unopened : (state ≡ Unread) ⊎ (state ≡ Memory)
   pub tells : ReturnsLine state path result old new
 
--- one that is opened is reported by its source, from which nothing was read before
+-- one that is opened is reported by its source, from which nothing was requested before
 pub record ReturnsOpenFile {A X : Type 0} (tells : CountedState → CountedState → OutState → OutState → Result ℕ OutFault → Type 0) (result : Result X OutFault) (old new : Tally A) : Type 0 where
   pub before : CountedState
   pub after : CountedState

@@ -16,7 +16,7 @@ abbrev pub Finds : (members : Bool) → Caps → ℕ → List ℕ → FileStatus
 Finds true = FindsSorted
 Finds false = FindsState
 
--- what its check may read
+-- what its check may request
 abbrev pub cost_of_check : (members : Bool) → Caps → List ℕ → ℕ → ListingStyle → ℕ → ℕ
 cost_of_check true caps file headers style parts = sorted_cost caps file headers style parts
 cost_of_check false caps file headers style parts = check_cost file headers style parts
@@ -28,7 +28,8 @@ ceiling_of_check false = check_ceiling
 
 -- THE CHECK of a file among many, by its source and the output before and after: the line of the
 -- state that its own listing has if the file is known, unread only if a read failed, and the status
--- that this requires; at most the listing's cost, and the budget of a file, is read from the source
+-- that this requires; at most the listing's cost, and the budget of a file, is requested from the
+-- source
 pub record ReturnsState (members : Bool) (caps : Caps) (parts : ℕ) (path : List ℕ) (before after : CountedState) (old new : OutState) (answer : Result ℕ OutFault) : Type 0 where
   pub state : FileStatus
   pub found : (file : List ℕ) → before.seen.file ≡ Some file → Finds members caps parts file state

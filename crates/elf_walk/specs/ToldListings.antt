@@ -63,7 +63,7 @@ kind_ceiling (Some kind) rule size = sort_ceiling kind size rule.caps.limits.hea
 
 -- THE LISTING of a file among many, by its source and the output before and after: what its own
 -- bytes give, independently of the files before it; unread only if a read failed; at most the magic
--- bytes and the listing's cost, and the budget of a file, is read from the source
+-- bytes and the listing's cost, and the budget of a file, is requested from the source
 pub record ReturnsListing (rule : ListOptions) (path : List ℕ) (before after : CountedState) (old new : OutState) (answer : Result ℕ OutFault) : Type 0 where
   pub kind : Option FileMagic
   pub finds : (file : List ℕ) → before.seen.file ≡ Some file → IfSome kind (λ found. found ≡ file_magic rule.members rule.caps.limits.budget file)

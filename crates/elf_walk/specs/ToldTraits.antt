@@ -30,7 +30,7 @@ PutsFound format required path (Err found) old new answer = PutsWith (check_line
 -- THE TRAITS of a file among many, by its source and the output before and after: the line of those
 -- that it has, by its own bytes if the file is known, and that of what it lacks; nothing for a file
 -- of another type; otherwise the line of its state, unread only if a read failed; at most what the
--- traits cost, and the budget of a file, is read from the source
+-- traits cost, and the budget of a file, is requested from the source
 pub record ReturnsTraits (rule : TraitOptions) (path : List ℕ) (before after : CountedState) (old new : OutState) (answer : Result ℕ OutFault) : Type 0 where
   pub found : Result Hardening FileStatus
   pub finds : (file : List ℕ) → before.seen.file ≡ Some file → FindsWithin rule.limits.budget rule.limits.headers file found

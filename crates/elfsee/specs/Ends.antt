@@ -26,9 +26,9 @@ EndsWithoutMemory status line = (status ≡ 3) × (line ≡ codes "elfsee: out o
 abbrev pub EndsWithoutFile : ℕ → List ℕ → Type 0
 EndsWithoutFile status line = (status ≡ 3) × ((line ≡ codes "elfsee: cannot open") ⊎ (line ≡ codes "elfsee: read fault"))
 
--- A RUN ENDS THE PROGRAM: over a source from which nothing was read, and an output, it did what is
--- requested; by its result, and by whether the output failed, the program ends; and the rest of the
--- output was written, as far as its writer took it
+-- A RUN ENDS THE PROGRAM: over a source from which nothing was requested, and an output, it did
+-- what is requested; by its result, and by whether the output failed, the program ends; and the
+-- rest of the output was written, as far as its writer took it
 pub record EndsRunOver {W A : Type 0} (contents : W → Option (List ℕ)) (does : CountedState → CountedState → OutState → OutState → Result ℕ RunFault → Type 0) (seen : SourceState)
     (output : BufWriter W A) (status : ℕ) (line : List ℕ) (sink : Writing W) : Type 0 where
   pub old : CountedState

@@ -23,8 +23,8 @@ lack_in file _ refusal = None
 abbrev pub budget_rest : Option ℕ → ℕ → Option ℕ
 budget_rest budget asked = option_map (λ bytes. bytes - asked) budget
 
--- WHAT IS READ besides what was read before: at most n bytes, and within what is left of the budget
--- for all of it
+-- WHAT IS REQUESTED besides what was requested before: at most n bytes, and within what is left of
+-- the budget for all of it
 pub record AsksRest (budget : Option ℕ) (old new : CountedState) (n : ℕ) : Type 0 where
   pub most : new.asked ≤ old.asked + n
   pub within : IfSome budget (λ bytes. new.asked ≤ max old.asked bytes)

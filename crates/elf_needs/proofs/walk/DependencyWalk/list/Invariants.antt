@@ -1,4 +1,4 @@
--- What is left of the budget decreases by at least what was read from the files of the objects
+-- What is left of the budget decreases by at least what was requested from the files of the objects
 -- before this one.
 use Rattle.elf_needs.specs.Budget.{AsksFiles}
 use Rattle.elf_needs.proofs.walk.DependencyWalk.list.Given as goal
