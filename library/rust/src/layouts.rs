@@ -59,8 +59,8 @@ impl Ord for NameAddress<'_> {
     }
 }
 
-/// Addresses for [`File::apply_lent`](crate::File::apply_lent), any number of them: each list in ascending order, sections
-/// by their indexes and names by their bytes, without duplicates. `sort` puts a list into that order.
+/// Addresses for [`File::apply_lent`](crate::File::apply_lent), any number of them: each list in ascending order,
+/// sections by their indexes and names by their bytes, without duplicates. `sort` puts a list into that order.
 #[derive(Clone, Copy, Debug, Default)]
 pub struct Layout<'n> {
     /// The addresses of sections.

@@ -59,8 +59,8 @@ fetched!(raw::Relocation, raw::elfsee_next_relocations, raw::elfsee_next_relocat
 fetched!(raw::Dynamic, raw::elfsee_next_dynamic, raw::elfsee_next_dynamic_within);
 fetched!(raw::VersionWord, raw::elfsee_next_version_words, raw::elfsee_next_version_words_within);
 
-/// An iterator over the rows of a table of symbols, relocation entries, dynamic entries or versions. Its rows are numbers,
-/// and do not borrow from it; [`Rows::names`] and [`Rows::named`] have their names.
+/// An iterator over the rows of a table of symbols, relocation entries, dynamic entries or versions. Its rows are
+/// numbers, and do not borrow from it; [`Rows::names`] and [`Rows::named`] have their names.
 #[derive(Clone, Debug)]
 pub struct Rows<'a, R> {
     file: &'a [u8],
