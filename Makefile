@@ -10,7 +10,7 @@
 #                         man page, a file for pkg-config and the module for Python
 #   make uninstall        takes all of them away
 #
-# PREFIX (/usr/local) is where they go, DESTDIR what stands before that for packages. The other
+# PREFIX (/usr/local) is where they go, DESTDIR what is before that for packages. The other
 # variables are those of the GNU coding standards.
 
 SHELL = /bin/sh

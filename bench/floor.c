@@ -38,7 +38,7 @@ static inline char *word(char *put, const char *name, int width) {
     return put + width + 1;
 }
 
-/* A name as it is spelt, and the line's end. */
+/* A name as it is escaped, and the line's end. */
 static inline char *name_of(char *put, const char *name) {
     for (; *name; name++)
         if (plain[(unsigned char)*name]) *put++ = *name;

@@ -3,7 +3,7 @@
 
     bench/made_hostile.py FOLDER
 
-makes them in a folder and prints the name and the description of each. All are ELF64,
+makes them in a directory and prints the name and the description of each. All are ELF64,
 little-endian; the same bytes come each time. Together they take some 80 MB of disk; one has a
 length of 64 GB and takes no room, where the file system can. Those of the last two sorts are made for
 a lookup, and for a section that is written with its relocations applied.
@@ -28,14 +28,14 @@ PT_LOAD, PT_DYNAMIC = 1, 2
 DT_NULL, DT_NEEDED, DT_STRTAB, DT_STRSZ = 0, 1, 5, 10
 GLOBAL_FUNCTION = 0x12
 ABSOLUTE = 0xFFF1
-# What is behind the file header begins here.
+# What is after the file header begins here.
 FIRST = FILE_HEADER.size
 MANY = 65000
 MORE_HEADERS = ("--headers", "65279")
 
 # A file: its name, what is in it, the options that elfsee gets beside its usual ones, its pieces by
 # their offsets, and its length where it is longer than they are; and what elfsee is to do with it,
-# with the words that come behind the file.
+# with the words that come after the file.
 Hostile = collections.namedtuple("Hostile", "name says options pieces length command words",
                                  defaults=("show", ()))
 
@@ -58,7 +58,7 @@ def symbol(name=1, value=0, index=ABSOLUTE):
 
 
 def named(rows):
-    """Symbol 0, and rows - 1 symbols behind it that share a name."""
+    """Symbol 0, and rows - 1 symbols after it that share a name."""
     return bytes(SYMBOL.size) + symbol() * (rows - 1)
 
 
@@ -67,8 +67,8 @@ def padded(content):
 
 
 def file(name, says, contents, sections, options=(), length=0, **fields):
-    """A file with contents behind the file header, and section headers behind those. `sections`
-    gives the section headers behind section 0, by the offsets of the contents."""
+    """A file with contents after the file header, and section headers after those. `sections`
+    gives the section headers after section 0, by the offsets of the contents."""
     places, at = [], FIRST
     for content in contents:
         places.append(at)

@@ -41,7 +41,7 @@ static uint8_t *read_file(const char *path, size_t *len) {
     return NULL;
 }
 
-/* Says why a library is refused: the cause and the offset in the file that is at fault. */
+/* Says why a library is refused: the cause and the offset in the file that is malformed. */
 static int refuse(const char *path, const struct elfsee_end *end) {
     uint8_t word[32];
     int len = (int)elfsee_cause_word(end->cause, word, sizeof word);

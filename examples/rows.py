@@ -6,7 +6,7 @@ the columns; tests/format runs this module."""
 import re
 
 # Fields by their kinds and widths: d decimal, x hexadecimal, a addend, t text, n name,
-# c descriptor. A comma behind a width: the field grows.
+# c descriptor. A comma after a width: the field grows.
 FORMS = {"H": "t4 d5 x16 x16 x16 x8 d5 d5 d5",
          "S": "d5 t13 t12 x16 x16 x16 x8 x8 n",
          "P": "d5 t8 t3 x16 x16 x16 x16 x16 x16",
@@ -75,7 +75,7 @@ def checked_of(line):
 
 def rows(lines):
     """The rows of a listing, or of `check`: of each line its letter and its fields. Lines of an unknown
-    letter are passed over, as a later version may have them."""
+    letter are skipped, as a later version may have them."""
     for line in lines:
         letter, line = line[:1].decode(), line.removesuffix(b"\n")
         if letter == "C":

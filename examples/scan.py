@@ -1,11 +1,11 @@
 #!/usr/bin/env python3
-"""Draws what a check of many files found: how many of them are at fault, and why.
+"""Draws what a check of many files found: how many of them are malformed, and why.
 
     elfsee check FOLDER.. | examples/scan.py PICTURE.svg
 
 It reads the lines of `elfsee check`, prints a row with a number for each state and for each cause, and draws the
 same as bars. The length of a bar is by the logarithm of its number, so that one file is seen beside thousands.
-What is no such line is passed over. It wants Python 3 and nothing else; docs/SCANNED.md has what it drew."""
+What is no such line is skipped. It needs Python 3 and nothing else; docs/SCANNED.md has what it drew."""
 
 import math
 import re

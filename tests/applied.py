@@ -6,7 +6,7 @@ import struct
 SYMBOL_TABLES, STRTAB, RELA, NO_BYTES, COMPRESSED = (2, 11), 3, 4, (0, 8), 0x800
 # The types of symbols from the first on that is specific to a system, and the one of those that names an indirect function.
 OF_SYSTEM, INDIRECT = 10, 10
-# Of each type that is applied: its bytes, what stands in its formula, and between what bounds a value fits. G is the
+# Of each type that is applied: its bytes, what is in its formula, and between what bounds a value fits. G is the
 # address of the symbol's entry in the global offset table, T that of the entry of its offset from the thread pointer.
 SIGNED = (-2 ** 31, 2 ** 31)
 TYPES = {
@@ -55,7 +55,7 @@ class Header:
 
 
 def load(content, most):
-    """The section headers of a file, in which so many are permitted."""
+    """The section headers of a file, in which so many are allowed."""
     length = len(content)
     refuse_where(length < 64, length, "short")
     for at, wanted, cause in IDENT:
@@ -188,7 +188,7 @@ class Section:
 
 
 def answer(content, words, most=65279):
-    """The status and the bytes for a section and items: `words` are those behind FILE."""
+    """The status and the bytes for a section and items: `words` are those after FILE."""
     try:
         return 0, applied(bytes(content), int(words[0]), Layout(words[1:]), most)
     except Refused as refusal:

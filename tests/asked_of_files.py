@@ -77,7 +77,7 @@ def entries_for(data, headers, section):
 
 
 def sections_to_apply(data):
-    """Of a relocatable file each section that has relocation entries, with the words behind FILE that
+    """Of a relocatable file each section that has relocation entries, with the words after FILE that
     write it: its index, and an address for what its entries name, as far as a layout goes."""
     if struct.unpack_from("<H", data, 16)[0] != 1:
         return []

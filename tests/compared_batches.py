@@ -44,7 +44,7 @@ def elf_files(most, largest):
 
 
 class Comparison:
-    """Counts the files of which the program says what the rules do; a file of which it does not is kept in a folder, where one
+    """Counts the files of which the program says what the rules do; a file of which it does not is kept in a directory, where one
     is given."""
 
     def __init__(self, program, kept=None):
@@ -73,7 +73,7 @@ class Comparison:
         return False
 
     def compare_batch(self, what, words, contents, told):
-        """Compares what a command says of a folder of files; `told` says of a path and its bytes the text and the status.
+        """Compares what a command says of a directory of files; `told` says of a path and its bytes the text and the status.
         Where they differ each file is compared alone."""
         with tempfile.TemporaryDirectory() as folder:
             paths = [os.fsencode(os.path.join(folder, "%05d" % number)) for number in range(len(contents))]

@@ -117,7 +117,7 @@ class Traits:
     # Symbols.
 
     def of_symbols(self, symbols, count, strings):
-        """What the names of the symbols behind the first tell."""
+        """What the names of the symbols after the first tell."""
         canary, fortify = "-", "-"
         for index in range(1, count):
             at = symbols.offset + 24 * index

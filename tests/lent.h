@@ -1,4 +1,4 @@
-/* Memory to lend to a call: it ends at a page that cannot be touched, or begins behind one, and what is left
+/* Memory to lend to a call: it ends at a page that cannot be touched, or begins after one, and what is left
  * of its first or last page is marked. */
 #ifndef LENT_H
 #define LENT_H
@@ -17,7 +17,7 @@ struct lent {
     size_t inner_len;
 };
 
-/* So many bytes, which begin right behind a page that cannot be touched, or end right before one. */
+/* So many bytes, which begin right after a page that cannot be touched, or end right before one. */
 static inline struct lent lend(size_t len, int at_front) {
     size_t inner_len = len ? (len + PAGE - 1) / PAGE * PAGE : PAGE;
     uint8_t *pages = (uint8_t *)mmap(0, inner_len + 2 * PAGE, PROT_NONE,

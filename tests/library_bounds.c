@@ -80,7 +80,7 @@ static int is_zero(const void *bytes, size_t len) {
 }
 
 /* ------------------------------------------------------------------------- */
-/* The calls, over the object or the library where nothing else is said. */
+/* The calls, over the object or the library unless something else is said. */
 
 static uint32_t show(struct elfsee_limits limits, size_t room_len, size_t out_len, struct elfsee_end *end) {
     *end = ODD;
@@ -511,7 +511,7 @@ static void loader_names(void) {
 static struct elfsee_item items[ITEMS];
 static uint8_t item_names[ITEMS][4];
 
-/* So many items of one kind, all different, behind others. */
+/* So many items of one kind, all different, after others. */
 static size_t add(size_t at, uint32_t kind, unsigned count) {
     unsigned i;
     for (i = 0; i < count; i += 1, at += 1) {
@@ -796,7 +796,7 @@ static struct elfsee_rows any_rows(size_t len) {
     return rows;
 }
 
-/* Whether rows that were read lie in the file, right behind one another. */
+/* Whether rows that were read lie in the file, right after one another. */
 static int lie_inside(const struct elfsee_rows *old, const struct elfsee_rows *now, size_t count,
                       unsigned size, size_t len) {
     if (count == 0) return 1;
@@ -911,7 +911,7 @@ static int any_records(void) {
                                                                    end.cause == ELFSEE_BAD_VERSION));
 }
 
-/* Notes from any place on: each lies in the file behind the one before, until they end or are cut. */
+/* Notes from any place on: each lies in the file after the one before, until they end or are cut. */
 static int any_notes(void) {
     struct elfsee_notes notes = {any(library.len), any(library.len), next() % 10, 7, 7}, old = notes;
     struct elfsee_note note;
@@ -949,7 +949,7 @@ static int any_name(void) {
 
 static struct lent archive; /* made of the two files */
 
-/* A member behind those so far: its header, its data and the byte behind them where it is due. */
+/* A member after those so far: its header, its data and the byte after them where it is due. */
 static size_t add_member(uint8_t *bytes, size_t at, const char *name, const uint8_t *content, size_t len) {
     char header[61];
     snprintf(header, sizeof header, "%-48s%-10zu`\n", name, len);

@@ -32,7 +32,7 @@
 
 enum { MOST_ITEMS = 2000, HEADER_BYTES = 64 };
 
-static unsigned turn; /* lent memory lies at the page behind it and at that before it by turns */
+static unsigned turn; /* lent memory lies at the page after it and at that before it by turns */
 
 static void wrong(const char *what) {
     printf("WRONG %s\n", what);
@@ -124,7 +124,7 @@ static void show_again(const struct lent *file, const struct elfsee_limits *limi
     take_back(&again.out);
 }
 
-/* The listing in a style. Behind the struct there are zeros, as many as the turn says, as of a later version's
+/* The listing in a style. After the struct there are zeros, as many as the turn says, as of a later version's
  * fields: they must not matter. */
 static struct shown list_into(const struct lent *file, const struct elfsee_limits *limits,
                               const struct elfsee_listing *asked, size_t room_len, size_t out_len) {
@@ -315,7 +315,7 @@ static void resolve(const struct lent *file, char **words) {
     take_back(&version);
 }
 
-/* Items of their words; the names stand in `names`, one behind the other. */
+/* Items of their words; the names stand in `names`, consecutive. */
 static size_t items_of(char *words, struct elfsee_item *items, uint8_t *names) {
     size_t count = 0;
     char *rest, *word = *words == '-' ? 0 : strtok_r(words, ",", &rest);
@@ -486,7 +486,7 @@ static void say(struct walk *walk, const char *form, ...) {
     va_end(words);
 }
 
-/* The bytes of a name, spelt as in a listing. */
+/* The bytes of a name, escaped as in a listing. */
 static void say_bytes(struct walk *walk, uint64_t at, uint64_t len) {
     uint64_t i, shown = len < walk->limits.name ? len : walk->limits.name;
     for (i = 0; i < shown; i += 1) {
@@ -1020,7 +1020,7 @@ static void words_of_causes(void) {
     answer(ELFSEE_OK, &none, elfsee_version(), text, len);
 }
 
-/* Splits a line into so many words and what is behind them. */
+/* Splits a line into so many words and what is after them. */
 static void split(char *line, char **words, size_t count) {
     while (count--) {
         *words++ = line;

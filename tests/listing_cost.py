@@ -1,4 +1,4 @@
-"""What the account of a listing permits it to ask of a file, in bytes, computed a second time from the rules: for the
+"""What the account of a listing allows it to ask of a file, in bytes, computed a second time from the rules: for the
 scripts beside this module."""
 
 import struct
@@ -38,7 +38,7 @@ def cost(content, wish):
         listing.content, listing.headers = content, load(content, wish.headers)
         headers = listing.headers
     except Refused:
-        # Checks behind the reading of section headers point at one of them.
+        # Checks after the reading of section headers point at one of them.
         return 64 + 64 * shnum * (shnum <= wish.headers and shoff + 64 * shnum <= len(content))
     asked = 64 + 64 * shnum
     if "sections" in wish.parts and names:

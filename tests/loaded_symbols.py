@@ -69,7 +69,7 @@ int main(int count, char **words)
 }
 """
 SECONDS = 60
-# The most headers that `elfsee find` permits where none are given.
+# The most headers that `elfsee find` allows where none are given.
 HEADERS = 4096
 # Copies without section headers are made of libraries that are no larger.
 COPIED_BYTES = 16 << 20

@@ -78,7 +78,7 @@ class Segment:
 
 
 def check_overlaps(segments):
-    """A LOAD segment that takes up memory begins behind the pages of the one before it."""
+    """A LOAD segment that takes up memory begins after the pages of the one before it."""
     taken = [segment for segment in segments if segment.type == LOAD and segment.memsz]
     for before, segment in zip(taken, taken[1:]):
         past = -(-(before.vaddr + before.memsz) // PAGE_BYTES)
@@ -406,7 +406,7 @@ class Lookup:
 
 
 def symbols_in(scope):
-    """Of a well-made file the name of each symbol behind the first that has one, with its index."""
+    """Of a well-made file the name of each symbol after the first that has one, with its index."""
     for index in range(1, scope.count):
         name, = struct.unpack_from("<I", scope.content, scope.symbols.offset + 24 * index)
         if name:

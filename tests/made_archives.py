@@ -16,7 +16,7 @@ def member(name, content):
 
 
 def bsd_member(name, content, nuls=0):
-    """A member with its name at the front of its data, and so many NULs behind it."""
+    """A member with its name at the front of its data, and so many NULs after it."""
     front = name + bytes(nuls)
     return member(b"#1/%d" % len(front), front + content)
 
@@ -106,7 +106,7 @@ class Fault(Exception):
 
 
 def name_of(field, content, table, cap):
-    """What is shown of a member's name, and the data behind it where it stands at their front."""
+    """What is shown of a member's name, and the data after it where it stands at their front."""
     bsd, long = re.fullmatch(rb"#1/([0-9]{1,13}) *", field), re.fullmatch(rb"/([0-9]{1,15}) *", field)
     if bsd:
         size = int(bsd[1])

@@ -16,7 +16,7 @@ WEAK, ASKED_BINDINGS = 2, (1, 2, 10)
 MOST_OBJECTS, TEXT_BYTES = 512, 4096
 # Texts of all objects together, and how many of them and of needs there are.
 ALL_TEXT_BYTES, ALL_TEXTS = MOST_OBJECTS * 8192, MOST_OBJECTS * 64
-# A token of RPATH and RUNPATH: its name in braces, or such that no further byte of a name stands behind it.
+# A token of RPATH and RUNPATH: its name in braces, or such that no further byte of a name stands after it.
 TOKEN = re.compile(rb"\$(?:\{(ORIGIN|LIB|PLATFORM)\}|(ORIGIN|LIB|PLATFORM)(?![0-9A-Za-z_]))")
 DEFAULT = "/lib/x86_64-linux-gnu:/usr/lib/x86_64-linux-gnu:/lib64:/usr/lib64:/lib:/usr/lib"
 
@@ -29,7 +29,7 @@ class OpenScope(Scope):
 
 
 class BySegments:
-    """A file as a loader sees it: what stands of section headers in its header counts as zeros."""
+    """A file as a loader sees it: what is of section headers in its header counts as zeros."""
 
     def __init__(self, content, most):
         hidden = bytearray(content)
@@ -143,7 +143,7 @@ class Known:
 
 
 class Program:
-    """A program with its objects, found in these folders."""
+    """A program with its objects, found in these directories."""
 
     def __init__(self, path, library=b"", default=DEFAULT.encode(), most=4096):
         self.library, self.default, self.most, self.texts = library, default, most, Texts()
@@ -323,7 +323,7 @@ def parts(text):
 
 
 def expanded(text, path):
-    """The folders of an RPATH or RUNPATH; one with an unknown `$` is passed over."""
+    """The directories of an RPATH or RUNPATH; one with an unknown `$` is skipped."""
     origin = os.path.dirname(os.fsencode(path)) or (b"/" if os.fsencode(path).startswith(b"/") else b".")
     values = {b"ORIGIN": origin, b"LIB": b"lib/x86_64-linux-gnu", b"PLATFORM": b"x86_64"}
     for folder in parts(text):

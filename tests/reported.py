@@ -23,7 +23,7 @@ PAGE = os.path.join(os.path.dirname(os.path.dirname(os.path.abspath(__file__))),
 
 
 def names_on_page():
-    """Of each field the names of its numbers: those of every listing, those of the GNU system, and those of it for x86-64."""
+    """Of each field the names of its numbers: those of every listing, those defined by GNU, and those of it for x86-64."""
     with open(PAGE, encoding="utf-8") as file:
         part = file.read().split("## Names of numbers")[1].split("\n## ")[0]
     fields = {}
@@ -345,7 +345,7 @@ class Listing:
 
 
 class Versions:
-    """What stands behind the names of a symbol table."""
+    """What stands after the names of a symbol table."""
 
     def __init__(self, listing, header):
         self.listing, self.header = listing, header
