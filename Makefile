@@ -1,16 +1,16 @@
-# Builds, tests and installs elfsee. It calls what is there: ./build, library/build, ./check, install and rm.
+# Builds, tests and installs elfsee. It calls ./build, library/build, ./check, install and rm.
 #
-#   make                  proves and builds the program, where it is not built
+#   make                  proves and builds the program, if it is not built
 #   make library          the same for the library
 #   make check            proves and tests everything
-#   make install          installs the program, its man page and its completions; and where the library
+#   make install          installs the program, its man page and its completions; and if the library
 #                         was built, that too
-#   make install-program  installs the program alone
-#   make install-library  builds the library where it is not built, and installs it with its header, its
+#   make install-program  installs only the program
+#   make install-library  builds the library if it is not built, and installs it with its header, its
 #                         man page, a file for pkg-config and the module for Python
-#   make uninstall        takes all of them away
+#   make uninstall        removes all of them
 #
-# PREFIX (/usr/local) is where they go, DESTDIR what is before that for packages. The other
+# PREFIX (/usr/local) is where they are installed, DESTDIR what is before that for packages. The other
 # variables are those of the GNU coding standards.
 
 SHELL = /bin/sh

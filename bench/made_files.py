@@ -3,7 +3,7 @@
 
     bench/made_files.py FOLDER [ROWS [SECTIONS]]
 
-makes them in a directory and prints the path of each. Each is a relocatable for x86-64, in ELF64,
+It makes them in a directory and prints the path of each. Each is a relocatable file for x86-64, in ELF64,
 little-endian; the same numbers give the same bytes.
 """
 

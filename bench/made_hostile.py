@@ -3,9 +3,9 @@
 
     bench/made_hostile.py FOLDER
 
-makes them in a directory and prints the name and the description of each. All are ELF64,
-little-endian; the same bytes come each time. Together they take some 80 MB of disk; one has a
-length of 64 GB and takes no room, where the file system can. Those of the last two sorts are made for
+It makes them in a directory and prints the name and the description of each. All are ELF64,
+little-endian; the bytes are the same each time. Together they take some 80 MB of disk; one has a
+length of 64 GB and takes no room, if the file system can do that. Those of the last two kinds are made for
 a lookup, and for a section that is written with its relocations applied.
 """
 

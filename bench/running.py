@@ -1,4 +1,4 @@
-"""Runs a program quietly, and tells its time, its peak memory and its system calls."""
+"""Runs a program quietly, and returns its time, its peak memory and its system calls."""
 
 import collections
 import ctypes

@@ -1,16 +1,16 @@
 #!/usr/bin/env python3
-"""Tells of each program and library in a directory how it is hardened, a line each.
+"""Prints how each program and library in a directory is hardened, one line each.
 
     examples/harden.py FOLDER
 
     /usr/bin/ls: relro full, bind now, stack plain, paths none, text fixed, missing none
 
-`relro` is full where the loader makes the whole of the linkage table read-only; `stack executable`
-and `text written` (relocations in code) are what one does not want; `missing` names the libraries that
-are needed and that are in no directory where the loader looks. Paths and names are escaped as elfsee spells
-names, so that none of them acts on a terminal. A file that is malformed, that cannot be read, or that has a name
-of more than 4,096 bytes is told with the cause, and the others go on; so is one that has more dynamic entries than
-a program has, or names more places than are worth a look. The exit status is 1 where there is such a file, or one
+`relro` is full if the loader makes the whole linkage table read-only; `stack executable`
+and `text written` (relocations in code) are undesirable; `missing` names the libraries that
+are needed and that are in no directory where the loader looks. Paths and names are escaped as elfsee escapes
+names, so that none of them acts on a terminal. For a file that is malformed, that cannot be read, or that has a name
+of more than 4,096 bytes, the cause is printed, and the others follow; the same for one that has more dynamic entries
+than a program has, or names more places than are worth a look. The exit status is 1 if there is such a file, or one
 that misses a library.
 """
 

@@ -1,14 +1,14 @@
-/* Looks a name up in a shared library as a loader does, and prints the address of the definition where the
+/* Looks up a name in a shared library as a loader does, and prints the address of the definition if the
  * library's first page is at BASE, and its version:
  *
  *     lookup LIBRARY NAME[@VERSION] [BASE]
  *
  *     cc lookup.c $(pkg-config --cflags --libs elfsee) -o lookup
  *
- * A name alone takes a version that is not hidden, NAME@VERSION that version, and NAME@@VERSION that one where
+ * A name alone finds a version that is not hidden, NAME@VERSION that version, and NAME@@VERSION that one if
  * it is the default.
  *
- * Status 0: found; 1: there is no such definition; 2: the library cannot be used, or the words are wrong. */
+ * Status 0: found; 1: there is no such definition; 2: the library cannot be used, or the arguments are invalid. */
 #include <elfsee.h>
 
 #include <inttypes.h>

@@ -1,11 +1,11 @@
 #!/usr/bin/env python3
-"""Draws what a check of many files found: how many of them are malformed, and why.
+"""Draws the result of a check of many files: how many of them are malformed, and why.
 
     elfsee check FOLDER.. | examples/scan.py PICTURE.svg
 
 It reads the lines of `elfsee check`, prints a row with a number for each state and for each cause, and draws the
-same as bars. The length of a bar is by the logarithm of its number, so that one file is seen beside thousands.
-What is no such line is skipped. It needs Python 3 and nothing else; docs/SCANNED.md has what it drew."""
+same as bars. The length of a bar is the logarithm of its number, so that one file is visible next to thousands.
+Other lines are skipped. It needs only Python 3; docs/SCANNED.md has a picture that it drew."""
 
 import math
 import re

@@ -1,4 +1,4 @@
-"""The crates of a tree, as crates.txt has them, and whether the library of one is newer than its sources."""
+"""The crates of a tree, from crates.txt, and whether the library of one is newer than its sources."""
 
 import collections
 import os
