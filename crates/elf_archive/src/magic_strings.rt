@@ -1,7 +1,6 @@
 //! The magic strings of an archive and of an ELF file.
 ghost use Rattle.std.specs.Prelude.{◌≡◌, ℕ, ◌^◌, ◌<◌, ◌≤◌, List, Some, Err, IfErr, IfOk, OnOk};
-ghost use Rattle.elf_model.specs.Archive.{archive_length_checks, bytes_in, is_elf};
-ghost use Rattle.elf_model.specs.Checks.{first_refusal};
+ghost use Rattle.elf_model.specs.Prelude.{archive_length_checks, bytes_in, first_refusal, is_elf};
 ghost use Rattle.elf_model.specs.declared.causes.Refusal.{Refusal as Refuses};
 ghost use Rattle.elf_table.specs.Faults.{IsOfRead};
 ghost use Rattle.elf_archive.specs.Archives.{MagicRead};
@@ -61,7 +60,7 @@ pub fn magic<S: Source>(src: &mut Counted<S>) -> Result<(), Fault>
 ///
 /// # Errors
 /// A fault of the read, or a refusal for want of budget, at the offset of the bytes.
-pub fn begins_elf<S: Source>(src: &mut Counted<S>, extent: FileRange) -> Result<bool, Fault>
+pub fn has_elf_magic<S: Source>(src: &mut Counted<S>, extent: FileRange) -> Result<bool, Fault>
     requires lies { IsInBounds src.old.seen.size (extent_of extent) }
     ensures asks { AsksAtMost src.old src.new result 4 }
     ensures fault { IfErr result IsOfRead }

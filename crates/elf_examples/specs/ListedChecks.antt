@@ -1,15 +1,10 @@
 -- Files among many: their states and their lines.
 use Rattle.std.specs.Prelude.{ℕ, ◌≡◌, [], ◌∷◌, List, codes, take, map, Some, None}
+use Rattle.elf_model.specs.Prelude.{ALL, bare_header, check_line, little, numbers_from, one_symbol_table, report_fault, state_of, unnamed_line, with_bytes}
+use Rattle.elf_model.specs.declared.causes.Cause.TheVariants.{BadClass, Budget, Short, TableOutside}
 use Rattle.elf_model.specs.declared.formats.Format.TheVariants.{Columns}
-use Rattle.elf_model.specs.Bytes.{little}
-use Rattle.elf_model.specs.Checking.{state_of, check_line, unnamed_line}
-use Rattle.elf_model.specs.Fixtures.{with_bytes, bare_header, one_symbol_table}
-use Rattle.elf_model.specs.FixturesTables.{numbers_from}
-use Rattle.elf_model.specs.Listing.{ALL}
-use Rattle.elf_model.specs.Report.{report_fault}
-use Rattle.elf_model.specs.declared.causes.Cause.TheVariants.{Short, BadClass, TableOutside, Budget}
-use Rattle.elf_model.specs.declared.causes.Refusal.{Refusal}
 use Rattle.elf_model.specs.declared.states.FileStatus.{FileStatus}
+use Rattle.elf_model.specs.declared.causes.Refusal.{Refusal}
 use Rattle.elf_model.specs.declared.states.FileStatus.TheVariants as state
 
 -- the state of a file by its whole report
@@ -38,16 +33,20 @@ StatesOfFronts =
     × (whole_state (with_bytes 0x0 (little 1 0x7e) (take 63 bare_header)) ≡ state.NoElf)
     × (whole_state (codes "#!/bin/sh\n") ≡ state.NoElf)
 
--- the first bytes of a short file are looked at where the budget has four; the first of a longer one in the file header
+-- the state of some bytes within a budget
+abbrev StateIs : ℕ → List ℕ → FileStatus → Type 0
+StateIs budget file found = state_of (Some budget) file (report_fault file 3 63 ALL) ≡ found
+
+abbrev over_budget : FileStatus
+over_budget = refused (record { at = 0; cause = Budget })
+
+-- what a short file is is decided by four bytes within the budget, of one that has fewer by none; of a longer file by the file header
 abbrev pub StatesWithinBudgets : Type 0
 StatesWithinBudgets =
-    (state_of (Some 4) (codes "text\n") (report_fault (codes "text\n") 3 63 ALL) ≡ state.NoElf)
-    × (state_of (Some 63) (codes "text\n") (report_fault (codes "text\n") 3 63 ALL) ≡ state.NoElf)
-    × (state_of (Some 3) (codes "text\n") (report_fault (codes "text\n") 3 63 ALL)
-    ≡ refused (record { at = 5; cause = Short }))
-    × (state_of (Some 0) (codes "abc") (report_fault (codes "abc") 3 63 ALL) ≡ state.NoElf)
-    × (state_of (Some 63) bare_header (Some (record { at = 0; cause = Budget }))
-    ≡ refused (record { at = 0; cause = Budget }))
+    StateIs 4 (codes "text\n") state.NoElf × StateIs 63 (codes "text\n") state.NoElf
+    × StateIs 3 (codes "text\n") over_budget × StateIs 0 (codes "text\n") over_budget × StateIs 0 (codes "abc") state.NoElf
+    × StateIs 4 (take 10 bare_header) (refused (record { at = 10; cause = Short })) × StateIs 3 (take 10 bare_header) over_budget
+    × (state_of (Some 63) bare_header (Some (record { at = 0; cause = Budget })) ≡ over_budget)
 
 -- a line each: the states' words in their column, where and why, and the path as names are spelt
 abbrev pub LinesOfStates : Type 0

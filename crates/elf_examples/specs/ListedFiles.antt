@@ -1,17 +1,12 @@
 -- Many files listed, and archives checked: the line of a path, what a file is by its first bytes, and the fault of an archive.
 use Rattle.std.specs.Prelude.{ℕ, ◌≡◌, ◌^◌, ◌-◌, List, [], ◌∷◌, ◌++◌, codes, true, false, take, Option, None, Some}
-use Rattle.elf_model.specs.declared.formats.Format.TheVariants.{Columns, Object}
-use Rattle.elf_model.specs.Bytes.{little}
-use Rattle.elf_model.specs.Choice.{EveryRow, RowsOf}
-use Rattle.elf_model.specs.FileLists.{archive_fault, budget_after, file_magic, headed, list_status, members_alone, path_line, placed_after}
-use Rattle.elf_model.specs.Fixtures.{bare_header, one_symbol_table, with_bytes}
-use Rattle.elf_model.specs.FixturesArchive.{archive_of, library, member}
-use Rattle.elf_model.specs.Listing.{SYMBOLS}
-use Rattle.elf_model.specs.Style.{standard}
+use Rattle.elf_model.specs.Prelude.{EveryRow, RowsOf, SYMBOLS, archive_fault, archive_of, bare_header, budget_after, file_magic, headed, library, list_status, little, member, members_alone, one_symbol_table, path_line, placed_after, standard, with_bytes}
+use Rattle.elf_model.specs.declared.states.FileMagic.TheVariants.{Archive, Elf, Foreign}
 use Rattle.elf_model.specs.declared.causes.Cause.{Cause}
+use Rattle.elf_model.specs.declared.formats.Format.TheVariants.{Columns, Object}
 use Rattle.elf_model.specs.declared.causes.Cause.TheVariants.{MemberCut, NameOutside, NotArchive, Short, Thin}
 use Rattle.elf_model.specs.declared.causes.Refusal.{Refusal}
-use Rattle.elf_model.specs.declared.states.FileMagic.TheVariants.{Archive, Elf, Foreign}
+use Rattle.elf_model.specs.declared.states.FileMagic.TheVariants.{Thin as ThinArchive, Undecided}
 
 -- the line of a path: spelt as names are, empty, and as an object
 abbrev pub PathLines : Type 0
@@ -40,13 +35,14 @@ magic = 127 ∷ 69 ∷ 76 ∷ 70 ∷ []
 abbrev pub FileSorts : Type 0
 FileSorts =
     (file_magic false None [] ≡ Foreign) × (file_magic false (Some 0) (127 ∷ 69 ∷ 76 ∷ []) ≡ Foreign)
-    × (file_magic false None magic ≡ Elf) × (file_magic true (Some 4) magic ≡ Elf)
+    × (file_magic false None magic ≡ Elf) × (file_magic true (Some 4) magic ≡ Elf) × (file_magic true (Some 3) magic ≡ Undecided)
     × (file_magic false None (codes "text") ≡ Foreign) × (file_magic false (Some 4) (codes "text") ≡ Foreign)
-    × (file_magic false (Some 3) (codes "text") ≡ Elf)
+    × (file_magic false (Some 3) (codes "text") ≡ Undecided) × (file_magic true (Some 7) (codes "hello world") ≡ Undecided)
     × (file_magic false None (archive_of []) ≡ Foreign) × (file_magic true None (archive_of []) ≡ Archive)
-    × (file_magic true (Some 8) (archive_of []) ≡ Archive) × (file_magic true (Some 7) (archive_of []) ≡ Elf)
+    × (file_magic true (Some 8) (archive_of []) ≡ Archive) × (file_magic true (Some 7) (archive_of []) ≡ Undecided)
     × (file_magic true None (codes "!<arch>") ≡ Foreign) × (file_magic true (Some 4) (codes "!<arch>") ≡ Foreign)
-    × (file_magic true None (codes "!<thin>\n") ≡ Foreign)
+    × (file_magic true (Some 8) (codes "!<thin>\n") ≡ ThinArchive) × (file_magic true (Some 7) (codes "!<thin>\n") ≡ Undecided)
+    × (file_magic false None (codes "!<thin>\n") ≡ Foreign)
 
 -- what is left of a budget behind them
 abbrev pub BudgetsAfter : Type 0

@@ -1,15 +1,13 @@
 //! The lines of files among many.
 ghost use Rattle.std.specs.Prelude.{◌≡◌, ◌++◌, ◌≤◌, length};
 ghost use Rattle.arrayvec.specs.ArrayVec.{array_vec_len};
-ghost use Rattle.elf_model.specs.Checking.{check_front, check_line, fault_fields, file_status_name};
-ghost use Rattle.elf_model.specs.Checking.{unnamed_line};
-ghost use Rattle.elf_model.specs.Fields.{with_fields};
+ghost use Rattle.elf_model.specs.Prelude.{check_front, check_line, fault_fields, file_status_name, unnamed_line, with_fields};
 ghost use Rattle.elf_source.specs.Output.{OutPuts};
 ghost use Rattle.elf_format.specs.Fronts.{front_of};
 
 use crate::columns::{LineBuf, put};
 use crate::fields::{
-    LinePrefix, begin, begin_named, put_closing, put_decimal, put_hexadecimal, put_text,
+    LinePrefix, begin, begin_named, put_closing, put_decimal, put_hex_field, put_text,
 };
 use crate::named::show_named;
 use crate::render::{Columns, Json, Render};
@@ -42,7 +40,7 @@ pub fn put_fault<R: Render>(line: &mut LineBuf, state: FileStatus)
     ensures items { line.new.items ≡ with_fields R.FORMAT line.old.items (fault_fields state) }
 {
     if let FileStatus::Refused(refusal) = state {
-        put_hexadecimal::<R>(line, b"place", 16, refusal.at, b' ');
+        put_hex_field::<R>(line, b"place", 16, refusal.at, b' ');
         put_text::<R>(
             line,
             b"cause",

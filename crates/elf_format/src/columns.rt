@@ -1,8 +1,7 @@
 //! A line of a listing while it is put together, field by field.
 ghost use Rattle.std.specs.Prelude.{◌≡◌, ◌+◌, ◌-◌, ◌<◌, ◌≤◌, ◌++◌, ◌∷◌, [], if◌then◌else◌, decimal, length, max, take};
 ghost use Rattle.arrayvec.specs.ArrayVec.{array_vec_len};
-ghost use Rattle.elf_model.specs.Text.{digit, hex, spaces, left_in, right_in};
-ghost use Rattle.elf_model.specs.NameTables.{number_sign};
+ghost use Rattle.elf_model.specs.Prelude.{digit, hex, left_in, number_sign, right_in, spaces};
 
 use crate::hexadecimal::hex8;
 use arrayvec::ArrayVec;
@@ -142,7 +141,7 @@ pub fn put_where(line: &mut LineBuf, holds: bool, text: &[u8])
 
 /// Puts the last hexadecimal digits of a number, in lower case, with leading zeros.
 #[inline(always)]
-pub(crate) fn put_hex(line: &mut LineBuf, digits: u32, number: u64)
+pub(crate) fn write_hex(line: &mut LineBuf, digits: u32, number: u64)
     requires room { array_vec_len line.old + digits ≤ 256 }
     requires digits { digits ≤ 16 }
     ensures items { line.new.items ≡ line.old.items ++ hex digits number }

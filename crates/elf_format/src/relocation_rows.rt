@@ -1,14 +1,12 @@
 //! The lines of relocation entries.
 ghost use Rattle.std.specs.Prelude.{◌≡◌, ◌≤◌, ℕ, List, length, IfSome, option_copied};
-ghost use Rattle.elf_model.specs.Text.{name_of};
-ghost use Rattle.elf_model.specs.NameTables.{relocation_names, relocation_types};
-ghost use Rattle.elf_model.specs.LineFronts.{relocation_prefix};
+ghost use Rattle.elf_model.specs.Prelude.{name_of, relocation_names, relocation_prefix, relocation_types};
 ghost use Rattle.elf_record.specs.Rela.{IsRela};
 ghost use Rattle.elf_format.specs.Fronts.{front_of};
 
 use crate::constant_names::ConstantNames;
 use crate::fields::{
-    LinePrefix, begin_named, put_half, put_hexadecimal, put_name_or_sign, put_signed,
+    LinePrefix, begin_named, put_half, put_hex_field, put_name_or_sign, put_signed,
 };
 use crate::name_tables::name_in_either_table;
 use crate::render::Render;
@@ -45,9 +43,9 @@ pub fn relocation_prefix<R: Render>(
     begin_named::<R>(front, b"R", b"name");
     let line = &mut front.line;
     put_half::<R>(line, b"table", section, b' ');
-    put_hexadecimal::<R>(line, b"offset", 16, entry.r_offset, b' ');
+    put_hex_field::<R>(line, b"offset", 16, entry.r_offset, b' ');
     put_name_or_sign::<R>(line, b"type", name_on_machine(kind, naming), kind);
-    put_hexadecimal::<R>(line, b"symbol", 8, u64::from(entry.symbol()), b' ');
+    put_hex_field::<R>(line, b"symbol", 8, u64::from(entry.symbol()), b' ');
     put_signed::<R>(line, b"addend", entry.r_addend);
 }
 

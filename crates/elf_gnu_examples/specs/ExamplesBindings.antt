@@ -1,13 +1,6 @@
 -- Worked examples of the binding of names over two files, and of what a symbol asks others for.
 use Rattle.std.specs.Prelude.{ℕ, ◌≡◌, ◌+◌, ◌*◌, List, [], ◌∷◌, codes, Option, None, Some, Result, Ok, Err}
-use Rattle.elf_model.specs.Bindings.{Binding, BoundTo, BoundToNone, StoppedIn, bound_in, definition_cost, definition_lookup, reference_at, symbols_hashed}
-use Rattle.elf_model.specs.Bytes.{little}
-use Rattle.elf_model.specs.Fixtures.{with_bytes}
-use Rattle.elf_model.specs.FixturesHash.{words}
-use Rattle.elf_model.specs.FixturesVersions.{hostile_library, versioned_without_sections}
-use Rattle.elf_model.specs.Loader.{VersionQuery, NoVersion, Version, SymbolQuery}
-use Rattle.elf_model.specs.LoaderScope.{lookup_tables_of}
-use Rattle.elf_model.specs.Style.{without_sections}
+use Rattle.elf_model.specs.Prelude.{Binding, BoundTo, BoundToNone, NoVersion, StoppedIn, SymbolQuery, Version, VersionQuery, bound_in, definition_cost, definition_lookup, hostile_library, little, lookup_tables_of, reference_at, symbols_hashed, versioned_without_sections, with_bytes, without_sections, words}
 use Rattle.elf_model.specs.declared.causes.Cause.TheVariants.{HashShape, NameOutside, VersionCut, VersionIndex}
 use Rattle.elf_model.specs.declared.causes.Refusal.{Refusal}
 
@@ -84,6 +77,12 @@ SymbolsAsk =
     × SeeksAt (with_bytes 0xfc (little 1 0x22) library) 1 (Ok puts)
     × SeeksAt (with_bytes 0xfc (little 1 0x02) library) 1 (Ok None)
     × SeeksAt (with_bytes 0xf8 (little 4 0) library) 1 (Ok None)
+
+-- one whose name is empty asks for nothing, whatever its word of a version is
+abbrev pub EmptyNamesAskForNothing : Type 0
+EmptyNamesAskForNothing =
+    SeeksAt (with_bytes 0xf8 (little 4 5) library) 1 (Ok None)
+    × SeeksAt (with_bytes 0xf8 (little 4 5) (with_bytes 0x1a2 (little 2 9) library)) 1 (Ok None)
 
 -- a unique symbol asks, and one of another binding does not; the highest bit of the word is no part of the number; a number of a
 -- definition is a version too; a symbol that is defined asks for nothing, whatever its name is

@@ -1,7 +1,6 @@
 //! The addresses that are given for sections, names and entries of names.
 ghost use Rattle.std.specs.Prelude.{◌≡◌, ◌≤◌, ◌<◌, ◌^◌, [], length, MatchBool};
-ghost use Rattle.elf_model.specs.ApplyCost.{layout_names_cost};
-ghost use Rattle.elf_model.specs.Placing.{Compared, address_in, has_base};
+ghost use Rattle.elf_model.specs.Prelude.{Compared, address_in, has_base, layout_names_cost};
 ghost use Rattle.elf_layout.specs.Layouts.{Adds, HasKey, HaveNames, IsName, LacksKey, OnName};
 ghost use Rattle.elf_layout.specs.Layouts.{Pushes, names_for};
 
@@ -145,7 +144,7 @@ impl Layout {
     }
 
     /// The procedure linkage table entries, in the order in which they were given.
-    pub fn linkage(&self) -> &[NamedAddress]
+    pub fn plt(&self) -> &[NamedAddress]
         ensures items { result.now ≡ self.now.linkage }
         ensures names { HaveNames result.now }
     {
@@ -153,7 +152,7 @@ impl Layout {
     }
 
     /// The global offset table entries, in the order in which they were given.
-    pub fn table(&self) -> &[NamedAddress]
+    pub fn got(&self) -> &[NamedAddress]
         ensures items { result.now ≡ self.now.table }
         ensures names { HaveNames result.now }
     {
@@ -162,7 +161,7 @@ impl Layout {
 
     /// The global offset table entries of offsets from the thread pointer, in the order in which they
     /// were given.
-    pub fn thread(&self) -> &[NamedAddress]
+    pub fn tpoff_got(&self) -> &[NamedAddress]
         ensures items { result.now ≡ self.now.thread }
         ensures names { HaveNames result.now }
     {

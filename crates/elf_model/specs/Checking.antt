@@ -1,41 +1,42 @@
 -- What is printed of a file among many: its state, and its line.
-use Rattle.std.specs.Prelude.{[], ◌∷◌, ℕ, ◌≡◌, ◌&&◌, ◌||◌, nat_lt, not, Bool, true, false, if◌then◌else◌, List, length, codes, Option, None, Some}
+use Rattle.std.specs.Prelude.{[], ◌∷◌, ℕ, ◌≡◌, nat_lt, Bool, true, false, if◌then◌else◌, List, length, codes, Option, None, Some}
 use Rattle.elf_model.specs.Budget.{IsBudgeted}
 use Rattle.elf_model.specs.Causes.{cause_word}
 use Rattle.elf_model.specs.Fields.{Field, Fields, LinePrefix, closed_line, front}
 use Rattle.elf_model.specs.Fields.Field.{Decimal, Hexadecimal, Hyphen, ArgSpec}
+use Rattle.elf_model.specs.FileLists.{file_magic, undecided}
 use Rattle.elf_model.specs.Lines.{named_line}
 use Rattle.elf_model.specs.Names.DisplayedName.{Whole}
-use Rattle.elf_model.specs.Records.{FILE_HEADER_SIZE, ELF_MAGIC_SIZE, has_elf_magic}
+use Rattle.elf_model.specs.Records.{FILE_HEADER_SIZE}
 use Rattle.elf_model.specs.Style.{ListingStyle}
 use Rattle.elf_model.specs.declared.causes.Cause.{Cause}
-use Rattle.elf_model.specs.declared.causes.Cause.TheVariants.{NotElf}
+use Rattle.elf_model.specs.declared.causes.Cause.TheVariants.{NotElf, Short}
 use Rattle.elf_model.specs.declared.causes.Refusal.{Refusal}
 use Rattle.elf_model.specs.declared.formats.Format.{Format}
+use Rattle.elf_model.specs.declared.states.FileMagic.{FileMagic}
+use Rattle.elf_model.specs.declared.states.FileMagic.TheVariants as sort
 use Rattle.elf_model.specs.declared.states.FileStatus.{FileStatus}
 use Rattle.elf_model.specs.declared.states.FileStatus.TheVariants as state
-
--- the first bytes of a file of so many bytes may be looked at: they are there, and the budget has them
-abbrev pub may_read_magic : Option ℕ → Bool
-may_read_magic None = true
-may_read_magic (Some budget) = not (nat_lt budget ELF_MAGIC_SIZE)
 
 abbrev pub is_not_elf : Cause → Bool
 is_not_elf NotElf = true
 is_not_elf _ = false
 
--- a file that is refused is of another kind: one that is too short for a file header where it doesn't begin with the magic
--- number, if that may be looked at; any other by the refusal's cause
-abbrev pub lacks_elf_magic : Option ℕ → List ℕ → Refusal → Bool
-lacks_elf_magic budget file refusal =
-    if nat_lt (length file) FILE_HEADER_SIZE
-    then nat_lt (length file) ELF_MAGIC_SIZE || (may_read_magic budget && not (has_elf_magic file))
-    else is_not_elf refusal.cause
+-- the state that the fault of a listing gives: a file without the magic number is of another kind
+abbrev pub listed_state : Option Refusal → FileStatus
+listed_state None = state.Ok
+listed_state (Some refusal) = if is_not_elf refusal.cause then state.NoElf else state.Refused refusal
 
--- THE STATE of a file, by the fault of its listing
+-- the state of a file of so few bytes that it has no room for a file header, by what it is
+abbrev pub short_state : ℕ → FileMagic → FileStatus
+short_state size sort.Elf = state.Refused (record { at = size; cause = Short })
+short_state size sort.Undecided = state.Refused undecided
+short_state size _ = state.NoElf
+
+-- THE STATE of a file within a budget, by the fault of its listing, or where it is so short by what it is
 abbrev pub state_of : Option ℕ → List ℕ → Option Refusal → FileStatus
-state_of budget file None = state.Ok
-state_of budget file (Some refusal) = if lacks_elf_magic budget file refusal then state.NoElf else state.Refused refusal
+state_of budget file fault =
+    if nat_lt (length file) FILE_HEADER_SIZE then short_state (length file) (file_magic false budget file) else listed_state fault
 
 -- a state is that of the listing of a file within a budget: with no budget, of its report
 pub record IsStateOf (budget : Option ℕ) (file : List ℕ) (headers : ℕ) (style : ListingStyle) (parts : ℕ) (found : FileStatus) : Type 0 where

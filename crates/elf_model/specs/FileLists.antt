@@ -1,6 +1,6 @@
 -- MANY FILES LISTED, or checked with the members of archives: what is printed of one among them.
 use Rattle.std.specs.Prelude.{ℕ, ◌+◌, ◌-◌, ◌^◌, ◌==◌, ◌&&◌, nat_le, nat_lt, not, min, Bool, true, false, if◌then◌else◌, List, [], ◌∷◌, ◌++◌, length, option_map, Option, None, Some, codes}
-use Rattle.elf_model.specs.Archive.{ARCHIVE_MAGIC, MAGIC_SIZE, Member, archive_checks, member_listing, members_of}
+use Rattle.elf_model.specs.Archive.{ARCHIVE_MAGIC, MAGIC_SIZE, THIN_MAGIC, Member, archive_checks, member_listing, members_of}
 use Rattle.elf_model.specs.Bytes.{field}
 use Rattle.elf_model.specs.Checks.{first_refusal}
 use Rattle.elf_model.specs.Choice.{RowFilter, EveryRow, RowsOf}
@@ -10,6 +10,7 @@ use Rattle.elf_model.specs.Listing.{fault_of}
 use Rattle.elf_model.specs.Names.DisplayedName.{Whole}
 use Rattle.elf_model.specs.Records.{ELF_MAGIC_SIZE, has_elf_magic}
 use Rattle.elf_model.specs.Style.{ListingStyle}
+use Rattle.elf_model.specs.declared.causes.Cause.TheVariants.{Budget}
 use Rattle.elf_model.specs.declared.causes.Refusal.{Refusal}
 use Rattle.elf_model.specs.declared.formats.Format.{Format}
 use Rattle.elf_model.specs.declared.states.FileMagic.{FileMagic}
@@ -53,19 +54,24 @@ abbrev pub may_read_bytes : Option ℕ → ℕ → Bool
 may_read_bytes None n = true
 may_read_bytes (Some budget) n = not (nat_lt budget n)
 
--- a file begins with the magic string of an archive
-abbrev begins_as_archive : List ℕ → Bool
-begins_as_archive file = nat_le MAGIC_SIZE (length file) && field file 0 8 == ARCHIVE_MAGIC
+-- a file begins with a magic string
+abbrev begins_with : ℕ → List ℕ → Bool
+begins_with magic file = nat_le MAGIC_SIZE (length file) && field file 0 8 == magic
 
--- WHAT A FILE IS, by its first bytes. One that has fewer than a magic number is of another kind; one whose first bytes the budget
--- has no room for is taken as an ELF file, whose listing then says so
+-- WHAT A FILE IS, by its first bytes. One that has fewer than a magic number is of another kind; what one is whose first bytes
+-- the budget has no room for is not decided
 unfoldable pub file_magic : (members : Bool) → Option ℕ → List ℕ → FileMagic
 file_magic members budget file =
     if nat_lt (length file) ELF_MAGIC_SIZE then sort.Foreign
-    else if not (may_read_bytes budget (front_size members (length file))) then sort.Elf
+    else if not (may_read_bytes budget (front_size members (length file))) then sort.Undecided
     else if has_elf_magic file then sort.Elf
-    else if members && begins_as_archive file then sort.Archive
+    else if members && begins_with ARCHIVE_MAGIC file then sort.Archive
+    else if members && begins_with THIN_MAGIC file then sort.Thin
     else sort.Foreign
+
+-- the refusal of a file of which that is not decided
+abbrev pub undecided : Refusal
+undecided = record { at = 0; cause = Budget }
 
 -- what is left of a budget behind those bytes; of one that has no room for them all
 abbrev pub budget_after : Option ℕ → ℕ → Option ℕ

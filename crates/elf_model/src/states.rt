@@ -25,8 +25,12 @@ pub enum FileMagic {
     Elf,
     /// An archive, where archives are gone into.
     Archive,
+    /// An archive whose members are in other files, where archives are gone into.
+    Thin,
     /// Of another kind.
     Foreign,
+    /// The budget ends before the bytes that decide it.
+    Undecided,
 }
 
 /// The state of a symbol that an object asks others for.

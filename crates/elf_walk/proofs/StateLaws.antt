@@ -1,11 +1,10 @@
 -- The state of a file that is too short, or refused.
 use Rattle.std.proofs.Common.{◌≡◌, ℕ, ◌<◌, ◌≤◌, Bool, true, false, not, if◌then◌else◌, List, length, Option, None, Some, refl, sym, ap, ◌∙◌, nat_lt, arith}
 use Rattle.std.proofs.lemmas.Bool.Decides.{nat_tests}
-use Rattle.elf_model.specs.Checking.{is_not_elf, may_read_magic, state_of}
-use Rattle.elf_model.specs.Records.{has_elf_magic}
-use Rattle.elf_model.specs.declared.causes.Cause.TheVariants.{Short}
-use Rattle.elf_model.specs.declared.causes.Refusal.{Refusal}
+use Rattle.elf_model.specs.Prelude.{has_elf_magic, is_not_elf, may_read_magic, state_of}
 use Rattle.elf_model.specs.declared.states.FileStatus.{FileStatus}
+use Rattle.elf_model.specs.declared.causes.Refusal.{Refusal}
+use Rattle.elf_model.specs.declared.causes.Cause.TheVariants.{Short}
 use Rattle.elf_model.specs.declared.states.FileStatus.TheVariants as state
 use Rattle.elf_source.specs.Source.{SourceState}
 use Rattle.elf_walk.specs.Checked.{short_refusal}

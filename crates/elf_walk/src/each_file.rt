@@ -1,8 +1,7 @@
 //! What is done with each of many files.
 ghost use Rattle.std.specs.Prelude.{◌≡◌, ℕ, List, Result};
 ghost use Rattle.elf_walk.specs.Telling.{StandsWhole};
-ghost use Rattle.elf_source.specs.Output.{OutState};
-ghost use Rattle.elf_source.specs.Source.{CountedState};
+ghost use Rattle.elf_source.specs.Prelude.{CountedState, OutState};
 ghost use Rattle.elf_source.specs.declared.faults.OutFault.{OutFault};
 
 use elf_source::{Counted, DeferredSink, Out, OutFault, RangeSource, Sink, Source};
@@ -25,7 +24,7 @@ pub trait FileVisitor {
     ///
     /// # Errors
     /// A fault of the output, with a front of what there is to tell written.
-    fn tell<S: Source, W: Sink>(
+    fn visit<S: Source, W: Sink>(
         &mut self,
         src: &mut Counted<RangeSource<S>>,
         path: &[u8],

@@ -1,7 +1,7 @@
 //! The listing of each of many files.
 ghost use Rattle.std.specs.Prelude.{◌≡◌, true, false};
 ghost use Rattle.elf_walk.specs.ToldListings.{LeavesLimits, EndsListing, PutsUnread};
-ghost use Rattle.elf_model.specs.FileLists.{budget_after};
+ghost use Rattle.elf_model.specs.Prelude.{budget_after};
 ghost use Rattle.elf_model.specs.declared.states.FileMagic.TheVariants.{Foreign};
 
 use crate::each_file::FileVisitor;
@@ -52,7 +52,7 @@ impl<'a> FileVisitor for ListFiles<'a> {
 
     ghost tells = { ReturnsListing };
 
-    fn tell<S: Source, W: Sink>(
+    fn visit<S: Source, W: Sink>(
         &mut self,
         src: &mut Counted<RangeSource<S>>,
         path: &[u8],

@@ -1,8 +1,8 @@
 //! The state of a file that is too short for a file header, and of one that is refused.
 ghost use Rattle.std.specs.Prelude.{◌≡◌, ◌+◌, ◌<◌, ◌≤◌, ◌^◌, ℕ, List, IfOk, IfErr, IfSome, None, Some, true, if◌then◌else◌};
-ghost use Rattle.elf_model.specs.Checking.{is_not_elf, may_read_magic};
-ghost use Rattle.elf_model.specs.Records.{has_elf_magic};
-ghost use Rattle.elf_model.specs.declared.states.FileStatus.TheVariants.{NoElf, Refused};
+ghost use Rattle.elf_model.specs.Prelude.{has_elf_magic, is_not_elf, may_read_magic};
+ghost use Rattle.elf_model.specs.declared.states.FileStatus.TheVariants.{NoElf};
+ghost use Rattle.elf_model.specs.declared.states.FileStatus.TheVariants.{Refused};
 ghost use Rattle.elf_source.specs.Source.{IsSourceFault, FillsUnlimited, KeepsSource};
 ghost use Rattle.elf_walk.specs.Checked.{FailsRead, FindsShort};
 

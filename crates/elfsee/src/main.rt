@@ -10,16 +10,15 @@ mod names;
 mod needs;
 
 ghost use Rattle.std.specs.Prelude.{◌≡◌, ◌⊎◌, IfErr, IfOk, map, string_bytes};
-ghost use Rattle.elf_requests.specs.Requests.{RunsTask};
-ghost use Rattle.elf_cli.specs.Endings.{EndsWords};
-ghost use Rattle.elf_requests.specs.Answered.{WordsAsk};
-ghost use Rattle.elfsee.specs.Ends.{EndsRunOver, EndsWithoutFile, EndsWithoutMemory, told_refusal};
+ghost use Rattle.elf_requests.specs.Prelude.{RunsTask, WordsAsk};
+ghost use Rattle.elf_cli.specs.Prelude.{EndsWords};
 ghost use Rattle.elf_cli.specs.declared.faults.RequestFault.{RequestFault};
+ghost use Rattle.elfsee.specs.Ends.{EndsRunOver, EndsWithoutFile, EndsWithoutMemory, told_refusal};
 
 use archives::list_archive;
 use elf_cli::{
     ExitLine, OUT_OF_MEMORY, OUTPUT_BYTES, end_answer, exit, open, read_words, report_refused,
-    tell_version,
+    report_version,
 };
 use elf_fixtures::sample;
 use elf_layout::Layout;
@@ -91,7 +90,7 @@ where
         ParsedCommand::Traits(traits) => report_traits(rt, traits, terminal),
         ParsedCommand::Needs(asked) => report_needs(rt, asked),
         ParsedCommand::Archive(archiving) => list_archive(rt, archiving),
-        ParsedCommand::Version => tell_version(rt),
+        ParsedCommand::Version => report_version(rt),
     }
 }
 

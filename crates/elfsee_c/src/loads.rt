@@ -1,9 +1,8 @@
 //! The exports that go by the program headers of a file in memory, with no section headers.
 ghost use Rattle.elf_memory.specs.MappedBytes.{ReadsMapped};
-ghost use Rattle.elf_capi.specs.SegmentDynamic.{ReadsSegmentDynamic};
-ghost use Rattle.elf_capi.specs.Ends.{ReturnsRead};
+ghost use Rattle.elf_capi.specs.Prelude.{ReadsSegmentDynamic, ReturnsRead};
 
-use elf_capi::{CallEnd, RowPosition, segment_dynamic, tell};
+use elf_capi::{CallEnd, RowPosition, report_row, segment_dynamic};
 use elf_memory::{ByteRange, find_mapped};
 
 /// Checks the dynamic entries of a segment, and sets `rows` before the first: as many as up to and
@@ -21,7 +20,7 @@ pub extern "C" fn elfsee_segment_dynamic(
 ) -> u32
     ensures { ReturnsRead (ReadsSegmentDynamic file.now segment) result rows.old rows.new end.new }
 {
-    tell(segment_dynamic(file, segment), rows, end)
+    report_row(segment_dynamic(file, segment), rows, end)
 }
 
 /// Finds where the `size` bytes from an address on lie in the file: by the first LOAD program header
@@ -40,5 +39,5 @@ pub extern "C" fn elfsee_mapped(
 ) -> u32
     ensures { ReturnsRead (ReadsMapped file.now address size) result range.old range.new end.new }
 {
-    tell(find_mapped(file, address, size), range, end)
+    report_row(find_mapped(file, address, size), range, end)
 }

@@ -1,12 +1,10 @@
 //! The exports that go over the version definitions and needs of a file in memory.
 ghost use Rattle.std.specs.Prelude.{length};
-ghost use Rattle.elf_capi.specs.VersionRecords.{StepsRecord};
-ghost use Rattle.elf_capi.specs.Ends.{ReturnsOpened, ReturnsRead};
-ghost use Rattle.elf_capi.specs.CallOpenings.{OpensRecords};
+ghost use Rattle.elf_capi.specs.Prelude.{OpensRecords, ReturnsOpened, ReturnsRead, StepsRecord};
 
 use elf_capi::{
     CallEnd, CallerLimits, RecordRow, VersionRecordPosition, limits_of, next_record, records_in,
-    report_opened, tell,
+    report_opened, report_row,
 };
 
 /// Checks the table of version definitions or needs that a section of a file is, and sets `records`
@@ -51,5 +49,5 @@ pub extern "C" fn elfsee_next_version_record(
     ensures { ReturnsRead (StepsRecord file.now records.old records.new)
         result row.old row.new end.new }
 {
-    tell(next_record(file, records), row, end)
+    report_row(next_record(file, records), row, end)
 }

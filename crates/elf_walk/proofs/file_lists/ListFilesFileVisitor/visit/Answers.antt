@@ -1,10 +1,10 @@
 -- What is told of a file, by what it is.
 use Rattle.std.proofs.Common.{rules, ◌≡◌, None, Some, Ok, false, refl, sym, subst, ◌∙◌, arith}
 use Rattle.elf_model.specs.declared.states.FileMagic.TheVariants as sort
-use Rattle.elf_walk.specs.ToldListings.{ReturnsListing}
+use Rattle.elf_walk.specs.Prelude.{ReturnsListing}
 use Rattle.elf_walk.specs.declared.options.ListOptions.{ListOptions}
 use Rattle.elf_walk.proofs.ListingToldLaws.{end_fails, fault_after, fault_fails, file_told, front_within, sort_within}
-use Rattle.elf_walk.proofs.file_lists.ListFilesFileVisitor.tell.Goals as goal
+use Rattle.elf_walk.proofs.file_lists.ListFilesFileVisitor.visit.Goals as goal
 
 pub returns-in-Err-clause-tells : goal.returns-in-Err-clause-tells
 returns-in-Err-clause-tells g c =
