@@ -1,5 +1,5 @@
-"""What `elfsee apply` has to answer, computed a second time from the rules: for the scripts beside this
-module. It is written for plainness alone, and reads whole files. looked_up.py has the same for a lookup."""
+"""A second implementation of what `elfsee apply` must answer, from the rules: for the scripts in this
+directory. It is written for clarity alone, and reads whole files. looked_up.py has the same for a lookup."""
 
 import struct
 

@@ -1,6 +1,6 @@
-"""What can be asked of an ELF64 little-endian file, for the scripts beside this module: names to look up
+"""Queries for an ELF64 little-endian file, for the scripts in this directory: names to look up
 and sections to write, with the items that give each entry an address. It reads the headers with
-nothing of the program's, and only of files that are well made."""
+code of its own, and only of well-formed files."""
 
 import os
 import shutil

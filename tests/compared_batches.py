@@ -1,5 +1,5 @@
-"""Compares what a command of the program writes of many files with what the rules say of each: for the scripts beside this
-module."""
+"""Compares what a command of the program prints for many files with what the rules say of each: for the scripts in this
+directory."""
 
 import os
 import shutil

@@ -1,5 +1,5 @@
-"""What `elfsee traits` has to answer without a budget, computed a second time from the rules: for the scripts beside this
-module. It is written for plainness alone, and holds whole files."""
+"""A second implementation of what `elfsee traits` must answer without a budget, from the rules: for the scripts in this
+directory. It is written for clarity alone, and holds whole files."""
 
 import struct
 

@@ -1,4 +1,4 @@
-/* Memory to lend to a call: it ends at a page that cannot be touched, or begins after one, and what is left
+/* Memory for a call to borrow: it ends at a page that cannot be touched, or begins after one, and what is left
  * of its first or last page is marked. */
 #ifndef LENT_H
 #define LENT_H

@@ -3,9 +3,9 @@
  *
  *     library_bounds OBJECT LIBRARY TRIES
  *
- * OBJECT is a relocatable for x86-64 with relocation entries for section 1, LIBRARY has a hash table with
- * the name `call`. All that is lent lies at pages that cannot be touched, file and names cannot be
- * written. It is to be built with -fsanitize=address,undefined. A line for each case, and as the last one
+ * OBJECT is a relocatable file for x86-64 with relocation entries for section 1, LIBRARY has a hash table with
+ * the name `call`. All caller's buffers are next to pages that cannot be touched, file and names cannot be
+ * written. It must be built with -fsanitize=address,undefined. It prints a line for each case, and as the last one
  * `N passed, N failed`. */
 #define _GNU_SOURCE
 #include "elfsee.h"

@@ -1,24 +1,24 @@
 /* Calls the library as the lines of standard input say, for tests/library. A line is one of
  *
  *     show HEADERS NAME BUDGET PARTS PATH
- *     list HEADERS NAME BUDGET PARTS FLAGS PATH        as elfsee_list does it
- *     names HEADERS NAME BUDGET PARTS FLAGS NAMES PATH as elfsee_list_names does it: names in hexadecimal digits,
+ *     list HEADERS NAME BUDGET PARTS FLAGS PATH        by elfsee_list
+ *     names HEADERS NAME BUDGET PARTS FLAGS NAMES PATH by elfsee_list_names: names in hexadecimal digits,
  *                                            joined by commas, or -
  *     hashed HEADERS BUDGET FLAGS PATH       the symbols of the hash table, a line for each
  *     find HEADERS BUDGET NAME PATH          NAME in hexadecimal digits, or -
  *     resolve HEADERS BUDGET FLAGS NAME VERSION PATH   both in hexadecimal digits, or -
  *     apply HEADERS BUDGET SECTION ITEMS PATH
- *     place HEADERS BUDGET SECTION ITEMS PATH          the same in a layout that is lent; where it is refused
- *                                            the bytes tell what that lacks
+ *     place HEADERS BUDGET SECTION ITEMS PATH          the same in a borrowed layout; if it is refused
+ *                                            the bytes say what that lacks
  *     rows PATH
  *     versions PATH                          the lines of symbol versions
  *     members PATH                           the lines of the members of an archive
  *     words                                  the words of the causes
  *
  * BUDGET is a number, or - for none; ITEMS are KIND:INDEX:NAME:ADDRESS joined by commas, with the name in
- * hexadecimal digits, or -. The answer is a line STATUS CAUSE AT WRITTEN ASKED COST LENGTH, and so many bytes; where
- * a call does what it may not do the line is WRONG and what it did. All that is lent lies at pages that
- * cannot be touched, and the file cannot be written. */
+ * hexadecimal digits, or -. The answer is a line STATUS CAUSE AT WRITTEN ASKED COST LENGTH, and LENGTH bytes; if
+ * a call does something that it must not do the line is WRONG and what it did. All caller's buffers are next to
+ * pages that cannot be touched, and the file cannot be written. */
 #define _GNU_SOURCE
 #include "elfsee.h"
 #include "lent.h"

@@ -2,8 +2,8 @@
  *
  *     library_stack FILE..
  *
- * Each call runs over each file on a stack of its own that is painted first. Printed are lines `CALL BYTES`,
- * the most over all files. Names and sections that are asked for are those of the files themselves. */
+ * Each call runs over each file on a stack of its own that is painted first. It prints lines `CALL BYTES`,
+ * the maximum over all files. Names and sections in the calls are those of the files themselves. */
 #define _GNU_SOURCE
 #include "elfsee.h"
 #include "lent.h"

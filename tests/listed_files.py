@@ -1,6 +1,6 @@
-"""What `elfsee archive`, `list` and `check` have to answer without a budget, and in which order commands over many files go
-through directories, computed a second time from the rules: for the scripts beside this module. Of an archive the members are
-those of made_archives.py, and their listings those of reported.py."""
+"""A second implementation of what `elfsee archive`, `list` and `check` must answer without a budget, and of the order in
+which commands over many files read directories, from the rules: for the scripts in this directory. The members of an
+archive are those of made_archives.py, and their listings those of reported.py."""
 
 import os
 import stat

@@ -1,5 +1,5 @@
-"""What the account of a listing allows it to ask of a file, in bytes, computed a second time from the rules: for the
-scripts beside this module."""
+"""A second implementation of how many bytes of a file a listing may read, from the rules: for the
+scripts in this directory."""
 
 import struct
 

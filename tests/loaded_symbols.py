@@ -1,5 +1,5 @@
-"""What a C program gets from dlsym and dlvsym for the names of a library, beside what `elfsee find --gnu` and
-looked_up.py answer: the second part of the script against_hash."""
+"""Compares the results of dlsym and dlvsym in a C program for the names of a library with those of `elfsee find --gnu` and
+looked_up.py: the second part of the script against_hash."""
 
 import collections
 import mmap

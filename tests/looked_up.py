@@ -1,5 +1,5 @@
-"""What `elfsee find --gnu` has to answer, computed a second time from the rules, and how many bytes of the
-file it may ask for: for the scripts beside this module. It is written for plainness alone, and holds whole
+"""A second implementation of what `elfsee find --gnu` must answer, from the rules, and of how many bytes of the
+file it may read: for the scripts in this directory. It is written for clarity alone, and holds whole
 files: bytes, or a map of a file."""
 
 import struct

@@ -1,4 +1,4 @@
-"""Archives that are made up, for tests: what an archive is made of, odd ones, and what each lists."""
+"""Generated archives, for tests: what an archive consists of, odd ones, and what each lists."""
 
 import re
 import struct

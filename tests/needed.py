@@ -1,5 +1,5 @@
-"""What `elfsee needs --symbols` has to answer without a budget, computed a second time from the rules: for the scripts
-beside this module. It is written for plainness alone, and holds whole files. What a lookup in one file gives it takes from
+"""A second implementation of what `elfsee needs --symbols` must answer without a budget, from the rules: for the scripts
+in this directory. It is written for clarity alone, and holds whole files. It takes lookups in one file from
 looked_up.py."""
 
 import os
