@@ -1,5 +1,5 @@
-"""What `elfsee show` has to list without a budget, computed a second time from the rules: for the scripts beside this
-module. It is written for plainness alone, and holds whole files. Names of numbers are those of docs/FORMAT.md;
+"""A second implementation of what `elfsee show` must list without a budget, from the rules: for the scripts in this
+directory. It is written for clarity alone, and holds whole files. Names of numbers are those of docs/FORMAT.md;
 listed_files.py has archives and many files."""
 
 import os

@@ -1,7 +1,7 @@
-"""Small ELF files of tables that are mostly in order, but point to one another by chance, for the scripts beside this
-module: two version tables of one symbol table, tables over one another, tables of no bytes, links to section 0,
+"""Small ELF files of tables that are mostly in order, but point to one another at random, for the scripts in this
+directory: two version tables of one symbol table, tables over one another, tables of no bytes, links to section 0,
 addresses in two segments. Some have names, notes and tables that are longer than what is read at once. The same
-generator of chance gives the same file."""
+random generator gives the same file."""
 
 import struct
 
