@@ -29,7 +29,7 @@ man3dir = $(mandir)/man3
 bashcompdir = $(datadir)/bash-completion/completions
 zshcompdir = $(datadir)/zsh/site-functions
 fishcompdir = $(datadir)/fish/vendor_completions.d
-# Where Python has modules below the prefix, as it tells itself; without it, or where this is empty, the module is
+# Where Python has modules below the prefix, as Python itself says; without it, or where this is empty, the module is
 # not installed.
 PYTHON = python3
 pythondir = $(shell $(PYTHON) -c 'import site; print(site.getsitepackages(["$(exec_prefix)"])[-1])' 2>/dev/null)
@@ -43,7 +43,7 @@ INSTALL_DATA = $(INSTALL) -m 644
 LDCONFIG = ldconfig
 LOADER_LEARNS = if [ -z '$(DESTDIR)' ] && [ "$$(id -u)" = 0 ]; then $(LDCONFIG) || true; fi
 
-# What pkg-config tells; elfsee_version and `elfsee version` tell the same. tests/one_truth compares them.
+# What pkg-config gives; elfsee_version and `elfsee version` give the same. tests/one_truth compares them.
 library_version = 0.1.0
 
 .PHONY: all library check install install-program install-library install-strip uninstall

@@ -13,7 +13,7 @@
 
 static char buffer[65536], pairs[256][2], plain[256];
 
-/* A number in so many hexadecimal digits, two at a time, and a space. */
+/* A number in some hexadecimal digits, two at a time, and a space. */
 static inline char *hex(char *put, unsigned long number, int digits) {
     for (int left = digits - 2; left >= 0; left -= 2, number >>= 8) memcpy(put + left, pairs[number & 255], 2);
     put[digits] = ' ';

@@ -27,7 +27,7 @@ GLOBAL_FUNCTION = 0x12
 RELOCATION_TYPES = (1, 2, 4)
 # Eight names lie in each of these, each the tail of the one before.
 EIGHT_NAMES = "read_the_very_next_symbol_of_group_%06d"
-# Among so many symbols that follow one another such names are mixed.
+# Among the symbols in order, every so often a name like these are mixed.
 NEIGHBOURS = 64
 
 Section = collections.namedtuple("Section", "name kind content link info entry_size")
@@ -47,13 +47,13 @@ def string_table(names):
 
 
 def own_names(count):
-    """A string table of so many names, 13 to 35 bytes long, and the index of each."""
+    """A string table of a given number of names, 13 to 35 bytes long, and the index of each."""
     return string_table(["%06d" % number + "_named_and_by_itself_alone_always"[:7 + number % 23]
                          for number in range(count)])
 
 
 def shared_names(count):
-    """A string table of so many names of which eight lie in one another, and the indexes, mixed
+    """A string table of a given number of names of which eight lie in one another, and the indexes, mixed
     among neighbours: so do linkers leave names that they merged at their ends."""
     wholes = [EIGHT_NAMES % group for group in range(-(-count // 8))]
     content, starts = string_table(wholes)

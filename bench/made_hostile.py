@@ -34,7 +34,7 @@ MANY = 65000
 MORE_HEADERS = ("--headers", "65279")
 
 # A file: its name, what is in it, the options that elfsee gets beside its usual ones, its pieces by
-# their offsets, and its length where it is longer than they are; and what elfsee is to do with it,
+# their offsets, and its length if it is longer than they are; and what elfsee is to do with it,
 # with the words that come after the file.
 Hostile = collections.namedtuple("Hostile", "name says options pieces length command words",
                                  defaults=("show", ()))
@@ -80,7 +80,7 @@ def file(name, says, contents, sections, options=(), length=0, **fields):
 
 
 def of_symbols(name, says, symbols, strings, count=1, **more):
-    """A file whose one symbol table has so many section headers."""
+    """A file whose one symbol table has a given number of section headers."""
     def sections(symbols_at, strings_at):
         table = symbols_section(symbols_at, len(symbols), count + 1)
         return [table] * count + [section(STRTAB, strings_at, len(strings))]
@@ -88,7 +88,7 @@ def of_symbols(name, says, symbols, strings, count=1, **more):
 
 
 def with_relocations(name, says, entries, count=1, **more):
-    """A file whose one table of relocation entries has so many section headers. They refer to
+    """A file whose one table of relocation entries has a given number of section headers. They refer to
     two symbols."""
     symbols, strings = named(2), b"\0main\0"
 
@@ -249,7 +249,7 @@ def of_hash(name, says, table, wanted, symbols=named(2), strings=b"\0a\0"):
 def lookups():
     """Hash tables that are made for one lookup in them."""
     count, length = 1_000_003, 4000
-    # Each symbol's chain goes on far from it, and each name differs from the wanted one at its end.
+    # Each symbol's chain continues far from it, and each name differs from the requested one at its end.
     around = words_of(*((row + 380_011) % count for row in range(count)))
     far = b"".join(symbol(1 + row * 7919 % 60_000) for row in range(1, count))
     yield of_hash(

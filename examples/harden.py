@@ -62,7 +62,7 @@ def missing_libraries(path: str, entries: Sequence[elfsee.Dynamic], paths: Seque
 
 
 def told_of(path: str, file: elfsee.File) -> Tuple[str, List[str]]:
-    """What is told of a file, and whether it misses a library."""
+    """The line for a file, and whether it misses a library."""
     segments = {segment.type: segment for segment in file.segments()}
     entries = list(itertools.islice(file.dynamic(), MOST_ENTRIES + 1))
     if len(entries) > MOST_ENTRIES:
@@ -86,7 +86,7 @@ def told_of(path: str, file: elfsee.File) -> Tuple[str, List[str]]:
 
 
 def checked(path: str) -> Tuple[Optional[str], bool]:
-    """What is told of a path, if it is a program or a library, and whether that is a fault."""
+    """The line for a path, if it is a program or a library, and whether that is a fault."""
     try:
         if os.path.islink(path) or not os.path.isfile(path):
             return None, False

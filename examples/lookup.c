@@ -49,7 +49,7 @@ static int refuse(const char *path, const struct elfsee_end *end) {
     return 2;
 }
 
-/* Prints a name as a listing spells it: nothing of it acts on a terminal. */
+/* Prints a name as a listing escapes it: nothing of it acts on a terminal. */
 static void print_name(const uint8_t *name, size_t len) {
     for (size_t i = 0; i < len; i++)
         if (name[i] == '\\') printf("\\\\");

@@ -14,7 +14,7 @@ function value(digits) {
     return 16 * (index("0123456789abcdef", substr(digits, 1, 1)) - 1) \
         + index("0123456789abcdef", substr(digits, 2, 1)) - 1
 }
-# The bytes that a name of a listing stands for; sets CUT where they are not all of the name.
+# The bytes that a name of a listing stands for; sets CUT if they are not all of the name.
 function bytes_of(text,    bytes, at, kind) {
     bytes = ""
     cut = 0

@@ -11,14 +11,14 @@ import math
 import re
 import sys
 
-# A file's state, its cause where it is refused; of the last line the number of files without a name.
+# A file's state, its cause if it is refused; of the last line the number of files without a name.
 LINE = re.compile(rb"C ([a-z-]+) +(?:- |[0-9a-f]{16} ([a-z-]+) |(\d+)$)")
 WIDTH, LEFT, RIGHT, ROW = 640, 190, 80, 22
 FINE, AT_FAULT = "#3a6ea5", "#b03030"
 
 
 def counted(lines):
-    """How many files there are of each state and, where they are refused, of each cause: those that are fine first,
+    """How many files there are of each state and, if they are refused, of each cause: those that are fine first,
     and the most first."""
     numbers = {}
     for line in lines:

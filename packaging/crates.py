@@ -7,7 +7,7 @@ import re
 PARTS = ("src", "specs", "proofs")
 FUNCTION = re.compile(r"^\s*(?:pub(?:\(crate\))? )?(?:const )?fn ", re.M)
 
-# How many bytes of source are proved in a second, where nothing was measured.
+# How many bytes of source are proved in a second, if nothing was measured.
 BYTES_A_SECOND = 1000
 
 # A crate: its name, what it uses, which of that are crates of the tree, the seconds that its proof takes, and

@@ -55,7 +55,7 @@ class Header:
 
 
 def load(content, most):
-    """The section headers of a file, in which so many are allowed."""
+    """The section headers of a file, in which a given number of are allowed."""
     length = len(content)
     refuse_where(length < 64, length, "short")
     for at, wanted, cause in IDENT:
@@ -79,7 +79,7 @@ def load(content, most):
 
 
 def symbols_of(headers, table):
-    """The symbol table of a section of entries with its strings, or None where it has none."""
+    """The symbol table of a section of entries with its strings, or None if it has none."""
     if table.link >= len(headers) or headers[table.link].type not in SYMBOL_TABLES:
         return None
     symbols = headers[table.link]
@@ -99,7 +99,7 @@ def strings_of(headers, table):
 
 
 def is_named(content, strings, index, at, wanted):
-    """Whether the name at an index of a string table is the wanted one; `at` is its symbol."""
+    """Whether the name at an index of a string table is the requested one; `at` is its symbol."""
     if strings.size == 0 and index == 0:
         return False
     refuse_where(index >= strings.size, at, "name-outside")

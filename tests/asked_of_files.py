@@ -55,7 +55,7 @@ def string_of(data, at):
 
 def names_to_find(data):
     """The names of the symbols that the first hash table of a file is for, those that a command line can
-    have; none where it has no such table."""
+    have; none if it has no such table."""
     headers = headers_of(data)
     table = next((header for header in headers if header[1] == SHT_HASH), None)
     if table is None:
@@ -102,7 +102,7 @@ def sections_to_apply(data):
 
 def compiled_objects(folder):
     """Objects of one source, compiled in some ways, and libraries of them with a hash table of the System V
-    form; none where there is no gcc."""
+    form; none if there is no gcc."""
     if not shutil.which("gcc"):
         return []
     source, paths = os.path.join(folder, "compiled.c"), []
@@ -123,7 +123,7 @@ def compiled_objects(folder):
 
 
 def versioned_libraries(folder):
-    """Libraries with versions and without, with hash tables of either kind and of both, that can be loaded; none where
+    """Libraries with versions and without, with hash tables of either kind and of both, that can be loaded; none if
     there is no gcc."""
     if not shutil.which("gcc"):
         return []
@@ -165,7 +165,7 @@ def static_libraries():
 
 
 def members_of_libraries(folder, most):
-    """At most so many members of the machine's static libraries, spread over them, taken out with ar."""
+    """At most a given number of members of the machine's static libraries, spread over them, taken out with ar."""
     paths = []
     if not shutil.which("ar"):
         return paths

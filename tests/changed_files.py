@@ -19,7 +19,7 @@ def put(content, at, width, number):
 
 
 def without_sections(content):
-    """A file without section headers: its program headers tell its tables."""
+    """A file without section headers: its program headers give its tables."""
     content = bytearray(content)
     put(content, 40, 8, 0)
     put(content, 60, 4, 0)

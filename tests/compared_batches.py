@@ -33,7 +33,7 @@ def program_of(valued):
 
 
 def elf_files(most, largest):
-    """At most so many programs and libraries of the machine that are no larger, spread over them."""
+    """At most a given number of programs and libraries of the machine that are no larger, spread over them."""
     found = []
     for folder in filter(Path.is_dir, map(Path, FOLDERS)):
         paths = [path for path in sorted(folder.iterdir()) if path.is_file() and not path.is_symlink()]
@@ -63,7 +63,7 @@ class Comparison:
             print(f"FAILED  {what}: {told}")
 
     def compare(self, what, words, wanted, count=1, **more):
-        """Whether a command writes the wanted text with the wanted status; it counts as so many cases."""
+        """Whether a command writes the requested text with the requested status; it counts as the given number of cases."""
         out, status, errors = self.run(words, **more)
         if (out, status, errors) == (*wanted, b""):
             self.passed += count

@@ -17,7 +17,7 @@ struct lent {
     size_t inner_len;
 };
 
-/* So many bytes, which begin right after a page that cannot be touched, or end right before one. */
+/* A given number of bytes, which begin right after a page that cannot be touched, or end right before one. */
 static inline struct lent lend(size_t len, int at_front) {
     size_t inner_len = len ? (len + PAGE - 1) / PAGE * PAGE : PAGE;
     uint8_t *pages = (uint8_t *)mmap(0, inner_len + 2 * PAGE, PROT_NONE,
@@ -52,7 +52,7 @@ static inline int take_back(struct lent *lent) {
     return whole;
 }
 
-/* How many bytes at the front of a member's data are its name, by the 16 bytes of its header that tell the name: `#1/`, one
+/* How many bytes at the beginning of a member's data are its name, by the 16 bytes of its header that give the name: `#1/`, one
  * digit or more, and spaces. */
 static inline uint64_t name_in_data(const uint8_t *bytes, size_t len, uint64_t at) {
     uint64_t size = 0, place = 3;

@@ -511,7 +511,7 @@ static void loader_names(void) {
 static struct elfsee_item items[ITEMS];
 static uint8_t item_names[ITEMS][4];
 
-/* So many items of one kind, all different, after others. */
+/* A given number of items of one kind, all different, after others. */
 static size_t add(size_t at, uint32_t kind, unsigned count) {
     unsigned i;
     for (i = 0; i < count; i += 1, at += 1) {
@@ -624,7 +624,7 @@ static void item_lengths(void) {
 static struct elfsee_lent_section lent_sections[ITEMS];
 static struct elfsee_lent_name lent_names[5][ITEMS];
 
-/* A layout with so many items of each sort, which rise. */
+/* A layout with a given number of items of each sort, which rise. */
 static struct elfsee_layout risen(size_t count) {
     static uint8_t bytes[ITEMS][2];
     struct elfsee_layout layout = {lent_sections, count, lent_names[1], count, lent_names[2], count,
@@ -949,7 +949,7 @@ static int any_name(void) {
 
 static struct lent archive; /* made of the two files */
 
-/* A member after those so far: its header, its data and the byte after them where it is due. */
+/* A member after those so far: its header, its data and the byte after them if it is due. */
 static size_t add_member(uint8_t *bytes, size_t at, const char *name, const uint8_t *content, size_t len) {
     char header[61];
     snprintf(header, sizeof header, "%-48s%-10zu`\n", name, len);

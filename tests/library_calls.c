@@ -642,7 +642,7 @@ static int say_dynamic(struct walk *walk, uint16_t section) {
 }
 
 /* Where the strings of a segment's dynamic entries are in memory: the values of the first entry of the tag
- * STRTAB, and of that of the tag STRSZ. Whether both are told. */
+ * STRTAB, and of that of the tag STRSZ. Whether both are there. */
 static int strings_told(const struct walk *walk, struct elfsee_rows rows, uint64_t *address, uint64_t *size) {
     struct elfsee_dynamic some[5];
     size_t i, count = 5;
@@ -812,7 +812,7 @@ static int say_words(struct walk *walk, uint16_t section) {
     return 1;
 }
 
-/* The bytes of a section are those that its header tells, where they lie in the file and it has any there. */
+/* The bytes of a section are those that its header gives, where they lie in the file and it has any there. */
 static void expect_bytes(const struct walk *walk, uint16_t index, const struct elfsee_section *header,
                          uint64_t place) {
     struct elfsee_range range = {7, 7};
@@ -912,7 +912,7 @@ static void rows(const struct lent *file) {
     expect(take_back(&walk.room), "room was written outside");
 }
 
-/* The symbols of the hash table: of each its numbers and its name, or ! where it has none. */
+/* The symbols of the hash table: of each its numbers and its name, or ! if it has none. */
 static void hashed(const struct lent *file, char **words) {
     struct elfsee_limits limits = limits_of(words[0], "256", words[1]);
     struct elfsee_rows rows = {7, 7, 7, 7, 7, 7}, again = {8, 8, 8, 8, 8, 8};
@@ -1020,7 +1020,7 @@ static void words_of_causes(void) {
     answer(ELFSEE_OK, &none, elfsee_version(), text, len);
 }
 
-/* Splits a line into so many words and what is after them. */
+/* Splits a line into a given number of words and what is after them. */
 static void split(char *line, char **words, size_t count) {
     while (count--) {
         *words++ = line;

@@ -89,7 +89,7 @@ static void call_apply(void) {
     elfsee_apply(file, file_len, &LIMITS, &job, room, ROOM, out, OUT, &end);
 }
 
-/* In a layout that is lent, of which most is missing: so that it is told what would help. */
+/* In a layout that is lent, of which most is missing, so that the call says what would help. */
 static void call_place(void) {
     static struct elfsee_lent_section sections[300];
     static struct elfsee_lent_name names[300];

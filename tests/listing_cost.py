@@ -82,7 +82,7 @@ def section_cost(content, wish, headers, index, header, name, walks):
 
 
 def words_rows(headers, header):
-    """How many rows a table of symbol versions has; None where its checks do not pass."""
+    """How many rows a table of symbol versions has; None if its checks do not pass."""
     try:
         header.check_rows(2)
         linked = symbols_of(headers, header) if header.link else None
@@ -120,7 +120,7 @@ def archive_cost(content, wish):
 
 
 def asked_by(command, content, wish, has_members):
-    """The most that a command asks of a file; `list` and `check` first of the bytes that tell what it is."""
+    """The most that a command asks of a file; `list` and `check` first of the bytes that say what it is."""
     if command in ("show", "archive"):
         return cost(content, wish) if command == "show" else archive_cost(content, wish)
     sort = sort_of(content, has_members)

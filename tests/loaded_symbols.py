@@ -69,7 +69,7 @@ int main(int count, char **words)
 }
 """
 SECONDS = 60
-# The most headers that `elfsee find` allows where none are given.
+# The most headers that `elfsee find` allows if none are given.
 HEADERS = 4096
 # Copies without section headers are made of libraries that are no larger.
 COPIED_BYTES = 16 << 20
@@ -195,7 +195,7 @@ def answer_of(program, path, text, cost, by_segments=False):
 
 
 def compared_library(task):
-    """Compares so many lookups in one library; answers what was counted, and what is wrong."""
+    """Compares a given number of lookups in one library; answers what was counted, and what is wrong."""
     path, program, loader, most, folder = task
     library = Library(path)
     if library.scope.refusal is not None:

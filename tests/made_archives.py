@@ -16,7 +16,7 @@ def member(name, content):
 
 
 def bsd_member(name, content, nuls=0):
-    """A member with its name at the front of its data, and so many NULs after it."""
+    """A member with its name at the front of its data, and a given number of NULs after it."""
     front = name + bytes(nuls)
     return member(b"#1/%d" % len(front), front + content)
 
@@ -92,7 +92,7 @@ def bsd_archives():
 
 
 def spelt(name):
-    """A name as the lines spell it."""
+    """A name as the lines escape it."""
     return b"".join(b"\\\\" if byte == 0x5c else bytes([byte]) if 0x20 <= byte <= 0x7e else b"\\x%02x" % byte
                     for byte in name)
 

@@ -64,7 +64,7 @@ class Texts:
 
 
 def whole_text(content, start, size, index, at):
-    """The whole name at an index of strings, or the refusal at what tells of it."""
+    """The whole name at an index of strings, or the refusal at what describes it."""
     if size == 0 and index == 0:
         return b""
     refuse_where(index >= size, at, "name-outside")
@@ -76,7 +76,7 @@ def whole_text(content, start, size, index, at):
 
 
 class Links:
-    """What the dynamic entries of a file tell of how it is linked."""
+    """What the dynamic entries of a file say about how it is linked."""
 
     def __init__(self, content, texts):
         self.needs, self.soname, self.rpath, self.runpath = [], None, None, None
@@ -114,7 +114,7 @@ class Links:
                 self.runpath = text if self.runpath is None else self.runpath
 
     def text(self, at, index):
-        """The text at an index of the strings that the entries tell of."""
+        """The text at an index of the strings that the entries locate."""
         refuse_where(self.address is None or self.size is None, at, "unmapped")
         for place, (_, _, offset, vaddr, _, filesz, _) in self.loads:
             if vaddr <= self.address and self.address + self.size <= vaddr + filesz:

@@ -97,13 +97,13 @@ class Row:
 
 
 def shown(name):
-    """A name as it stands in a line."""
+    """A name as it is in a line."""
     content, is_whole = name
     return made_archives.spelt(content).decode() + ("" if is_whole else "\\+")
 
 
 def name_at(content, strings, index, at, cap):
-    """The name at an index of strings, at most so many bytes of it, and whether that is all; `at` is what holds the index."""
+    """The name at an index of strings, at most a given number of bytes of it, and whether that is all; `at` is what holds the index."""
     if strings.size == 0 and index == 0:
         return b"", True
     refuse_where(index >= strings.size, at, "name-outside")
@@ -132,7 +132,7 @@ class Strings:
 
 
 def without_section_headers(content):
-    """A file with zeros for what its header tells of section headers."""
+    """A file with zeros for what its header says about section headers."""
     content = bytearray(content)
     if len(content) >= 64:
         content[40:48], content[60:64] = bytes(8), bytes(4)
@@ -276,7 +276,7 @@ class Listing:
                 yield Row("D %5d %-16s %016x " % (index, self.named("tag", tag, "%016x"), value), name)
 
     def strings_by_segments(self, rows, at):
-        """The strings that dynamic entries tell of, which are asked for at one of them."""
+        """The strings that dynamic entries locate, requested at one of them."""
         first = {tag: value for _, tag, value in reversed(rows)}
         refuse_where(T_STRTAB not in first or T_STRSZ not in first, at, "unmapped")
         address, size = first[T_STRTAB], first[T_STRSZ]

@@ -22,7 +22,7 @@ ROWS = {"symbols": 24, "entries": 24, "words": 2, "dynamic": 16}
 OF_STRINGS = ("symbols", "definitions", "needs", "dynamic")
 TAGS = {"sysv": 4, "strings": 5, "symbols": 6, "gnu": 0x6ffffef5, "words": 0x6ffffff0, "definitions": 0x6ffffffc,
         "needs": 0x6ffffffe}
-# Tags of entries that tell how a file is linked and hardened, and values for them.
+# Tags of entries that say how a file is linked and hardened, and values for them.
 TRAITS, VALUES = (1, 14, 15, 22, 24, 29, 30, 0x6ffffffb), (0, 1, 4, 5, 8, 16, 1 << 27, 1 << 27 | 1, len(STRINGS))
 FLAGS = (0, 2, 0x7f7, 0xff7, 0x2007f7, 0x200ff7, 0x1200ff7, 0x4000ff7, 0x4200ff7, 0x10000ff7, 1 << 31, (1 << 64) - 1)
 SEGMENTS = (2, 3, 4, 0x6474e551, 0x6474e551, 0x6474e552, 6)
@@ -133,7 +133,7 @@ class SmallFile:
         return text + b"".join(struct.pack("<I", self.below(1 << 32) & even) for _ in range(self.count("chain", self.below(6))))
 
     def dynamic(self, end=0):
-        """Entries with the addresses of tables, and some that tell traits."""
+        """Entries with the addresses of tables, and some that set traits."""
         rows = [(tag, self.places[name][0] + self.base) for name, tag in TAGS.items()
                 if name in self.places and self.chance.random() < 0.92]
         if rows and self.chance.random() < 0.2:
@@ -207,7 +207,7 @@ class SmallFile:
             size = min(size, self.one((size,) * 8 + (0, row, 2 * row))) if kind in ("words", "symbols") else size
             entry = self.mostly(ROWS.get(kind, 0), 0, 1, 2, 16, 24)
             if size == 0 and self.chance.random() < 0.3:
-                # Nothing of a table of no bytes is looked at.
+                # Nothing of a table of no bytes is read.
                 place, entry = self.one((place, 1 << 63, (1 << 64) - 1)), self.one((entry, 1))
             text += struct.pack("<2I", self.start(), self.one(TYPES[kind]) if kind else 0)
             text += struct.pack("<4Q", self.one(FLAGS), 0, place, size)
