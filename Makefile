@@ -29,7 +29,7 @@ man3dir = $(mandir)/man3
 bashcompdir = $(datadir)/bash-completion/completions
 zshcompdir = $(datadir)/zsh/site-functions
 fishcompdir = $(datadir)/fish/vendor_completions.d
-# Where Python has modules below the prefix, as Python itself says; without it, or where this is empty, the module is
+# Where Python has modules below the prefix, as Python itself says; without it, or if this is empty, the module is
 # not installed.
 PYTHON = python3
 pythondir = $(shell $(PYTHON) -c 'import site; print(site.getsitepackages(["$(exec_prefix)"])[-1])' 2>/dev/null)
@@ -38,7 +38,7 @@ INSTALL = install
 INSTALL_PROGRAM = $(INSTALL) -m 755
 INSTALL_DATA = $(INSTALL) -m 644
 
-# The loader finds the shared library by a list of its own. Root has that made anew, where the library goes into
+# The loader finds the shared library by a list of its own. Root rebuilds it if the library goes into
 # the system itself; others and packages have to see to it.
 LDCONFIG = ldconfig
 LOADER_LEARNS = if [ -z '$(DESTDIR)' ] && [ "$$(id -u)" = 0 ]; then $(LDCONFIG) || true; fi

@@ -1,6 +1,6 @@
 /* The floor of a listing: the symbols or the relocation entries of a file's section, as `elfsee show` writes
    them, from the mapped file, through one buffer of 64 KiB. Nothing is checked: over another file than a
-   good one it reads and writes anywhere. bench/instructions measures it beside elfsee.
+   good one it reads and writes anywhere. bench/instructions compares elfsee with it.
 
        floor symbols|relocs FILE */
 #include <elf.h>

@@ -33,7 +33,7 @@ FIRST = FILE_HEADER.size
 MANY = 65000
 MORE_HEADERS = ("--headers", "65279")
 
-# A file: its name, what is in it, the options that elfsee gets beside its usual ones, its pieces by
+# A file: its name, what is in it, the options that elfsee gets besides its usual ones, its pieces by
 # their offsets, and its length if it is longer than they are; and what elfsee is to do with it,
 # with the words that come after the file.
 Hostile = collections.namedtuple("Hostile", "name says options pieces length command words",

@@ -78,7 +78,7 @@ static void tell(const char *name, const struct elfsee_resolved *found, uint64_t
     }
 }
 
-/* How many bytes of a text stand before its first @. */
+/* Returns how many bytes of a text come before its first @. */
 static size_t name_len(const char *text) {
     const char *sign = strchr(text, '@');
     return sign ? (size_t)(sign - text) : strlen(text);

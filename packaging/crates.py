@@ -29,7 +29,7 @@ def seconds_of(top):
 
 
 def crates_of(top, last):
-    """The crates that one stands on, all of them, the lowest first, and itself."""
+    """The crates on which one depends, all of them, the lowest first, and itself."""
     lines, seconds = {}, seconds_of(top)
     with open(os.path.join(top, "crates.txt"), encoding="utf-8") as file:
         for line in file:

@@ -95,7 +95,7 @@ def change(rng, content, types):
 
 
 def changed(rng, content, types=TABLE_TYPES):
-    """A copy with one change or some, tables of some types more often than others. Where it gets shorter than a file
+    """A copy with one change or some, tables of some types more often than others. If it gets shorter than a file
     header, that is the last."""
     copy = bytearray(content)
     for _ in range(rng.choice((1, 1, 1, 2, 3, 5))):

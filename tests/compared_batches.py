@@ -74,7 +74,7 @@ class Comparison:
 
     def compare_batch(self, what, words, contents, told):
         """Compares what a command says of a directory of files; `told` says of a path and its bytes the text and the status.
-        Where they differ each file is compared alone."""
+        If they differ each file is compared alone."""
         with tempfile.TemporaryDirectory() as folder:
             paths = [os.fsencode(os.path.join(folder, "%05d" % number)) for number in range(len(contents))]
             for path, content in zip(paths, contents):

@@ -179,7 +179,7 @@ class Traits:
 
     def gnu_count(self, at, table, room, before):
         """The symbols before the first that the table knows, and those up to the end of the highest chain. A table with
-        no symbol says nothing where that first is 1: then there are those before their strings."""
+        no symbol says nothing if that first is 1: then there are those before their strings."""
         nbucket, first, nbloom, shift = struct.unpack_from("<4I", self.content, table.offset)
         self.buckets = nbucket
         chains = 16 + 8 * nbloom + 4 * nbucket
@@ -216,7 +216,7 @@ def feature_of(at, properties):
 
 
 def cost(content, most=4096):
-    """What the traits of a file may ask for: its header, its program headers, its dynamic entries twice, its notes and the
+    """How many bytes the traits of a file may read: its header, its program headers, its dynamic entries twice, its notes and the
     list of properties, the words of its hash table, and its symbols with 64 bytes of each name."""
     content, asked = without_section_headers(content), 64
     try:
@@ -235,7 +235,7 @@ def cost(content, most=4096):
 
 
 def symbols_cost(content, most):
-    """What the hash table and the symbols that it describes may ask for."""
+    """How many bytes the hash table and the symbols that it describes may read."""
     traits = Traits.__new__(Traits)
     try:
         traits.begin(content, most)

@@ -11,7 +11,7 @@
 enum { PAGE = 4096, MARK = 0xa5 };
 
 struct lent {
-    uint8_t *bytes; /* what is lent */
+    uint8_t *bytes; /* what is passed to a call */
     size_t len;
     uint8_t *inner; /* the pages in which it lies, between the two that cannot be touched */
     size_t inner_len;
@@ -28,7 +28,7 @@ static inline struct lent lend(size_t len, int at_front) {
     return lent;
 }
 
-/* Whether all bytes of the pages that were not lent are still marked. */
+/* Whether all bytes of the pages that were not passed are still marked. */
 static inline int is_whole(const struct lent *lent) {
     size_t before = (size_t)(lent->bytes - lent->inner), at;
     for (at = 0; at < lent->inner_len - lent->len; at += 1) {
@@ -45,7 +45,7 @@ static inline struct lent lend_copy(const void *bytes, size_t len, int at_front)
     return lent;
 }
 
-/* Takes it back, and says whether all that was not lent is as it was. */
+/* Releases it, and says whether all that was not passed is unchanged. */
 static inline int take_back(struct lent *lent) {
     int whole = is_whole(lent);
     if (munmap(lent->inner - PAGE, lent->inner_len + 2 * PAGE)) abort();

@@ -47,7 +47,7 @@ static struct elfsee_limits limits_of(unsigned headers, unsigned name) {
 
 static const struct elfsee_end ODD = {77, 77, 77, 77, 77};
 
-/* Whether all of out and room is as it was lent. */
+/* Whether all of out and room is unchanged. */
 static int is_untouched(void) {
     size_t at;
     for (at = 0; at < out.len; at += 1) {
@@ -132,7 +132,7 @@ static uint32_t place(struct elfsee_limits limits, size_t room_len, uint16_t sec
 
 static const struct elfsee_layout NO_LAYOUT;
 
-/* Names that are lent: the list and the bytes of each lie at pages that cannot be touched. */
+/* Names that are passed: the list and the bytes of each lie at pages that cannot be touched. */
 enum { MOST_NAMES = 6 };
 
 struct names {
@@ -237,7 +237,7 @@ static void bad_limits(void) {
     check(costs, "a cost with limits outside their ranges");
 }
 
-/* What a name may not be, and where names may not stand. */
+/* What a name may not be, and where names may not be. */
 static void bad_names(void) {
 #define TEXT(text) {(const uint8_t *)(text), sizeof(text) - 1}
     static const struct elfsee_text bad[][2] = {{TEXT(""), TEXT("a")}, {TEXT("b"), TEXT("a")}, {TEXT("ab"), TEXT("a")},
@@ -619,7 +619,7 @@ static void item_lengths(void) {
 }
 
 /* ------------------------------------------------------------------------- */
-/* Layouts that are lent. */
+/* Borrowed layouts. */
 
 static struct elfsee_lent_section lent_sections[ITEMS];
 static struct elfsee_lent_name lent_names[5][ITEMS];
@@ -834,7 +834,7 @@ static int any_steps(void) {
     return take_back(&lent) && count <= want && all;
 }
 
-/* The same within any budget, and with any number of bytes that were asked for before. */
+/* The same within any budget, and with any number of bytes that were read before. */
 static int any_steps_within(void) {
     size_t want = next() % 20, count;
     struct elfsee_rows rows = any_rows(library.len), old = rows;
@@ -1449,7 +1449,7 @@ static void over_no_file(const uint8_t *file, uint32_t *told, struct elfsee_end 
 
 enum { TOLD = 24 };
 
-/* Where a file, a room, an output or a name has no bytes, NULL is as good an address as another. */
+/* If a file, a room, an output or a name has no bytes, NULL is as good an address as another. */
 static void no_memory(void) {
     struct elfsee_limits limits = limits_of(4096, 256);
     static const struct elfsee_item item;

@@ -32,7 +32,7 @@
 
 enum { MOST_ITEMS = 2000, HEADER_BYTES = 64 };
 
-static unsigned turn; /* lent memory lies at the page after it and at that before it by turns */
+static unsigned turn; /* memory that is passed is next to the page after it and to that before it by turns */
 
 static void wrong(const char *what) {
     printf("WRONG %s\n", what);
@@ -145,7 +145,7 @@ static struct shown list_into(const struct lent *file, const struct elfsee_limit
     return shown;
 }
 
-/* Names that are lent, and their texts. */
+/* Names that are passed, and their texts. */
 struct names {
     struct lent list, texts[MOST_ITEMS];
     size_t count;
@@ -266,7 +266,7 @@ static void find(const struct lent *file, char **words) {
     answer(status, &end, UINT64_MAX, text, (size_t)len);
 }
 
-/* Where a range of a lookup lies: within the file. */
+/* Where a range of a lookup is: within the file. */
 static void expect_name(const struct lent *file, const struct elfsee_resolved *resolved) {
     expect(resolved->version.len <= 256 && resolved->is_cut <= 1 && resolved->is_hidden <= 1 &&
                resolved->has_version <= 1 && resolved->number < 32768,
@@ -315,7 +315,7 @@ static void resolve(const struct lent *file, char **words) {
     take_back(&version);
 }
 
-/* Items of their words; the names stand in `names`, consecutive. */
+/* Items from their text; the names are in `names`, one after another. */
 static size_t items_of(char *words, struct elfsee_item *items, uint8_t *names) {
     size_t count = 0;
     char *rest, *word = *words == '-' ? 0 : strtok_r(words, ",", &rest);
@@ -377,7 +377,7 @@ static int by_index(const void *one, const void *other) {
     return a->index < b->index ? -1 : a->index > b->index;
 }
 
-/* A layout of items, each list where no byte beside it can be touched; one without items is at NULL by turns. */
+/* A layout of items, each list where no byte next to it can be touched; one without items is at NULL by turns. */
 static struct elfsee_layout layout_of(const struct elfsee_item *items, size_t count, struct lent *lists) {
     static struct elfsee_lent_section sections[MOST_ITEMS];
     static struct elfsee_lent_name names[5][MOST_ITEMS];

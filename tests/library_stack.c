@@ -89,7 +89,7 @@ static void call_apply(void) {
     elfsee_apply(file, file_len, &LIMITS, &job, room, ROOM, out, OUT, &end);
 }
 
-/* In a layout that is lent, of which most is missing, so that the call says what would help. */
+/* In a borrowed layout, of which most is missing, so that the call says what would help. */
 static void call_place(void) {
     static struct elfsee_lent_section sections[300];
     static struct elfsee_lent_name names[300];
@@ -168,7 +168,7 @@ static void call_notes(void) {
     elfsee_next_note(file, file_len, &notes, &note, &end);
 }
 
-/* The first members; of a file that is no archive the bytes at its front, by a place in them. */
+/* The first members; of a file that is no archive the bytes at its beginning, by a place in them. */
 static void call_members(void) {
     struct elfsee_members members;
     struct elfsee_member member;

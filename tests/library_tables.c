@@ -17,7 +17,7 @@
 
 enum { SOME = 64 };
 
-/* What was gone over; `sum` adds up all fields of all rows. */
+/* What was iterated over; `sum` adds up all fields of all rows. */
 struct gone {
     uint64_t tables, rows, sum;
 };

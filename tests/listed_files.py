@@ -13,7 +13,7 @@ ARCHIVE = made_archives.MAGIC
 
 def archived(content, wish, is_held):
     """The lines of an archive, the first fault in it or None, as place and cause; where names are given and lines are
-    held the line of a member stands only before one of its own."""
+    held the line of a member comes only before one of its own."""
     members, fault = made_archives.walked(content, wish.cap)
     lines, first = [], None
     for line, data in members:
@@ -73,7 +73,7 @@ def told_by(command, path, content, wish, has_members):
 # Many paths.
 
 def looked_at(path, is_given=True):
-    """The files that a path stands for, in order: each with whether it can be read, or None for a name that is no text."""
+    """The files of a path, in order: each with whether it can be read, or None for a name that is no text."""
     try:
         mode = os.stat(path).st_mode if is_given else os.lstat(path).st_mode
     except OSError:

@@ -168,7 +168,7 @@ class Library:
         return False
 
     def wrong_address(self, lookup, found, offset):
-        """What is wrong with an answer of the rules, beside that of dlsym or dlvsym."""
+        """What is wrong with an answer of the rules, compared with that of dlsym or dlvsym."""
         if found is None:
             if offset is None or not self.has_address(offset):
                 self.counted["absent here, found in another library" if offset is not None else "absent"] += 1
@@ -242,7 +242,7 @@ def copied(library, folder):
 
 
 def wrong_answer(program, library, copy, text, is_limited):
-    """What is wrong with an answer of the program, beside the rules."""
+    """What is wrong with an answer of the program, compared with the rules."""
     path, scope = copy or (library.path, library.scope)
     status, lines, cost = looked_up.answer(scope.content, text, scope=scope)
     is_viewed = copy is not None and path == library.path

@@ -477,7 +477,7 @@ def answer(content, text, most=4096, scope=None):
 
 
 def ceiling(length, slots, text):
-    """What no lookup asks for more than, whatever a file of this length holds and whatever its reads give."""
+    """The most that a lookup reads, for any file of this length and any results of its reads."""
     name, version, _ = parted(text)
     of_version = pad64(len(version) + 1) if version is not None else 0
     return (92 + 64 * slots + length + length // 4 * (30 + pad64(len(name) + 1))

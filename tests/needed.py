@@ -16,7 +16,7 @@ WEAK, ASKED_BINDINGS = 2, (1, 2, 10)
 MOST_OBJECTS, TEXT_BYTES = 512, 4096
 # Texts of all objects together, and how many of them and of needs there are.
 ALL_TEXT_BYTES, ALL_TEXTS = MOST_OBJECTS * 8192, MOST_OBJECTS * 64
-# A token of RPATH and RUNPATH: its name in braces, or such that no further byte of a name stands after it.
+# A token of RPATH and RUNPATH: its name in braces, or such that no further byte of a name follows.
 TOKEN = re.compile(rb"\$(?:\{(ORIGIN|LIB|PLATFORM)\}|(ORIGIN|LIB|PLATFORM)(?![0-9A-Za-z_]))")
 DEFAULT = "/lib/x86_64-linux-gnu:/usr/lib/x86_64-linux-gnu:/lib64:/usr/lib64:/lib:/usr/lib"
 
@@ -179,7 +179,7 @@ class Program:
         self.lines.append("L %5d %-5s %-8s %s %s\n" % (index, needer, state, refusal, spelt(path, len(path))))
         self.status = self.status if state == "found" else 1
 
-    # Where a library is looked for.
+    # Where a library is searched for.
 
     def find(self, needer, name):
         """The path of the first file that fits, and what it holds; or None."""
@@ -246,7 +246,7 @@ class Program:
         return "nover" if self.lacks(sought) else "unbound", None, None
 
     def lacks(self, sought):
-        """Whether the object of which a version is asked for defines versions, and not that one."""
+        """Whether the object of which a version is needed defines versions, and not that one."""
         if sought.needed is None:
             return False
         name = sought.needed()
@@ -280,7 +280,7 @@ class Definer(Lookup):
 
 
 class Sought:
-    """What a symbol asks others for."""
+    """What a symbol imports."""
 
     def __init__(self, file, index):
         scope = file.scope

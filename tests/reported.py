@@ -40,7 +40,7 @@ NAMES = names_on_page()
 
 
 class Wish:
-    """What is asked of a listing. `given` are the names by which rows are chosen, or None for all rows."""
+    """The options of a listing. `given` are the names by which rows are selected, or None for all rows."""
 
     def __init__(self, parts=PARTS[:7], headers=4096, cap=256, gnu=False, versions=False, by_segments=False, texts=None):
         self.parts, self.headers, self.cap, self.gnu, self.versions = parts, headers, cap, gnu, versions
@@ -50,7 +50,7 @@ class Wish:
             self.texts = set(texts) if not versions else {parted(text) for text in texts}
 
     def has(self, row):
-        """Whether a row is one of those that are asked for."""
+        """Whether a row is one of those that are selected."""
         return self.texts is None or row.is_one_of(self.texts, self.versions)
 
     def words(self):
@@ -63,7 +63,7 @@ class Wish:
                                                  ("--by-segments", self.by_segments)) if is_so]
 
     def is_for_all_rows(self):
-        """Whether `check` can be asked so too."""
+        """Whether `check` has these options too."""
         return self.texts is None and not self.versions
 
 
@@ -345,7 +345,7 @@ class Listing:
 
 
 class Versions:
-    """What stands after the names of a symbol table."""
+    """What follows the names of a symbol table."""
 
     def __init__(self, listing, header):
         self.listing, self.header = listing, header
@@ -454,7 +454,7 @@ def check_header(content):
 
 
 def report(content, wish):
-    """The lines of a file that are asked for, and the refusal that ends them, or None."""
+    """The lines of a file that are selected, and the refusal that ends them, or None."""
     lines = []
     try:
         for row in Listing(content, wish).rows():

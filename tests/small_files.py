@@ -15,7 +15,7 @@ STARTS = [STRINGS.index(b"\0" + name + b"\0") + 1 for name in NAMES[1:-3]] + [0,
 LENGTHS = (0, 3, 3, 3, 62, 63, 64, 65, 127, 128, 129, 255, 256, 257, 1000, 4095, 4096, 4097, 4160, 5000)
 LONG = {"symbols": (169, 170, 171, 340, 341, 680), "entries": (169, 170, 171, 341), "words": (170, 341, 680, 2048, 2049),
         "dynamic": (250, 256, 300), "buckets": (1000, 1023, 1024, 1025), "chain": (60, 300, 1024)}
-# Numbers of types of sections, the bytes of a row where a table has rows, and to what the section links.
+# Numbers of types of sections, the bytes of a row if a table has rows, and to what the section links.
 TYPES = {"symbols": (2, 11), "entries": (4,), "words": (0x6fffffff,), "definitions": (0x6ffffffd,), "needs": (0x6ffffffe,),
          "strings": (3,), "notes": (7,), "dynamic": (6,), "sysv": (5,), "gnu": (0x6ffffff6,)}
 ROWS = {"symbols": 24, "entries": 24, "words": 2, "dynamic": 16}
