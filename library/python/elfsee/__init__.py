@@ -17,7 +17,8 @@ name that is an argument may be bytes or str; a str is encoded so. A name may co
 terminal: print `spelt(name)`.
 
 MEMORY. A path is read into memory, and bytes are taken as they are; any other buffer (bytearray,
-memoryview, mmap) is copied. So nobody can change a file while a call runs.
+memoryview, mmap) is copied. So nobody can change a file while a call runs. A file that is cut short
+while its mapping is copied raises OSError. Of paths only regular files are opened, and opening never waits.
 
 THREADS. A File may be used by several threads at once: it is not written to. An iterator belongs to
 one thread at a time. The library's calls run without the interpreter's lock.
@@ -35,9 +36,15 @@ from __future__ import annotations
 import ctypes
 import ctypes.util
 import enum
+import errno
+import operator
 import os
+import pickle
+import stat
 import struct
 import types
+from array import array
+from collections import abc
 from typing import (TYPE_CHECKING, Any, Callable, Dict, Iterable, Iterator, List, Mapping, NamedTuple, Optional,
                     Sequence, Tuple, Union)
 
@@ -46,7 +53,6 @@ from ._numbers import (DynamicFlag, DynamicFlag1, DynamicTag, FileType, Machine,
                        SymbolVisibility)
 
 if TYPE_CHECKING:
-    import array
     import mmap
 
 __all__ = [
@@ -81,7 +87,7 @@ Name = Union[str, bytes]
 # Addresses by names; a mapping of one kind of name is not one of another.
 Named = Union[Mapping[str, int], Mapping[bytes, int], Mapping[Name, int]]
 # A path, or a buffer with the file's bytes.
-Source = Union[str, "os.PathLike[str]", bytes, bytearray, memoryview, "mmap.mmap", "array.array[Any]"]
+Source = Union[str, "os.PathLike[str]", bytes, bytearray, memoryview, "mmap.mmap", "array[Any]"]
 Numbers = Tuple[int, ...]
 # Where a string table begins in the file, and where it ends.
 Places = Tuple[int, int]
@@ -206,7 +212,7 @@ _CALLS: Mapping[str, Tuple[Any, ...]] = {
     "cause_word": (ctypes.c_size_t, _U32, *_OUT),
     "room": (_U64, *_FILE, _U16),
     "cost": (_U64, _U64, _to(_Limits)),
-    "show": (_U32, *_FILE, _to(_Limits), _U8, *_ROOM, *_OUT, _to(_End)),
+    "show": (_U32, *_FILE, _to(_Limits), _U16, *_ROOM, *_OUT, _to(_End)),
     "list": (_U32, *_FILE, _to(_Limits), *_ASKED, *_ROOM, *_OUT, _to(_End)),
     "list_names": (_U32, *_FILE, _to(_Limits), *_ASKED, _to(_Text), ctypes.c_size_t, *_ROOM, *_OUT, _to(_End)),
     "find": (_U32, *_FILE, _to(_Limits), *_ROOM, *_FILE, _to(_Found), _to(_End)),
@@ -287,10 +293,19 @@ if VERSION[0] != 0:
 # ---------------------------------------------------------------------------
 # How a name is escaped.
 
+def _encoded(name: Name) -> bytes:
+    """Returns the bytes of a name. bytes() would also accept a number, or a list of numbers: neither is a name."""
+    if isinstance(name, str):
+        return name.encode("utf-8", "surrogateescape")
+    if isinstance(name, (bytes, bytearray, memoryview)):
+        return bytes(name)
+    raise TypeError("a name is a str or bytes, and not %s" % type(name).__name__)
+
+
 def spelt(name: Name) -> str:
     """Returns a name escaped as in a listing: a backslash is doubled, and a byte that is not a printable ASCII
     character is \\x and two hexadecimal digits. So nothing of it acts on a terminal."""
-    text = name.encode("utf-8", "surrogateescape") if isinstance(name, str) else bytes(name)
+    text = _encoded(name)
     return "".join("\\\\" if byte == 92 else chr(byte) if 32 <= byte < 127 else "\\x%02x" % byte for byte in text)
 
 
@@ -311,7 +326,7 @@ class Refused(Exception):
     def __init__(self, cause: int, offset: int) -> None:
         super().__init__(cause, offset)
         self.cause: int = Cause(cause) if cause in Cause.__members__.values() else cause
-        self.offset: int = offset
+        self.offset: int = operator.index(offset)
         self.word: str = word_of(cause)
 
     def __str__(self) -> str:
@@ -568,13 +583,20 @@ class Layout(NamedTuple):
 # Checks that are made here, since C would cut a number or take bytes as they are.
 
 def _within(what: str, number: int, least: int, most: int) -> int:
-    if not least <= number <= most:
-        raise ValueError("%s is %d, and not %d to %d" % (what, number, least, most))
-    return number
+    """Returns a number in its range. What is not an integer, such as a float or a str, raises TypeError."""
+    whole = operator.index(number)
+    if not least <= whole <= most:
+        raise ValueError("%s is %d, and not %d to %d" % (what, whole, least, most))
+    return whole
+
+
+def _flags_of(**flags: Tuple[bool, int]) -> int:
+    """Returns the sum of the flags that are on. On is True, or 1."""
+    return sum(flag * _within(what, on, 0, 1) for what, (on, flag) in flags.items())
 
 
 def _name_bytes(name: Name, most: int) -> bytes:
-    text = name.encode("utf-8", "surrogateescape") if isinstance(name, str) else bytes(name)
+    text = _encoded(name)
     if len(text) > most or b"\0" in text:
         raise ValueError("a name has at most %d bytes, and no NUL" % most)
     return text
@@ -583,26 +605,77 @@ def _name_bytes(name: Name, most: int) -> bytes:
 def _content(source: Source) -> bytes:
     """Returns the bytes of a path, or of a buffer."""
     if isinstance(source, (str, os.PathLike)):
-        with open(source, "rb") as file:
-            return file.read()
-    return source if type(source) is bytes else bytes(memoryview(source))
+        return _read(source)
+    if type(source) is bytes:
+        return source
+    view = memoryview(source)
+    if isinstance(view.obj, (bytes, bytearray, array)):
+        return bytes(view)
+    if not view.c_contiguous:
+        raise BufferError("a buffer that is no bytes, bytearray or array lies in one piece")
+    return _copied(pickle.PickleBuffer(view).raw())
+
+
+def _regular(path: Union[str, "os.PathLike[str]"], mode: int) -> None:
+    """Raises OSError if a mode is not a regular file's."""
+    if stat.S_ISDIR(mode):
+        raise IsADirectoryError(errno.EISDIR, os.strerror(errno.EISDIR), os.fspath(path))
+    if not stat.S_ISREG(mode):
+        raise OSError(errno.EINVAL, "Not a regular file", os.fspath(path))
+
+
+def _read(path: Union[str, "os.PathLike[str]"]) -> bytes:
+    """Returns the bytes of a regular file. Nothing else is opened, as opening a device may do something; if a pipe or a
+    device replaces the file between the two calls, opening it does not wait, and none of it is read."""
+    _regular(path, os.stat(path).st_mode)
+    opened = os.open(path, os.O_RDONLY | os.O_CLOEXEC | os.O_NONBLOCK | os.O_NOCTTY)
+    with open(opened, "rb") as file:
+        _regular(path, os.fstat(opened).st_mode)
+        content: Optional[bytes] = file.read()
+    if content is None:
+        raise BlockingIOError(errno.EAGAIN, os.strerror(errno.EAGAIN), os.fspath(path))
+    return content
+
+
+def _copied(content: memoryview) -> bytes:
+    """Returns the bytes of a buffer that may be a mapped file. The kernel copies them, through a pipe: if the file is
+    truncated meanwhile, the call fails, and the process does not end."""
+    parts, done = [], 0
+    source, sink = os.pipe()
+    try:
+        os.set_blocking(sink, False)
+        while done < len(content):
+            count = os.write(sink, content[done:done + 65536])
+            parts.append(os.read(source, count))
+            done += count
+    except OSError as fault:
+        if fault.errno != errno.EFAULT:
+            raise
+        raise OSError(errno.EFAULT, "The mapped file was cut short") from None
+    finally:
+        os.close(source)
+        os.close(sink)
+    return b"".join(parts)
 
 
 def _limits_of(headers: int, name_cap: int, budget: Optional[int]) -> Any:
-    _within("headers", headers, 1, MOST_HEADERS)
-    _within("name_cap", name_cap, 1, MOST_NAME)
-    _within("budget", budget or 0, 0, MOST_NUMBER)
-    return _Limits(headers, name_cap, budget is not None, budget or 0)
+    most = 0 if budget is None else _within("budget", budget, 0, MOST_NUMBER)
+    return _Limits(_within("headers", headers, 1, MOST_HEADERS), _within("name_cap", name_cap, 1, MOST_NAME),
+                   budget is not None, most)
 
 
 def _texts_of(names: Iterable[Name]) -> Tuple[Any, int]:
-    """Names as the library borrows them: in ascending byte order."""
+    """Names as the library borrows them: in ascending byte order. One name is not a list of its characters."""
+    if isinstance(names, (str, bytes, bytearray, memoryview)):
+        raise TypeError("names is a list of names, and not one of them")
     texts = [(text, len(text)) for text in sorted({_name_bytes(name, MOST_NAME) for name in names})]
     return (_Text * max(1, len(texts)))(*(texts or [(b"", 0)])), len(texts)
 
 
 def _layout_of(layout: Layout) -> Any:
     """A layout as the library borrows it: each list in ascending order."""
+    if not isinstance(layout, Layout) or not all(isinstance(each, abc.Mapping) for each in layout):
+        raise TypeError("a layout is a Layout of mappings")
     numbers = sorted((_within("a section", index, 0, 65535), _within("an address", address, 0, MOST_NUMBER))
                      for index, address in layout.sections.items())
     lists: List[Any] = [(_LentSection * max(1, len(numbers)))(*numbers), len(numbers)]
@@ -669,7 +742,8 @@ class File:
     longer raises Full.
 
     Every call except `close` raises Refused if the file is malformed or the budget is exhausted, and
-    ValueError if an argument is outside its range or the file is closed. Rows are given up to the
+    ValueError if an argument is outside its range or the file is closed, and TypeError if one has
+    another type. For a path, OSError is raised if it is not a regular file. Rows are given up to the
     fault, and then it is raised: at the same place and for the same cause as in a listing of that
     part that shows all names whole. A listing that cuts a name reads no further: if such a name
     does not end in its string table, the listing continues, and here the fault is raised.
@@ -679,10 +753,11 @@ class File:
                  headers: int = DEFAULT_HEADERS, budget: Optional[int] = None,
                  longest_name: int = 65536) -> None:
         self._limits = _limits_of(headers, DEFAULT_NAME, budget)
-        self._headers, self._budget = headers, budget
+        self._headers: int = self._limits.headers
+        self._budget: Optional[int] = None if budget is None else self._limits.budget
         self._longest = _within("longest_name", longest_name, 1, 1 << 62)
         self._content: Optional[bytes] = _content(source)
-        self._room: int = _library.elfsee_room(self._content, len(self._content), headers)
+        self._room: int = _library.elfsee_room(self._content, len(self._content), self._headers)
         self._sections: Optional[Sequence[Numbers]] = None
         self._shared: Any = None
 
@@ -747,13 +822,15 @@ class File:
         each may be NAME@VERSION or NAME@@VERSION, at least `name_cap`. Full is raised if the listing has more
         than `most` bytes. If the memory does not suffice, it is made four times as large and the listing begins
         anew."""
-        flags = _BY_SEGMENTS * by_segments + _GNU * gnu + _JSON * json + _NAME_VERSIONS * versions
+        flags = _flags_of(by_segments=(by_segments, _BY_SEGMENTS), gnu=(gnu, _GNU), json=(json, _JSON),
+                          versions=(versions, _NAME_VERSIONS))
         chosen = None if names is None else _texts_of(names)
         if parts is None:
             parts = SYMBOLS if chosen else ALL + VERSIONS if gnu else ALL
         limits = _limits_of(self._headers, name_cap, self._budget)
         listing, end = _Listing(_within("parts", parts, 0, 65535), flags), _End()
-        length = min(_within("most", most, 0, 1 << 62), (1 << 16) + len(self.data) // 4)
+        most = _within("most", most, 0, 1 << 62)
+        length = min(most, (1 << 16) + len(self.data) // 4)
         while True:
             out = ctypes.create_string_buffer(max(length, 1))
             status = self._listed(limits, listing, chosen, out, length, end)
@@ -806,10 +883,11 @@ class File:
         hidden; with `default_only` the version must be the symbol's default one. `by_segments` uses
         the program headers even if there are section headers. Name and version have at most 4,096
         bytes and no NUL, and the version is not empty."""
-        text, wanted = _name_bytes(name, MOST_NAME), _name_bytes(version or b"", MOST_NAME)
+        text, wanted = _name_bytes(name, MOST_NAME), _name_bytes(b"" if version is None else version, MOST_NAME)
         if version is not None and not wanted:
             raise ValueError("a version has a byte; None asks for no version")
-        found, flags = _Resolved(), _BY_SEGMENTS * by_segments + _DEFAULT_ONLY * default_only
+        found, flags = _Resolved(), _flags_of(by_segments=(by_segments, _BY_SEGMENTS),
+                                              default_only=(default_only, _DEFAULT_ONLY))
         status, _ = self._call("look_up", self._limits, flags, text, len(text), wanted, len(wanted),
                                *self._lent(), found)
         if status == _ABSENT:
@@ -827,9 +905,9 @@ class File:
         """Returns the bytes of a section of a relocatable file for x86-64, with its relocations applied for
         these addresses. Raises Unapplied if it is refused, with what the layout lacks; ValueError
         if a name or a number of the layout is outside its range, or two names are the same."""
-        lent, missing = _layout_of(layout), _Missing()
+        lent, missing, section = _layout_of(layout), _Missing(), _within("section", section, 0, 65535)
         # A section that is longer than the file is refused, so this is room enough.
-        length = self._size_in_file(_within("section", section, 0, 65535))
+        length = self._size_in_file(section)
         out = ctypes.create_string_buffer(max(1, length))
         try:
             status, end = self._call("apply_lent", self._limits, section, lent, *self._lent(), out, length, missing)
@@ -897,8 +975,8 @@ class File:
     def content(self, section: int) -> Optional[bytes]:
         """Returns the bytes of a section; None if its type is NOBITS or NULL, which has no bytes in the
         file. Raises Absent if the file has no such section."""
-        found = _Range()
-        status, _ = self._call("section_bytes", _within("section", section, 0, 65535), found)
+        found, section = _Range(), _within("section", section, 0, 65535)
+        status, _ = self._call("section_bytes", section, found)
         if status == _OK:
             _Asked(self._budget).take(found.len, found.at)
             return self.data[found.at:found.at + found.len]
@@ -938,12 +1016,12 @@ class File:
         data, end, size = self.data, _End(), struct.calcsize(form)
         step = getattr(_library, "elfsee_" + call + "_within")
         most = max(1, min(BATCH, rows.count))
-        out = bytearray(size * most)
-        lent, view = (ctypes.c_char * len(out)).from_buffer(out), memoryview(out)
+        out = ctypes.create_string_buffer(size * most)
         count = most
         while count == most:
-            count = step(data, len(data), self._limits, asked.count, rows, lent, most, end)
-            yield struct.iter_unpack(form, view[:size * count])
+            count = step(data, len(data), self._limits, asked.count, rows, out, most, end)
+            # Over a memoryview the interpreter could end, if a fault that holds this frame is collected.
+            yield struct.iter_unpack(form, ctypes.string_at(out, size * count))
         if end.cause:
             raise Refused(end.cause, end.at)
 
@@ -998,7 +1076,8 @@ class File:
         found as `look_up` finds them, so also in a file without section headers, and counted by the hash table.
         Their `table` is 0."""
         rows, asked = _Rows(), _Asked(self._budget)
-        _, end = self._call("hashed_symbols", self._limits, _BY_SEGMENTS * by_segments, *self._lent(), rows)
+        flags = _flags_of(by_segments=(by_segments, _BY_SEGMENTS))
+        _, end = self._call("hashed_symbols", self._limits, flags, *self._lent(), rows)
         asked.take(end.asked, 0)
         yield from self._symbols_from(rows, 0, asked)
 

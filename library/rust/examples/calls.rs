@@ -349,8 +349,8 @@ fn versions(file: &File) -> Result<(), Error> {
                     VersionKind::Need => 3,
                 };
                 let (number, is_hidden) = (record.number, u8::from(record.is_hidden));
-                let name = hex(record.name);
-                println!("V {index} {kind} {number} {is_hidden} {} {} {name}", record.flags, record.hash);
+                let (names_it, name) = (u8::from(record.names_version()), hex(record.name));
+                println!("V {index} {kind} {number} {is_hidden} {} {} {names_it} {name}", record.flags, record.hash);
             }
         }
     }
