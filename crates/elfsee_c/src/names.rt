@@ -3,7 +3,7 @@ ghost use Rattle.std.specs.Prelude.{length};
 ghost use Rattle.elf_memory.specs.Names.{FindsName};
 ghost use Rattle.elf_capi.specs.Prelude.{OpensNames, ReturnsOpened, ReturnsRead};
 
-use elf_capi::{CallEnd, CallerLimits, limits_of, names_in, report_opened, report_row};
+use elf_capi::{CallEnd, CallerLimits, checked_limits, names_in, report_opened, report_row};
 use elf_memory::{ByteRange, find_name};
 
 /// Finds where the name at an offset in a string table lies, without its NUL. The string table is
@@ -44,7 +44,7 @@ pub extern "C" fn elfsee_section_names(
         result strings.old strings.new end.new }
 {
     report_opened(
-        limits_of(limits, room.len()).map(|limits| names_in(file, limits.headers)),
+        checked_limits(limits, room.len()).map(|limits| names_in(file, limits.headers)),
         strings,
         end,
     )
