@@ -1,10 +1,10 @@
-//! The rows of tables of an ELF64 file that lies in memory, as a caller keeps them: symbols, relocation
-//! entries, dynamic entries and symbol versions, field by field, and places in tables that are plain
-//! numbers. No number that a caller sets is a wrong one: each step tests them. What a read answers is told
-//! in the numbers that C has.
+//! The rows of tables of an ELF64 file in memory, in a form that callers can store: symbols,
+//! relocation entries, dynamic entries and symbol versions, field by field, and positions in tables
+//! that are plain numbers. No number that a caller sets is invalid: each step checks them. The
+//! result of a read is returned in C numbers.
 //!
-//! What the calls of the library do, over memory that a caller lends, in the numbers that C has: limits,
-//! items and listings as a caller says them, what is written into lent memory, and how a call ends.
+//! The calls of the library, over memory provided by a caller, in C numbers: limits, items and
+//! listings as a caller passes them, what is written into the caller's memory, and how a call ends.
 #![tactic(auto)]
 
 mod applied;

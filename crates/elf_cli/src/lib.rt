@@ -1,8 +1,9 @@
-//! The commands and options of the command line, as they are described to `clap`.
+//! The commands and options of the command line, as described to `clap`.
 //!
-//! Words, as the command line reads them, and what of them a program takes that only lists one file.
+//! The parsed arguments, and the part of them that a program reads that only lists one file.
 //!
-//! What the programs share: their words, the files that they open, what they write last, and how they end.
+//! What the programs share: reading their arguments, opening files, flushing their output, and
+//! their exit status.
 #![tactic(auto)]
 
 mod arg_specs;
