@@ -1,4 +1,4 @@
--- A line that was put in pieces ends in the name and the version that is asked for.
+-- A line written in pieces ends in the name and the referenced version.
 use Rattle.std.proofs.Common.{◌≡◌, ℕ, List, ◌++◌, refl, sym, ap, ◌∙◌, append_assoc}
 use Rattle.std.specs.Prelude.{codes}
 use Rattle.elf_model.specs.Prelude.{closing, escaped, member_key, name_member, name_text, quoted, string_text, version_member}

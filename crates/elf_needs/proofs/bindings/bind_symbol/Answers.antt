@@ -1,4 +1,4 @@
--- The symbol asks for nothing, its line is written, or the line of a fault.
+-- The symbol references nothing, its line is written, or the line of a fault.
 use Rattle.std.proofs.Common.{[], get_or}
 use Rattle.elf_model.specs.Prelude.{asked_name, bound_item}
 use Rattle.elf_needs.specs.Prelude.{IsBudgetShort, asked_if, bound_among}
