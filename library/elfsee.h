@@ -409,7 +409,9 @@ uint32_t elfsee_section_bytes(const uint8_t *file, size_t file_len, uint16_t ind
                               struct elfsee_range *range, struct elfsee_end *end);
 
 /* A table, and a place in it. Plain numbers on the caller's own stack: any may be passed, and a
- * caller may set them; a step tests them. */
+ * caller may set them; a step tests them. Of a table without rows only the type is checked: then `at` is
+ * the offset that its header has, `strings_at` the same or 0, and both may lie outside the file;
+ * `strings_len` is 0. */
 struct elfsee_rows {
     uint64_t at, count, index, entry; /* the entries that are left are [index, count) */
     uint64_t strings_at, strings_len; /* of the string table that goes with it; else 0, 0 */
@@ -473,7 +475,7 @@ size_t elfsee_next_version_words(const uint8_t *file, size_t file_len, struct el
                                  struct elfsee_version_word *out, size_t out_len);
 
 /* A place in a walk over the records of version definitions or needs: plain numbers, as those of
- * elfsee_rows. */
+ * elfsee_rows. Where `size` is 0 `at` may lie outside the file. */
 struct elfsee_version_records {
     uint64_t at, size;    /* of the table */
     uint64_t place;       /* of the next record, in the table */
@@ -543,7 +545,8 @@ size_t elfsee_next_version_words_within(const uint8_t *file, size_t file_len,
                                         struct elfsee_rows *rows, struct elfsee_version_word *out,
                                         size_t out_len, struct elfsee_end *end);
 
-/* A place in a table of notes: plain numbers, as those of elfsee_rows. */
+/* A place in a table of notes: plain numbers, as those of elfsee_rows. Where `left` is 0 `at` may lie
+ * outside the file. */
 struct elfsee_notes {
     uint64_t at, left; /* the file offset of the next note; bytes of the table from there on */
     uint64_t align;    /* of the notes: 8, and by any other number 4 */
@@ -607,9 +610,9 @@ uint32_t elfsee_next_member(const uint8_t *file, size_t file_len, struct elfsee_
                             struct elfsee_member *member, struct elfsee_end *end);
 
 /* Where the name at an offset in a string table lies, without its NUL: the table is the `strings`
- * of `rows`, or any range of the file, as far as it lies in the file. In a table of no bytes the
- * name at 0 has none, wherever the table begins. OK; REFUSED with ELFSEE_NAME_OUTSIDE or
- * ELFSEE_NAME_UNENDED where there is no name. */
+ * of `rows`, or any range of the file, as far as it lies in the file. In a table that has no bytes there
+ * the name at 0 has none, and `name` is 0, 0. OK, and then the name lies within the file; REFUSED with
+ * ELFSEE_NAME_OUTSIDE or ELFSEE_NAME_UNENDED where there is no name. */
 uint32_t elfsee_name(const uint8_t *file, size_t file_len, const struct elfsee_range *strings,
                      uint64_t offset, struct elfsee_range *name, struct elfsee_end *end);
 

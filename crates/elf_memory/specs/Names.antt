@@ -23,13 +23,13 @@ name_size table index =
     else Err NameOutside
 
 -- where that name begins; in an empty table, which may lie anywhere, at 0
-abbrev pub name_start : List ℕ → ByteRange → ℕ → ℕ
-name_start file strings index = if is_empty_at_zero (bytes_in_range file strings) index then 0 else strings.at + index
+abbrev pub name_place : List ℕ → ByteRange → ℕ → ℕ
+name_place file strings index = if is_empty_at_zero (bytes_in_range file strings) index then 0 else strings.at + index
 
 -- WHERE A NAME LIES: bytes of the file that are the name at that index of the string table; or why it has none
 abbrev pub FindsName : List ℕ → ByteRange → ℕ → Result (Option ByteRange) Refusal → Type 0
 FindsName file strings index (Ok (Some name)) =
-    (name.at ≡ name_start file strings index) × (name_size (bytes_in_range file strings) index ≡ Ok name.len) × IsNameOf (bytes_in_range file strings) index (bytes_in_range file name)
+    (name.at ≡ name_place file strings index) × (name_size (bytes_in_range file strings) index ≡ Ok name.len) × IsNameOf (bytes_in_range file strings) index (bytes_in_range file name)
 FindsName file strings index (Ok None) = ⊥
 FindsName file strings index (Err refusal) =
     (refusal.at ≡ min (strings.at + index) (2 ^ 64 - 1)) × (name_size (bytes_in_range file strings) index ≡ Err refusal.cause)
