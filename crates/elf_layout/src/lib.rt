@@ -1,6 +1,6 @@
-//! Layouts: the addresses that are given for sections, names and their entries in the procedure linkage
-//! table and in the global offset table, and what spells them: words, and the lines of a file. Only the
-//! items of a file take memory.
+//! Layouts: the addresses that are given for sections, names and their entries in the procedure
+//! linkage table and in the global offset table, and how they are parsed from arguments and from
+//! the lines of a file. Only the items of a file allocate.
 #![tactic(auto)]
 
 mod addresses;

@@ -53,7 +53,7 @@ file_status_name state.NoElf = codes "no-elf"
 file_status_name state.Unread = codes "unread"
 file_status_name state.Memory = codes "memory"
 
--- where a file is at fault and why, or a hyphen
+-- whether a file is malformed and why, or a hyphen
 abbrev pub fault_fields : FileStatus → List Field
 fault_fields (state.Refused refusal) =
     Hexadecimal (codes "place") 16 refusal.at ∷ ArgSpec (codes "cause") 0 (cause_word refusal.cause) ∷ []
@@ -67,11 +67,11 @@ check_fields found = record { letter = codes "C"; fields = ArgSpec (codes "state
 unfoldable pub check_front : Format → FileStatus → LinePrefix
 check_front format found = front format (codes "path") (check_fields found)
 
--- the line of a file: its state, where it is at fault and why, and its path
+-- the line of a file: its state, whether it is malformed and why, and its path
 abbrev pub check_line : Format → FileStatus → List ℕ → List ℕ
 check_line format found path = named_line (check_front format found) (Whole path)
 
--- the last line of a check, where paths could not be named: how many
+-- the last line of a check, if paths could not be named: how many
 unfoldable pub unnamed_line : Format → ℕ → List ℕ
 unnamed_line format count =
     let word = ArgSpec (codes "state") 12 (codes "unnamed") in

@@ -1,9 +1,11 @@
-//! What users ask for: a name, or a name and a version, that a loader of the GNU system looks up; texts in
-//! order, among which a name is looked for, and which rows of a listing are shown by them; and the words
-//! that are required of a file's traits. No call takes memory.
+//! What users ask for.
 //!
-//! The names of which rows are shown: those among the words, and those of a list, which has one a line;
-//! and how rows are shown by them.
+//! A name, or a name and a version, that a GNU loader looks up; sorted texts, among which a name is
+//! searched, and the rows of a listing that they select; and the traits that a file must have. No
+//! call here allocates.
+//!
+//! The names that select rows: those among the arguments, and those of a list, one per line; and
+//! how rows are shown by them.
 #![tactic(auto)]
 
 mod caps;

@@ -7,8 +7,8 @@ pub enum NamesFault {
     Read,
     /// The list has too many bytes.
     TooLarge,
-    /// A line of the list is no name that can be looked for.
+    /// A line of the list is not a valid row name.
     BadName,
-    /// There was no memory.
+    /// Memory is exhausted.
     Memory,
 }

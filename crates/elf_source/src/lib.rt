@@ -1,4 +1,4 @@
-//! Sources that are read at an offset, sinks that are written in order, and what counts both.
+//! Sources that are read at an offset, sinks that are written in order, and counters for both.
 #![tactic(auto)]
 
 mod counted;

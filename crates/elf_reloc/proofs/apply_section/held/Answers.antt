@@ -1,4 +1,4 @@
--- Where the section's bytes stand, behind the checks of the request.
+-- The location of the section's bytes, after the checks of the request.
 use Rattle.std.proofs.Common.{◌≡◌, ◌==◌, ◌||◌, nat_lt, not, true, false, sym, ◌∙◌, arith}
 use Rattle.std.proofs.lemmas.Bool.Decides.{nat_tests}
 use Rattle.elf_model.specs.Prelude.{EM_X86_64, ET_REL, e_machine, e_shnum, e_type, is_compressed, is_section_outside, section_at}
