@@ -475,7 +475,7 @@ size_t elfsee_next_version_words(const uint8_t *file, size_t file_len, struct el
                                  struct elfsee_version_word *out, size_t out_len);
 
 /* A place in a walk over the records of version definitions or needs: plain numbers, as those of
- * elfsee_rows. Where `size` is 0 `at` may lie outside the file. */
+ * elfsee_rows. If `size` is 0, `at` may lie outside the file. */
 struct elfsee_version_records {
     uint64_t at, size;    /* of the table */
     uint64_t place;       /* of the next record, in the table */
@@ -545,7 +545,7 @@ size_t elfsee_next_version_words_within(const uint8_t *file, size_t file_len,
                                         struct elfsee_rows *rows, struct elfsee_version_word *out,
                                         size_t out_len, struct elfsee_end *end);
 
-/* A place in a table of notes: plain numbers, as those of elfsee_rows. Where `left` is 0 `at` may lie
+/* A place in a table of notes: plain numbers, as those of elfsee_rows. If `left` is 0, `at` may lie
  * outside the file. */
 struct elfsee_notes {
     uint64_t at, left; /* the file offset of the next note; bytes of the table from there on */

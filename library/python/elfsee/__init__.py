@@ -294,7 +294,7 @@ if VERSION[0] != 0:
 # How a name is escaped.
 
 def _encoded(name: Name) -> bytes:
-    """The bytes of a name. Of a number, or of a list of numbers, bytes() would make some too: neither is a name."""
+    """Returns the bytes of a name. bytes() takes a number, or a list of numbers, too: neither is a name."""
     if isinstance(name, str):
         return name.encode("utf-8", "surrogateescape")
     if isinstance(name, (bytes, bytearray, memoryview)):
@@ -583,7 +583,7 @@ class Layout(NamedTuple):
 # Checks that are made here, since C would cut a number or take bytes as they are.
 
 def _within(what: str, number: int, least: int, most: int) -> int:
-    """A number in its range. What is no whole number, as a float or a text, raises TypeError."""
+    """Returns a number in its range. Raises TypeError for what is no whole number, such as a float or a string."""
     whole = operator.index(number)
     if not least <= whole <= most:
         raise ValueError("%s is %d, and not %d to %d" % (what, whole, least, most))
@@ -591,7 +591,7 @@ def _within(what: str, number: int, least: int, most: int) -> int:
 
 
 def _flags_of(**flags: Tuple[bool, int]) -> int:
-    """The sum of the flags that are on. On is True, or 1."""
+    """Returns the sum of the flags that are on. On is True, or 1."""
     return sum(flag * _within(what, on, 0, 1) for what, (on, flag) in flags.items())
 
 
@@ -617,7 +617,7 @@ def _content(source: Source) -> bytes:
 
 
 def _regular(path: Union[str, "os.PathLike[str]"], mode: int) -> None:
-    """Raises OSError where a mode is not a regular file's."""
+    """Raises OSError if a mode is not that of a regular file."""
     if stat.S_ISDIR(mode):
         raise IsADirectoryError(errno.EISDIR, os.strerror(errno.EISDIR), os.fspath(path))
     if not stat.S_ISREG(mode):
@@ -625,8 +625,8 @@ def _regular(path: Union[str, "os.PathLike[str]"], mode: int) -> None:
 
 
 def _read(path: Union[str, "os.PathLike[str]"]) -> bytes:
-    """The bytes of a regular file. Nothing else is opened, as opening a device may do something; where a pipe or a
-    device takes the file's place between the two calls, opening it does not wait, and none of it is read."""
+    """Returns the bytes of a regular file. Nothing else is opened, since opening a device may have an effect; if a pipe
+    or a device replaces the file between the two calls, opening it does not wait, and nothing of it is read."""
     _regular(path, os.stat(path).st_mode)
     opened = os.open(path, os.O_RDONLY | os.O_CLOEXEC | os.O_NONBLOCK | os.O_NOCTTY)
     with open(opened, "rb") as file:
@@ -638,8 +638,8 @@ def _read(path: Union[str, "os.PathLike[str]"]) -> bytes:
 
 
 def _copied(content: memoryview) -> bytes:
-    """The bytes of a buffer that may be a mapped file. The kernel copies them, through a pipe: where the file is cut
-    short meanwhile, that is a fault of the call, and not the end of the process."""
+    """Returns the bytes of a buffer that may be a mapped file. The kernel copies them, through a pipe: if the file is
+    cut short meanwhile, the call fails, and the process does not end."""
     parts, done = [], 0
     source, sink = os.pipe()
     try:
@@ -1020,7 +1020,7 @@ class File:
         count = most
         while count == most:
             count = step(data, len(data), self._limits, asked.count, rows, out, most, end)
-            # Over a memoryview the interpreter could end, where a fault that holds this frame is collected.
+            # Over a memoryview the interpreter could crash, when an exception that holds this frame is collected.
             yield struct.iter_unpack(form, ctypes.string_at(out, size * count))
         if end.cause:
             raise Refused(end.cause, end.at)
