@@ -1,10 +1,10 @@
-//! The rows of tables of an ELF64 file that lies in memory, as a caller keeps them: symbols, relocation
-//! entries, dynamic entries and symbol versions, field by field, and places in tables that are plain
-//! numbers. No number that a caller sets is a wrong one: each step tests them. What a read answers is told
-//! in the numbers that C has.
+//! The rows of tables of an ELF64 file in memory, in a form that callers can store: symbols,
+//! relocation entries, dynamic entries and symbol versions, field by field, and positions in tables
+//! that are plain numbers. No number that a caller sets is invalid: each step checks them. The
+//! result of a read is returned in C numbers.
 //!
-//! What the calls of the library do, over memory that a caller lends, in the numbers that C has: limits,
-//! items and listings as a caller says them, what is written into lent memory, and how a call ends.
+//! The calls of the library, over memory provided by a caller, in C numbers: limits, items and
+//! listings as a caller passes them, what is written into the caller's memory, and how a call ends.
 #![tactic(auto)]
 
 mod applied;
@@ -50,7 +50,7 @@ mod tables;
 mod version_words;
 
 pub use applied::{ApplyInput, write_section};
-pub use asked::{listing_of, named_listing_of};
+pub use asked::{caller_listing_of, named_listing_of};
 pub use call_status::{CallStatus, report_status};
 pub use caller_listing::CallerListing;
 pub use counts::short;
@@ -62,8 +62,8 @@ pub use hashed_symbols::hashed_rows;
 pub use items::{ApplyCall, CallerItem, layout_from};
 pub use kind::RowKind;
 pub use lent_layout::CallerLayout;
-pub use limits::{CallerLimits, caps_of, limits_of};
-pub use listing::{CallOutcome, list};
+pub use limits::{CallerLimits, caps_of, checked_limits};
+pub use listing::{CallOutcome, write_listing};
 pub use loader_lookup::{report_resolved, resolve_in};
 pub use lookup_call::{look_in, report_found};
 pub use missing::CallerMissing;

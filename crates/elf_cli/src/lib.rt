@@ -1,8 +1,9 @@
-//! The commands and options of the command line, as they are described to `clap`.
+//! The commands and options of the command line, as described to `clap`.
 //!
-//! Words, as the command line reads them, and what of them a program takes that only lists one file.
+//! The parsed arguments, and the part of them that a program reads that only lists one file.
 //!
-//! What the programs share: their words, the files that they open, what they write last, and how they end.
+//! What the programs share: reading their arguments, opening files, flushing their output, and
+//! their exit status.
 #![tactic(auto)]
 
 mod arg_specs;
@@ -23,7 +24,10 @@ mod row_names;
 mod texts;
 mod version;
 
-pub use commands::{archive, check, command_line, find, list, needs, sample, show, traits};
+pub use commands::{
+    archive_command, check_command, command_line, find_command, list_command, needs_command,
+    sample_command, show_command, traits_command,
+};
 pub use exit_lines::{CANNOT_OPEN, ExitLine, OUT_OF_MEMORY, READ_FAULT, exit, outcome};
 pub use faults::RequestFault;
 pub use files::open;

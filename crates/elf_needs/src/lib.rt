@@ -1,16 +1,16 @@
-//! The libraries of a program, as a loader of the GNU system sees them: what a file needs, by its program headers
-//! and its first segment of dynamic entries, and the paths that are tried for a name, one after another.
-//! Texts are kept in memory that is taken once; nothing is opened here.
+//! The libraries of a program, as glibc's dynamic loader sees them: what a file needs, by its
+//! program headers and its first segment of dynamic entries, and the paths that are tried for a
+//! name, one after another. Texts are stored in memory that is allocated once; nothing is opened
+//! here.
 //!
-//! From where the symbols come that a file asks others for: names looked for over several files in
-//! order, as a loader of the GNU system does, and the line of each. What a lookup in each file is made in
-//! is found once and kept. Files that stay open for that are read by pages, of which some are kept. Memory
-//! is taken where room for objects is made, and nowhere else.
+//! Binding of the symbols that a file references: names looked up in several files in order, as
+//! glibc's dynamic loader does, and the line of each. The lookup tables of each file are found once
+//! and kept. Files that are kept open for that are read by pages, of which some are cached. Memory
+//! is allocated when room for objects is created, and nowhere else.
 //!
-//! What a program needs: its objects in the order of a loader of the GNU system, each looked for in the
-//! folders that the loader would search, and a line for each; and from where each symbol comes that they ask
-//! others for. Nothing is run or loaded. The memory is taken
-//! once.
+//! What a program needs: its objects in the order of glibc's dynamic loader, each searched in the
+//! directories that the loader would search, and a line for each; and which object each symbol that
+//! they reference is bound to. Nothing is run or loaded. The memory is allocated once.
 #![tactic(auto)]
 
 mod bind_name;

@@ -1,11 +1,11 @@
-//! What users ask for.
+//! What users ask for: how much of a file is read and shown, what is looked up, which rows are
+//! listed, and which traits a file must have.
 //!
-//! A name, or a name and a version, that a GNU loader looks up; sorted texts, among which a name is
-//! searched, and the rows of a listing that they select; and the traits that a file must have. No
-//! call here allocates.
-//!
-//! The names that select rows: those among the arguments, and those of a list, one per line; and
-//! how rows are shown by them.
+//! [`Caps`] limits what is read and says how rows are shown. [`SymbolQuery`] is a name, or a name
+//! and a version, that a GNU loader looks up. [`RowFilter`] selects rows of a listing by sorted
+//! texts, and [`RequiredTrait`] is a word that a file must have in a column. [`read_names`] and
+//! [`gather_names`] gather the names that select rows, from the arguments and from a list with one
+//! per line; only these two allocate.
 #![tactic(auto)]
 
 mod caps;

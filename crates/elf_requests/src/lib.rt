@@ -1,7 +1,7 @@
-//! What can be asked for on a command line, and the words that ask for it.
+//! The requests of a command line, and the arguments that make them.
 //!
-//! A request carried out: a listing, a lookup of a name or as a loader does it, or a section with its
-//! relocations applied; and what the listing of an archive answers.
+//! A request is a listing, a lookup of a name by the SysV hash table or as a loader does it, or a
+//! section with its relocations applied. The status of an archive's listing is here too.
 #![tactic(auto)]
 
 mod apply_request;

@@ -1,14 +1,14 @@
-//! Sources, readers and writers for tests, which do what a device may: they fail, end early, are
-//! interrupted, or give little.
+//! Sources, readers and writers for tests, which do what a device may do: they fail, end early, are
+//! interrupted, or return little.
 //!
-//! Tests of what no clause says of sources, sinks, lines, loads, tables, names, notes, versions,
-//! lookups and applied sections: readers and writers that give or take little, are interrupted, fail
-//! or end, how often they are called and for how much at once, and an entry that falls back between
-//! reads; and a test by name of each call that no other crate makes.
-//! They are in a crate of their own, since a crate with tests is proved twice.
+//! Tests of what no clause states about sources, sinks, lines, loads, tables, names, notes,
+//! versions, lookups and applied sections: readers and writers that return or take little, are
+//! interrupted, fail or end, how often they are called and for how much at once, and an entry that
+//! descends between reads; and a test by name of each call that no other crate makes. They are in a
+//! crate of their own, since a crate with tests is proved twice.
 //!
-//! Tests of requests carried out: whole answers, within budgets too, and each read and each write failing
-//! in turn, and two files that answer in turn.
+//! Tests of requests: whole answers, within budgets too, with each read and each write failing in
+//! turn, and with two files that are read in turn.
 #![tactic(auto)]
 
 #[cfg(test)]

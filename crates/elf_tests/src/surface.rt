@@ -61,7 +61,8 @@ fn open<S: Source>(src: &mut Counted<S>, store: &mut HeaderStore) -> Result<Load
     load(src, store, &header)
 }
 
-/// The first name byte of the second symbol, its section, and whether its name is `wanted`.
+/// Returns the first byte of the second symbol's name, its section, and whether its name is
+/// `wanted`.
 fn second_symbol<S: Source>(
     src: &mut Counted<S>,
     symbols: Table,
@@ -146,14 +147,14 @@ fn a_loaded_file_has_its_segments_tables(rt: HostRuntime) -> Result<(), Fail> {
     Ok(())
 }
 
-/// The index of a row.
+/// Returns the index of a row.
 fn index_of(row: &Row<'_>) -> u64
     ensures { result ≡ row.now.index }
 {
     row.index
 }
 
-/// Where the descriptor of a note stands.
+/// Returns the offset of a note's descriptor.
 fn descriptor_of(row: &NoteRow<'_>) -> u64
     ensures { result ≡ row.now.desc_at }
 {

@@ -1,11 +1,10 @@
-//! The names in a folder in their order, in memory of a fixed size: those of a pass over a folder, those
-//! that wait, and a path that is put together of them; and entries that end in NUL.
+//! Many files, visited one after another: paths, directories, and lists of paths that end in NUL.
 //!
-//! Many files told of one after another: paths, folders, and lists of entries that end in NUL; and what is
-//! done with each file, which is one trait.
+//! What is done with each file is one trait: its check, its listing after the line of its path, or
+//! the line of how it is hardened. The store and buffers are reused for the next file.
 //!
-//! What is done with each of many files: its check, its listing behind the line of its path, or the line of how
-//! it is hardened. Store and buffers are used again for the next file.
+//! The names in a directory are sorted in memory of a fixed size: those of a pass over a directory,
+//! the pending ones, and a path composed of them.
 #![tactic(auto)]
 
 mod batch;

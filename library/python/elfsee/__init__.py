@@ -294,7 +294,7 @@ if VERSION[0] != 0:
 # How a name is escaped.
 
 def _encoded(name: Name) -> bytes:
-    """Returns the bytes of a name. bytes() takes a number, or a list of numbers, too: neither is a name."""
+    """Returns the bytes of a name. bytes() would also accept a number, or a list of numbers: neither is a name."""
     if isinstance(name, str):
         return name.encode("utf-8", "surrogateescape")
     if isinstance(name, (bytes, bytearray, memoryview)):
@@ -583,7 +583,7 @@ class Layout(NamedTuple):
 # Checks that are made here, since C would cut a number or take bytes as they are.
 
 def _within(what: str, number: int, least: int, most: int) -> int:
-    """Returns a number in its range. Raises TypeError for what is no whole number, such as a float or a string."""
+    """Returns a number in its range. What is not an integer, such as a float or a str, raises TypeError."""
     whole = operator.index(number)
     if not least <= whole <= most:
         raise ValueError("%s is %d, and not %d to %d" % (what, whole, least, most))
@@ -617,7 +617,7 @@ def _content(source: Source) -> bytes:
 
 
 def _regular(path: Union[str, "os.PathLike[str]"], mode: int) -> None:
-    """Raises OSError if a mode is not that of a regular file."""
+    """Raises OSError if a mode is not a regular file's."""
     if stat.S_ISDIR(mode):
         raise IsADirectoryError(errno.EISDIR, os.strerror(errno.EISDIR), os.fspath(path))
     if not stat.S_ISREG(mode):
@@ -625,8 +625,8 @@ def _regular(path: Union[str, "os.PathLike[str]"], mode: int) -> None:
 
 
 def _read(path: Union[str, "os.PathLike[str]"]) -> bytes:
-    """Returns the bytes of a regular file. Nothing else is opened, since opening a device may have an effect; if a pipe
-    or a device replaces the file between the two calls, opening it does not wait, and nothing of it is read."""
+    """Returns the bytes of a regular file. Nothing else is opened, as opening a device may do something; if a pipe or a
+    device replaces the file between the two calls, opening it does not wait, and none of it is read."""
     _regular(path, os.stat(path).st_mode)
     opened = os.open(path, os.O_RDONLY | os.O_CLOEXEC | os.O_NONBLOCK | os.O_NOCTTY)
     with open(opened, "rb") as file:
@@ -639,7 +639,7 @@ def _read(path: Union[str, "os.PathLike[str]"]) -> bytes:
 
 def _copied(content: memoryview) -> bytes:
     """Returns the bytes of a buffer that may be a mapped file. The kernel copies them, through a pipe: if the file is
-    cut short meanwhile, the call fails, and the process does not end."""
+    truncated meanwhile, the call fails, and the process does not end."""
     parts, done = [], 0
     source, sink = os.pipe()
     try:
