@@ -1,10 +1,7 @@
-//! Many files, visited one after another: paths, directories, and lists of paths that end in NUL.
-//!
-//! What is done with each file is one trait: its check, its listing after the line of its path, or
-//! the line of how it is hardened. The store and buffers are reused for the next file.
-//!
-//! The names in a directory are sorted in memory of a fixed size: those of a pass over a directory,
-//! the pending ones, and a path composed of them.
+//! Many files, one after another: [`DirWalk`] goes through the names of a directory in order, in
+//! memory of a fixed size, and calls a [`FileVisitor`] for each file: [`CheckFiles`] checks it,
+//! [`ListFiles`] lists it after the line of its path, and [`TraitReport`] writes the line of its
+//! traits. Store and buffers are used again for the next file.
 #![tactic(auto)]
 
 mod batch;
