@@ -1,12 +1,13 @@
 -- The first fault of an archive: of itself, of a member's listing, or of the walk over its members.
-use Rattle.std.specs.Prelude.{ℕ, ◌≡◌, ◌<◌, ◌⊎◌, List, length, Option, None, Some, Result, Ok, Err}
-use Rattle.elf_model.specs.Archive.{MemberWalkState, members_from}
+use Rattle.std.specs.Prelude.{ℕ, ◌≡◌, ◌<◌, ◌≤◌, ◌+◌, ◌-◌, ◌⊎◌, List, length, option_map, Option, None, Some, Result, Ok, Err}
+use Rattle.elf_model.specs.Archive.{ARCHIVE_MAGIC, MAGIC_SIZE, MemberWalkState, members_from}
 use Rattle.elf_model.specs.ArchiveCost.{archive_cost}
 use Rattle.elf_model.specs.Budget.{IsBudgetRefusal}
+use Rattle.elf_model.specs.Bytes.{field}
 use Rattle.elf_model.specs.FileLists.{archive_fault, first_fault}
 use Rattle.elf_model.specs.Style.{ListingStyle}
 use Rattle.elf_model.specs.declared.causes.Refusal.{Refusal}
-use Rattle.elf_source.specs.Source.{CountedState, IsSourceFault}
+use Rattle.elf_source.specs.Source.{CountedState, IsSourceFault, SourceState}
 use Rattle.elf_options.specs.Permitted.{style_of}
 use Rattle.elf_options.specs.declared.caps.Caps.{Caps}
 use Rattle.elf_table.specs.declared.run_fault.RunFault.{RunFault}
@@ -45,6 +46,22 @@ FindsFirst caps parts file (Err (Refused refusal)) =
     IsArchiveFault caps.limits.budget file caps.limits.headers (style_of caps.style) parts (Some refusal)
 FindsFirst caps parts file (Err (Source fault at)) = Unit {0}
 FindsFirst caps parts file (Err (Out fault)) = ⊥
+
+-- a source is of a file that begins with the magic string of an archive
+pub record BeginsArchive (seen : SourceState) : Type 0 where
+  pub size : MAGIC_SIZE ≤ seen.size
+  pub magic : (file : List ℕ) → seen.file ≡ Some file → field file 0 MAGIC_SIZE ≡ ARCHIVE_MAGIC
+
+-- caps as they were before the magic string was read, by those that it left
+abbrev pub before_magic : Caps → Caps
+before_magic left = record {
+  limits = record { headers = left.limits.headers; budget = option_map (λ bytes. MAGIC_SIZE + bytes) left.limits.budget };
+  style = left.style;
+}
+
+-- what an archive may ask for besides its magic string
+abbrev pub cost_after_magic : List ℕ → ℕ → ListingStyle → ℕ → ℕ
+cost_after_magic file headers style parts = archive_cost file headers style parts - MAGIC_SIZE
 
 -- what a stop says of the source where nothing is put out
 abbrev pub ReadTells : CountedState → CountedState → RunFault → Type 0

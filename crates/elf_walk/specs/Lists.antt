@@ -4,7 +4,8 @@ use Rattle.elf_model.specs.ArchiveCost.{IsArchiveBudgeted, any_refused, archive_
 use Rattle.elf_model.specs.Budget.{IsBudgeted}
 use Rattle.elf_model.specs.Choice.{RowFilter}
 use Rattle.elf_model.specs.Cost.{listing_cost, style_ceiling}
-use Rattle.elf_model.specs.FileLists.{headed, members_alone}
+use Rattle.elf_model.specs.FileLists.{headed, members_alone, undecided}
+use Rattle.elf_model.specs.Lines.{refusal_line}
 use Rattle.elf_model.specs.Style.{ListingStyle}
 use Rattle.elf_model.specs.declared.causes.Refusal.{Refusal}
 use Rattle.elf_model.specs.declared.states.FileMagic.{FileMagic}
@@ -16,11 +17,13 @@ use Rattle.elf_table.specs.declared.run_fault.RunFault.TheVariants.{Refused, Sou
 use Rattle.elf_listing.specs.Reports.{WroteText}
 
 -- a text with this fault is what is listed of a file of a sort within a budget: its listing, or that of an archive, whose members'
--- lines stand alone where all rows are shown
+-- lines stand alone where all rows are shown; of one that is not decided within the budget the line of that
 abbrev pub IsListedText : FileMagic → Option ℕ → List ℕ → ℕ → ListingStyle → ℕ → List ℕ → Option Refusal → Type 0
 IsListedText sort.Elf = IsBudgeted
 IsListedText sort.Archive = λ budget file headers style. IsArchiveBudgeted (members_alone style.choice) budget file headers style
-IsListedText sort.Foreign = λ budget file headers style parts text fault. (text ≡ []) × (fault ≡ None)
+IsListedText sort.Undecided = λ budget file headers style parts text fault.
+    (text ≡ refusal_line style.format undecided) × (fault ≡ Some undecided)
+IsListedText _ = λ budget file headers style parts text fault. (text ≡ []) × (fault ≡ None)
 
 -- the listing of a member is refused
 abbrev pub lists_refused : FileMagic → List ℕ → ℕ → ListingStyle → ℕ → Bool
@@ -31,13 +34,13 @@ lists_refused _ = λ file headers style parts. false
 abbrev pub sort_cost : FileMagic → List ℕ → ℕ → ListingStyle → ℕ → ℕ
 sort_cost sort.Elf = listing_cost
 sort_cost sort.Archive = archive_cost
-sort_cost sort.Foreign = λ file headers style parts. 0
+sort_cost _ = λ file headers style parts. 0
 
 -- the same of every source
 abbrev pub sort_ceiling : FileMagic → (size headers : ℕ) → ListingStyle → ℕ
 sort_ceiling sort.Elf = style_ceiling
 sort_ceiling sort.Archive = archive_ceiling
-sort_ceiling sort.Foreign = λ size headers style. 0
+sort_ceiling _ = λ size headers style. 0
 
 -- the answer is whether the listing of a member was refused
 abbrev pub ReturnsRefused : Result Bool RunFault → Bool → Type 0

@@ -2,7 +2,7 @@
 use Rattle.std.specs.Prelude.{ℕ, ◌≡◌, List, codes}
 use Rattle.elf_options.specs.NamedRows.{named_style}
 use Rattle.elf_options.specs.declared.names_fault.NamesFault.{NamesFault}
-use Rattle.elf_options.specs.declared.names_fault.NamesFault.TheVariants.{Read, TooLarge, BadName, Memory}
+use Rattle.elf_options.specs.declared.names_fault.NamesFault.TheVariants.{Read, TooLarge, BadName, NoNames, Memory}
 use Rattle.elf_options.specs.Permitted.{style_of}
 use Rattle.elf_options.specs.declared.caps.ListingStyle.{ListingStyle}
 use Rattle.elf_record.specs.declared.parts.Parts.{Parts}
@@ -20,6 +20,7 @@ abbrev pub EndsNames : NamesFault → ℕ → List ℕ → Type 0
 EndsNames Read status line = (status ≡ 2) × (line ≡ codes "elfsee: cannot read names")
 EndsNames TooLarge status line = (status ≡ 2) × (line ≡ codes "elfsee: names too large")
 EndsNames BadName status line = (status ≡ 2) × (line ≡ codes "elfsee: bad name")
+EndsNames NoNames status line = (status ≡ 2) × (line ≡ codes "elfsee: no names")
 EndsNames Memory status line = EndsWithoutMemory status line
 
 -- there were no names
