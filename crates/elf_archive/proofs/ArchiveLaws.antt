@@ -1,11 +1,6 @@
 -- The listing of an archive, by its magic string and its members.
 use Rattle.std.proofs.Common.{◌≡◌, ℕ, Bool, ◌+◌, ◌≤◌, List, [], ◌∷◌, length, None, Err, refl, arith}
-use Rattle.elf_model.specs.Archive.{archive_checks, archive_items, before_members, members_of, walk_items}
-use Rattle.elf_model.specs.ArchiveCost.{archive_ceiling, archive_cost, members_cost}
-use Rattle.elf_model.specs.Budget.{IsBudgetRefusal}
-use Rattle.elf_model.specs.Checks.{first_refusal}
-use Rattle.elf_model.specs.Listing.{Fault as FaultItem}
-use Rattle.elf_model.specs.Style.{ListingStyle}
+use Rattle.elf_model.specs.Prelude.{Fault as FaultItem, IsBudgetRefusal, ListingStyle, archive_ceiling, archive_checks, archive_cost, archive_items, before_members, first_refusal, members_cost, members_of, walk_items}
 use Rattle.elf_model.specs.declared.causes.Refusal.{Refusal}
 use Rattle.elf_model.proofs.ListingLemmas.{guarded-passes, guarded-fault}
 use Rattle.elf_table.specs.declared.fault.Fault.{Fault}

@@ -1,13 +1,10 @@
 -- What reads one after another ask for.
 use Rattle.std.proofs.Common.{ℕ, ◌+◌, ◌≤◌, ◌≡◌, nat_le, Bool, true, false, Result, Ok, Err, List, take, length, refl, sym, ap, arith}
 use Rattle.std.proofs.lemmas.Bool.Decides.{nat_tests}
-use Rattle.elf_model.specs.Archive.{MemberWalkState, name_field}
-use Rattle.elf_model.specs.ArchiveCost.{header_cost, is_elsewhere, long_name_bytes}
-use Rattle.elf_model.specs.Bytes.{slice}
-use Rattle.elf_model.specs.Cost.{cost_where}
+use Rattle.elf_model.specs.Prelude.{MemberWalkState, cost_where, header_cost, is_elsewhere, long_name_bytes, name_field, slice}
 use Rattle.elf_source.specs.Source.{CountedState, ReadsUpTo}
 use Rattle.elf_source.proofs.ReadsLaws.{ReadsUpTo-none, ReadsUpTo-then, ReadsUpTo-to, IsSourceFault-then, ExceedsBudget-then}
-use Rattle.elf_table.specs.Faults.{IsReadFault}
+use Rattle.elf_table.specs.Prelude.{IsReadFault}
 use Rattle.elf_table.specs.declared.fault.Fault.{Fault}
 use Rattle.elf_table.specs.declared.fault.Fault.TheVariants.{Refused, Source}
 use Rattle.elf_archive.specs.Members.{AsksAtMost, member_name_cost}

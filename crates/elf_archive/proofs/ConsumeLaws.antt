@@ -1,15 +1,13 @@
 -- What the calls that list members take of the source, one after another.
 use Rattle.std.proofs.Common.{ℕ, ◌+◌, ◌≤◌, Result, Ok, Err, Option, Some, List, sym, ap, ◌∙◌, arith}
-use Rattle.elf_source.specs.Source.{CountedState, ReadsUpTo}
-use Rattle.elf_source.specs.Output.{OutState}
-use Rattle.elf_source.specs.Ranges.{LiesWithin}
+use Rattle.elf_source.specs.Prelude.{CountedState, LiesWithin, OutState, ReadsUpTo}
 use Rattle.elf_source.proofs.ReadsLaws.{ReadsUpTo-none, ReadsUpTo-then, ReadsUpTo-to, IsSourceFault-then, ExceedsBudget-then, ExceedsBudget-more}
-use Rattle.elf_table.specs.Stops.{stop_of}
+use Rattle.elf_table.specs.Prelude.{IsReadFault, stop_of}
 use Rattle.elf_table.specs.declared.fault.Fault.{Fault}
-use Rattle.elf_table.specs.declared.fault.Fault.TheVariants.{Refused as Refuses, Source as Unread}
+use Rattle.elf_table.specs.declared.run_fault.RunFault.TheVariants.{Out}
 use Rattle.elf_table.specs.declared.run_fault.RunFault.{RunFault}
-use Rattle.elf_table.specs.declared.run_fault.RunFault.TheVariants.{Refused, Source, Out}
-use Rattle.elf_table.specs.Faults.{IsReadFault}
+use Rattle.elf_table.specs.declared.fault.Fault.TheVariants.{Refused as Refuses, Source as Unread}
+use Rattle.elf_table.specs.declared.run_fault.RunFault.TheVariants.{Refused, Source}
 use Rattle.elf_archive.specs.Listed.{ReadsAtMostIn, StopTells, IsAll}
 
 -- reads behind others, in a bound on all

@@ -1,30 +1,25 @@
 -- A check over members finds the first fault of them and of the walk.
 use Rattle.std.proofs.Common.{◌≡◌, ℕ, zero, suc, ◌+◌, ◌<◌, ◌≤◌, ◌^◌, false, nat_lt, List, length, Option, None, Some, Result, Ok, Err, option_map, refl, sym, ap, subst, ◌∙◌, inl, inr, ◌⊎◌, arith}
 use Rattle.std.specs.Prelude.{IfErr}
+use Rattle.elf_model.specs.Prelude.{IsBudgetRefusal, ListingStyle, Member, MemberWalkState, NextMember, OneMember, archive_checks, archive_fault, before_members, behind, first_fault, first_refusal, header_cost, member_cost, member_fault, member_listing, members_cost, members_from, members_of, next_member, placed_after}
 use Rattle.std.proofs.lemmas.Bool.Decides.{nat_tests}
-use Rattle.elf_model.specs.Archive.{Member, NextMember, Ends, Broken, OneMember, MemberWalkState, archive_checks, before_members, behind, member_listing, members_from, members_of, next_member}
-use Rattle.elf_model.specs.ArchiveCost.{header_cost, member_cost, members_cost}
-use Rattle.elf_model.specs.Budget.{IsBudgetRefusal}
-use Rattle.elf_model.specs.Checks.{first_refusal}
-use Rattle.elf_model.specs.FileLists.{archive_fault, first_fault, member_fault, placed_after}
-use Rattle.elf_model.specs.Style.{ListingStyle}
 use Rattle.elf_model.specs.declared.causes.Cause.TheVariants.{TooLong}
 use Rattle.elf_model.specs.declared.causes.Refusal.{Refusal}
+use Rattle.elf_model.specs.Archive.{Ends, Broken}
 use Rattle.elf_model.proofs.BudgetLaws.{is_budget_fault}
-use Rattle.elf_source.specs.Output.{OutState}
-use Rattle.elf_source.specs.Source.{CountedState, ReadsUpTo, SetsLimit}
+use Rattle.elf_source.specs.Prelude.{CountedState, OutState, ReadsUpTo, SetsLimit}
 use Rattle.elf_source.proofs.ReadsLaws.{ReadsUpTo-none, ReadsUpTo-then, ReadsUpTo-to}
-use Rattle.elf_options.specs.Permitted.{style_of}
-use Rattle.elf_table.specs.Stops.{stop_of}
+use Rattle.elf_options.specs.Prelude.{style_of}
 use Rattle.elf_options.specs.declared.caps.Caps.{Caps}
+use Rattle.elf_table.specs.Prelude.{stop_of}
 use Rattle.elf_table.specs.declared.fault.Fault.{Fault}
-use Rattle.elf_table.specs.declared.fault.Fault.TheVariants.{Refused as Refuses, Source as Unread}
+use Rattle.elf_table.specs.declared.run_fault.RunFault.TheVariants.{Out}
 use Rattle.elf_table.specs.declared.run_fault.RunFault.{RunFault}
-use Rattle.elf_table.specs.declared.run_fault.RunFault.TheVariants.{Refused, Source, Out}
+use Rattle.elf_table.specs.declared.fault.Fault.TheVariants.{Refused as Refuses, Source as Unread}
+use Rattle.elf_table.specs.declared.run_fault.RunFault.TheVariants.{Refused, Source}
 use Rattle.elf_listing.specs.Shows.{WroteUntilRefusal}
-use Rattle.elf_archive.specs.FirstFault.{FindsFault, FindsFirst, IsArchiveFault, ReadTells, before_magic, cost_after_magic, fault_from}
-use Rattle.elf_archive.specs.Listed.{BudgetSays, ReadsAtMostIn, ListsMember, StopTells, next_cost}
-use Rattle.elf_archive.specs.Members.{ReturnsMember}
+use Rattle.elf_archive.specs.Prelude.{BudgetSays, FindsFault, FindsFirst, IsArchiveFault, ListsMember, ReadTells, ReadsAtMostIn, ReturnsMember, StopTells, fault_from, next_cost}
+use Rattle.elf_archive.specs.FirstFault.{before_magic, cost_after_magic}
 use Rattle.elf_archive.proofs.MemberLaws.{next-ends}
 use Rattle.elf_archive.proofs.ReportLaws.{over_budget}
 use Rattle.elf_archive.proofs.ToldLaws.{part_fault}

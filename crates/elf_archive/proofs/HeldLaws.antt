@@ -1,20 +1,18 @@
 -- The line of a member that was held, and what was listed behind it.
 use Rattle.std.proofs.Common.{◌≡◌, ℕ, Bool, false, List, [], ◌∷◌, ◌++◌, None, Some, Result, Ok, Err, refl, ap, ◌∙◌}
 use Rattle.std.specs.Prelude.{IfOk}
-use Rattle.elf_model.specs.Archive.{before_some, line_before, told}
-use Rattle.elf_model.specs.Listing.{ListingItem, Line, Fault, lines_of, fault_of}
-use Rattle.elf_model.specs.declared.causes.Refusal.{Refusal}
+use Rattle.elf_model.specs.Prelude.{Fault, Line, ListingItem, before_some, fault_of, line_before, lines_of, told}
 use Rattle.elf_model.specs.declared.formats.Format.{Format}
+use Rattle.elf_model.specs.declared.causes.Refusal.{Refusal}
 use Rattle.elf_model.proofs.ListingLemmas.{listings_append}
-use Rattle.elf_source.specs.Growth.{OutGrows}
-use Rattle.elf_source.specs.Output.{FailsOutput, EndsLine, KeepsDeferred, SinkTakes, SinkTakesPrefix, OutState, before_text}
-use Rattle.elf_source.specs.Source.{CountedState}
-use Rattle.elf_source.specs.declared.faults.OutFault.{OutFault}
+use Rattle.elf_source.specs.Prelude.{CountedState, EndsLine, FailsOutput, KeepsDeferred, OutGrows, OutState, SinkTakes, SinkTakesPrefix, before_text}
 use Rattle.elf_source.specs.declared.holding_sink.DeferredLine.{DeferredLine}
+use Rattle.elf_source.specs.declared.faults.OutFault.{OutFault}
 use Rattle.elf_source.proofs.PutsLaws.{SinkTakesPrefix-more}
 use Rattle.elf_source.proofs.LineLaws.{broken_takes, line_ends, line_fails, line_front}
+use Rattle.elf_table.specs.declared.run_fault.RunFault.TheVariants.{Out}
 use Rattle.elf_table.specs.declared.run_fault.RunFault.{RunFault}
-use Rattle.elf_table.specs.declared.run_fault.RunFault.TheVariants.{Refused, Source, Out}
+use Rattle.elf_table.specs.declared.run_fault.RunFault.TheVariants.{Refused, Source}
 use Rattle.elf_listing.specs.Shows.{WrotePrefix, WroteUntilStop, WroteSome}
 use Rattle.elf_listing.proofs.RowLaws.{Whole-line}
 use Rattle.elf_listing.proofs.ShowLaws.{WroteUntilStop-then, Whole-then}

@@ -1,17 +1,12 @@
 -- A member's line, and its listing behind it.
 use Rattle.std.proofs.Common.{◌≡◌, ℕ, ◌+◌, ◌-◌, ◌≤◌, nat_le, Bool, true, false, List, [], ◌∷◌, Err, refl, ap, ◌∙◌, subst, arith}
 use Rattle.std.proofs.lemmas.Bool.Decides.{nat_tests}
-use Rattle.elf_model.specs.Archive.{FileRange, Member, NextMember, Ends, Broken, OneMember, MemberWalkState, bytes_in, is_elf, lists_members, next_member}
-use Rattle.elf_model.specs.ArchiveCost.{allowance, header_cost, long_name_bytes, member_cost}
-use Rattle.elf_model.specs.Budget.{IsBudgetRefusal}
-use Rattle.elf_model.specs.Cost.{cost_where, listing_cost, style_ceiling}
-use Rattle.elf_model.specs.Listing.{Fault as FaultItem}
-use Rattle.elf_model.specs.Style.{ListingStyle}
+use Rattle.elf_model.specs.Prelude.{Fault as FaultItem, FileRange, IsBudgetRefusal, ListingStyle, Member, MemberWalkState, NextMember, OneMember, allowance, bytes_in, cost_where, header_cost, is_elf, listing_cost, lists_members, long_name_bytes, member_cost, next_member, style_ceiling}
 use Rattle.elf_model.specs.declared.causes.Refusal.{Refusal}
+use Rattle.elf_model.specs.Archive.{Ends, Broken}
 use Rattle.elf_table.specs.declared.fault.Fault.{Fault}
 use Rattle.elf_table.specs.declared.fault.Fault.TheVariants.{Refused, Source}
-use Rattle.elf_archive.specs.Listed.{member_at, next_cost, next_items}
-use Rattle.elf_archive.specs.Members.{ReturnsMember, step_cost}
+use Rattle.elf_archive.specs.Prelude.{ReturnsMember, member_at, next_cost, next_items, step_cost}
 use Rattle.elf_model.proofs.AllowanceLaws.{allowed, header_allowed}
 use Rattle.elf_archive.proofs.AskLaws.{where_room}
 

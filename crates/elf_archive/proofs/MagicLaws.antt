@@ -1,10 +1,8 @@
 -- The magic string of an archive.
 use Rattle.std.proofs.Common.{◌≡◌, ◌≢◌, ℕ, ◌^◌, ◌<◌, ◌≤◌, ◌==◌, true, false, nat_lt, List, length, None, Some, refl, arith}
 use Rattle.std.proofs.lemmas.Bool.Decides.{nat_tests}
-use Rattle.elf_model.specs.Archive.{ARCHIVE_MAGIC, THIN_MAGIC, archive_checks, archive_length_checks}
-use Rattle.elf_model.specs.Bytes.{slice, field}
-use Rattle.elf_model.specs.Checks.{first_refusal}
-use Rattle.elf_model.specs.declared.causes.Cause.TheVariants.{Thin, NotArchive}
+use Rattle.elf_model.specs.Prelude.{ARCHIVE_MAGIC, THIN_MAGIC, archive_checks, archive_length_checks, field, first_refusal, slice}
+use Rattle.elf_model.specs.declared.causes.Cause.TheVariants.{NotArchive, Thin}
 use Rattle.elf_model.specs.declared.causes.Refusal.{Refusal}
 use Rattle.elf_model.proofs.Slices.{field-slice}
 

@@ -1,16 +1,14 @@
 -- What a member's header tells, and what the walk does by it.
 use Rattle.std.proofs.Common.{◌≡◌, ℕ, ◌+◌, ◌-◌, ◌<◌, ◌≤◌, ◌==◌, ◌&&◌, nat_lt, add-zero, true, false, List, length, take, Option, None, Some, Ok, Err, refl, sym, ap, ◌∙◌, arith}
 use Rattle.std.proofs.lemmas.Bool.Decides.{nat_tests}
-use Rattle.elf_model.specs.Bytes.{slice, field}
-use Rattle.elf_model.specs.Names.{DisplayedName}
-use Rattle.elf_model.specs.Archive.{FileRange, Member, Ends, Broken, OneMember, MemberWalkState, behind, data_after, member_data, member_name, name_in_data, names_behind, next_member, padded_end}
-use Rattle.elf_table.specs.declared.fault.Fault.{Fault}
-use Rattle.elf_table.specs.declared.fault.Fault.TheVariants.{Refused, Source}
-use Rattle.elf_table.specs.NamesRead.{Refuses}
-use Rattle.elf_archive.specs.Members.{ReturnsMember, names_passed}
-use Rattle.elf_model.specs.Archive.{is_name_table, member_size, name_field, parsed_member_size}
+use Rattle.elf_model.specs.Prelude.{DisplayedName, FileRange, Member, MemberWalkState, OneMember, behind, data_after, field, is_name_table, member_data, member_name, member_size, name_field, name_in_data, names_behind, next_member, padded_end, parsed_member_size, slice}
 use Rattle.elf_model.specs.declared.causes.Cause.{Cause}
 use Rattle.elf_model.specs.declared.causes.Cause.TheVariants.{MemberCut}
+use Rattle.elf_model.specs.Archive.{Ends, Broken}
+use Rattle.elf_table.specs.Prelude.{Refuses}
+use Rattle.elf_table.specs.declared.fault.Fault.{Fault}
+use Rattle.elf_table.specs.declared.fault.Fault.TheVariants.{Refused, Source}
+use Rattle.elf_archive.specs.Members.{ReturnsMember, names_passed}
 use Rattle.elf_model.proofs.Slices.{slice-slice, field-slice}
 
 -- the size that a header tells is the one that it tells in the file

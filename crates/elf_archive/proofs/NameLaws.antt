@@ -4,19 +4,14 @@ use Rattle.std.specs.Prelude.{IfErr, IfOk, OnOk}
 use Rattle.std.proofs.Math.Seq.{take-add}
 use Rattle.std.proofs.lemmas.Bool.Decides.{nat_tests}
 use Rattle.std.proofs.lemmas.List.{take_all}
-use Rattle.elf_model.specs.Bytes.{slice}
-use Rattle.elf_model.specs.Archive.{FileRange, bsd_name, bsd_name_length, long_name, long_of, long_offset, member_name, name_in_data, newline_in, short_name, parsed_member_name, trimmed, without_slash}
-use Rattle.elf_model.specs.ArchiveCost.{is_elsewhere, long_name_bytes}
-use Rattle.elf_model.specs.Cost.{cost_where}
-use Rattle.elf_model.specs.Notes.{capped}
+use Rattle.elf_model.specs.Prelude.{FileRange, bsd_name, bsd_name_length, capped, cost_where, is_elsewhere, long_name, long_name_bytes, long_of, long_offset, member_name, name_in_data, newline_in, parsed_member_name, short_name, slice, trimmed, without_slash}
 use Rattle.elf_model.specs.declared.causes.Cause.{Cause}
 use Rattle.elf_model.specs.declared.causes.Cause.TheVariants.{NameOutside, NameUnended}
 use Rattle.elf_model.proofs.Slices.{slice-rest}
-use Rattle.elf_table.specs.Faults.{IsOfRead}
+use Rattle.elf_table.specs.Prelude.{IsOfRead, Refuses}
 use Rattle.elf_table.specs.declared.fault.Fault.{Fault}
 use Rattle.elf_table.specs.declared.fault.Fault.TheVariants.{Refused, Source}
 use Rattle.elf_format.specs.Named.{shown_as}
-use Rattle.elf_table.specs.NamesRead.{Refuses}
 use Rattle.elf_archive.specs.Members.{NameShown, member_name_cost, told_cost}
 use Rattle.elf_archive.proofs.MemberLaws.{name-of}
 

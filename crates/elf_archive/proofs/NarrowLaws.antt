@@ -1,15 +1,14 @@
 -- A call on a part of a source is one on the source.
 use Rattle.std.proofs.Common.{◌≡◌, ℕ, false, ◌+◌, ◌<◌, ◌≤◌, List, take, drop, Option, Some, Result, Ok, Err, sym, ap, ◌∙◌, inl, inr, ◌⊎◌, arith}
-use Rattle.elf_model.specs.Budget.{IsBudgetRefusal}
+use Rattle.elf_model.specs.Prelude.{IsBudgetRefusal}
 use Rattle.elf_model.specs.declared.causes.Refusal.{Refusal}
 use Rattle.elf_model.proofs.BudgetLaws.{is_budget_fault}
-use Rattle.elf_source.specs.Source.{CountedState, SourceState, RangeParent, ReadsUpTo, ExceedsBudget, IsSourceFault, IsHonest, SameView, seen_by}
-use Rattle.elf_source.specs.Ranges.{Narrows, Widens, file_within}
-use Rattle.elf_source.specs.Output.{OutState}
-use Rattle.elf_source.specs.declared.faults.SourceFault.{SourceFault}
+use Rattle.elf_source.specs.Prelude.{CountedState, ExceedsBudget, IsHonest, IsSourceFault, Narrows, OutState, RangeParent, ReadsUpTo, SameView, SourceState, Widens, file_within, seen_by}
 use Rattle.elf_source.specs.declared.faults.SourceFault.TheVariants.{Device, Ended}
+use Rattle.elf_source.specs.declared.faults.SourceFault.{SourceFault}
+use Rattle.elf_table.specs.declared.run_fault.RunFault.TheVariants.{Out}
 use Rattle.elf_table.specs.declared.run_fault.RunFault.{RunFault}
-use Rattle.elf_table.specs.declared.run_fault.RunFault.TheVariants.{Refused, Source, Out}
+use Rattle.elf_table.specs.declared.run_fault.RunFault.TheVariants.{Refused, Source}
 use Rattle.elf_listing.specs.Shows.{ListingCosts}
 use Rattle.elf_archive.specs.Listed.{ReadsAtMostIn, EndsPart, IsAll, after_start}
 

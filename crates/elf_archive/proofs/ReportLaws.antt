@@ -1,28 +1,21 @@
 -- The report of an archive, and of one that a budget cuts short.
 use Rattle.std.proofs.Common.{◌≡◌, ℕ, Bool, ◌+◌, ◌^◌, ◌<◌, ◌≤◌, List, ◌∷◌, ◌++◌, length, None, Some, Result, Ok, Err, Option, refl, sym, ap, subst, ◌∙◌, inl, inr, ◌⊎◌, append-nil, arith}
 use Rattle.std.specs.Prelude.{IfSome}
-use Rattle.elf_model.specs.declared.formats.Format.{Format}
-use Rattle.elf_model.specs.Archive.{archive_items, archive_length_checks}
-use Rattle.elf_model.specs.ArchiveCost.{IsArchiveBudgeted, any_refused, archive_ceiling, archive_cost}
-use Rattle.elf_model.specs.Budget.{IsReport}
-use Rattle.elf_model.specs.Checks.{first_refusal}
-use Rattle.elf_model.specs.Lines.{refusal_line}
-use Rattle.elf_model.specs.Listing.{ListingItem, Fault as FaultItem, lines_of, fault_of, report_of, end_text}
-use Rattle.elf_model.specs.Style.{ListingStyle}
+use Rattle.elf_model.specs.Prelude.{Fault as FaultItem, IsArchiveBudgeted, IsReport, ListingItem, ListingStyle, any_refused, archive_ceiling, archive_cost, archive_items, archive_length_checks, end_text, fault_of, first_refusal, lines_of, refusal_line, report_of}
 use Rattle.elf_model.specs.declared.causes.Cause.TheVariants.{Budget}
+use Rattle.elf_model.specs.declared.formats.Format.{Format}
 use Rattle.elf_model.specs.declared.causes.Refusal.{Refusal}
 use Rattle.elf_model.proofs.BudgetLaws.{is_budget_fault}
 use Rattle.elf_model.proofs.ListingLemmas.{listings_append}
-use Rattle.elf_source.specs.Source.{CountedState, ExceedsBudget, SourceState, SetsLimit, ReadsUpTo, counted}
-use Rattle.elf_source.specs.Output.{OutState, SinkTakesPrefix}
+use Rattle.elf_source.specs.Prelude.{CountedState, ExceedsBudget, OutState, ReadsUpTo, SetsLimit, SinkTakesPrefix, SourceState, counted}
 use Rattle.elf_source.proofs.LimitLaws.{budget_below, late_budget, within_budget}
 use Rattle.elf_source.proofs.PutsLaws.{SinkTakes-then, SinkTakesPrefix-then, SinkTakesPrefix-more, SinkTakesPrefix-all}
-use Rattle.elf_options.specs.Permitted.{style_of}
+use Rattle.elf_options.specs.Prelude.{style_of}
 use Rattle.elf_options.specs.declared.caps.Caps.{Caps}
+use Rattle.elf_table.specs.declared.run_fault.RunFault.TheVariants.{Out}
 use Rattle.elf_table.specs.declared.run_fault.RunFault.{RunFault}
-use Rattle.elf_table.specs.declared.run_fault.RunFault.TheVariants.{Refused, Source, Out}
-use Rattle.elf_listing.specs.Reports.{KeepsSourceUnlimited, WroteText, WroteRefusal, ReturnsStop}
-use Rattle.elf_listing.specs.Shows.{WroteItems, WrotePrefix, IsNext, WroteUntilRefusal, WroteUntilStop}
+use Rattle.elf_table.specs.declared.run_fault.RunFault.TheVariants.{Refused, Source}
+use Rattle.elf_listing.specs.Prelude.{IsNext, KeepsSourceUnlimited, ReturnsStop, WroteItems, WrotePrefix, WroteRefusal, WroteText, WroteUntilRefusal, WroteUntilStop}
 use Rattle.elf_listing.proofs.EachLaws.{lines_front}
 use Rattle.elf_archive.specs.Listed.{ArchiveSays, AsksInArchive, BudgetSays, StopTells, ReportsArchive}
 

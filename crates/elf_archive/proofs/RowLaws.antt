@@ -2,16 +2,11 @@
 use Rattle.std.proofs.Common.{◌≡◌, ℕ, ◌+◌, ◌<◌, ◌≤◌, ◌==◌, if◌then◌else◌, min, nat_lt, not, Bool, true, false, List, length, take, drop, take-take, length-take, length-drop, Option, None, Some, Result, Ok, Err, refl, sym, ap, ◌∙◌, arith}
 use Rattle.std.specs.Prelude.{IfErr}
 use Rattle.std.proofs.lemmas.Bool.Decides.{nat_tests}
-use Rattle.elf_model.specs.Archive.{FileRange, archive_checks, bsd_name, long_name, long_of, long_offset, newline_in, short_name, parsed_member_name, trimmed}
-use Rattle.elf_model.specs.Budget.{IsBudgetRefusal}
-use Rattle.elf_model.specs.Bytes.{slice}
-use Rattle.elf_model.specs.Checks.{first_refusal}
-use Rattle.elf_model.specs.Names.DisplayedName.{Cut}
-use Rattle.elf_model.specs.Notes.{capped}
+use Rattle.elf_model.specs.Prelude.{Cut, FileRange, IsBudgetRefusal, archive_checks, bsd_name, capped, first_refusal, long_name, long_of, long_offset, newline_in, parsed_member_name, short_name, slice, trimmed}
 use Rattle.elf_model.specs.declared.causes.Refusal.{Refusal}
 use Rattle.elf_model.proofs.Slices.{slice-size, slice-slice}
 use Rattle.elf_source.specs.Source.{CountedState}
-use Rattle.elf_table.specs.Faults.{IsReadFault, IsReadRefusal}
+use Rattle.elf_table.specs.Prelude.{IsReadFault, IsReadRefusal}
 use Rattle.elf_table.specs.declared.fault.Fault.{Fault}
 use Rattle.elf_table.specs.declared.fault.Fault.TheVariants.{Refused}
 use Rattle.elf_format.specs.Named.{shown_as}

@@ -2,12 +2,9 @@
 use Rattle.std.proofs.Common.{◌≡◌, ℕ, zero, suc, ◌+◌, ◌<◌, ◌≤◌, ◌||◌, nat_le, Bool, true, false, List, [], ◌++◌, length, Option, None, Some, Result, Ok, Err, refl, sym, ap, ◌∙◌, arith, append_assoc}
 use Rattle.std.proofs.lemmas.Bool.Decides.{nat_tests}
 use Rattle.std.specs.List.{list_any}
-use Rattle.elf_model.specs.Archive.{Members, NextMember, Ends, Broken, OneMember, MemberWalkState, before_members, behind, is_refused, member_items, members_from, members_items, members_of, end_items, next_member, walk_items, with_member}
-use Rattle.elf_model.specs.ArchiveCost.{any_refused, header_cost, member_cost, members_cost}
-use Rattle.elf_model.specs.Listing.{ListingItem}
-use Rattle.elf_model.specs.Style.{ListingStyle}
-use Rattle.elf_source.specs.Source.{CountedState, ReadsUpTo}
-use Rattle.elf_source.specs.Output.{OutState}
+use Rattle.elf_model.specs.Prelude.{ListingItem, ListingStyle, MemberWalkState, Members, NextMember, OneMember, any_refused, before_members, behind, end_items, header_cost, is_refused, member_cost, member_items, members_cost, members_from, members_items, members_of, next_member, walk_items, with_member}
+use Rattle.elf_model.specs.Archive.{Ends, Broken}
+use Rattle.elf_source.specs.Prelude.{CountedState, OutState, ReadsUpTo}
 use Rattle.elf_source.proofs.ReadsLaws.{ReadsUpTo-none, ReadsUpTo-then}
 use Rattle.elf_table.specs.declared.run_fault.RunFault.{RunFault}
 use Rattle.elf_listing.specs.Shows.{WroteItems, WroteSome}

@@ -1,8 +1,6 @@
 -- What is answered before the members of an archive, and of their data.
 use Rattle.std.specs.Prelude.{ℕ, ◌≡◌, List, None, Some, Result, Ok, Err}
-use Rattle.elf_model.specs.Archive.{archive_checks}
-use Rattle.elf_model.specs.Budget.{IsBudgetRefusal}
-use Rattle.elf_model.specs.Checks.{first_refusal}
+use Rattle.elf_model.specs.Prelude.{IsBudgetRefusal, archive_checks, first_refusal}
 use Rattle.elf_table.specs.declared.fault.Fault.{Fault}
 use Rattle.elf_table.specs.declared.fault.Fault.TheVariants.{Refused, Source}
 

@@ -1,17 +1,15 @@
 -- The first fault of an archive: of itself, of a member's listing, or of the walk over its members.
-use Rattle.std.specs.Prelude.{ℕ, ◌≡◌, ◌<◌, ◌≤◌, ◌+◌, ◌-◌, ◌⊎◌, List, length, option_map, Option, None, Some, Result, Ok, Err}
-use Rattle.elf_model.specs.Archive.{ARCHIVE_MAGIC, MAGIC_SIZE, MemberWalkState, members_from}
-use Rattle.elf_model.specs.ArchiveCost.{archive_cost}
-use Rattle.elf_model.specs.Budget.{IsBudgetRefusal}
+use Rattle.std.specs.Prelude.{ℕ, ◌≡◌, ◌<◌, ◌⊎◌, List, length, Option, None, Some, Result, Ok, Err, ◌≤◌, ◌+◌, ◌-◌, option_map}
+use Rattle.elf_model.specs.Prelude.{IsBudgetRefusal, ListingStyle, MemberWalkState, archive_cost, archive_fault, first_fault, members_from}
+use Rattle.elf_model.specs.Archive.{ARCHIVE_MAGIC, MAGIC_SIZE}
 use Rattle.elf_model.specs.Bytes.{field}
-use Rattle.elf_model.specs.FileLists.{archive_fault, first_fault}
-use Rattle.elf_model.specs.Style.{ListingStyle}
 use Rattle.elf_model.specs.declared.causes.Refusal.{Refusal}
 use Rattle.elf_source.specs.Source.{CountedState, IsSourceFault, SourceState}
-use Rattle.elf_options.specs.Permitted.{style_of}
+use Rattle.elf_options.specs.Prelude.{style_of}
 use Rattle.elf_options.specs.declared.caps.Caps.{Caps}
+use Rattle.elf_table.specs.declared.run_fault.RunFault.TheVariants.{Out}
 use Rattle.elf_table.specs.declared.run_fault.RunFault.{RunFault}
-use Rattle.elf_table.specs.declared.run_fault.RunFault.TheVariants.{Refused, Source, Out}
+use Rattle.elf_table.specs.declared.run_fault.RunFault.TheVariants.{Refused, Source}
 
 -- the first fault from where a walk over members has come to, over at most so many
 abbrev pub fault_from : List ℕ → ℕ → ListingStyle → ℕ → ℕ → MemberWalkState → Option Refusal

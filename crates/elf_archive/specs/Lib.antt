@@ -3,3 +3,4 @@ pub mod MemberRows
 pub mod Archives
 pub mod Listed
 pub mod FirstFault
+pub mod Prelude

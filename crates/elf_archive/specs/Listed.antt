@@ -1,27 +1,18 @@
 -- What the calls did that list the members of an archive.
 use Rattle.std.specs.Prelude.{ℕ, ◌≡◌, ◌<◌, ◌≤◌, ◌+◌, ◌-◌, ◌^◌, min, Bool, false, List, [], ◌∷◌, Option, None, Some, Result, Ok, Err, IfErr, IfOk, IfSome}
-use Rattle.elf_model.specs.Archive.{FileRange, Member, NextMember, Ends, Broken, OneMember, MemberWalkState, archive_length_checks, behind, is_refused, member_items, member_listing, next_member}
-use Rattle.elf_model.specs.ArchiveCost.{IsArchiveBudgeted, allowance, any_refused, archive_ceiling, header_cost, member_cost}
-use Rattle.elf_model.specs.Budget.{IsBudgetRefusal}
-use Rattle.elf_model.specs.Checks.{first_refusal}
-use Rattle.elf_model.specs.Cost.{style_ceiling}
-use Rattle.elf_model.specs.FileLists.{placed_after}
-use Rattle.elf_model.specs.Listing.{ListingItem, Fault}
-use Rattle.elf_model.specs.Names.DisplayedName.{Whole}
-use Rattle.elf_model.specs.Style.{ListingStyle}
+use Rattle.elf_model.specs.Prelude.{Fault, FileRange, IsArchiveBudgeted, IsBudgetRefusal, ListingItem, ListingStyle, Member, MemberWalkState, NextMember, OneMember, allowance, any_refused, archive_ceiling, archive_length_checks, behind, first_refusal, header_cost, is_refused, member_cost, member_items, member_listing, next_member, placed_after, style_ceiling}
 use Rattle.elf_model.specs.declared.causes.Refusal.{Refusal}
-use Rattle.elf_source.specs.Source.{CountedState, IsSourceFault, ExceedsBudget, ReadsUpTo}
-use Rattle.elf_source.specs.Ranges.{IsWholeRange}
-use Rattle.elf_source.specs.Growth.{OutGrows}
-use Rattle.elf_source.specs.Output.{FailsOutput, KeepsDeferred, OutState, IsOutFault}
-use Rattle.elf_source.specs.declared.faults.OutFault.{OutFault}
+use Rattle.elf_model.specs.Archive.{Ends, Broken}
+use Rattle.elf_model.specs.Names.DisplayedName.{Whole}
+use Rattle.elf_source.specs.Prelude.{CountedState, ExceedsBudget, FailsOutput, IsOutFault, IsSourceFault, IsWholeRange, KeepsDeferred, OutGrows, OutState, ReadsUpTo}
 use Rattle.elf_source.specs.declared.holding_sink.DeferredLine.{DeferredLine}
-use Rattle.elf_options.specs.Permitted.{style_of}
+use Rattle.elf_source.specs.declared.faults.OutFault.{OutFault}
+use Rattle.elf_options.specs.Prelude.{style_of}
 use Rattle.elf_options.specs.declared.caps.Caps.{Caps}
+use Rattle.elf_table.specs.declared.run_fault.RunFault.TheVariants.{Out}
 use Rattle.elf_table.specs.declared.run_fault.RunFault.{RunFault}
-use Rattle.elf_table.specs.declared.run_fault.RunFault.TheVariants.{Refused, Source, Out}
-use Rattle.elf_listing.specs.Reports.{WroteText}
-use Rattle.elf_listing.specs.Shows.{WroteSome}
+use Rattle.elf_table.specs.declared.run_fault.RunFault.TheVariants.{Refused, Source}
+use Rattle.elf_listing.specs.Prelude.{WroteSome, WroteText}
 use Rattle.elf_archive.specs.Members.{IsInBounds, IsMemberWalkInBounds}
 
 -- a source is a range of all bytes of an archive, and nothing of it is hidden

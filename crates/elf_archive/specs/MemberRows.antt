@@ -1,13 +1,9 @@
 -- Members of an archive in memory, as a caller goes over them.
 use Rattle.std.specs.Prelude.{ℕ, ◌≡◌, ◌+◌, ◌≤◌, ◌==◌, not, true, false, List, length, Option, None, Some, Result, Ok, Err}
-use Rattle.elf_model.specs.Archive.{FileRange, Member, Ends, Broken, OneMember, MemberWalkState, archive_checks, before_members, behind, bytes_in, next_member}
-use Rattle.elf_model.specs.Bytes.{slice}
-use Rattle.elf_model.specs.Checks.{first_refusal}
-use Rattle.elf_model.specs.Names.{DisplayedName}
-use Rattle.elf_model.specs.Notes.{capped}
+use Rattle.elf_model.specs.Prelude.{DisplayedName, FileRange, Member, MemberWalkState, OneMember, archive_checks, before_members, behind, bytes_in, capped, first_refusal, next_member, shown_as, slice}
 use Rattle.elf_model.specs.declared.causes.Cause.{Cause}
 use Rattle.elf_model.specs.declared.causes.Refusal.{Refusal}
-use Rattle.elf_model.specs.ShownNames.{shown_as}
+use Rattle.elf_model.specs.Archive.{Ends, Broken}
 use Rattle.elf_memory.specs.declared.name.ByteRange.{ByteRange}
 use Rattle.elf_archive.specs.declared.rows.MemberRow.{MemberRow}
 use Rattle.elf_archive.specs.declared.rows.MemberPosition.{MemberPosition}

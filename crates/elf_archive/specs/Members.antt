@@ -1,19 +1,13 @@
 -- What a cursor over members tells.
 use Rattle.std.specs.Prelude.{ℕ, ◌≡◌, ◌+◌, ◌*◌, ◌^◌, ◌<◌, ◌≤◌, if◌then◌else◌, is_some, nat_le, Bool, List, length, take, Option, None, Some, Result, Ok, Err, IfErr, IfSome, option_map}
 use Rattle.elf_source.specs.Source.{CountedState, ReadsUpTo}
-use Rattle.elf_table.specs.Faults.{IsReadFault}
-use Rattle.elf_model.specs.Archive.{FileRange, Member, Ends, Broken, OneMember, MemberWalkState, behind, is_name_table, long_of, long_offset, newline_in, next_member}
-use Rattle.elf_model.specs.ArchiveCost.{is_elsewhere, long_name_bytes}
-use Rattle.elf_model.specs.Budget.{IsBudgetRefusal}
-use Rattle.elf_model.specs.Cost.{cost_where}
-use Rattle.elf_model.specs.Names.{DisplayedName}
-use Rattle.elf_model.specs.Notes.{capped}
+use Rattle.elf_table.specs.Prelude.{IsReadFault, Refuses}
+use Rattle.elf_table.specs.declared.fault.Fault.{Fault}
+use Rattle.elf_model.specs.Prelude.{DisplayedName, FileRange, IsBudgetRefusal, Member, MemberWalkState, OneMember, behind, capped, cost_where, is_elsewhere, is_name_table, long_name_bytes, long_of, long_offset, newline_in, next_member, shown_as}
 use Rattle.elf_model.specs.declared.causes.Cause.{Cause}
 use Rattle.elf_model.specs.declared.causes.Cause.TheVariants.{MemberCut, NameUnended}
-use Rattle.elf_table.specs.declared.fault.Fault.{Fault}
+use Rattle.elf_model.specs.Archive.{Ends, Broken}
 use Rattle.elf_table.specs.declared.fault.Fault.TheVariants.{Refused, Source}
-use Rattle.elf_model.specs.ShownNames.{shown_as}
-use Rattle.elf_table.specs.NamesRead.{Refuses}
 use Rattle.elf_archive.specs.declared.member.FileRange.{FileRange as Place}
 use Rattle.elf_archive.specs.declared.member.Member.{Member as Given}
 

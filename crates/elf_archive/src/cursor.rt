@@ -1,9 +1,6 @@
 //! A cursor over the members of an archive.
 ghost use Rattle.std.specs.Prelude.{◌≡◌, ℕ, ◌+◌, ◌^◌, ◌<◌, ◌≤◌, nat_le, take, List, Some, IfOk, OnOk};
-ghost use Rattle.elf_model.specs.Archive.{before_members, member_data, name_in_data, padded_end};
-ghost use Rattle.elf_model.specs.ArchiveCost.{header_cost};
-ghost use Rattle.elf_model.specs.Bytes.{slice};
-ghost use Rattle.elf_model.specs.Cost.{cost_where};
+ghost use Rattle.elf_model.specs.Prelude.{before_members, cost_where, header_cost, member_data, name_in_data, padded_end, slice};
 ghost use Rattle.elf_archive.specs.Members.{AsksAtMost, DataRead, IsInBounds, IsMemberWalkInBounds, StepsOver, ReturnsMember, extent_of};
 ghost use Rattle.elf_archive.specs.Members.{extent_of_names, names_passed, step_cost};
 

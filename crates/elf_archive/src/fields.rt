@@ -1,10 +1,6 @@
 //! The fields of a member's header: text in columns, each filled up with spaces.
 ghost use Rattle.std.specs.Prelude.{◌≡◌, ◌==◌, ◌+◌, ◌^◌, ◌<◌, ◌≤◌, List, ℕ, length, position, take, if◌then◌else◌, Some, None, IfSome};
-ghost use Rattle.elf_model.specs.Archive.{are_all, bsd_name_length, parse_padded_decimal, is_decimal};
-ghost use Rattle.elf_model.specs.Archive.{is_name_table, long_offset, name_in_data, padded_number};
-ghost use Rattle.elf_model.specs.Archive.{member_data, member_size, padded_end, short_name, parsed_member_size};
-ghost use Rattle.elf_model.specs.Archive.{trimmed, without_slash};
-ghost use Rattle.elf_model.specs.Bytes.{slice};
+ghost use Rattle.elf_model.specs.Prelude.{are_all, bsd_name_length, is_decimal, is_name_table, long_offset, member_data, member_size, name_in_data, padded_end, padded_number, parse_padded_decimal, parsed_member_size, short_name, slice, trimmed, without_slash};
 ghost use Rattle.elf_archive.specs.Members.{DataTold, SizeTold};
 
 use crate::member::FileRange;

@@ -1,9 +1,6 @@
 //! The first fault of an archive and its members.
 ghost use Rattle.std.specs.Prelude.{◌≡◌, ℕ, ◌+◌, ◌-◌, ◌^◌, ◌<◌, ◌≤◌, List, length, Some, IfErr};
-ghost use Rattle.elf_model.specs.Archive.{archive_length_checks, before_members};
-ghost use Rattle.elf_model.specs.ArchiveCost.{allowance, archive_ceiling, members_cost};
-ghost use Rattle.elf_model.specs.Checks.{first_refusal};
-ghost use Rattle.elf_model.specs.FileLists.{archive_fault};
+ghost use Rattle.elf_model.specs.Prelude.{allowance, archive_ceiling, archive_fault, archive_length_checks, before_members, first_refusal, members_cost};
 ghost use Rattle.elf_model.specs.declared.causes.Refusal.{Refusal as Refuses};
 ghost use Rattle.elf_options.specs.Permitted.{style_of};
 ghost use Rattle.elf_listing.specs.Reports.{KeepsSourceUnlimited};

@@ -1,10 +1,6 @@
 //! The listing of an archive: its members, and behind each that is an ELF file its own listing.
 ghost use Rattle.std.specs.Prelude.{◌≡◌, ℕ, ◌+◌, ◌-◌, ◌^◌, ◌<◌, ◌≤◌, List, length, is_some, Some, IfErr};
-ghost use Rattle.elf_model.specs.Archive.{archive_items, archive_length_checks, before_members};
-ghost use Rattle.elf_model.specs.Archive.{line_before, member_line, members_of, told, walk_items};
-ghost use Rattle.elf_model.specs.ArchiveCost.{allowance, any_refused, archive_ceiling, archive_cost, members_cost};
-ghost use Rattle.elf_model.specs.Checks.{first_refusal};
-ghost use Rattle.elf_model.specs.Listing.{fault_of};
+ghost use Rattle.elf_model.specs.Prelude.{allowance, any_refused, archive_ceiling, archive_cost, archive_items, archive_length_checks, before_members, fault_of, first_refusal, line_before, member_line, members_cost, members_of, told, walk_items};
 ghost use Rattle.elf_model.specs.declared.causes.Refusal.{Refusal as Refuses};
 ghost use Rattle.elf_options.specs.Permitted.{style_of};
 ghost use Rattle.elf_listing.specs.Reports.{KeepsSourceUnlimited};
@@ -100,7 +96,8 @@ fn list_archive<S: Source, W: Sink>(
     ensures lists { GoesThrough store.old.slots store.new.slots (style_of choice.entry.style)
         choice.entry.parts.0 src.old src.new out.old out.new result
         (archive_ceiling src.old.seen.size) archive_cost (λ file headers style parts.
-        ListsMembers out.old out.new result (archive_items choice.entry.alone file headers style parts)
+        ListsMembers out.old out.new result
+        (archive_items choice.entry.alone file headers style parts)
         (any_refused file headers style parts)) }
     ensures unread { (refusal : Refuses) →
         first_refusal (archive_length_checks src.old.seen.size) ≡ Some refusal →

@@ -1,7 +1,6 @@
 //! The magic strings of an archive and of an ELF file.
 ghost use Rattle.std.specs.Prelude.{◌≡◌, ℕ, ◌^◌, ◌<◌, ◌≤◌, List, Some, Err, IfErr, IfOk, OnOk};
-ghost use Rattle.elf_model.specs.Archive.{archive_length_checks, bytes_in, is_elf};
-ghost use Rattle.elf_model.specs.Checks.{first_refusal};
+ghost use Rattle.elf_model.specs.Prelude.{archive_length_checks, bytes_in, first_refusal, is_elf};
 ghost use Rattle.elf_model.specs.declared.causes.Refusal.{Refusal as Refuses};
 ghost use Rattle.elf_table.specs.Faults.{IsOfRead};
 ghost use Rattle.elf_archive.specs.Archives.{MagicRead};

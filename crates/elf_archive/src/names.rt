@@ -1,9 +1,6 @@
 //! The names of members.
 ghost use Rattle.std.specs.Prelude.{◌≡◌, ◌+◌, ℕ, ◌^◌, ◌<◌, ◌≤◌, List, length, take, Some, IfErr, IfOk, OnOk};
-ghost use Rattle.elf_model.specs.Archive.{bsd_name, long_name, member_name, name_in_data, parsed_member_name, trimmed};
-ghost use Rattle.elf_model.specs.ArchiveCost.{long_name_bytes};
-ghost use Rattle.elf_model.specs.Bytes.{slice};
-ghost use Rattle.elf_model.specs.Notes.{capped};
+ghost use Rattle.elf_model.specs.Prelude.{bsd_name, capped, long_name, long_name_bytes, member_name, name_in_data, parsed_member_name, slice, trimmed};
 ghost use Rattle.elf_table.specs.Faults.{IsOfRead};
 ghost use Rattle.elf_format.specs.Named.{shown_as};
 ghost use Rattle.elf_archive.specs.Members.{AsksAtMost, FrontRead, LengthTold, NameShown, NamesInBounds};
@@ -118,7 +115,8 @@ fn read_reported<S: Source>(
     requires names { NamesInBounds src.old.seen.size names }
     ensures asks { AsksAtMost src.old src.new result (told_cost field.now cap.bytes) }
     ensures read { (file : List ℕ) → src.old.seen.file ≡ Some file →
-        NameShown at result name.new (parsed_member_name file cap.bytes (extent_of_names names) field.now) }
+        NameShown at result name.new
+        (parsed_member_name file cap.bytes (extent_of_names names) field.now) }
 {
     match long_offset(field) {
         Some(offset) => read_long_name(src, names, offset, at, cap, name),

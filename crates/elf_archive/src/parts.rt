@@ -1,7 +1,6 @@
 //! The listing of one member: that of the file that its data are.
 ghost use Rattle.std.specs.Prelude.{◌≡◌, IfOk, IfSome};
-ghost use Rattle.elf_model.specs.Budget.{IsBudgetRefusal};
-ghost use Rattle.elf_model.specs.FileLists.{placed_after};
+ghost use Rattle.elf_model.specs.Prelude.{IsBudgetRefusal, placed_after};
 ghost use Rattle.elf_options.specs.Permitted.{style_of};
 ghost use Rattle.elf_archive.specs.Listed.{EndsPart, GoesThroughMember, HoldsPart, ListsMember};
 ghost use Rattle.elf_archive.specs.Members.{extent_of};

@@ -2,8 +2,7 @@
 //! its data and its name lie, so that nothing is copied. A place is plain numbers, and no number that
 //! a caller sets is a wrong one: each step tests them.
 ghost use Rattle.std.specs.Prelude.{◌≡◌, ◌+◌, ◌^◌, ◌<◌, ◌≤◌, if◌then◌else◌, length, take, Ok};
-ghost use Rattle.elf_model.specs.Archive.{bsd_name, long_name, member_name, name_in_data, padded_end, parsed_member_name};
-ghost use Rattle.elf_model.specs.Bytes.{slice};
+ghost use Rattle.elf_model.specs.Prelude.{bsd_name, long_name, member_name, name_in_data, padded_end, parsed_member_name, slice};
 ghost use Rattle.elf_model.specs.declared.causes.Cause.TheVariants.{MemberCut};
 ghost use Rattle.elf_archive.specs.MemberRows.{FindsMemberName, NamesMember, OpensMembers, StepsMember};
 ghost use Rattle.elf_archive.specs.MemberRows.{extent_in, names_in};

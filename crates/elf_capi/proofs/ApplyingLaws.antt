@@ -1,19 +1,15 @@
 -- A section that was written to a sink over lent memory stands in the memory.
 use Rattle.std.proofs.Common.{◌≡◌, ℕ, List, [], ◌∷◌, ◌++◌, take, length, Option, None, Some, Result, Ok, Err, Bool, IsTrue, IsSome, is_some, IfErr, refl, sym, ap, ◌∙◌, arith}
 use Rattle.std.proofs.lemmas.List.{append-nil}
-use Rattle.elf_model.specs.Apply.{applied}
-use Rattle.elf_model.specs.ApplyCost.{apply_cost_by_order}
-use Rattle.elf_model.specs.Placing.{Layout}
+use Rattle.elf_model.specs.Prelude.{Layout, applied, apply_cost_by_order}
 use Rattle.elf_model.specs.declared.causes.Refusal.{Refusal}
-use Rattle.elf_source.specs.Output.{OutState}
-use Rattle.elf_source.specs.Source.{CountedState, SetsLimit, honest, seen_by}
+use Rattle.elf_source.specs.Prelude.{CountedState, OutState, SetsLimit, honest, seen_by}
+use Rattle.elf_table.specs.declared.run_fault.RunFault.TheVariants.{Out}
 use Rattle.elf_table.specs.declared.run_fault.RunFault.{RunFault}
-use Rattle.elf_table.specs.declared.run_fault.RunFault.TheVariants.{Refused, Source, Out}
-use Rattle.elf_reloc.specs.Applied.{Applies, ApplySays, BudgetTooSmall, text_of}
+use Rattle.elf_table.specs.declared.run_fault.RunFault.TheVariants.{Refused, Source}
+use Rattle.elf_reloc.specs.Prelude.{Applies, ApplySays, BudgetTooSmall, text_of}
 use Rattle.elf_reloc.specs.declared.apply_section.Applied.{Applied}
-use Rattle.elf_capi.specs.Applied.{AppliesFor}
-use Rattle.elf_capi.specs.Lent.{spared}
-use Rattle.elf_capi.specs.Told.{status_from}
+use Rattle.elf_capi.specs.Prelude.{AppliesFor, spared, status_from}
 use Rattle.elf_capi.proofs.BudgetLaws.{wanting}
 use Rattle.elf_capi.proofs.ListingLaws.{more, never, took}
 

@@ -1,10 +1,8 @@
 -- A listing of the rows of some names, by that of every row which the same bytes ask for.
 use Rattle.std.proofs.Common.{◌≡◌, ℕ, Bool, true, false, if◌then◌else◌, List, None, Some, refl, sym, ap, subst, ◌∙◌}
-use Rattle.elf_model.specs.Choice.{EveryRow}
-use Rattle.elf_model.specs.Style.{ListingStyle}
-use Rattle.elf_options.specs.Names.{texts_of}
-use Rattle.elf_options.specs.NamedRows.{named_style}
-use Rattle.elf_capi.specs.Asked.{AsksListing, GivesListing, IsChosenPart, BorrowedTexts, AreLendableNames, every_row_of, has_versions_in, style_of_flags}
+use Rattle.elf_model.specs.Prelude.{EveryRow, ListingStyle}
+use Rattle.elf_options.specs.Prelude.{named_style, texts_of}
+use Rattle.elf_capi.specs.Prelude.{AreLendableNames, AsksListing, BorrowedTexts, GivesListing, IsChosenPart, every_row_of, has_versions_in, style_of_flags}
 use Rattle.elf_capi.specs.declared.caller_listing.CallerListing.{CallerListing}
 
 -- a style of every row is none by names

@@ -1,6 +1,6 @@
 -- What a lookup in a file in memory finds.
 use Rattle.std.proofs.Common.{◌≡◌, ℕ, List, length, Option, Err, arith}
-use Rattle.elf_model.specs.Find.{find_cost}
+use Rattle.elf_model.specs.Prelude.{find_cost}
 use Rattle.elf_model.specs.declared.causes.Refusal.{Refusal}
 use Rattle.elf_source.specs.Source.{CountedState, SetsLimit}
 use Rattle.elf_table.specs.declared.fault.Fault.TheVariants.{Refused as Refuses}

@@ -1,11 +1,10 @@
 -- The symbols of a hash table in a file in memory, of which what its header tells of section headers is hidden or not.
 use Rattle.std.proofs.Common.{◌≡◌, ℕ, Bool, true, false, List, Option, Some, Err, refl, ap, ◌∙◌, arith}
-use Rattle.elf_model.specs.Style.{looked_at}
+use Rattle.elf_model.specs.Prelude.{looked_at}
 use Rattle.elf_model.specs.declared.causes.Refusal.{Refusal}
 use Rattle.elf_source.specs.Source.{CountedState, SourceState, SetsLimit, file_by, honest}
 use Rattle.elf_table.specs.declared.fault.Fault.TheVariants.{Refused as Refuses}
-use Rattle.elf_capi.specs.Hashed.{FindsHashed, hashed_cost}
-use Rattle.elf_capi.specs.HashedRows.{ReadsHashed}
+use Rattle.elf_capi.specs.Prelude.{FindsHashed, ReadsHashed, hashed_cost}
 use Rattle.elf_capi.proofs.BudgetLaws.{wanting}
 
 shown : (hides : Bool) (file : List ℕ) → file_by hides (Some file) ≡ Some (looked_at hides file)

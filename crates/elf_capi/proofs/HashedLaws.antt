@@ -1,25 +1,17 @@
 -- The symbols that a hash table is of, stage by stage.
 use Rattle.std.proofs.Common.{◌≡◌, ℕ, ◌+◌, ◌*◌, ◌≤◌, min, List, [], ◌∷◌, Option, None, Some, Ok, Err, refl, sym, ap, subst, ◌∙◌, arith}
-use Rattle.elf_model.specs.Bindings.{symbols_hashed}
-use Rattle.elf_model.specs.Checks.{first_refusal}
-use Rattle.elf_model.specs.LoaderFind.{counts_check}
-use Rattle.elf_model.specs.LoaderScope.{LookupTables as IsScopeOf, lookup_tables_of}
-use Rattle.elf_model.specs.Traits.{hashed_symbol_count}
+use Rattle.elf_model.specs.Prelude.{LookupTables as IsScopeOf, counts_check, first_refusal, hashed_symbol_count, lookup_tables_of, symbols_hashed}
 use Rattle.elf_model.specs.declared.causes.Refusal.{Refusal}
-use Rattle.elf_hash.specs.Extents.{extent_bytes}
-use Rattle.elf_hash.specs.SearchedTables.{HasCounts, IsPlaceIn, counts_bytes}
+use Rattle.elf_hash.specs.Prelude.{FindsLookupTables, HasCounts, IsDynamicSymbols, IsLookupTables, IsPlaceIn, counts_bytes, extent_bytes, scope_cost}
 use Rattle.elf_hash.specs.declared.hash_style.HashStyle.{HashStyle}
+use Rattle.elf_hash.specs.declared.lookup_tables.LookupTables.{LookupTables}
 use Rattle.elf_hash.specs.declared.hash_style.HashStyle.TheVariants.{Gnu, Sysv}
 use Rattle.elf_source.specs.Source.{CountedState}
 use Rattle.elf_table.proofs.LedgerLaws.{CallReads-then}
-use Rattle.elf_table.specs.Ledger.{CallReads, IsRead}
+use Rattle.elf_table.specs.Prelude.{CallReads, IsRead}
 use Rattle.elf_table.specs.declared.fault.Fault.{Fault}
 use Rattle.elf_table.specs.declared.fault.Fault.TheVariants.{Refused, Source}
-use Rattle.elf_hash.specs.Finding.{scope_cost}
-use Rattle.elf_hash.specs.LookupTablesFound.{IsLookupTables, FindsLookupTables}
-use Rattle.elf_hash.specs.Symbols.{IsDynamicSymbols}
-use Rattle.elf_hash.specs.declared.lookup_tables.LookupTables.{LookupTables}
-use Rattle.elf_capi.specs.Hashed.{PlacesHashed, ReturnsHashedRows, hashed_cost, hashed_of}
+use Rattle.elf_capi.specs.Prelude.{PlacesHashed, ReturnsHashedRows, hashed_cost, hashed_of}
 use Rattle.elf_capi.specs.declared.rows.RowPosition.{RowPosition}
 
 -- the counts have few bytes

@@ -1,7 +1,7 @@
 -- The layouts that items give, item by item.
 use Rattle.std.proofs.Common.{◌≡◌, ℕ, zero, suc, ◌+◌, ◌<◌, List, [], ◌∷◌, length, drop, slice_index_or, sym, subst, ◌∙◌, arith}
 use Rattle.elf_model.specs.Placing.{Layout}
-use Rattle.elf_capi.specs.Items.{LaysItems, LaysItem, PutsKind}
+use Rattle.elf_capi.specs.Prelude.{LaysItem, LaysItems, PutsKind}
 use Rattle.elf_capi.specs.declared.items.CallerItem.{CallerItem}
 
 -- an item is put into a layout in one way

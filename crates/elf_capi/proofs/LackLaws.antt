@@ -1,29 +1,21 @@
 -- What a layout lacks, as it is told: the bytes of a symbol's name are few.
 use Rattle.std.proofs.Common.{◌≡◌, ℕ, ◌-◌, ◌<◌, ◌≤◌, ◌==◌, Bool, true, false, List, [], ◌++◌, length, length-take, take, drop, Option, None, Some, Result, Ok, Err, option_map, refl, sym, ap, arith}
-use Rattle.elf_model.specs.Explain.{ITEM_NAME_SIZE, MissingEntry, explained, lack_of, lack_with, missing, refused_in, resolved_symbol_name}
-use Rattle.elf_model.specs.Names.{DisplayedName, shown}
-use Rattle.elf_model.specs.Names.DisplayedName.{Whole, Cut}
-use Rattle.elf_model.specs.Placing.{Layout}
-use Rattle.elf_model.specs.Records.{section_at}
-use Rattle.elf_model.specs.Tables.{linked_at, strings_of}
+use Rattle.elf_model.specs.Prelude.{Cut, DisplayedName, ITEM_NAME_SIZE, IsBudgetRefusal, Layout, MissingEntry, explained, first_refusal, header_checks, lack_of, lack_with, linked_at, load_checks, missing, refused_in, resolved_symbol_name, section_at, shown, strings_of}
 use Rattle.elf_model.specs.declared.causes.Cause.{Cause}
-use Rattle.elf_model.specs.declared.causes.Refusal.{Refusal}
 use Rattle.elf_model.specs.declared.missing.MissingAddress.{MissingAddress}
+use Rattle.elf_model.specs.declared.causes.Refusal.{Refusal}
+use Rattle.elf_model.specs.Names.DisplayedName.{Whole}
 use Rattle.elf_model.proofs.NameLaws.{shown_cut, shown_whole}
-use Rattle.elf_model.specs.Budget.{IsBudgetRefusal}
-use Rattle.elf_model.specs.Checks.{first_refusal, header_checks, load_checks}
 use Rattle.elf_source.specs.Source.{CountedState, SetsLimit}
-use Rattle.elf_table.specs.Faults.{IsReadRefusal}
-use Rattle.elf_reloc.specs.Explained.{explain_bytes, lack_as}
-use Rattle.elf_layout.specs.Lent.{Follows, KeysAscend, MayFollow, MayBorrow, lent_name, name_order}
-use Rattle.elf_layout.specs.declared.lent.LentName.{LentName}
+use Rattle.elf_table.specs.Prelude.{IsReadRefusal, shown_by}
+use Rattle.elf_table.specs.declared.names.NameEnd.TheVariants.{Cut as IsCut, Whole as IsWhole}
 use Rattle.elf_table.specs.declared.names.NameEnd.{NameEnd}
-use Rattle.elf_table.specs.declared.names.NameEnd.TheVariants.{Whole as IsWhole, Cut as IsCut}
-use Rattle.elf_table.specs.NamesRead.{shown_by}
-use Rattle.elf_capi.specs.LentLayouts.{CannotBeKnown, ReturnsSymbol}
-use Rattle.elf_capi.proofs.BudgetLaws.{rest_wanting, wanting}
-use Rattle.elf_capi.specs.Resolved.{cut_number}
+use Rattle.elf_reloc.specs.Explained.{explain_bytes, lack_as}
+use Rattle.elf_layout.specs.Prelude.{Follows, KeysAscend, MayBorrow, MayFollow, lent_name, name_order}
+use Rattle.elf_layout.specs.declared.lent.LentName.{LentName}
+use Rattle.elf_capi.specs.Prelude.{CannotBeKnown, ReturnsSymbol, cut_number}
 use Rattle.elf_capi.specs.declared.missing.CallerMissing.{CallerMissing}
+use Rattle.elf_capi.proofs.BudgetLaws.{rest_wanting, wanting}
 use Rattle.std.specs.declared.cmp.Ordering.{Ordering}
 
 -- a name of few bytes

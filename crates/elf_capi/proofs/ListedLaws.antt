@@ -1,19 +1,13 @@
 -- How many dynamic entries are listed, by those that were looked at.
 use Rattle.std.proofs.Common.{ℕ, ◌≡◌, ◌≢◌, ◌+◌, ◌*◌, ◌<◌, ◌≤◌, ◌⊎◌, inl, inr, true, List, None, Ok, Err, ap, arith}
 use Rattle.std.proofs.lemmas.Bool.{cases_lt}
-use Rattle.elf_model.specs.Dynamic.{dynamic_count}
-use Rattle.elf_model.specs.Numbers.{DT_NULL}
-use Rattle.elf_model.specs.Records.{d_tag, e_shnum, section_at}
+use Rattle.elf_model.specs.Prelude.{DT_NULL, d_tag, dynamic_count, e_shnum, section_at}
 use Rattle.elf_model.specs.declared.causes.Refusal.{Refusal}
 use Rattle.elf_model.proofs.DynamicLaws.{counted_is_listed}
 use Rattle.elf_table.specs.Tables.{TableRange as Table, StringTableRange}
-use Rattle.elf_capi.specs.DynamicTables.{IsDynamicTable}
-use Rattle.elf_capi.specs.ListedEntries.{ListsWithin, ReadsListed, all_listed}
-use Rattle.elf_capi.specs.LoadRefused.{load_refused}
-use Rattle.elf_capi.specs.TableOpenings.{ReadsRows, holds}
-use Rattle.elf_capi.specs.Rows.{rows_from_first}
-use Rattle.elf_capi.specs.declared.kind.RowKind.TheVariants.{Dynamic}
+use Rattle.elf_capi.specs.Prelude.{IsDynamicTable, ListsWithin, ReadsListed, ReadsRows, all_listed, holds, load_refused, rows_from_first}
 use Rattle.elf_capi.specs.declared.rows.RowPosition.{RowPosition}
+use Rattle.elf_capi.specs.declared.kind.RowKind.TheVariants.{Dynamic}
 
 -- where none of those before one has the tag DT_NULL, that one is listed too
 pub count_past : (file : List ℕ) (at n done : ℕ) → done < n → ((i : ℕ) → i < done → d_tag file (at + 16 * i) ≢ DT_NULL) → done < dynamic_count file at n

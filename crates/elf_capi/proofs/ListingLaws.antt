@@ -1,22 +1,19 @@
 -- What a sink over lent memory took is what stands at the front of the memory, and behind it.
-use Rattle.elf_options.specs.Permitted.{style_of}
+use Rattle.elf_options.specs.Prelude.{style_of}
+use Rattle.elf_options.specs.declared.caps.Caps.{Caps}
 use Rattle.std.proofs.Common.{◌≡◌, ℕ, List, [], ◌∷◌, ◌++◌, take, length, Option, None, Some, Result, Ok, Err, Bool, true, false, IsTrue, IsSome, is_some, IfErr, refl, sym, ap, ◌∙◌, subst, arith}
 use Rattle.std.proofs.lemmas.List.{take_all, append_assoc, append-nil}
 use Rattle.std.specs.Io.KnownBytes.{Appends}
-use Rattle.elf_model.specs.Budget.{IsBudgeted}
-use Rattle.elf_model.specs.Style.{without_sections}
+use Rattle.elf_model.specs.Prelude.{IsBudgeted, without_sections}
 use Rattle.elf_model.specs.declared.causes.Refusal.{Refusal}
-use Rattle.elf_source.specs.Output.{OutState}
-use Rattle.elf_source.specs.Source.{CountedState, SourceState, IsSourceFault, file_by, honest, seen_by}
-use Rattle.elf_source.specs.declared.faults.SourceFault.{SourceFault}
+use Rattle.elf_source.specs.Prelude.{CountedState, IsSourceFault, OutState, SourceState, file_by, honest, seen_by}
 use Rattle.elf_source.specs.declared.faults.SourceFault.TheVariants.{Device, Ended}
-use Rattle.elf_options.specs.declared.caps.Caps.{Caps}
+use Rattle.elf_source.specs.declared.faults.SourceFault.{SourceFault}
+use Rattle.elf_table.specs.declared.run_fault.RunFault.TheVariants.{Out}
 use Rattle.elf_table.specs.declared.run_fault.RunFault.{RunFault}
-use Rattle.elf_table.specs.declared.run_fault.RunFault.TheVariants.{Refused, Source, Out}
+use Rattle.elf_table.specs.declared.run_fault.RunFault.TheVariants.{Refused, Source}
 use Rattle.elf_listing.specs.Reports.{WroteReport, FaultSays}
-use Rattle.elf_capi.specs.Lent.{spared}
-use Rattle.elf_capi.specs.Shown.{ListsInMemory}
-use Rattle.elf_capi.specs.Told.{status_from}
+use Rattle.elf_capi.specs.Prelude.{ListsInMemory, spared, status_from}
 
 -- a name and the bytes behind it, to which some bytes are appended
 behind : (name other : ℕ) (now bytes : List ℕ) → Appends (Some (name ∷ [])) (Some (other ∷ now)) bytes → now ≡ bytes

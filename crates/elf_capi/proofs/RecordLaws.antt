@@ -3,16 +3,15 @@ use Rattle.std.proofs.Common.{◌≡◌, inl, inr, ℕ, ◌+◌, ◌-◌, ◌^�
 use Rattle.std.specs.Prelude.{IfSome}
 use Rattle.std.proofs.lemmas.Bool.{cases_Bool, cases_lt}
 use Rattle.std.proofs.lemmas.Bool.Decides.{nat_tests}
-use Rattle.elf_model.specs.Records.{vn_next}
-use Rattle.elf_model.specs.Versions.{VisitedRecord, RecordCursorState, Versions, along, along_needs, visited_from, next_position, next_word, no_versions, record_size, with_visited}
+use Rattle.elf_model.specs.Prelude.{RecordCursorState, Versions, VisitedRecord, along, along_needs, next_position, next_word, no_versions, record_size, visited_from, vn_next, with_visited}
+use Rattle.elf_model.specs.declared.versions.VersionKind.TheVariants.{Definition, File, Need}
 use Rattle.elf_model.specs.declared.causes.Cause.TheVariants.{VersionCut}
 use Rattle.elf_model.specs.declared.versions.VersionKind.{VersionKind}
-use Rattle.elf_model.specs.declared.versions.VersionKind.TheVariants.{Definition, File, Need}
 use Rattle.elf_table.specs.Tables.{TableRange}
-use Rattle.elf_note.specs.Reading.{IsPositionInTable, VersionCursorState, record_position_of, versions_left}
+use Rattle.elf_note.specs.Prelude.{IsPositionInTable, VersionCursorState, record_position_of, versions_left}
 use Rattle.elf_note.specs.declared.record_position.RecordPosition.{RecordPosition}
 use Rattle.elf_note.proofs.LeftLaws.{cut-here}
-use Rattle.elf_capi.specs.VersionRecords.{GoesOnTo, bytes_within, kind_number, records_left, stand_as, standing_in}
+use Rattle.elf_capi.specs.Prelude.{GoesOnTo, bytes_within, kind_number, records_left, stand_as, standing_in}
 use Rattle.elf_capi.specs.declared.records.VersionRecordPosition.{VersionRecordPosition}
 
 -- a record has some bytes

@@ -2,18 +2,13 @@
 use Rattle.std.proofs.Common.{◌≡◌, inl, inr, ℕ, ◌+◌, ◌≤◌, ◌==◌, false, List, length, None, Some, refl, sym, ap, ◌∙◌, arith}
 use Rattle.std.proofs.lemmas.Bool.{cases_Bool}
 use Rattle.std.proofs.lemmas.Bool.Decides.{nat_tests}
-use Rattle.elf_model.specs.Checks.{first_refusal, is_outside, refuse, strings_checks}
-use Rattle.elf_model.specs.Numbers.{SHT_GNU_VERDEF, SHT_GNU_VERNEED}
-use Rattle.elf_model.specs.Records.{sh_offset, sh_size, sh_type}
-use Rattle.elf_model.specs.Tables.{all_checks}
-use Rattle.elf_model.specs.VersionRows.{section_versions, version_table}
-use Rattle.elf_model.specs.Versions.{first_position, visited_from, max_records, versions_in}
+use Rattle.elf_model.specs.Prelude.{SHT_GNU_VERDEF, SHT_GNU_VERNEED, all_checks, first_position, first_refusal, is_outside, max_records, refuse, section_versions, sh_offset, sh_size, sh_type, strings_checks, version_table, versions_in, visited_from}
+use Rattle.elf_model.specs.declared.versions.VersionKind.TheVariants.{Need}
 use Rattle.elf_model.specs.declared.causes.Cause.TheVariants.{TableOutside}
 use Rattle.elf_model.specs.declared.versions.VersionKind.{VersionKind}
-use Rattle.elf_model.specs.declared.versions.VersionKind.TheVariants.{Need}
 use Rattle.elf_model.proofs.VersionSteps.{first-passes, met-ended}
 use Rattle.elf_table.specs.Tables.{StringTableRange}
-use Rattle.elf_capi.specs.VersionRecords.{AreRecords, bytes_within, first_kind, record_names, records_left, stand_as, standing_in, starting}
+use Rattle.elf_capi.specs.Prelude.{AreRecords, bytes_within, first_kind, record_names, records_left, stand_as, standing_in, starting}
 use Rattle.elf_capi.specs.declared.records.VersionRecordPosition.{VersionRecordPosition}
 use Rattle.elf_capi.proofs.RecordLaws.{stands_as}
 

@@ -1,7 +1,6 @@
 -- What a loader's lookup in a file in memory finds.
 use Rattle.std.proofs.Common.{◌≡◌, ℕ, List, Option, Err, arith}
-use Rattle.elf_model.specs.Loader.{SymbolQuery}
-use Rattle.elf_model.specs.LoaderFind.{loader_cost}
+use Rattle.elf_model.specs.Prelude.{SymbolQuery, loader_cost}
 use Rattle.elf_model.specs.declared.causes.Refusal.{Refusal}
 use Rattle.elf_source.specs.Source.{CountedState, SetsLimit}
 use Rattle.elf_table.specs.declared.fault.Fault.TheVariants.{Refused as Refuses}

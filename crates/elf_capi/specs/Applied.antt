@@ -1,9 +1,6 @@
 -- What a section of a file in memory with its relocations applied gives its caller.
 use Rattle.std.specs.Prelude.{ℕ, ◌≡◌, ◌<◌, ◌≤◌, ◌^◌, List, ◌∷◌, ◌++◌, take, length, Option, IfSome, Ok, Err}
-use Rattle.elf_model.specs.Apply.{applied}
-use Rattle.elf_model.specs.ApplyCost.{apply_cost_by_order}
-use Rattle.elf_model.specs.Budget.{IsBudgetRefusal}
-use Rattle.elf_model.specs.Placing.{Layout, no_items}
+use Rattle.elf_model.specs.Prelude.{IsBudgetRefusal, Layout, applied, apply_cost_by_order, no_items}
 use Rattle.elf_capi.specs.Items.{LaysItems}
 use Rattle.elf_capi.specs.Limits.{AreInRange, budget_of, headers_of}
 use Rattle.elf_capi.specs.Told.{IsStatus, Untouched}

@@ -4,16 +4,10 @@ use Rattle.std.specs.Borrow.{Bor}
 use Rattle.std.specs.Cmp.Lexicographic.{slice_cmp}
 use Rattle.std.specs.Int.RustNames.{bit_and}
 use Rattle.std.specs.Ordering.{is_lt, nat_cmp}
-use Rattle.elf_model.specs.Archive.{are_all}
-use Rattle.elf_model.specs.Bytes.{field}
-use Rattle.elf_model.specs.Choice.{EveryRow}
-use Rattle.elf_model.specs.Listing.{RELOCS, SYMBOLS, VERSIONS, all_parts, has}
-use Rattle.elf_model.specs.Style.{ListingStyle}
-use Rattle.elf_model.specs.declared.formats.Format.{Format}
+use Rattle.elf_model.specs.Prelude.{EveryRow, ListingStyle, RELOCS, SYMBOLS, VERSIONS, all_parts, are_all, field, has}
 use Rattle.elf_model.specs.declared.formats.Format.TheVariants.{Columns, Object}
-use Rattle.elf_options.specs.Names.{NeverDescend, texts_of}
-use Rattle.elf_options.specs.NameLists.{IsRowName}
-use Rattle.elf_options.specs.NamedRows.{named_style}
+use Rattle.elf_model.specs.declared.formats.Format.{Format}
+use Rattle.elf_options.specs.Prelude.{IsRowName, NeverDescend, named_style, texts_of}
 use Rattle.elf_capi.specs.declared.caller_listing.CallerListing.{CallerListing}
 
 -- names that are lent

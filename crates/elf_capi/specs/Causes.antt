@@ -1,7 +1,7 @@
 -- The causes of refusals as numbers.
 use Rattle.std.specs.Prelude.{ℕ}
+use Rattle.elf_model.specs.declared.causes.Cause.TheVariants.{BadClass, BadData, BadLink, BadVersion, Budget, EntrySize, ExtendedNumbering, HashCycle, HashIndex, HashShape, LoadOverlap, MemberCut, NameOutside, NameUnended, NoHash, NotArchive, NotElf, NotRel, NotStrings, NoteCut, Overflow, PlaceOutside, Short, SizeNotWhole, SymbolIndex, TableOutside, Thin, TooLong, TooManyHeaders, Undefined, Unmapped, Unplaced, Unsupported, VersionCut, VersionIndex}
 use Rattle.elf_model.specs.declared.causes.Cause.{Cause}
-use Rattle.elf_model.specs.declared.causes.Cause.TheVariants.{Short, NotElf, BadClass, BadData, BadVersion, ExtendedNumbering, TooManyHeaders, EntrySize, TableOutside, BadLink, NotStrings, SizeNotWhole, NameOutside, NameUnended, NoteCut, NoHash, HashShape, HashIndex, HashCycle, Unsupported, Overflow, NotRel, Unplaced, Undefined, PlaceOutside, SymbolIndex, TooLong, Budget, Unmapped, Thin, NotArchive, MemberCut, VersionCut, VersionIndex, LoadOverlap}
 
 -- the number of a cause, from 1 on; 0 is none
 abbrev pub cause_number : Cause → ℕ

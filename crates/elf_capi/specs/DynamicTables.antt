@@ -1,8 +1,7 @@
 -- The dynamic entries of a section of a file in memory.
 use Rattle.std.specs.Prelude.{ℕ, ◌≡◌, ◌<◌, ◌⊎◌, List, Result, Ok, Err}
+use Rattle.elf_table.specs.Prelude.{StringTableRange, TableRange as Table, string_table_at, strings, table_at}
 use Rattle.elf_table.specs.declared.fault.Fault.{Fault}
-use Rattle.elf_table.specs.Sections.{string_table_at, strings, table_at}
-use Rattle.elf_table.specs.Tables.{TableRange as Table, StringTableRange}
 
 -- the string table of so many dynamic entries is the one that the section with this header links to; none of no entries
 abbrev AreNames : List ℕ → ℕ → ℕ → StringTableRange → Type 0

@@ -1,12 +1,11 @@
 -- What a lookup in a file in memory gives its caller.
 use Rattle.std.specs.Prelude.{ℕ, ◌≡◌, ◌≤◌, List, length, Option, None, Some, Result, Ok, Err, IfSome}
-use Rattle.elf_model.specs.Budget.{IsBudgetRefusal}
-use Rattle.elf_model.specs.Find.{find_cost, looked}
-use Rattle.elf_model.specs.Hash.{Refused}
+use Rattle.elf_model.specs.Prelude.{IsBudgetRefusal, find_cost, looked}
 use Rattle.elf_model.specs.declared.causes.Refusal.{Refusal}
-use Rattle.elf_hash.specs.Lookups.{AnswersSysvLookup}
+use Rattle.elf_model.specs.Hash.{Refused}
+use Rattle.elf_hash.specs.Prelude.{AnswersSysvLookup}
+use Rattle.elf_hash.specs.declared.lookup.Lookup.TheVariants.{Absent, Found}
 use Rattle.elf_hash.specs.declared.lookup.Lookup.{Lookup}
-use Rattle.elf_hash.specs.declared.lookup.Lookup.TheVariants.{Found, Absent}
 use Rattle.elf_capi.specs.Ends.{ReturnsCause, ReturnsNone}
 use Rattle.elf_capi.specs.Limits.{AreInRange, budget_of, headers_of}
 use Rattle.elf_capi.specs.Symbols.{HasFields}

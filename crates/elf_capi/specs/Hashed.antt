@@ -1,17 +1,12 @@
 -- The symbols that a file's hash table is of, which a loader looks names up among.
 use Rattle.std.specs.Prelude.{ℕ, ◌≡◌, ◌+◌, ◌*◌, ◌<◌, List, Result, Ok, Err}
-use Rattle.elf_model.specs.Bindings.{symbols_hashed}
-use Rattle.elf_model.specs.Budget.{IsBudgetRefusal}
-use Rattle.elf_model.specs.Loader.{DynamicSymbols}
-use Rattle.elf_model.specs.LoaderScope.{lookup_tables_of}
+use Rattle.elf_model.specs.Prelude.{DynamicSymbols, IsBudgetRefusal, lookup_tables_of, symbols_hashed}
 use Rattle.elf_model.specs.declared.causes.Refusal.{Refusal}
 use Rattle.elf_source.specs.Source.{CountedState}
-use Rattle.elf_table.specs.Ledger.{CallReads, fault_of_result}
+use Rattle.elf_table.specs.Prelude.{CallReads, fault_of_result, strings_in}
 use Rattle.elf_table.specs.declared.fault.Fault.{Fault}
 use Rattle.elf_table.specs.declared.fault.Fault.TheVariants.{Refused, Source}
-use Rattle.elf_hash.specs.Extents.{extent_bytes}
-use Rattle.elf_hash.specs.Finding.{scope_cost}
-use Rattle.elf_table.specs.Tables.{strings_in}
+use Rattle.elf_hash.specs.Prelude.{extent_bytes, scope_cost}
 use Rattle.elf_capi.specs.declared.rows.RowPosition.{RowPosition}
 
 -- THE SYMBOLS THAT A LOADER KNOWS of a file, and how many there are by its hash table; or the first refusal: of what a lookup is

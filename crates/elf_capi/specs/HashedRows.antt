@@ -1,7 +1,6 @@
 -- What a call has of the symbols that a loader knows of a file in memory.
 use Rattle.std.specs.Prelude.{ℕ, ◌≡◌, ◌≤◌, ◌==◌, List, length, Option, None, Some, Result, Ok, Err, IfSome}
-use Rattle.elf_model.specs.Budget.{IsBudgetRefusal}
-use Rattle.elf_model.specs.Style.{looked_at}
+use Rattle.elf_model.specs.Prelude.{IsBudgetRefusal, looked_at}
 use Rattle.elf_model.specs.declared.causes.Refusal.{Refusal}
 use Rattle.elf_table.specs.declared.fault.Fault.TheVariants.{Refused}
 use Rattle.elf_capi.specs.Hashed.{ReturnsHashedRows, hashed_cost}

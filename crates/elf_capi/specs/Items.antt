@@ -1,8 +1,8 @@
 -- The layout that a caller's items give.
 use Rattle.std.specs.Prelude.{ℕ, zero, suc, ◌≡◌, ◌<◌, ◌^◌, Bool, true, false, List, [], ◌∷◌, Option, None, Some, Ok}
-use Rattle.elf_layout.specs.Layouts.{Adds, IsName}
+use Rattle.elf_layout.specs.Prelude.{Adds, IsName}
+use Rattle.elf_layout.specs.declared.layout.Item.TheVariants.{Define, Entry, Section, Table, Thread}
 use Rattle.elf_layout.specs.declared.layout.Item.{Item as Laid}
-use Rattle.elf_layout.specs.declared.layout.Item.TheVariants.{Section, Define, Entry, Table, Thread}
 use Rattle.elf_model.specs.Placing.{Layout, no_items}
 use Rattle.elf_capi.specs.declared.items.CallerItem.{CallerItem}
 

@@ -1,20 +1,14 @@
 -- A layout of any size, which a caller lends, and what it lacks where a section was refused.
 use Rattle.std.specs.Prelude.{ℕ, ◌≡◌, ◌+◌, ◌<◌, ◌≤◌, ◌⊎◌, List, ◌++◌, take, length, Option, None, Some, IfSome}
 use Rattle.std.specs.Ordering.{nat_cmp}
-use Rattle.elf_model.specs.ApplyCost.{apply_cost_by_order}
-use Rattle.elf_model.specs.Budget.{IsBudgetRefusal}
-use Rattle.elf_model.specs.Checks.{first_refusal, header_checks, load_checks}
-use Rattle.elf_model.specs.Explain.{MissingEntry, explained}
-use Rattle.elf_model.specs.Names.{DisplayedName}
-use Rattle.elf_model.specs.Names.DisplayedName.{Whole, Cut}
-use Rattle.elf_model.specs.Placing.{Layout, Searched}
-use Rattle.elf_model.specs.declared.causes.Refusal.{Refusal}
+use Rattle.elf_model.specs.Prelude.{Cut, DisplayedName, IsBudgetRefusal, Layout, MissingEntry, Searched, apply_cost_by_order, explained, first_refusal, header_checks, load_checks}
+use Rattle.elf_model.specs.declared.missing.LayoutAddress.TheVariants.{Entry, Named, Place}
 use Rattle.elf_model.specs.declared.missing.LayoutAddress.{LayoutAddress}
-use Rattle.elf_model.specs.declared.missing.LayoutAddress.TheVariants.{Place, Named, Entry}
-use Rattle.elf_model.specs.declared.relocation_types.RelocationBase.TheVariants.{Symbol, Linkage, Table, Thread}
+use Rattle.elf_model.specs.declared.relocation_types.RelocationBase.TheVariants.{Linkage, Symbol, Table, Thread}
+use Rattle.elf_model.specs.declared.causes.Refusal.{Refusal}
+use Rattle.elf_model.specs.Names.DisplayedName.{Whole}
 use Rattle.elf_reloc.specs.Explained.{explain_bytes}
-use Rattle.elf_layout.specs.Kept.{borrowed_as}
-use Rattle.elf_layout.specs.Lent.{KeysAscend, MayBorrow, borrowed_index, named, placed}
+use Rattle.elf_layout.specs.Prelude.{KeysAscend, MayBorrow, borrowed_as, borrowed_index, named, placed}
 use Rattle.elf_layout.specs.declared.addresses.BorrowedLayout.{BorrowedLayout}
 use Rattle.elf_capi.specs.Applied.{AppliesFor}
 use Rattle.elf_capi.specs.Limits.{AreInRange, budget_of, headers_of}

@@ -27,3 +27,4 @@ pub mod Told
 pub mod Wants
 pub mod Within
 pub mod Words
+pub mod Prelude

@@ -1,9 +1,8 @@
 -- What limits and room permit.
-use Rattle.elf_options.specs.Permitted.{style_of}
-use Rattle.std.specs.Prelude.{ℕ, ◌≡◌, ◌≤◌, ◌/◌, ◌==◌, min, true, false, Option, None, Some}
-use Rattle.elf_options.specs.Permitted.{AreHeaders, AreNameBytes}
+use Rattle.elf_options.specs.Prelude.{AreHeaders, AreNameBytes, style_of}
 use Rattle.elf_options.specs.declared.caps.Caps.{Caps}
 use Rattle.elf_options.specs.declared.caps.Limits.{Limits as Permitted}
+use Rattle.std.specs.Prelude.{ℕ, ◌≡◌, ◌≤◌, ◌/◌, ◌==◌, min, true, false, Option, None, Some}
 use Rattle.elf_capi.specs.Asked.{caller_style}
 use Rattle.elf_capi.specs.declared.caller_listing.CallerListing.{CallerListing}
 use Rattle.elf_capi.specs.declared.limits.CallerLimits.{CallerLimits}

@@ -1,6 +1,6 @@
 -- The dynamic entries that are listed, and those of which no more than so many are looked at.
 use Rattle.std.specs.Prelude.{ℕ, ◌≡◌, ◌+◌, ◌*◌, ◌<◌, ◌≤◌, ◌⊎◌, List, Option, None, Some, Result, Ok, Err}
-use Rattle.elf_model.specs.Dynamic.{dynamic_count}
+use Rattle.elf_model.specs.Prelude.{dynamic_count}
 use Rattle.elf_model.specs.declared.causes.Cause.TheVariants.{Budget}
 use Rattle.elf_model.specs.declared.causes.Refusal.{Refusal}
 use Rattle.elf_capi.specs.declared.rows.RowPosition.{RowPosition}

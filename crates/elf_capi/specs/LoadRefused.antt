@@ -1,6 +1,6 @@
 -- The checks of a file until its section headers are loaded.
 use Rattle.std.specs.Prelude.{ℕ, List, ◌++◌, Option}
-use Rattle.elf_model.specs.Checks.{first_refusal, header_checks, load_checks}
+use Rattle.elf_model.specs.Prelude.{first_refusal, header_checks, load_checks}
 use Rattle.elf_model.specs.declared.causes.Refusal.{Refusal}
 
 -- the first check that fails until a file's section headers are loaded, where so many headers are permitted

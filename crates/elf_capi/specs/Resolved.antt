@@ -1,22 +1,18 @@
 -- What a loader's lookup in a file in memory gives its caller.
 use Rattle.std.specs.Prelude.{ℕ, ◌≡◌, ◌≤◌, true, false, List, length, Option, None, Some, Result, Ok, Err, IfSome}
-use Rattle.elf_loader.specs.Lookups.{AnswersLoaderLookup}
-use Rattle.elf_loader.specs.declared.found.FoundVersion.{FoundVersion}
-use Rattle.elf_loader.specs.declared.found.VersionName.{VersionName}
-use Rattle.elf_loader.specs.declared.found.VersionName.TheVariants.{Wanted as IsWanted, Unnamed, Told}
+use Rattle.elf_loader.specs.Prelude.{AnswersLoaderLookup}
+use Rattle.elf_loader.specs.declared.lookup.SymbolLookup.TheVariants.{Absent, Found}
 use Rattle.elf_loader.specs.declared.lookup.FoundSymbol.{FoundSymbol}
+use Rattle.elf_loader.specs.declared.found.FoundVersion.{FoundVersion}
 use Rattle.elf_loader.specs.declared.lookup.SymbolLookup.{SymbolLookup}
-use Rattle.elf_loader.specs.declared.lookup.SymbolLookup.TheVariants.{Found, Absent}
-use Rattle.elf_model.specs.Budget.{IsBudgetRefusal}
-use Rattle.elf_model.specs.Hash.{Refused}
-use Rattle.elf_model.specs.Loader.{SymbolQuery, is_hidden}
-use Rattle.elf_model.specs.LoaderFind.{loader_cost, loader_looked}
-use Rattle.elf_model.specs.Style.{looked_at}
-use Rattle.elf_model.specs.Versions.{number_in}
+use Rattle.elf_loader.specs.declared.found.VersionName.TheVariants.{Told, Unnamed, Wanted as IsWanted}
+use Rattle.elf_loader.specs.declared.found.VersionName.{VersionName}
+use Rattle.elf_model.specs.Prelude.{IsBudgetRefusal, SymbolQuery, is_hidden, loader_cost, loader_looked, looked_at, number_in}
 use Rattle.elf_model.specs.declared.causes.Refusal.{Refusal}
+use Rattle.elf_model.specs.Hash.{Refused}
 use Rattle.elf_capi.specs.Symbols.{HasFields}
+use Rattle.elf_table.specs.declared.names.NameEnd.TheVariants.{Cut, Whole}
 use Rattle.elf_table.specs.declared.names.NameEnd.{NameEnd}
-use Rattle.elf_table.specs.declared.names.NameEnd.TheVariants.{Whole, Cut}
 use Rattle.elf_capi.specs.Found.{no_symbol}
 use Rattle.elf_capi.specs.Ends.{ReturnsCause, ReturnsNone}
 use Rattle.elf_capi.specs.Limits.{AreInRange, budget_of, headers_of}

@@ -1,9 +1,6 @@
 -- The dynamic entries of a segment of a file in memory.
 use Rattle.std.specs.Prelude.{ℕ, ◌≡◌, ◌≢◌, ◌+◌, ◌*◌, ◌/◌, ◌<◌, ◌≤◌, ◌⊎◌, List, length, Option, None, Some, Result, Ok, Err}
-use Rattle.elf_model.specs.Checks.{first_refusal, unless_empty, whole_checks_of}
-use Rattle.elf_model.specs.Numbers.{PT_DYNAMIC}
-use Rattle.elf_model.specs.Records.{e_phnum, p_type, p_offset, p_filesz, segment_at}
-use Rattle.elf_model.specs.Tables.{segment_dynamic_checks}
+use Rattle.elf_model.specs.Prelude.{PT_DYNAMIC, e_phnum, first_refusal, p_filesz, p_offset, p_type, segment_at, segment_dynamic_checks, unless_empty, whole_checks_of}
 use Rattle.elf_model.specs.declared.causes.Refusal.{Refusal}
 use Rattle.elf_memory.specs.Checked.{first_refused}
 use Rattle.elf_capi.specs.ListedEntries.{all_listed}

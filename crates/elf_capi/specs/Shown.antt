@@ -1,11 +1,9 @@
 -- What a listing of a file in memory gives its caller.
-use Rattle.elf_model.specs.Style.{ListingStyle, standard}
-use Rattle.elf_options.specs.Permitted.{style_of}
-use Rattle.std.specs.Prelude.{ℕ, ◌≡◌, ◌≤◌, List, ◌∷◌, ◌++◌, take, length, Option, None, Some, IfSome}
-use Rattle.elf_model.specs.Budget.{IsBudgeted}
-use Rattle.elf_model.specs.Cost.{listing_cost}
+use Rattle.elf_model.specs.Prelude.{IsBudgeted, ListingStyle, listing_cost, standard}
 use Rattle.elf_model.specs.declared.causes.Refusal.{Refusal}
+use Rattle.elf_options.specs.Prelude.{style_of}
 use Rattle.elf_options.specs.declared.caps.Caps.{Caps}
+use Rattle.std.specs.Prelude.{ℕ, ◌≡◌, ◌≤◌, List, ◌∷◌, ◌++◌, take, length, Option, None, Some, IfSome}
 use Rattle.elf_capi.specs.Asked.{AsksListing, BorrowedTexts, parts_in, style_in}
 use Rattle.elf_capi.specs.Limits.{AreCaps, budget_of, headers_of}
 use Rattle.elf_capi.specs.Told.{IsStatus, Untouched}

@@ -1,16 +1,10 @@
 -- What opening a table of a file in memory answers.
 use Rattle.std.specs.Prelude.{ℕ, ◌≡◌, ◌<◌, ◌≤◌, ◌==◌, ◌⊎◌, Bool, true, false, List, Option, None, Some, Result, Ok, Err, option_map}
-use Rattle.elf_model.specs.Checks.{first_refusal, section_name_checks, is_symbol_table}
-use Rattle.elf_model.specs.Numbers.{SHT_RELA, SHT_DYNAMIC, SHT_GNU_VERSYM}
-use Rattle.elf_model.specs.Records.{e_shnum, sh_type, section_at}
-use Rattle.elf_model.specs.Tables.{all_checks}
-use Rattle.elf_model.specs.VersionRows.{symbol_versions}
+use Rattle.elf_model.specs.Prelude.{SHT_DYNAMIC, SHT_GNU_VERSYM, SHT_RELA, all_checks, e_shnum, first_refusal, is_symbol_table, section_at, section_name_checks, sh_type, symbol_versions}
 use Rattle.elf_model.specs.declared.causes.Refusal.{Refusal}
+use Rattle.elf_table.specs.Prelude.{AreRelocations, RefusedBy, Relocates, StringTableRange, TableRange as Table, section_names, symbols_at}
 use Rattle.elf_table.specs.declared.fault.Fault.{Fault}
 use Rattle.elf_table.specs.declared.fault.Fault.TheVariants.{Refused}
-use Rattle.elf_table.specs.Relocations.{AreRelocations, RefusedBy, Relocates}
-use Rattle.elf_table.specs.Sections.{symbols_at, section_names}
-use Rattle.elf_table.specs.Tables.{TableRange as Table, StringTableRange}
 use Rattle.elf_capi.specs.DynamicTables.{IsDynamicTable}
 use Rattle.elf_capi.specs.ListedEntries.{all_listed}
 use Rattle.elf_capi.specs.LoadRefused.{load_refused}

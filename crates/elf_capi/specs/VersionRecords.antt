@@ -1,18 +1,11 @@
 -- The records of symbol versions of a file in memory, and the words of its symbols' versions.
 use Rattle.std.specs.Prelude.{ℕ, ◌≡◌, ◌+◌, ◌-◌, ◌^◌, ◌<◌, ◌≤◌, ◌==◌, ◌&&◌, ◌||◌, ◌⊎◌, min, nat_le, not, true, false, if◌then◌else◌, List, length, Option, None, Some, Result, Ok, Err}
-use Rattle.elf_model.specs.Checks.{first_refusal}
-use Rattle.elf_model.specs.Numbers.{SHT_GNU_VERDEF, SHT_GNU_VERNEED}
-use Rattle.elf_model.specs.Records.{e_shnum, sh_link, sh_offset, sh_size, sh_type, section_at, versym}
-use Rattle.elf_model.specs.Tables.{all_checks, has_symbols, linked_at}
-use Rattle.elf_model.specs.VersionRows.{section_versions, version_table, versioned_count}
-use Rattle.elf_model.specs.Versions.{NEED_SIZE, VERSYM_SIZE, VisitedRecord, RecordCursorState, Versions, flags_word, hash_word, visited_from, max_records, name_index, named_at, no_versions, number_in, number_word, with_visited}
+use Rattle.elf_model.specs.Prelude.{NEED_SIZE, RecordCursorState, SHT_GNU_VERDEF, SHT_GNU_VERNEED, VERSYM_SIZE, Versions, VisitedRecord, all_checks, e_shnum, first_refusal, flags_word, has_symbols, hash_word, linked_at, max_records, name_index, named_at, no_versions, number_in, number_word, section_at, section_versions, sh_link, sh_offset, sh_size, sh_type, version_table, versioned_count, versym, visited_from, with_visited}
+use Rattle.elf_model.specs.declared.versions.VersionKind.TheVariants.{Definition, File, Need}
 use Rattle.elf_model.specs.declared.causes.Refusal.{Refusal}
 use Rattle.elf_model.specs.declared.versions.VersionKind.{VersionKind}
-use Rattle.elf_model.specs.declared.versions.VersionKind.TheVariants.{Definition, File, Need}
+use Rattle.elf_table.specs.Prelude.{RefusedBy, StringTableRange, names_at, strings}
 use Rattle.elf_table.specs.declared.fault.Fault.{Fault}
-use Rattle.elf_table.specs.Relocations.{RefusedBy}
-use Rattle.elf_table.specs.Sections.{names_at, strings}
-use Rattle.elf_table.specs.Tables.{StringTableRange}
 use Rattle.elf_capi.specs.LoadRefused.{load_refused}
 use Rattle.elf_note.specs.declared.record_position.RecordPosition.{RecordPosition}
 use Rattle.elf_capi.specs.declared.record_row.RecordRow.{RecordRow}

@@ -1,6 +1,6 @@
 -- The words of causes, by their numbers.
 use Rattle.std.specs.Prelude.{ℕ, ◌≡◌, ◌<◌, ◌⊎◌, nat_lt, true, false, List, ◌++◌, length, drop, Option, None, Some}
-use Rattle.elf_model.specs.Causes.{cause_word}
+use Rattle.elf_model.specs.Prelude.{cause_word}
 use Rattle.elf_model.specs.declared.causes.Cause.{Cause}
 use Rattle.elf_capi.specs.Causes.{cause_number}
 

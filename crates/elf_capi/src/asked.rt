@@ -1,7 +1,6 @@
 //! What a caller asks for of a listing.
 ghost use Rattle.std.specs.Prelude.{◌≡◌, MatchBool, None, Some};
-ghost use Rattle.elf_model.specs.Archive.{are_all};
-ghost use Rattle.elf_model.specs.Listing.{all_parts};
+ghost use Rattle.elf_model.specs.Prelude.{all_parts, are_all};
 ghost use Rattle.elf_capi.specs.Asked.{GivesListing, IsChosenPart, format_in};
 
 use crate::caller_listing::CallerListing;

@@ -1,7 +1,6 @@
 //! The dynamic entries of a table that are listed.
 ghost use Rattle.std.specs.Prelude.{◌≡◌, ◌==◌, ◌+◌, ◌*◌, ◌<◌, ◌≤◌, length};
-ghost use Rattle.elf_model.specs.Numbers.{DT_NULL};
-ghost use Rattle.elf_model.specs.Records.{d_tag};
+ghost use Rattle.elf_model.specs.Prelude.{DT_NULL, d_tag};
 ghost use Rattle.elf_capi.specs.ListedEntries.{CountsListed, ListsWithin, all_listed};
 
 use crate::rows::RowPosition;

@@ -1,10 +1,8 @@
 //! A file that lies in memory, whose headers passed the checks of a load.
 ghost use Rattle.std.specs.Prelude.{◌≡◌, ◌+◌, ◌<◌, ◌≤◌, length};
 ghost use Rattle.elf_model.specs.Records.{e_shnum, section_at};
-ghost use Rattle.elf_record.specs.Ehdr.{IsEhdr};
-ghost use Rattle.elf_record.specs.Shdr.{IsShdr};
-ghost use Rattle.elf_table.specs.Load.{PassesLoadChecks};
-ghost use Rattle.elf_table.specs.Sections.{section_names};
+ghost use Rattle.elf_record.specs.Prelude.{IsEhdr, IsShdr};
+ghost use Rattle.elf_table.specs.Prelude.{PassesLoadChecks, section_names};
 
 use elf_memory::chunk_at;
 use elf_record::sizes::SECTION_HEADER_BYTES;

@@ -2,11 +2,7 @@
 //! stand.
 ghost use Rattle.std.specs.Prelude.{◌≡◌, ◌<◌, ◌≤◌, length, IfOk, IfErr};
 ghost use Rattle.elf_model.specs.Records.{section_at};
-ghost use Rattle.elf_table.specs.Faults.{IsOfCheck};
-ghost use Rattle.elf_table.specs.Relocations.{Links, Relocates};
-ghost use Rattle.elf_table.specs.Sections.{string_table_at, symbols_at, table_at};
-ghost use Rattle.elf_table.specs.Tables.{TableInBounds};
-ghost use Rattle.elf_table.specs.Versions.{Versioned};
+ghost use Rattle.elf_table.specs.Prelude.{IsOfCheck, Links, Relocates, TableInBounds, Versioned, string_table_at, symbols_at, table_at};
 ghost use Rattle.elf_capi.specs.DynamicTables.{IsDynamicTable};
 ghost use Rattle.elf_capi.specs.VersionRecords.{FindsRecords, SymbolsLink};
 

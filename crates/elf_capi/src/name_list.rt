@@ -11,7 +11,8 @@ use elf_options::is_valid_row_name;
 /// Whether rows may be chosen by these names: each can be looked for ([`is_valid_row_name`]), and none is below
 /// the one before it.
 pub(crate) fn may_choose(names: &[&[u8]], versions: bool) -> bool
-    ensures { MatchBool result (AreLendableNames versions names.now) (AreLendableNames versions names.now → ⊥) }
+    ensures { MatchBool result (AreLendableNames versions names.now)
+        (AreLendableNames versions names.now → ⊥) }
 {
     let mut i = 0;
     while i < names.len() {

@@ -1,7 +1,7 @@
 //! A place in a walk over the records of symbol versions, and steps over them.
 ghost use Rattle.std.specs.Prelude.{◌≡◌, ◌+◌, ◌≤◌, ◌^◌, ◌<◌, IfSome, length, option_map};
 ghost use Rattle.elf_model.specs.declared.versions.VersionKind.TheVariants.{Need};
-ghost use Rattle.elf_note.specs.Reading.{IsPositionInTable, KnowsAhead, record_position_of};
+ghost use Rattle.elf_note.specs.Prelude.{IsPositionInTable, KnowsAhead, record_position_of};
 ghost use Rattle.elf_note.specs.declared.record_position.RecordPosition.{RecordPosition as IsStanding};
 ghost use Rattle.elf_capi.specs.VersionRecords.{GoesOnTo, StepsRecord, bytes_within, standing_in};
 

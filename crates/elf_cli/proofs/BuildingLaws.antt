@@ -7,10 +7,9 @@ use Rattle.clap.specs.Words.{AddsArg, app_of, rule_of}
 use Rattle.clap.specs.declared.builder.arg.Arg.{Arg}
 use Rattle.clap.specs.declared.builder.value_parser.ValueParser.{ValueParser}
 use Rattle.clap.specs.declared.builder.command.Command.{Command}
-use Rattle.elf_cli.specs.Building.{IsArg, IsBuilt}
-use Rattle.elf_cli.specs.Described.{described, rule_by, add_subcommands, add_args}
-use Rattle.elf_cli.specs.declared.builder.CommandSpec.{CommandSpec}
+use Rattle.elf_cli.specs.Prelude.{IsArg, IsBuilt, add_args, add_subcommands, described, rule_by}
 use Rattle.elf_cli.specs.declared.arg_specs.ArgSpec.{ArgSpec}
+use Rattle.elf_cli.specs.declared.builder.CommandSpec.{CommandSpec}
 
 pub added : (app : App) (rule : Rule) (old new : Command) (arg : Arg) → IsBuilt app old → IsArg rule arg → AddsArg old arg new → IsBuilt (with_rule app rule) new
 added app rule old new arg built is adds =

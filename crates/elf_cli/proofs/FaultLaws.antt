@@ -8,11 +8,9 @@ use Rattle.clap.specs.Walk.{Text}
 use Rattle.clap.specs.declared.error.Error.{Error}
 use Rattle.clap.specs.declared.parser.matches.ArgMatches.{ArgMatches}
 use Rattle.clap.proofs.OnLiterals.{clap_on_literals}
-use Rattle.elf_cli.specs.CommandLine.{PartWords, program}
-use Rattle.elf_cli.specs.Faults.{IsFaultOf, IsOneOf}
-use Rattle.elf_cli.specs.Reading.{AreRead, AreRefused, ArePartNames}
+use Rattle.elf_cli.specs.Prelude.{ArePartNames, AreRead, AreRefused, IsFaultOf, IsOneOf, PartWords, program}
+use Rattle.elf_cli.specs.declared.faults.RequestFault.TheVariants.{BadItem, BadName, BadTrait, LayoutFull, LayoutRepeat, Memory, NamesFull, Words}
 use Rattle.elf_cli.specs.declared.faults.RequestFault.{RequestFault}
-use Rattle.elf_cli.specs.declared.faults.RequestFault.TheVariants.{Memory, BadName, BadItem, BadTrait, LayoutFull, LayoutRepeat, NamesFull, Words}
 
 -- the command line is one whose matches and faults are known: no argument has a rule on another
 is_known : (parts : PartWords) → is_simple_and_free (program parts) ≡ true

@@ -4,11 +4,9 @@ use Rattle.std.proofs.Common.{append-nil, add-one, drop-cons}
 use Rattle.std.proofs.lemmas.List.{drop_all}
 use Rattle.std.proofs.lemmas.Bool.{cases_Bool}
 use Rattle.std.proofs.lemmas.Bool.Decides.{nat_tests}
-use Rattle.elf_model.specs.Lines.{name_byte_text}
-use Rattle.elf_format.specs.Told.{reported_byte, reported_text}
-use Rattle.elf_format.specs.Pieces.{TakesBefore}
+use Rattle.elf_model.specs.Prelude.{digit, hex, name_byte_text}
+use Rattle.elf_format.specs.Prelude.{TakesBefore, reported_byte, reported_text}
 use Rattle.elf_format.proofs.Pieces.{TakesBefore-front, TakesBefore-then}
-use Rattle.elf_model.specs.Text.{digit, hex}
 use Rattle.elf_source.specs.Output.{OutState, SinkTakes, SinkTakesPrefix}
 use Rattle.elf_source.proofs.PutsLaws.{SinkTakesPrefix-more}
 use Rattle.elf_cli.specs.Marked.{byte_beside, bytes_beside, told_beside}

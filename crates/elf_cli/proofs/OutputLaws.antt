@@ -3,8 +3,7 @@ use Rattle.std.proofs.Common.{◌≡◌, ℕ, Bool, true, false, List, ◌++◌,
 use Rattle.std.proofs.Math.Seq.{take-length}
 use Rattle.std.specs.Io.KnownBytes.{Appends}
 use Rattle.elf_source.specs.Output.{DeferredState}
-use Rattle.elf_cli.specs.Endings.{PutsRest}
-use Rattle.elf_cli.specs.Lines.{GivesFront}
+use Rattle.elf_cli.specs.Prelude.{GivesFront, PutsRest}
 
 pub rest_put : (old new : DeferredState) (failed : Bool) (taken : Option (List ℕ)) → GivesFront old new (length old.held) → failed ≡ new.failed → taken ≡ new.below → PutsRest true failed old.held old.below taken
 rest_put old new false taken gives same is =

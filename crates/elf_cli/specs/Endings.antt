@@ -1,8 +1,9 @@
 -- How a program ends: the exit status of a run, and the line on standard error.
 use Rattle.std.specs.Prelude.{ℕ, ◌≡◌, Bool, true, false, List, ◌++◌, Option, Result, Ok, Err, [], codes}
 use Rattle.std.specs.Io.KnownBytes.{Appends}
+use Rattle.elf_table.specs.declared.run_fault.RunFault.TheVariants.{Out}
 use Rattle.elf_table.specs.declared.run_fault.RunFault.{RunFault}
-use Rattle.elf_table.specs.declared.run_fault.RunFault.TheVariants.{Refused, Source, Out}
+use Rattle.elf_table.specs.declared.run_fault.RunFault.TheVariants.{Refused, Source}
 use Rattle.elf_cli.specs.declared.faults.RequestFault.{RequestFault}
 use Rattle.elf_cli.specs.declared.faults.RequestFault.TheVariants.{Words, BadName, NamesFull, BadItem, LayoutFull, LayoutRepeat, BadTrait, Memory}
 use Rattle.elf_cli.specs.declared.outputs.RunEnd.{RunEnd}

@@ -10,3 +10,4 @@ pub mod Endings
 pub mod Lines
 pub mod Marked
 pub mod Version
+pub mod Prelude

@@ -1,7 +1,6 @@
 -- What is said of wrong words, in which a newline of a word is spelt, and one between lines stands as it is.
 use Rattle.std.specs.Prelude.{ℕ, ◌==◌, ◌&&◌, if◌then◌else◌, List, [], ◌∷◌, ◌++◌, length}
-use Rattle.elf_model.specs.Text.{newline}
-use Rattle.elf_model.specs.Lines.{name_byte_text}
+use Rattle.elf_model.specs.Prelude.{name_byte_text, newline}
 use Rattle.elf_format.specs.Told.{reported_text}
 
 -- a byte of a text, by the byte at its place in another: where both are newlines it stands as it is, else it is spelt as in a name

@@ -3,15 +3,13 @@ use Rattle.std.specs.Prelude.{Bool, false, if◌then◌else◌, bytes_eq, ◌&&�
 use Rattle.std.specs.List.{list_any}
 use Rattle.std.specs.Str.Parse.{IsNumeral, digits_value, without_leading_plus}
 use Rattle.clap.specs.Walk.{Row, Text, first_of, one_of}
-use Rattle.elf_model.specs.Text.{name_of as name_in_table}
-use Rattle.elf_model.specs.Listing.{HEADER, SECTIONS, SEGMENTS, SYMBOLS, RELOCS, NOTES, DYNAMIC, VERSIONS, all_parts}
+use Rattle.elf_model.specs.Prelude.{DYNAMIC, EveryRow, HEADER, NOTES, RELOCS, SECTIONS, SEGMENTS, SYMBOLS, VERSIONS, all_parts, name_of as name_in_table}
+use Rattle.elf_model.specs.declared.formats.Format.TheVariants.{Columns, Object}
+use Rattle.elf_model.specs.declared.formats.Format.{Format}
 use Rattle.elf_record.specs.declared.parts.Parts.{Parts}
+use Rattle.elf_options.specs.Prelude.{choice_of}
 use Rattle.elf_options.specs.declared.caps.Limits.{Limits}
 use Rattle.elf_options.specs.declared.caps.ListingStyle.{ListingStyle}
-use Rattle.elf_model.specs.Choice.{EveryRow}
-use Rattle.elf_options.specs.Chosen.{choice_of}
-use Rattle.elf_model.specs.declared.formats.Format.{Format}
-use Rattle.elf_model.specs.declared.formats.Format.TheVariants.{Columns, Object}
 
 -- the parts that can be asked for, by their names: symbol versions in listings of the GNU system alone
 abbrev pub part_names : Bool → List (ℕ × List ℕ)

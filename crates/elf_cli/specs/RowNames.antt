@@ -3,8 +3,7 @@ use Rattle.std.specs.Prelude.{Bool, true, false, ◌||◌, if◌then◌else◌, 
 use Rattle.clap.specs.Walk.{Row, Text, all_of, first_of}
 use Rattle.clap.specs.declared.parser.matches.ValueSource.{ValueSource}
 use Rattle.clap.specs.declared.parser.matches.ValueSource.TheVariants.{CommandLine, DefaultValue}
-use Rattle.elf_model.specs.Listing.{SYMBOLS, RELOCS, VERSIONS}
-use Rattle.elf_model.specs.Text.{name_of as name_in_table}
+use Rattle.elf_model.specs.Prelude.{RELOCS, SYMBOLS, VERSIONS, name_of as name_in_table}
 use Rattle.elf_record.specs.declared.parts.Parts.{Parts}
 use Rattle.elf_cli.specs.Options.{has_gnu_option}
 

@@ -3,8 +3,7 @@ ghost use Rattle.std.specs.Prelude.{◌≡◌, ◌<◌, ◌^◌, ℕ, IfSome, No
 ghost use Rattle.std.specs.Prelude.{option_map};
 ghost use Rattle.clap.specs.Walk.{first_of, one_of, rows_of};
 ghost use Rattle.clap.specs.Words.{found_of};
-ghost use Rattle.elf_model.specs.Listing.{all_parts};
-ghost use Rattle.elf_model.specs.Text.{name_of};
+ghost use Rattle.elf_model.specs.Prelude.{all_parts, name_of};
 ghost use Rattle.elf_cli.specs.Options.{AreLimitOptions, AreParts, HasNumber, IsStyle};
 ghost use Rattle.elf_cli.specs.Options.{asked_format, has_gnu_option, is_part, is_option_set};
 ghost use Rattle.elf_cli.specs.Options.{has_versions_option, gnu_option_is_missing, part_names};

@@ -41,7 +41,8 @@ traits also --json, --require and --files0-from, needs also --json and those for
   --explain     for apply only: where an address is missing, tell on standard error the type of
                 the relocation, the name of its symbol, and the item that would help
   --versions    for show, sample, archive and list only, with --gnu: show behind the name of a
-                symbol its version too, as NAME@VERSION, or NAME@@VERSION where it is the default one
+                symbol its version too, as NAME@VERSION,
+                    or NAME@@VERSION where it is the default one
   --name NAME   for show, archive and list only: show the rows of this name alone; at most 64 times
   --name-list LIST
                 for show, archive and list only: show the rows of the names in LIST, one a line

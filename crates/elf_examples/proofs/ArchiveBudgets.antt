@@ -1,12 +1,9 @@
 -- A budget below an archive's cost may end its listing before the first line.
 use Rattle.std.proofs.Common.{[], refl, inr}
 use Rattle.std.specs.Prelude.{true, codes}
-use Rattle.elf_model.specs.Archive.{archive_items}
-use Rattle.elf_model.specs.FixturesArchive.{archive_of, member}
-use Rattle.elf_model.specs.Style.{standard}
+use Rattle.elf_model.specs.Prelude.{archive_items, archive_of, member, standard}
 use Rattle.elf_model.proofs.OnLiterals.{on_literals}
-use Rattle.elf_examples.specs.ListedBudgets.{spent_at}
-use Rattle.elf_examples.specs.ListedMembers.{BudgetsThatEndArchives}
+use Rattle.elf_examples.specs.Prelude.{BudgetsThatEndArchives, spent_at}
 
 pub ends_before : BudgetsThatEndArchives
 unfolding on_literals

@@ -1,15 +1,10 @@
 -- What a budget allows, by the number of lines and the offset of the read; and what is shown, by what a budget allows.
+use Rattle.elf_model.specs.Prelude.{Answer, IsBudgetRefusal, IsBudgeted, IsCut, IsShown, ListingItem, fault_of, items, lines_of, refusal_line, report, report_fault, show_answer, standard, status_of}
 use Rattle.elf_model.specs.declared.formats.Format.TheVariants.{Columns}
-use Rattle.elf_model.specs.Style.{standard}
+use Rattle.elf_model.specs.declared.causes.Refusal.{Refusal}
 use Rattle.std.proofs.Common.{◌≡◌, ◌<◌, ◌⊎◌, ℕ, List, ◌++◌, length, take, drop, Option, None, Some, refl, ap, sym, ◌∙◌, inl, inr}
 use Rattle.std.proofs.Math.Seq.{take-append_seam}
 use Rattle.std.proofs.lemmas.List.{take-append-drop}
-use Rattle.elf_model.specs.Answer.{Answer, IsShown, status_of, show_answer}
-use Rattle.elf_model.specs.Budget.{IsBudgetRefusal, IsCut, IsBudgeted}
-use Rattle.elf_model.specs.Lines.{refusal_line}
-use Rattle.elf_model.specs.Listing.{ListingItem, lines_of, fault_of}
-use Rattle.elf_model.specs.Report.{items, report, report_fault}
-use Rattle.elf_model.specs.declared.causes.Refusal.{Refusal}
 use Rattle.elf_examples.specs.ListedBudgets.{spent_at, EndsAfter, BudgetMayEndAListing, NothingElseIsAllowed, AllowedAnswersAreShown, NothingElseIsShown}
 
 -- a cut by the number of its lines and the offset of its read

@@ -1,6 +1,5 @@
 -- What opens the words of the examples, beside those of the definitions.
-use Rattle.elf_examples.specs.ExamplesFields.{places_as_bytes}
-use Rattle.elf_examples.specs.ExamplesNotes.{note_head, counting}
+use Rattle.elf_examples.specs.Prelude.{counting, note_head, places_as_bytes}
 
 unfoldable pub on_examples : Unit {0}
 unfolding places_as_bytes note_head counting

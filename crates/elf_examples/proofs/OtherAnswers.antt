@@ -1,9 +1,6 @@
 -- Answers that are not shown, one by one.
 use Rattle.std.proofs.Common.{◌≡◌, ◌<◌, ◌⊎◌, ℕ, List, [], length, None, Some, refl, ap, sym, inl, inr, arith}
-use Rattle.elf_model.specs.Answer.{Answer, show_answer}
-use Rattle.elf_model.specs.Listing.{HEADER, ALL}
-use Rattle.elf_model.specs.Report.{report}
-use Rattle.elf_model.specs.Fixtures.{one_symbol_table}
+use Rattle.elf_model.specs.Prelude.{ALL, Answer, HEADER, one_symbol_table, report, show_answer}
 use Rattle.elf_model.proofs.OnLiterals.{on_literals}
 use Rattle.elf_examples.specs.ListedBudgets.{EndsAfter, OtherAnswersAreNotShown, ShowsWithin, header_and_budget}
 use Rattle.elf_examples.proofs.Budgets.{EndsEarly, answers_shown, nothing_shown}

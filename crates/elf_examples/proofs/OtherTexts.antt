@@ -1,10 +1,7 @@
 -- Texts that no budget allows, one by one.
 use Rattle.std.proofs.Common.{◌≡◌, ◌<◌, ℕ, zero, suc, List, [], ◌∷◌, ◌++◌, take, Option, None, Some, refl, ap, sym, ◌∙◌, codes, slice_index, arith}
+use Rattle.elf_model.specs.Prelude.{Fault, IsCut, Line, ListingItem, cause_word, lines_of, refusal_line}
 use Rattle.elf_model.specs.declared.formats.Format.TheVariants.{Columns}
-use Rattle.elf_model.specs.Budget.{IsCut}
-use Rattle.elf_model.specs.Causes.{cause_word}
-use Rattle.elf_model.specs.Lines.{refusal_line}
-use Rattle.elf_model.specs.Listing.{ListingItem, Line, Fault, lines_of}
 use Rattle.elf_model.specs.declared.causes.Refusal.{Refusal}
 use Rattle.elf_model.specs.declared.causes.Cause.TheVariants.{Short}
 use Rattle.elf_model.proofs.OnLiterals.{on_literals}

@@ -1,8 +1,7 @@
 -- Worked examples: what the definitions give for files that are written out.
 use Rattle.std.specs.Prelude.{◌≡◌, codes}
+use Rattle.elf_model.specs.Prelude.{HEADER, bare_header, file_header_items, one_symbol_table, report_of}
 use Rattle.elf_model.specs.declared.formats.Format.TheVariants.{Columns}
-use Rattle.elf_model.specs.Listing.{file_header_items, report_of, HEADER}
-use Rattle.elf_model.specs.Fixtures.{bare_header, one_symbol_table}
 
 -- a bare file header is listed in one line
 abbrev pub BareHeaderLists : Type 0

@@ -1,16 +1,8 @@
 -- What a budget allows of an answer, of a file's state, and of what a search for a NUL keeps.
 use Rattle.std.specs.Prelude.{◌≡◌, ◌<◌, ℕ, true, false, List, [], ◌∷◌, Option, None, Some}
-use Rattle.elf_model.specs.declared.formats.Format.TheVariants.{Columns}
-use Rattle.elf_model.specs.Answer.{Answer}
-use Rattle.elf_model.specs.Bytes.{IsBytes}
-use Rattle.elf_model.specs.Checking.{IsStateOf, state_of}
-use Rattle.elf_model.specs.FindApplyAnswer.{IsAnswered}
-use Rattle.elf_model.specs.Lines.{refusal_line}
-use Rattle.elf_model.specs.Listing.{fault_of}
-use Rattle.elf_model.specs.Report.{listing}
-use Rattle.elf_model.specs.Searches.{NulFound}
-use Rattle.elf_model.specs.Style.{ListingStyle}
+use Rattle.elf_model.specs.Prelude.{Answer, IsAnswered, IsBytes, IsStateOf, ListingStyle, NulFound, fault_of, listing, refusal_line, state_of}
 use Rattle.elf_model.specs.declared.causes.Cause.TheVariants.{Budget}
+use Rattle.elf_model.specs.declared.formats.Format.TheVariants.{Columns}
 use Rattle.elf_model.specs.declared.states.FileStatus.{FileStatus}
 
 -- the line of a read at an offset that has no room in a budget, alone, with status 1

@@ -1,8 +1,6 @@
 -- Worked examples of the texts and statuses of `find`.
 use Rattle.std.specs.Prelude.{◌≡◌, ℕ, List, [], ◌∷◌, ◌++◌, codes}
-use Rattle.elf_model.specs.FindApplyAnswer.{find_answer}
-use Rattle.elf_model.specs.Fixtures.{one_symbol_table}
-use Rattle.elf_model.specs.FixturesHash.{hash_file, hash_with_cycle, hash_with_end}
+use Rattle.elf_model.specs.Prelude.{find_answer, hash_file, hash_with_cycle, hash_with_end, one_symbol_table}
 use Rattle.elf_model.specs.declared.formats.Format.TheVariants.{Columns, Object}
 use Rattle.elf_examples.specs.ExamplesHash.{hash_comes_last}
 

@@ -1,13 +1,8 @@
 -- Worked examples of relocations applied.
 use Rattle.std.specs.Prelude.{◌≡◌, ℕ, ◌++◌, List, [], ◌∷◌, codes, Ok, Err}
-use Rattle.elf_model.specs.Bytes.{little}
-use Rattle.elf_model.specs.Apply.{applied}
-use Rattle.elf_model.specs.FindApplyAnswer.{apply_answer}
-use Rattle.elf_model.specs.Fixtures.{zeros, with_bytes, section_header}
-use Rattle.elf_model.specs.FixturesApply.{relocation, relocated, overlapping_relocations, overlapping_in_other_order, third_overflows, rising_relocations, falling_relocations, one_call, two_relocation_sections, with_symbol, with_entries_header, linked_to_zero, empty_layout, placed_layout, defined_layout, entry_layout, unplaced_layout, special_layout, full_layout}
-use Rattle.elf_model.specs.Placing.{Layout}
+use Rattle.elf_model.specs.Prelude.{Layout, applied, apply_answer, defined_layout, empty_layout, entry_layout, falling_relocations, full_layout, linked_to_zero, little, one_call, overlapping_in_other_order, overlapping_relocations, placed_layout, relocated, relocation, rising_relocations, section_header, special_layout, third_overflows, two_relocation_sections, unplaced_layout, with_bytes, with_entries_header, with_symbol, zeros}
+use Rattle.elf_model.specs.declared.causes.Cause.TheVariants.{BadLink, EntrySize, NameOutside, NotRel, Overflow, PlaceOutside, SymbolIndex, TableOutside, Undefined, Unplaced, Unsupported}
 use Rattle.elf_model.specs.declared.causes.Cause.{Cause}
-use Rattle.elf_model.specs.declared.causes.Cause.TheVariants.{Unsupported, Overflow, NotRel, BadLink, Unplaced, Undefined, PlaceOutside, SymbolIndex, TableOutside, EntrySize, NameOutside}
 
 -- the bytes of section 1 with its relocations applied, with five headers permitted
 abbrev pub WritesSection : List ℕ → Layout → List ℕ → Type 0

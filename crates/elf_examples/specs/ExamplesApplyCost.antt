@@ -1,10 +1,6 @@
 -- Worked examples of what applying costs.
 use Rattle.std.specs.Prelude.{◌≡◌, ◌++◌, ◌+◌, ◌*◌, ℕ, true, false, List, [], ◌∷◌, codes, replicate}
-use Rattle.elf_model.specs.ApplyCost.{apply_cost, apply_cost_in_order, apply_cost_by_order, layout_names_cost, offsets_never_fall}
-use Rattle.elf_model.specs.Bytes.{little}
-use Rattle.elf_model.specs.Fixtures.{zeros, with_bytes}
-use Rattle.elf_model.specs.FixturesApply.{relocation, relocated, overlapping_relocations, overlapping_in_other_order, third_overflows, rising_relocations, falling_relocations, one_call, two_relocation_sections, with_entries_header, empty_layout, entry_layout, full_layout}
-use Rattle.elf_model.specs.Placing.{Layout, NameSearch, Compared, Searched}
+use Rattle.elf_model.specs.Prelude.{Compared, Layout, NameSearch, Searched, apply_cost, apply_cost_by_order, apply_cost_in_order, empty_layout, entry_layout, falling_relocations, full_layout, layout_names_cost, little, offsets_never_fall, one_call, overlapping_in_other_order, overlapping_relocations, relocated, relocation, rising_relocations, third_overflows, two_relocation_sections, with_bytes, with_entries_header, zeros}
 
 -- two entries without symbols, and one call with a procedure linkage table entry
 abbrev pub CostsOfWindows : Type 0

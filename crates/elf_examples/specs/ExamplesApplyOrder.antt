@@ -1,17 +1,9 @@
 -- Worked examples of which fault of a relocation entry comes first, of the terms that each relocation type takes, and of
 -- what longer names cost.
 use Rattle.std.specs.Prelude.{◌≡◌, ℕ, ◌+◌, ◌*◌, ◌-◌, ◌^◌, ◌++◌, List, [], ◌∷◌, codes, replicate}
-use Rattle.elf_model.specs.Bytes.{little}
-use Rattle.elf_model.specs.ApplyCost.{layout_names_cost, apply_cost}
-use Rattle.elf_model.specs.Cost.{cost}
-use Rattle.elf_model.specs.Listing.{RELOCS, ALL}
-use Rattle.elf_model.specs.Find.{find_cost}
-use Rattle.elf_model.specs.Fixtures.{zeros, with_bytes, section_header, one_symbol_table}
-use Rattle.elf_model.specs.FixturesHash.{hash_with_cycle}
-use Rattle.elf_model.specs.FixturesApply.{relocation, relocated, overlapping_relocations, one_call, with_symbol, empty_layout, placed_layout, entry_layout, unplaced_layout, full_layout}
-use Rattle.elf_model.specs.Placing.{Layout, Compared}
+use Rattle.elf_model.specs.Prelude.{ALL, Compared, Layout, RELOCS, apply_cost, cost, empty_layout, entry_layout, find_cost, full_layout, hash_with_cycle, layout_names_cost, little, one_call, one_symbol_table, overlapping_relocations, placed_layout, relocated, relocation, section_header, unplaced_layout, with_bytes, with_symbol, zeros}
+use Rattle.elf_model.specs.declared.causes.Cause.TheVariants.{BadLink, NameOutside, Overflow, PlaceOutside, SymbolIndex, Unplaced, Unsupported}
 use Rattle.elf_examples.specs.ExamplesApply.{WritesSection, RefusesToApply}
-use Rattle.elf_model.specs.declared.causes.Cause.TheVariants.{Unsupported, Overflow, BadLink, Unplaced, PlaceOutside, SymbolIndex, NameOutside}
 
 -- the type, the place, the symbol, its name, the section's address, the value: each entry here fails the next check as well;
 -- then entries that take S, of a symbol that has no value, where the place, the symbol's index or the link fails before

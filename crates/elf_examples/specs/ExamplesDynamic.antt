@@ -1,8 +1,6 @@
 -- Worked examples of dynamic entries.
 use Rattle.std.specs.Prelude.{◌≡◌, [], ◌++◌, None, Some}
-use Rattle.elf_model.specs.Dynamic.{dynamic_count, dynamic_value, listed_value}
-use Rattle.elf_model.specs.Fixtures.{zeros}
-use Rattle.elf_model.specs.FixturesTables.{tagged, repeated_tags}
+use Rattle.elf_model.specs.Prelude.{dynamic_count, dynamic_value, listed_value, repeated_tags, tagged, zeros}
 
 -- the entries up to and with the first DT_NULL are listed, also where it is not at the table's start in the file
 abbrev pub DynamicEndsAtNull : Type 0

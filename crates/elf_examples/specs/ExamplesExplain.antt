@@ -1,18 +1,13 @@
 -- Worked examples of what a layout lacks where the entry of a call, at 0x48, is refused.
 use Rattle.std.specs.Prelude.{◌≡◌, ◌+◌, ℕ, List, [], ◌∷◌, ◌++◌, Option, None, Some, Ok, codes, replicate}
-use Rattle.elf_model.specs.Bytes.{little}
-use Rattle.elf_model.specs.Explain.{missing, refused_in, explained, resolved_symbol_name}
-use Rattle.elf_model.specs.ExplainLine.{explanation, missing_line}
-use Rattle.elf_model.specs.Fixtures.{with_bytes}
-use Rattle.elf_model.specs.FixturesApply.{one_call, two_relocation_sections, with_symbol, empty_layout, placed_layout}
-use Rattle.elf_model.specs.Names.DisplayedName.{Whole, Cut}
-use Rattle.elf_model.specs.Placing.{Layout}
+use Rattle.elf_model.specs.Prelude.{Cut, Layout, empty_layout, explained, explanation, little, missing, missing_line, one_call, placed_layout, refused_in, resolved_symbol_name, two_relocation_sections, with_bytes, with_symbol}
 use Rattle.elf_model.specs.declared.causes.Cause.{Cause}
-use Rattle.elf_model.specs.declared.causes.Cause.TheVariants.{Undefined, Unplaced, Unsupported, Overflow}
-use Rattle.elf_model.specs.declared.missing.MissingAddress.{MissingAddress}
 use Rattle.elf_model.specs.declared.missing.LayoutAddress.{LayoutAddress}
-use Rattle.elf_model.specs.declared.missing.LayoutAddress.TheVariants.{Place, Named}
 use Rattle.elf_model.specs.declared.relocation_types.RelocationBase.TheVariants.{Linkage, Table, Thread}
+use Rattle.elf_model.specs.declared.missing.MissingAddress.{MissingAddress}
+use Rattle.elf_model.specs.declared.missing.LayoutAddress.TheVariants.{Named, Place}
+use Rattle.elf_model.specs.declared.causes.Cause.TheVariants.{Overflow, Undefined, Unplaced, Unsupported}
+use Rattle.elf_model.specs.Names.DisplayedName.{Whole}
 
 -- what is missing at the entry of the call in a layout, whose section of entries has its header at 0x118
 abbrev pub MissesInCall : List ℕ → Layout → Cause → Option MissingAddress → Type 0

@@ -1,12 +1,8 @@
 -- Worked examples of symbols whose type is specific to the system, indirect functions first, and of sections that are compressed.
 use Rattle.std.specs.Prelude.{◌≡◌, ℕ, ◌++◌, ◌+◌, List, [], ◌∷◌, codes, None}
-use Rattle.elf_model.specs.ApplyCost.{apply_cost}
-use Rattle.elf_model.specs.Bytes.{little}
-use Rattle.elf_model.specs.Fixtures.{zeros, with_bytes}
-use Rattle.elf_model.specs.FixturesApply.{one_call, with_symbol, with_entries_header, empty_layout, placed_layout, defined_layout, entry_layout, unplaced_layout, full_layout, table_layout}
-use Rattle.elf_model.specs.Placing.{Layout, Compared, Searched}
-use Rattle.elf_model.specs.declared.causes.Cause.TheVariants.{Unsupported, Overflow, Unplaced, Undefined, PlaceOutside, NameOutside, BadLink, NotRel}
-use Rattle.elf_model.specs.declared.missing.LayoutAddress.TheVariants.{Named, Entry}
+use Rattle.elf_model.specs.Prelude.{Compared, Layout, Searched, apply_cost, defined_layout, empty_layout, entry_layout, full_layout, little, one_call, placed_layout, table_layout, unplaced_layout, with_bytes, with_entries_header, with_symbol, zeros}
+use Rattle.elf_model.specs.declared.causes.Cause.TheVariants.{BadLink, NameOutside, NotRel, Overflow, PlaceOutside, Undefined, Unplaced, Unsupported}
+use Rattle.elf_model.specs.declared.missing.LayoutAddress.TheVariants.{Entry, Named}
 use Rattle.elf_model.specs.declared.relocation_types.RelocationBase.TheVariants.{Table}
 use Rattle.elf_examples.specs.ExamplesApply.{WritesSection, RefusesSection, RefusesToApply}
 use Rattle.elf_examples.specs.ExamplesExplain.{MissesInCall, ExplainsAs, lacks}

@@ -1,7 +1,6 @@
 -- Worked examples of the names of numbers of the GNU system: each number that has one, and its neighbours.
 use Rattle.std.specs.Prelude.{◌≡◌, [], ◌∷◌, codes, map, true, false}
-use Rattle.elf_model.specs.NameTables.{bindings, dynamic_tag_text, name_or_number, places, relocation_type_text}
-use Rattle.elf_model.specs.NameTables.{section_flags_text, section_type_text, segment_type_text, symbol_types}
+use Rattle.elf_model.specs.Prelude.{bindings, dynamic_tag_text, name_or_number, places, relocation_type_text, section_flags_text, section_type_text, segment_type_text, symbol_types}
 
 -- each further section type on x86-64, and its neighbours
 abbrev pub SectionTypesOfGnu : Type 0

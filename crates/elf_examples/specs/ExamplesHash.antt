@@ -1,12 +1,9 @@
 -- Worked examples of lookups.
 use Rattle.std.specs.Prelude.{◌≡◌, ℕ, ◌++◌, List, [], ◌∷◌, codes}
-use Rattle.elf_model.specs.Bytes.{little}
-use Rattle.elf_model.specs.Find.{looked, find_cost}
-use Rattle.elf_model.specs.Fixtures.{zeros, with_bytes, section_header, one_symbol_table}
-use Rattle.elf_model.specs.FixturesHash.{hash_file, hash_with_cycle, hash_with_end, with_hash_header, with_symbols_header, with_strings_header}
-use Rattle.elf_model.specs.Hash.{sysv_hash, Found, Absent, Refused}
+use Rattle.elf_model.specs.Prelude.{Absent, Found, find_cost, hash_file, hash_with_cycle, hash_with_end, little, looked, one_symbol_table, section_header, sysv_hash, with_bytes, with_hash_header, with_strings_header, with_symbols_header, zeros}
+use Rattle.elf_model.specs.declared.causes.Cause.TheVariants.{BadLink, EntrySize, HashCycle, HashIndex, HashShape, NameOutside, NameUnended, NoHash, NotStrings, SizeNotWhole, TableOutside}
 use Rattle.elf_model.specs.declared.causes.Cause.{Cause}
-use Rattle.elf_model.specs.declared.causes.Cause.TheVariants.{NoHash, HashShape, HashIndex, HashCycle, TableOutside, BadLink, EntrySize, SizeNotWhole, NotStrings, NameOutside, NameUnended}
+use Rattle.elf_model.specs.Hash.{Refused}
 
 -- the hashes of the empty name, `exit`, `printf` and `syscall`
 abbrev pub KnownHashes : Type 0

@@ -1,9 +1,6 @@
 -- Worked examples of what a file is, and of files that are refused.
 use Rattle.std.specs.Prelude.{ℕ, ◌≡◌, ◌+◌, ◌*◌, List, [], ◌∷◌, ◌++◌, codes}
-use Rattle.elf_model.specs.Bytes.{little}
-use Rattle.elf_model.specs.Fixtures.{with_bytes, one_symbol_table}
-use Rattle.elf_model.specs.FixturesTables.{one_load, tagged}
-use Rattle.elf_model.specs.TraitCost.{traits_ceiling}
+use Rattle.elf_model.specs.Prelude.{little, one_load, one_symbol_table, tagged, traits_ceiling, with_bytes}
 use Rattle.elf_examples.specs.TraitFiles.{TraitsCost, TraitsAre, program_with_traits}
 
 -- the program without an interpreter, and with DF_1_NOW alone in FLAGS_1

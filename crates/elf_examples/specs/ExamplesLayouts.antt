@@ -1,17 +1,8 @@
 -- Worked examples of symbols in a layout, of what comes before relocation entries, and of what that costs.
 use Rattle.std.specs.Prelude.{◌≡◌, ℕ, List, codes, ◌+◌, ◌*◌, ◌-◌, ◌^◌, ◌++◌, pos, [], ◌∷◌, map, replicate, take, true, false, Ok, Err}
-use Rattle.elf_model.specs.Bytes.{little}
-use Rattle.elf_model.specs.Apply.{applied}
-use Rattle.elf_model.specs.ApplyCost.{apply_cost, apply_cost_in_order, offsets_never_fall}
-use Rattle.elf_model.specs.Cost.{cost}
-use Rattle.elf_model.specs.Listing.{ALL}
-use Rattle.elf_model.specs.Fixtures.{zeros, with_bytes, section_header, one_symbol_table}
-use Rattle.elf_model.specs.FixturesApply.{relocation, relocated, overlapping_relocations, one_call, two_relocation_sections, with_symbol, with_entries_header, empty_layout, placed_layout, defined_layout, entry_layout}
-use Rattle.elf_model.specs.FixturesTables.{numbers_from}
-use Rattle.elf_model.specs.Placing.{Layout, Compared}
-use Rattle.elf_model.specs.Values.{value}
+use Rattle.elf_model.specs.Prelude.{ALL, Compared, Layout, applied, apply_cost, apply_cost_in_order, cost, defined_layout, empty_layout, entry_layout, little, numbers_from, offsets_never_fall, one_call, one_symbol_table, overlapping_relocations, placed_layout, relocated, relocation, section_header, two_relocation_sections, value, with_bytes, with_entries_header, with_symbol, zeros}
+use Rattle.elf_model.specs.declared.causes.Cause.TheVariants.{BadClass, BadLink, NameOutside, NameUnended, NotRel, NotStrings, PlaceOutside, Short, TableOutside, TooManyHeaders, Undefined, Unplaced, Unsupported}
 use Rattle.elf_examples.specs.ExamplesApply.{WritesSection, RefusesSection, RefusesToApply}
-use Rattle.elf_model.specs.declared.causes.Cause.TheVariants.{Short, BadClass, TooManyHeaders, TableOutside, BadLink, NotStrings, NameOutside, NameUnended, NotRel, Unsupported, Unplaced, Undefined, PlaceOutside}
 
 -- an undefined symbol of no other binding than the weak one is 0
 abbrev pub WeakAloneIsZero : Type 0

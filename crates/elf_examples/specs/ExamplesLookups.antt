@@ -1,15 +1,10 @@
 -- Worked examples of lookups: longer hashes, tables with other counts, and what comes before a walk.
 use Rattle.std.specs.Prelude.{◌≡◌, ℕ, ◌+◌, List, ◌++◌, [], ◌∷◌, codes, flat_map, replicate, take}
-use Rattle.elf_model.specs.Bytes.{little}
-use Rattle.elf_model.specs.Find.{looked, find_cost}
-use Rattle.elf_model.specs.FindApplyAnswer.{find_answer}
-use Rattle.elf_model.specs.Fixtures.{zeros, with_bytes, section_header, symbol, one_symbol_table}
-use Rattle.elf_model.specs.FixturesHash.{words, hash_file, hash_with_cycle, with_hash_header, with_symbols_header, with_strings_header}
-use Rattle.elf_model.specs.FixturesTables.{numbers_from}
-use Rattle.elf_model.specs.Hash.{sysv_hash, Refused}
-use Rattle.elf_examples.specs.ExamplesHash.{hash_comes_last, FindsSymbol, FindsNothing, RefusesLookup, ComparesNames}
-use Rattle.elf_model.specs.declared.causes.Cause.TheVariants.{Short, BadClass, TooManyHeaders, TableOutside, BadLink, EntrySize, NotStrings, NoHash, HashShape, HashIndex, HashCycle}
+use Rattle.elf_model.specs.Prelude.{find_answer, find_cost, hash_file, hash_with_cycle, little, looked, numbers_from, one_symbol_table, section_header, symbol, sysv_hash, with_bytes, with_hash_header, with_strings_header, with_symbols_header, words, zeros}
+use Rattle.elf_model.specs.declared.causes.Cause.TheVariants.{BadClass, BadLink, EntrySize, HashCycle, HashIndex, HashShape, NoHash, NotStrings, Short, TableOutside, TooManyHeaders}
 use Rattle.elf_model.specs.declared.formats.Format.TheVariants.{Columns}
+use Rattle.elf_model.specs.Hash.{Refused}
+use Rattle.elf_examples.specs.ExamplesHash.{hash_comes_last, FindsSymbol, FindsNothing, RefusesLookup, ComparesNames}
 
 -- names whose hash has each of its top four bits set on the way, one whose hash has all lower bits and none of these, and
 -- bytes above 127

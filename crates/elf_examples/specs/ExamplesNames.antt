@@ -1,9 +1,8 @@
 -- Worked examples of names in string tables.
 use Rattle.std.specs.Prelude.{◌≡◌, ℕ, List, [], ◌∷◌, ◌++◌, codes, true, false, Ok, Err}
-use Rattle.elf_model.specs.Names.{shown, same, name_bytes}
-use Rattle.elf_model.specs.Names.DisplayedName.{Whole, Cut}
-use Rattle.elf_model.specs.Fixtures.{zeros}
+use Rattle.elf_model.specs.Prelude.{Cut, name_bytes, same, shown, zeros}
 use Rattle.elf_model.specs.declared.causes.Cause.TheVariants.{NameOutside, NameUnended}
+use Rattle.elf_model.specs.Names.DisplayedName.{Whole}
 
 -- one name with a NUL on either side
 abbrev pub one_name : List ℕ

@@ -1,10 +1,7 @@
 -- Worked examples of note tables.
 use Rattle.std.specs.Prelude.{◌≡◌, ℕ, List, [], ◌∷◌, ◌++◌, codes, replicate, None, Some}
-use Rattle.elf_model.specs.Notes.{Note, NoteScan, walked, note_rows, note_shown, note_align}
-use Rattle.elf_model.specs.Names.DisplayedName.{Whole, Cut}
-use Rattle.elf_model.specs.Fixtures.{zeros}
-use Rattle.elf_model.specs.FixturesTables.{build_note, aligned_note}
-use Rattle.elf_model.specs.Bytes.{little}
+use Rattle.elf_model.specs.Prelude.{Cut, Note, NoteScan, aligned_note, build_note, little, note_align, note_rows, note_shown, walked, zeros}
+use Rattle.elf_model.specs.Names.DisplayedName.{Whole}
 
 -- a note's head: the sizes of its name and its descriptor, its type
 unfoldable pub note_head : ℕ → ℕ → ℕ → List ℕ

@@ -1,15 +1,10 @@
 -- Worked examples of entries in other places: for another section, of another symbol, at the end of a section, beside other
 -- tables of symbols.
 use Rattle.std.specs.Prelude.{◌≡◌, ◌+◌, ◌*◌, ℕ, List, ◌++◌, [], ◌∷◌, codes, Ok}
-use Rattle.elf_model.specs.Bytes.{little}
-use Rattle.elf_model.specs.Apply.{applied}
-use Rattle.elf_model.specs.ApplyCost.{apply_cost, apply_cost_in_order}
-use Rattle.elf_model.specs.Fixtures.{zeros, with_bytes, symbol}
-use Rattle.elf_model.specs.FixturesApply.{relocation, relocated, overlapping_relocations, one_call, with_entries_header, placed_layout, entry_layout, full_layout}
-use Rattle.elf_model.specs.Placing.{Layout, Compared}
+use Rattle.elf_model.specs.Prelude.{Compared, Layout, applied, apply_cost, apply_cost_in_order, entry_layout, full_layout, little, one_call, overlapping_relocations, placed_layout, relocated, relocation, symbol, with_bytes, with_entries_header, zeros}
+use Rattle.elf_model.specs.declared.causes.Cause.TheVariants.{NameOutside, PlaceOutside, SymbolIndex, Undefined, Unplaced}
 use Rattle.elf_examples.specs.ExamplesApply.{WritesSection, RefusesSection, RefusesToApply}
 use Rattle.elf_examples.specs.ExamplesApplyOrder.{eight_relocated}
-use Rattle.elf_model.specs.declared.causes.Cause.TheVariants.{Undefined, Unplaced, PlaceOutside, SymbolIndex, NameOutside}
 
 -- sections 1 and 4 at addresses of their own, and a procedure linkage table entry of `f`
 abbrev pub two_sections : Layout

@@ -1,9 +1,6 @@
 -- Worked examples of lists of properties, and of the notes that have them.
 use Rattle.std.specs.Prelude.{◌≡◌, ◌-◌, ◌^◌, ℕ, List, [], ◌∷◌, ◌++◌, codes, None, Some, Result, Ok, Err}
-use Rattle.elf_model.specs.Bytes.{little}
-use Rattle.elf_model.specs.Fixtures.{with_bytes}
-use Rattle.elf_model.specs.FixturesTables.{program_header}
-use Rattle.elf_model.specs.Properties.{Property, features_in, properties_in}
+use Rattle.elf_model.specs.Prelude.{Property, features_in, little, program_header, properties_in, with_bytes}
 use Rattle.elf_model.specs.declared.causes.Cause.TheVariants.{NoteCut}
 use Rattle.elf_model.specs.declared.causes.Refusal.{Refusal}
 use Rattle.elf_examples.specs.TraitFiles.{TraitsAre, program_with_traits, property}

@@ -1,13 +1,13 @@
 -- Worked examples of words that are required.
 use Rattle.std.specs.Prelude.{◌≡◌, [], ◌∷◌, ◌++◌, codes, true, false, Some}
+use Rattle.elf_model.specs.Prelude.{Required, lacking_text, traits_status, traits_text}
 use Rattle.elf_model.specs.declared.formats.Format.TheVariants.{Columns, Object}
-use Rattle.elf_model.specs.TraitWords.{Required, lacking_text, traits_status, traits_text}
+use Rattle.elf_model.specs.declared.traits.Hardening.{Hardening}
 use Rattle.elf_model.specs.declared.traits.ProgramKind.{ProgramKind}
 use Rattle.elf_model.specs.declared.traits.ProgramKind.TheVariants as kind
 use Rattle.elf_model.specs.declared.traits.Relro.TheVariants as relro
 use Rattle.elf_model.specs.declared.traits.SearchPath.TheVariants as path
 use Rattle.elf_model.specs.declared.traits.TraitColumn.TheVariants as column
-use Rattle.elf_model.specs.declared.traits.Hardening.{Hardening}
 
 -- a file of a kind with partial relocation and an executable stack
 abbrev weak : ProgramKind → Hardening

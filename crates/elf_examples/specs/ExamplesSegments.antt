@@ -1,8 +1,6 @@
 -- Worked examples of traits by program headers and dynamic entries: each with both answers.
 use Rattle.std.specs.Prelude.{ℕ, List, ◌++◌, codes}
-use Rattle.elf_model.specs.Bytes.{little}
-use Rattle.elf_model.specs.Fixtures.{with_bytes}
-use Rattle.elf_model.specs.FixturesTables.{program_header, tagged}
+use Rattle.elf_model.specs.Prelude.{little, program_header, tagged, with_bytes}
 use Rattle.elf_examples.specs.TraitFiles.{TraitsAre, program_with_traits}
 
 -- the program with other words in FLAGS and in FLAGS_1

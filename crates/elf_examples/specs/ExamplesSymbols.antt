@@ -1,9 +1,6 @@
 -- Worked examples of traits by dynamic symbols, and of how many there are.
 use Rattle.std.specs.Prelude.{ℕ, ◌+◌, List, [], ◌∷◌, ◌++◌, codes, replicate}
-use Rattle.elf_model.specs.Bytes.{little}
-use Rattle.elf_model.specs.Fixtures.{with_bytes, zeros}
-use Rattle.elf_model.specs.FixturesHash.{words}
-use Rattle.elf_model.specs.FixturesTables.{program_header}
+use Rattle.elf_model.specs.Prelude.{little, program_header, with_bytes, words, zeros}
 use Rattle.elf_examples.specs.TraitFiles.{TraitsCost, TraitsAre, program_with_traits}
 
 -- the program with other strings behind the first, which is empty

@@ -1,13 +1,7 @@
 -- Worked examples of entries that take a symbol's entry in the global offset table.
 use Rattle.std.specs.Prelude.{◌≡◌, ℕ, ◌^◌, ◌-◌, ◌+◌, ◌*◌, pos, negsuc, List, [], ◌∷◌, ◌++◌, codes, Ok, Err}
-use Rattle.elf_model.specs.Apply.{applied}
-use Rattle.elf_model.specs.ApplyCost.{apply_cost, layout_names_cost}
-use Rattle.elf_model.specs.Bytes.{little}
-use Rattle.elf_model.specs.Fixtures.{zeros, with_bytes}
-use Rattle.elf_model.specs.FixturesApply.{one_call, with_symbol, with_entries_header, empty_layout, placed_layout, full_layout, table_layout}
-use Rattle.elf_model.specs.Placing.{Layout, Compared}
-use Rattle.elf_model.specs.Values.{value}
-use Rattle.elf_model.specs.declared.causes.Cause.TheVariants.{Unsupported, Overflow, Unplaced, Undefined, PlaceOutside, SymbolIndex, BadLink, NameOutside}
+use Rattle.elf_model.specs.Prelude.{Compared, Layout, applied, apply_cost, empty_layout, full_layout, layout_names_cost, little, one_call, placed_layout, table_layout, value, with_bytes, with_entries_header, with_symbol, zeros}
+use Rattle.elf_model.specs.declared.causes.Cause.TheVariants.{BadLink, NameOutside, Overflow, PlaceOutside, SymbolIndex, Undefined, Unplaced, Unsupported}
 use Rattle.elf_examples.specs.ExamplesApply.{WritesSection, RefusesToApply}
 
 -- the call with another type in the place of R_X86_64_PLT32

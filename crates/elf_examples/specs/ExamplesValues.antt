@@ -1,7 +1,7 @@
 -- Worked examples of relocation values.
 use Rattle.std.specs.Prelude.{◌≡◌, ℕ, ◌^◌, ◌-◌, ℤ, pos, negsuc, List, [], ◌∷◌, ◌++◌, replicate, Ok, Err}
-use Rattle.elf_model.specs.Values.{value}
-use Rattle.elf_model.specs.declared.causes.Cause.TheVariants.{Unsupported, Overflow}
+use Rattle.elf_model.specs.Prelude.{value}
+use Rattle.elf_model.specs.declared.causes.Cause.TheVariants.{Overflow, Unsupported}
 
 -- the bytes of a value that takes no procedure linkage table entry
 abbrev pub Stores : ℕ → ℕ → ℤ → ℕ → List ℕ → Type 0

@@ -42,3 +42,4 @@ pub mod ExamplesPlaces
 pub mod ExamplesTables
 pub mod ExamplesValues
 pub mod ListedRelocations
+pub mod Prelude

@@ -1,14 +1,7 @@
 -- Listings of archives.
 use Rattle.std.specs.Prelude.{◌≡◌, ◌+◌, ◌*◌, [], ◌∷◌, ◌++◌, codes, take, true, false, None}
-use Rattle.elf_model.specs.Archive.{archive, archive_items, short_name}
-use Rattle.elf_model.specs.ArchiveCost.{any_refused, archive_ceiling, archive_cost}
-use Rattle.elf_model.specs.Listing.{fault_of, HEADER, ALL}
-use Rattle.elf_model.specs.Report.{report}
-use Rattle.elf_model.specs.Choice.{EveryRow}
-use Rattle.elf_model.specs.Style.{standard}
+use Rattle.elf_model.specs.Prelude.{ALL, EveryRow, HEADER, any_refused, archive, archive_ceiling, archive_cost, archive_items, archive_of, bare_header, fault_of, library, member, member_header, one_symbol_table, report, short_name, standard}
 use Rattle.elf_model.specs.declared.formats.Format.TheVariants.{Columns}
-use Rattle.elf_model.specs.Fixtures.{one_symbol_table, bare_header}
-use Rattle.elf_model.specs.FixturesArchive.{archive_of, library, member, member_header}
 
 -- the members alone: an index of symbols, a table of names, an odd size with its padding, a long name
 abbrev pub MembersList : Type 0

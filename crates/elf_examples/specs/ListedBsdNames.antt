@@ -1,12 +1,6 @@
 -- Members whose names stand at the front of their data, as BSD's `ar` writes long ones.
 use Rattle.std.specs.Prelude.{ℕ, ◌≡◌, ◌+◌, List, [], ◌∷◌, ◌++◌, codes, None, Some}
-use Rattle.elf_model.specs.Archive.{archive, bsd_name_length}
-use Rattle.elf_model.specs.ArchiveCost.{archive_cost}
-use Rattle.elf_model.specs.Listing.{ALL}
-use Rattle.elf_model.specs.Report.{report}
-use Rattle.elf_model.specs.Style.{standard}
-use Rattle.elf_model.specs.Fixtures.{bare_header, zeros}
-use Rattle.elf_model.specs.FixturesArchive.{archive_of, member}
+use Rattle.elf_model.specs.Prelude.{ALL, archive, archive_cost, archive_of, bare_header, bsd_name_length, member, report, standard, zeros}
 
 -- what members list with so many bytes of a name
 abbrev pub listed : ℕ → List ℕ → List ℕ

@@ -1,16 +1,9 @@
 -- Where a read budget ends a listing.
+use Rattle.elf_model.specs.Prelude.{ALL, Answer, Fault, HEADER, IsBudgetRefusal, IsBudgeted, IsCut, IsShown, Line, cost, fault_of, items, lines_of, one_symbol_table, refusal_line, report, report_fault, show_answer, standard}
+use Rattle.elf_model.specs.declared.causes.Cause.TheVariants.{Budget, Short}
 use Rattle.elf_model.specs.declared.formats.Format.TheVariants.{Columns}
-use Rattle.elf_model.specs.Style.{standard}
-use Rattle.std.specs.Prelude.{ℕ, ◌≡◌, ◌<◌, ◌⊎◌, ◌++◌, List, [], ◌∷◌, length, take, Option, None, Some, codes}
-use Rattle.elf_model.specs.Answer.{Answer, IsShown, show_answer}
-use Rattle.elf_model.specs.Budget.{IsBudgetRefusal, IsCut, IsBudgeted}
-use Rattle.elf_model.specs.Cost.{cost}
-use Rattle.elf_model.specs.Lines.{refusal_line}
-use Rattle.elf_model.specs.Listing.{Line, Fault, HEADER, ALL, lines_of, fault_of}
-use Rattle.elf_model.specs.Report.{items, report, report_fault}
-use Rattle.elf_model.specs.Fixtures.{one_symbol_table}
 use Rattle.elf_model.specs.declared.causes.Refusal.{Refusal}
-use Rattle.elf_model.specs.declared.causes.Cause.TheVariants.{Short, Budget}
+use Rattle.std.specs.Prelude.{ℕ, ◌≡◌, ◌<◌, ◌⊎◌, ◌++◌, List, [], ◌∷◌, length, take, Option, None, Some, codes}
 
 -- the refusal of a read at an offset, for want of budget
 abbrev pub spent_at : ℕ → Refusal

@@ -1,15 +1,10 @@
 -- Files among many: their states and their lines.
 use Rattle.std.specs.Prelude.{ℕ, ◌≡◌, [], ◌∷◌, List, codes, take, map, Some, None}
+use Rattle.elf_model.specs.Prelude.{ALL, bare_header, check_line, little, numbers_from, one_symbol_table, report_fault, state_of, unnamed_line, with_bytes}
+use Rattle.elf_model.specs.declared.causes.Cause.TheVariants.{BadClass, Budget, Short, TableOutside}
 use Rattle.elf_model.specs.declared.formats.Format.TheVariants.{Columns}
-use Rattle.elf_model.specs.Bytes.{little}
-use Rattle.elf_model.specs.Checking.{state_of, check_line, unnamed_line}
-use Rattle.elf_model.specs.Fixtures.{with_bytes, bare_header, one_symbol_table}
-use Rattle.elf_model.specs.FixturesTables.{numbers_from}
-use Rattle.elf_model.specs.Listing.{ALL}
-use Rattle.elf_model.specs.Report.{report_fault}
-use Rattle.elf_model.specs.declared.causes.Cause.TheVariants.{Short, BadClass, TableOutside, Budget}
-use Rattle.elf_model.specs.declared.causes.Refusal.{Refusal}
 use Rattle.elf_model.specs.declared.states.FileStatus.{FileStatus}
+use Rattle.elf_model.specs.declared.causes.Refusal.{Refusal}
 use Rattle.elf_model.specs.declared.states.FileStatus.TheVariants as state
 
 -- the state of a file by its whole report

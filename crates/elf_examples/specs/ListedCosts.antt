@@ -1,12 +1,6 @@
 -- What listings ask for at most, and what they never pass.
 use Rattle.std.specs.Prelude.{ℕ, ◌≡◌, ◌+◌, ◌-◌, ◌*◌, ◌++◌, []}
-use Rattle.elf_model.specs.Listing.{HEADER, SECTIONS, SEGMENTS, SYMBOLS, RELOCS, NOTES, DYNAMIC, ALL}
-use Rattle.elf_model.specs.Cost.{cost, ceiling}
-use Rattle.elf_model.specs.Bytes.{little}
-use Rattle.elf_model.specs.Fixtures.{with_bytes, bare_header, one_symbol_table}
-use Rattle.elf_model.specs.FixturesHash.{hash_with_cycle}
-use Rattle.elf_model.specs.FixturesApply.{overlapping_relocations, one_call}
-use Rattle.elf_model.specs.FixturesTables.{tables_over_headers, one_table, one_load, build_note, note_segment, needed_library, named_section}
+use Rattle.elf_model.specs.Prelude.{ALL, DYNAMIC, HEADER, NOTES, RELOCS, SECTIONS, SEGMENTS, SYMBOLS, bare_header, build_note, ceiling, cost, hash_with_cycle, little, named_section, needed_library, note_segment, one_call, one_load, one_symbol_table, one_table, overlapping_relocations, tables_over_headers, with_bytes}
 
 -- whole listings
 abbrev pub CostsOfWholeListings : Type 0

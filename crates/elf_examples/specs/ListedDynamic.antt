@@ -1,10 +1,6 @@
 -- Listings of dynamic entries.
 use Rattle.std.specs.Prelude.{◌≡◌, [], ◌++◌, codes}
-use Rattle.elf_model.specs.Listing.{DYNAMIC, ALL}
-use Rattle.elf_model.specs.Report.{report}
-use Rattle.elf_model.specs.Bytes.{little}
-use Rattle.elf_model.specs.Fixtures.{with_bytes}
-use Rattle.elf_model.specs.FixturesTables.{needed_library}
+use Rattle.elf_model.specs.Prelude.{ALL, DYNAMIC, little, needed_library, report, with_bytes}
 
 -- the entries up to and with the first DT_NULL
 abbrev pub DynamicEntriesList : Type 0

@@ -1,17 +1,12 @@
 -- Many files listed, and archives checked: the line of a path, what a file is by its first bytes, and the fault of an archive.
 use Rattle.std.specs.Prelude.{ℕ, ◌≡◌, ◌^◌, ◌-◌, List, [], ◌∷◌, ◌++◌, codes, true, false, take, Option, None, Some}
-use Rattle.elf_model.specs.declared.formats.Format.TheVariants.{Columns, Object}
-use Rattle.elf_model.specs.Bytes.{little}
-use Rattle.elf_model.specs.Choice.{EveryRow, RowsOf}
-use Rattle.elf_model.specs.FileLists.{archive_fault, budget_after, file_magic, headed, list_status, members_alone, path_line, placed_after}
-use Rattle.elf_model.specs.Fixtures.{bare_header, one_symbol_table, with_bytes}
-use Rattle.elf_model.specs.FixturesArchive.{archive_of, library, member}
-use Rattle.elf_model.specs.Listing.{SYMBOLS}
-use Rattle.elf_model.specs.Style.{standard}
+use Rattle.elf_model.specs.Prelude.{EveryRow, RowsOf, SYMBOLS, archive_fault, archive_of, bare_header, budget_after, file_magic, headed, library, list_status, little, member, members_alone, one_symbol_table, path_line, placed_after, standard, with_bytes}
+use Rattle.elf_model.specs.declared.states.FileMagic.TheVariants.{Archive, Elf, Foreign}
 use Rattle.elf_model.specs.declared.causes.Cause.{Cause}
+use Rattle.elf_model.specs.declared.formats.Format.TheVariants.{Columns, Object}
 use Rattle.elf_model.specs.declared.causes.Cause.TheVariants.{MemberCut, NameOutside, NotArchive, Short, Thin}
 use Rattle.elf_model.specs.declared.causes.Refusal.{Refusal}
-use Rattle.elf_model.specs.declared.states.FileMagic.TheVariants.{Archive, Elf, Foreign, Thin as ThinArchive, Undecided}
+use Rattle.elf_model.specs.declared.states.FileMagic.TheVariants.{Thin as ThinArchive, Undecided}
 
 -- the line of a path: spelt as names are, empty, and as an object
 abbrev pub PathLines : Type 0

@@ -1,13 +1,7 @@
 -- Listings that end at the file header or at the load checks.
 use Rattle.std.specs.Prelude.{◌≡◌, ◌-◌, ◌^◌, [], ◌++◌, codes, take, map, replicate, Some, None}
+use Rattle.elf_model.specs.Prelude.{ALL, HEADER, bare_header, first_refusal, length_checks, little, numbers_from, one_load, one_symbol_table, refusal_line, report, with_bytes}
 use Rattle.elf_model.specs.declared.formats.Format.TheVariants.{Columns}
-use Rattle.elf_model.specs.Listing.{HEADER, ALL}
-use Rattle.elf_model.specs.Report.{report}
-use Rattle.elf_model.specs.Bytes.{little}
-use Rattle.elf_model.specs.Fixtures.{with_bytes, bare_header, one_symbol_table}
-use Rattle.elf_model.specs.FixturesTables.{numbers_from, one_load}
-use Rattle.elf_model.specs.Checks.{first_refusal, length_checks}
-use Rattle.elf_model.specs.Lines.{refusal_line}
 use Rattle.elf_model.specs.declared.causes.Cause.TheVariants.{Short, TooLong}
 
 -- a bare file header is one line, under any parts

@@ -1,17 +1,7 @@
 -- Members of archives: their headers, their names, and their listings.
 use Rattle.std.specs.Prelude.{ℕ, ◌≡◌, ◌+◌, ◌*◌, ◌<◌, List, [], ◌∷◌, ◌++◌, codes, true, false, Option, None, Some}
+use Rattle.elf_model.specs.Prelude.{ALL, EveryRow, HEADER, IsArchiveBudgeted, IsBudgetRefusal, SECTIONS, SYMBOLS, VERSIONS, any_refused, archive, archive_ceiling, archive_cost, archive_items, archive_of, bare_header, is_elf, is_name_table, library, little, member, member_header, one_symbol_table, padded_number, parsed_member_size, refusal_line, report, report_of, standard, with_bytes}
 use Rattle.elf_model.specs.declared.formats.Format.TheVariants.{Columns}
-use Rattle.elf_model.specs.Archive.{archive, archive_items, is_elf, is_name_table, padded_number, parsed_member_size}
-use Rattle.elf_model.specs.ArchiveCost.{IsArchiveBudgeted, any_refused, archive_ceiling, archive_cost}
-use Rattle.elf_model.specs.Bytes.{little}
-use Rattle.elf_model.specs.Budget.{IsBudgetRefusal}
-use Rattle.elf_model.specs.Choice.{EveryRow}
-use Rattle.elf_model.specs.Lines.{refusal_line}
-use Rattle.elf_model.specs.Listing.{ALL, HEADER, SECTIONS, SYMBOLS, VERSIONS, report_of}
-use Rattle.elf_model.specs.Report.{report}
-use Rattle.elf_model.specs.Style.{standard}
-use Rattle.elf_model.specs.Fixtures.{bare_header, one_symbol_table, with_bytes}
-use Rattle.elf_model.specs.FixturesArchive.{archive_of, library, member, member_header}
 use Rattle.elf_model.specs.declared.causes.Refusal.{Refusal}
 use Rattle.elf_examples.specs.ListedBudgets.{spent_at}
 use Rattle.elf_examples.specs.ListedBsdNames.{listed}

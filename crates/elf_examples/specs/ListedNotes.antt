@@ -1,10 +1,6 @@
 -- Listings of notes.
 use Rattle.std.specs.Prelude.{◌≡◌, [], ◌∷◌, ◌++◌, codes}
-use Rattle.elf_model.specs.Listing.{NOTES}
-use Rattle.elf_model.specs.Report.{report}
-use Rattle.elf_model.specs.Bytes.{little}
-use Rattle.elf_model.specs.Fixtures.{zeros, with_bytes}
-use Rattle.elf_model.specs.FixturesTables.{numbers_from, one_table, plain_note, build_note, note_segment, aligned_note}
+use Rattle.elf_model.specs.Prelude.{NOTES, aligned_note, build_note, little, note_segment, numbers_from, one_table, plain_note, report, with_bytes, zeros}
 
 -- one note that fills its table, and with its name cut
 abbrev pub OneNoteLists : Type 0

@@ -1,21 +1,11 @@
 -- Lines as JSON objects.
 use Rattle.std.specs.Prelude.{ℕ, ◌^◌, ◌≡◌, true, false, [], ◌∷◌, ◌++◌, codes}
-use Rattle.elf_model.specs.Archive.{member_prefix}
-use Rattle.elf_model.specs.Choice.{EveryRow}
-use Rattle.elf_model.specs.Checking.{check_line, unnamed_line}
-use Rattle.elf_model.specs.Fixtures.{one_symbol_table}
-use Rattle.elf_model.specs.LineFronts.{dynamic_prefix, note_prefix, relocation_prefix, section_prefix}
-use Rattle.elf_model.specs.Lines.{named_line, note_line, refusal_line, segment_line, steps_line}
-use Rattle.elf_model.specs.Listing.{ALL, SYMBOLS, report_of}
-use Rattle.elf_model.specs.Names.DisplayedName.{Whole, Cut}
-use Rattle.elf_model.specs.Report.{listing}
-use Rattle.elf_model.specs.Style.{ListingStyle}
-use Rattle.elf_model.specs.VersionRows.{symbol_version_prefix, version_prefix}
-use Rattle.elf_model.specs.FixturesTables.{numbers_from}
-use Rattle.elf_model.specs.declared.causes.Cause.TheVariants.{Short, TableOutside}
-use Rattle.elf_model.specs.declared.formats.Format.TheVariants.{Object}
-use Rattle.elf_model.specs.declared.states.FileStatus.TheVariants as state
+use Rattle.elf_model.specs.Prelude.{ALL, Cut, EveryRow, ListingStyle, SYMBOLS, check_line, dynamic_prefix, listing, member_prefix, named_line, note_line, note_prefix, numbers_from, one_symbol_table, refusal_line, relocation_prefix, report_of, section_prefix, segment_line, steps_line, symbol_version_prefix, unnamed_line, version_prefix}
 use Rattle.elf_model.specs.declared.versions.VersionKind.TheVariants.{Definition}
+use Rattle.elf_model.specs.declared.formats.Format.TheVariants.{Object}
+use Rattle.elf_model.specs.declared.causes.Cause.TheVariants.{Short, TableOutside}
+use Rattle.elf_model.specs.Names.DisplayedName.{Whole}
+use Rattle.elf_model.specs.declared.states.FileStatus.TheVariants as state
 
 -- objects, with so many bytes of a name
 abbrev pub objects : ℕ → ListingStyle

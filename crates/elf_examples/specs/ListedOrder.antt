@@ -1,17 +1,8 @@
 -- Which of several faults comes first, and a listing with a table of each kind.
 use Rattle.std.specs.Prelude.{◌≡◌, ℕ, ◌+◌, ◌*◌, ◌-◌, ◌^◌, ◌++◌, List, [], ◌∷◌, None, Some, codes, map, replicate, take}
-use Rattle.elf_model.specs.Bytes.{little}
-use Rattle.elf_model.specs.Checks.{first_refusal, header_checks, load_checks}
-use Rattle.elf_model.specs.Tables.{symbol_table_checks, relocation_table_checks, dynamic_table_checks}
-use Rattle.elf_model.specs.Listing.{SYMBOLS, RELOCS, NOTES, DYNAMIC, ALL}
-use Rattle.elf_model.specs.Report.{report}
-use Rattle.elf_model.specs.Cost.{cost}
-use Rattle.elf_model.specs.Fixtures.{zeros, with_bytes, file_header, section_header, symbol, bare_header, one_symbol_table}
-use Rattle.elf_model.specs.FixturesApply.{relocation, overlapping_relocations, one_call}
-use Rattle.elf_model.specs.FixturesTables.{program_header, one_segment, plain_note, aligned_note, build_note, note_segment, one_table, tagged, needed_library}
-use Rattle.elf_model.specs.FixturesSegments.{object, library_without_sections}
+use Rattle.elf_model.specs.Prelude.{ALL, DYNAMIC, NOTES, RELOCS, SYMBOLS, aligned_note, bare_header, build_note, cost, dynamic_table_checks, file_header, first_refusal, header_checks, library_without_sections, little, load_checks, needed_library, note_segment, object, one_call, one_segment, one_symbol_table, one_table, overlapping_relocations, plain_note, program_header, relocation, relocation_table_checks, report, section_header, symbol, symbol_table_checks, tagged, with_bytes, zeros}
+use Rattle.elf_model.specs.declared.causes.Cause.TheVariants.{BadClass, BadData, BadLink, BadVersion, EntrySize, ExtendedNumbering, NotElf, NotStrings, SizeNotWhole, TableOutside, TooManyHeaders}
 use Rattle.elf_model.specs.declared.causes.Cause.{Cause}
-use Rattle.elf_model.specs.declared.causes.Cause.TheVariants.{NotElf, BadClass, BadData, BadVersion, ExtendedNumbering, TooManyHeaders, EntrySize, SizeNotWhole, TableOutside, BadLink, NotStrings}
 
 -- one symbol table with other bytes at 0x38: the program headers' number, the size and the number of section headers,
 -- and the section of the section names

@@ -1,15 +1,7 @@
 -- Listings by the program headers of files whose LOAD segments lie over each other.
 use Rattle.std.specs.Prelude.{◌≡◌, ℕ, ◌+◌, ◌-◌, ◌^◌, true, false, List, [], ◌++◌, None, codes}
+use Rattle.elf_model.specs.Prelude.{ALL, DYNAMIC, EveryRow, ListingStyle, NOTES, SECTIONS, SEGMENTS, SYMBOLS, fault_of, listing, listing_cost, little, object, object_with, program_header, report, report_of, section_header, with_bytes}
 use Rattle.elf_model.specs.declared.formats.Format.TheVariants.{Columns}
-use Rattle.elf_model.specs.Bytes.{little}
-use Rattle.elf_model.specs.Choice.{EveryRow}
-use Rattle.elf_model.specs.Cost.{listing_cost}
-use Rattle.elf_model.specs.Listing.{report_of, fault_of, SECTIONS, SEGMENTS, SYMBOLS, NOTES, DYNAMIC, ALL}
-use Rattle.elf_model.specs.Report.{report, listing}
-use Rattle.elf_model.specs.Style.{ListingStyle}
-use Rattle.elf_model.specs.Fixtures.{with_bytes, section_header}
-use Rattle.elf_model.specs.FixturesTables.{program_header}
-use Rattle.elf_model.specs.FixturesSegments.{object, object_with}
 
 abbrev by_segments : ListingStyle
 by_segments = record { cap = 63; gnu = false; by_segments = true; format = Columns; choice = EveryRow; versions = false }

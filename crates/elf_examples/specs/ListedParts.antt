@@ -1,11 +1,6 @@
 -- Parts of a listing, alone and together.
 use Rattle.std.specs.Prelude.{◌≡◌, ℕ, List, [], ◌∷◌, ◌++◌, codes, take}
-use Rattle.elf_model.specs.Listing.{HEADER, SECTIONS, SYMBOLS, RELOCS, ALL}
-use Rattle.elf_model.specs.Report.{report}
-use Rattle.elf_model.specs.Fixtures.{symbol, bare_header, one_symbol_table}
-use Rattle.elf_model.specs.FixturesApply.{one_call}
-use Rattle.elf_model.specs.FixturesTables.{one_table}
-use Rattle.elf_model.specs.Answer.{show_answer}
+use Rattle.elf_model.specs.Prelude.{ALL, HEADER, RELOCS, SECTIONS, SYMBOLS, bare_header, one_call, one_symbol_table, one_table, report, show_answer, symbol}
 
 -- each part of one file alone
 abbrev pub PartsAloneList : Type 0

@@ -1,11 +1,6 @@
 -- Listings of relocation entries.
 use Rattle.std.specs.Prelude.{◌≡◌, [], ◌++◌, codes}
-use Rattle.elf_model.specs.Listing.{RELOCS, ALL}
-use Rattle.elf_model.specs.Report.{report}
-use Rattle.elf_model.specs.Bytes.{little}
-use Rattle.elf_model.specs.Fixtures.{with_bytes}
-use Rattle.elf_model.specs.FixturesApply.{overlapping_relocations, one_call, two_relocation_sections}
-use Rattle.elf_model.specs.FixturesTables.{linked_to_first}
+use Rattle.elf_model.specs.Prelude.{ALL, RELOCS, linked_to_first, little, one_call, overlapping_relocations, report, two_relocation_sections, with_bytes}
 
 -- two relocation entries without symbols: the whole listing
 abbrev pub OverlappingRelocationsList : Type 0

@@ -1,10 +1,6 @@
 -- Listings of sections and segments.
 use Rattle.std.specs.Prelude.{◌≡◌, ◌++◌, codes}
-use Rattle.elf_model.specs.Listing.{SECTIONS, SEGMENTS}
-use Rattle.elf_model.specs.Report.{report}
-use Rattle.elf_model.specs.Bytes.{little}
-use Rattle.elf_model.specs.Fixtures.{with_bytes, one_symbol_table}
-use Rattle.elf_model.specs.FixturesTables.{one_load, named_section}
+use Rattle.elf_model.specs.Prelude.{SECTIONS, SEGMENTS, little, named_section, one_load, one_symbol_table, report, with_bytes}
 
 -- the section names, whole and cut
 abbrev pub SectionNamesList : Type 0

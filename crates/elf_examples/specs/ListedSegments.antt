@@ -1,15 +1,7 @@
 -- Listings of notes and dynamic entries in files without sections: the program headers describe the tables.
 use Rattle.std.specs.Prelude.{◌≡◌, ℕ, ◌+◌, ◌-◌, ◌*◌, ◌^◌, true, false, List, [], ◌∷◌, ◌++◌, codes, take}
+use Rattle.elf_model.specs.Prelude.{ALL, DYNAMIC, EveryRow, ListingStyle, NOTES, SEGMENTS, SYMBOLS, aligned_note, ceiling, cost, library_strings, library_without_sections, listing, listing_cost, little, loaded, loaded_at, needed_with, object, object_with, one_segment, one_symbol_table, plain_note, program_header, report, report_of, section_header, tagged, with_bytes, zeros}
 use Rattle.elf_model.specs.declared.formats.Format.TheVariants.{Columns}
-use Rattle.elf_model.specs.Bytes.{little}
-use Rattle.elf_model.specs.Choice.{EveryRow}
-use Rattle.elf_model.specs.Cost.{cost, listing_cost, ceiling}
-use Rattle.elf_model.specs.Listing.{report_of, SEGMENTS, SYMBOLS, NOTES, DYNAMIC, ALL}
-use Rattle.elf_model.specs.Report.{report, listing}
-use Rattle.elf_model.specs.Style.{ListingStyle}
-use Rattle.elf_model.specs.Fixtures.{zeros, with_bytes, section_header, one_symbol_table}
-use Rattle.elf_model.specs.FixturesTables.{program_header, one_segment, plain_note, aligned_note, tagged}
-use Rattle.elf_model.specs.FixturesSegments.{object_with, object, library_strings, loaded_at, loaded, needed_with, library_without_sections}
 
 abbrev needed_lines : List ℕ
 needed_lines =

@@ -1,14 +1,7 @@
 -- Listings of symbols.
 use Rattle.std.specs.Prelude.{◌≡◌, [], ◌++◌, codes, true, false}
+use Rattle.elf_model.specs.Prelude.{ALL, SYMBOLS, hash_with_cycle, little, named_line, odd_name, one_symbol_table, report, special_places, steps_line, symbol_prefix, tables_over_headers, with_bytes}
 use Rattle.elf_model.specs.declared.formats.Format.TheVariants.{Columns}
-use Rattle.elf_model.specs.Listing.{SYMBOLS, ALL}
-use Rattle.elf_model.specs.Report.{report}
-use Rattle.elf_model.specs.Bytes.{little}
-use Rattle.elf_model.specs.Fixtures.{with_bytes, one_symbol_table}
-use Rattle.elf_model.specs.FixturesHash.{hash_with_cycle}
-use Rattle.elf_model.specs.FixturesTables.{tables_over_headers, special_places, odd_name}
-use Rattle.elf_model.specs.Lines.{named_line, steps_line}
-use Rattle.elf_model.specs.LineFronts.{symbol_prefix}
 use Rattle.elf_model.specs.Names.DisplayedName.{Whole}
 
 -- one symbol table: the whole listing

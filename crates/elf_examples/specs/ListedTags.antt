@@ -1,11 +1,6 @@
 -- Listings of dynamic entries by their tags, and of later notes and the notes of later segments.
 use Rattle.std.specs.Prelude.{◌≡◌, ◌+◌, List, ◌∷◌, ◌++◌, ℕ, [], codes, flat_map}
-use Rattle.elf_model.specs.Bytes.{little}
-use Rattle.elf_model.specs.Cost.{cost}
-use Rattle.elf_model.specs.Listing.{NOTES, DYNAMIC}
-use Rattle.elf_model.specs.Report.{report}
-use Rattle.elf_model.specs.Fixtures.{zeros, with_bytes, file_header, section_header}
-use Rattle.elf_model.specs.FixturesTables.{numbers_from, one_table, program_header, plain_note, build_note, tagged, needed_library}
+use Rattle.elf_model.specs.Prelude.{DYNAMIC, NOTES, build_note, cost, file_header, little, needed_library, numbers_from, one_table, plain_note, program_header, report, section_header, tagged, with_bytes, zeros}
 
 -- a table of dynamic entries with these tags, each with the value 99, which is past the end of its string table
 abbrev pub tags : List ℕ → List ℕ

@@ -1,15 +1,7 @@
 -- A small program to compute on, which has every trait, and what the worked examples are said by.
 use Rattle.std.specs.Prelude.{◌≡◌, ℕ, List, [], ◌∷◌, ◌++◌, codes, Ok, Err}
+use Rattle.elf_model.specs.Prelude.{check_line, little, object, plain_note, program_header, symbol, tagged, trait_line, traits_cost, traits_of, words, zeros}
 use Rattle.elf_model.specs.declared.formats.Format.TheVariants.{Columns}
-use Rattle.elf_model.specs.Bytes.{little}
-use Rattle.elf_model.specs.Checking.{check_line}
-use Rattle.elf_model.specs.Fixtures.{zeros, symbol}
-use Rattle.elf_model.specs.FixturesHash.{words}
-use Rattle.elf_model.specs.FixturesSegments.{object}
-use Rattle.elf_model.specs.FixturesTables.{plain_note, program_header, tagged}
-use Rattle.elf_model.specs.TraitCost.{traits_cost}
-use Rattle.elf_model.specs.Traits.{traits_of}
-use Rattle.elf_model.specs.TraitWords.{trait_line}
 use Rattle.elf_model.specs.declared.states.FileStatus.TheVariants.{Refused}
 
 -- its program headers, from 0x40 on: all of it is loaded at address 0; the interpreter; the dynamic entries; the permissions of

@@ -1,7 +1,6 @@
 //! Dynamic entries.
 ghost use Rattle.std.specs.Prelude.{◌≡◌};
-ghost use Rattle.elf_model.specs.FixturesSegments.{library_without_sections};
-ghost use Rattle.elf_model.specs.FixturesTables.{repeated_tags};
+ghost use Rattle.elf_model.specs.Prelude.{library_without_sections, repeated_tags};
 
 /// A shared object without sections. Two program headers stand at 0x40: a segment to load, of the whole
 /// file at the address 0x400000, and four dynamic entries, at 0xb0: a library that is needed, the

@@ -1,7 +1,6 @@
 //! Files with a table of each kind, and a bare header.
 ghost use Rattle.std.specs.Prelude.{◌≡◌};
-ghost use Rattle.elf_model.specs.Fixtures.{bare_header, one_symbol_table};
-ghost use Rattle.elf_model.specs.FixturesTables.{named_section, needed_library, note_segment, odd_name, one_load, special_places, tables_over_headers};
+ghost use Rattle.elf_model.specs.Prelude.{bare_header, named_section, needed_library, note_segment, odd_name, one_load, one_symbol_table, special_places, tables_over_headers};
 
 use crate::with_bytes;
 

@@ -1,9 +1,7 @@
 -- The digits that an encoder of bytes writes.
 use Rattle.std.proofs.Common.{◌≡◌, ℕ, zero, suc, ◌/◌, ◌%◌, ◌<◌, List, [], ◌∷◌, ◌++◌, get_or, refl, ap, ◌∙◌, arith}
 use Rattle.hex.specs.Hex.{lower_digits, encode_with}
-use Rattle.elf_model.specs.Bytes.{IsBytes}
-use Rattle.elf_model.specs.Text.{digit, hex}
-use Rattle.elf_model.specs.Lines.{hex_bytes}
+use Rattle.elf_model.specs.Prelude.{IsBytes, digit, hex, hex_bytes}
 
 digit_at : (k : ℕ) → k < 16 → get_or lower_digits k 0 ≡ digit k
 unfolding digit

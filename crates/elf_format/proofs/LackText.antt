@@ -1,10 +1,9 @@
 -- The line of what a layout lacks, by whether the name was cut.
 use Rattle.std.proofs.Common.{◌≡◌, ◌==◌, Bool, true, false, List, ◌++◌, length, codes, refl, append_assoc, ℕ}
-use Rattle.elf_model.specs.ExplainLine.{entry_item_text, entry_text, help_text, item_text, items_text, type_prefix, where_named}
-use Rattle.elf_model.specs.Lines.{escaped, name_text}
-use Rattle.elf_model.specs.Names.DisplayedName.{Whole}
+use Rattle.elf_model.specs.Prelude.{entry_item_text, entry_text, escaped, help_text, item_text, items_text, name_text, type_prefix, where_named}
 use Rattle.elf_model.specs.declared.missing.LayoutAddress.TheVariants.{Entry, Named}
 use Rattle.elf_model.specs.declared.relocation_types.RelocationBase.{RelocationBase}
+use Rattle.elf_model.specs.Names.DisplayedName.{Whole}
 use Rattle.elf_format.specs.Named.{shown_as}
 
 -- without a name

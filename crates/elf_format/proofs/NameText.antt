@@ -5,15 +5,11 @@ use Rattle.std.proofs.Common.{append_assoc, append-nil, add-one, drop-cons}
 use Rattle.std.proofs.lemmas.Bool.{cases_lt}
 use Rattle.std.proofs.lemmas.List.{drop_all, get_or-drop, get_or-take}
 use Rattle.std.proofs.lemmas.Bool.Decides.{nat_tests}
-use Rattle.elf_model.specs.Fields.{string_byte, string_text, quoted, member_key}
-use Rattle.elf_model.specs.Text.{digit, hex}
-use Rattle.elf_model.specs.Lines.{name_byte_text, escaped, name_text}
-use Rattle.elf_model.specs.Names.{DisplayedName}
-use Rattle.elf_model.specs.declared.formats.Format.{Format}
+use Rattle.elf_model.specs.Prelude.{DisplayedName, digit, escaped, hex, member_key, name_byte_text, name_text, quoted, string_byte, string_text}
 use Rattle.elf_model.specs.declared.formats.Format.TheVariants.{Columns, Object}
+use Rattle.elf_model.specs.declared.formats.Format.{Format}
 use Rattle.elf_source.specs.Output.{OutState}
-use Rattle.elf_format.specs.Named.{line_tailed, escaped_bytes, shown_as}
-use Rattle.elf_format.specs.Pieces.{TakesBefore, name_start, byte_text, spelt, name_closing}
+use Rattle.elf_format.specs.Prelude.{TakesBefore, byte_text, escaped_bytes, line_tailed, name_closing, name_start, shown_as, spelt}
 use Rattle.elf_format.proofs.Pieces.{TakesBefore-more, TakesBefore-then}
 
 -- the bytes of two texts, one behind the other

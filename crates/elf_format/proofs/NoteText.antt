@@ -1,11 +1,9 @@
 -- The line of a note, by what stands behind its name.
 use Rattle.std.proofs.Common.{◌≡◌, ℕ, nat_lt, List, length, take, refl}
-use Rattle.elf_model.specs.Lines.{SHOWN_DESCRIPTOR, descriptor_text, hex_bytes, line_described, note_tail}
-use Rattle.elf_model.specs.Names.{DisplayedName}
-use Rattle.elf_model.specs.declared.formats.Format.{Format}
+use Rattle.elf_model.specs.Prelude.{DisplayedName, SHOWN_DESCRIPTOR, descriptor_text, hex_bytes, line_described, note_tail}
 use Rattle.elf_model.specs.declared.formats.Format.TheVariants.{Columns, Object}
-use Rattle.elf_format.specs.Named.{line_tailed}
-use Rattle.elf_format.specs.Notes.{note_end}
+use Rattle.elf_model.specs.declared.formats.Format.{Format}
+use Rattle.elf_format.specs.Prelude.{line_tailed, note_end}
 
 pub note-tailed : (format : Format) (key line : List ℕ) (name : DisplayedName) (descriptor : List ℕ)
     → line_described format key line name descriptor

@@ -1,7 +1,7 @@
 -- Laws of a text that is written in pieces.
 use Rattle.std.proofs.Common.{ℕ, List, ◌++◌, Result, Ok, Err, sym, ap, ◌∙◌, append_assoc}
+use Rattle.elf_source.specs.Prelude.{OutPuts, OutState, SinkTakes, SinkTakesPrefix}
 use Rattle.elf_source.specs.declared.faults.OutFault.{OutFault}
-use Rattle.elf_source.specs.Output.{OutState, SinkTakes, SinkTakesPrefix, OutPuts}
 use Rattle.elf_source.proofs.PutsLaws.{SinkTakes-then, SinkTakesPrefix-then}
 use Rattle.elf_format.specs.Pieces.{TakesBefore, PutsBefore}
 

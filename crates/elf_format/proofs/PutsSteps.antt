@@ -1,7 +1,7 @@
 -- One text put behind another.
 use Rattle.std.proofs.Common.{ℕ, List, ◌++◌, Result, Ok, Err}
+use Rattle.elf_source.specs.Prelude.{OutPuts, OutState, SinkTakes}
 use Rattle.elf_source.specs.declared.faults.OutFault.{OutFault}
-use Rattle.elf_source.specs.Output.{OutState, SinkTakes, OutPuts}
 use Rattle.elf_source.proofs.PutsLaws.{SinkTakes-then, SinkTakesPrefix-then}
 
 -- the second was put, or a front of it

@@ -7,11 +7,9 @@ use Rattle.std.proofs.lemmas.Bool.{cases_Bool}
 use Rattle.std.proofs.lemmas.Bool.Decides.{nat_tests}
 use Rattle.std.proofs.lemmas.List.{drop_all}
 use Rattle.std.proofs.lemmas.List.Elements.{All-nil, All-cons, All-head, All-tail, All-append}
-use Rattle.elf_model.specs.Text.{digit, hex}
-use Rattle.elf_model.specs.Lines.{name_byte_text}
+use Rattle.elf_model.specs.Prelude.{digit, hex, name_byte_text}
 use Rattle.elf_source.specs.Output.{OutState}
-use Rattle.elf_format.specs.Pieces.{TakesBefore}
-use Rattle.elf_format.specs.Told.{IsPlain, reported_byte, reported_text}
+use Rattle.elf_format.specs.Prelude.{IsPlain, TakesBefore, reported_byte, reported_text}
 use Rattle.elf_format.proofs.Pieces.{TakesBefore-more, TakesBefore-then}
 
 -- the bytes that are left are the next byte and those behind it

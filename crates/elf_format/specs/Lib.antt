@@ -6,3 +6,4 @@ pub mod Told
 pub mod Notes
 pub mod Rows
 pub mod Tables
+pub mod Prelude

@@ -1,11 +1,9 @@
 -- Lines that end in a name, and what stands behind it.
 pub use Rattle.elf_model.specs.ShownNames.{shown_as}
 use Rattle.std.specs.Prelude.{ℕ, List, ◌++◌}
-use Rattle.elf_model.specs.Fields.{LinePrefix, string_text}
-use Rattle.elf_model.specs.Lines.{escaped, name_member, name_text}
-use Rattle.elf_model.specs.Names.{DisplayedName}
-use Rattle.elf_model.specs.declared.formats.Format.{Format}
+use Rattle.elf_model.specs.Prelude.{DisplayedName, LinePrefix, escaped, name_member, name_text, string_text}
 use Rattle.elf_model.specs.declared.formats.Format.TheVariants.{Columns, Object}
+use Rattle.elf_model.specs.declared.formats.Format.{Format}
 
 -- a line that ends in a name and what stands behind it, the line's end too
 unfoldable pub line_tailed : Format → (key text : List ℕ) → DisplayedName → List ℕ → List ℕ

@@ -1,10 +1,8 @@
 -- What is known of a note's descriptor where its line is written.
 use Rattle.std.specs.Prelude.{ℕ, ◌≡◌, if◌then◌else◌, Bool, List, [], ◌++◌, codes, length, take}
-use Rattle.elf_model.specs.Fields.{closing, member_key, quoted}
-use Rattle.elf_model.specs.Lines.{SHOWN_DESCRIPTOR, cut_mark}
-use Rattle.elf_model.specs.Text.{newline, space}
-use Rattle.elf_model.specs.declared.formats.Format.{Format}
+use Rattle.elf_model.specs.Prelude.{SHOWN_DESCRIPTOR, closing, cut_mark, member_key, newline, quoted, space}
 use Rattle.elf_model.specs.declared.formats.Format.TheVariants.{Columns, Object}
+use Rattle.elf_model.specs.declared.formats.Format.{Format}
 
 -- a descriptor begins with these bytes, which are all that is shown of it, and has this size
 pub record IsDescriptor (first : List ℕ) (size : ℕ) (descriptor : List ℕ) : Type 0 where

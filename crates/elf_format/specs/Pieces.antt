@@ -1,11 +1,10 @@
 -- A text that is written in pieces, each put together in a line first.
 use Rattle.std.specs.Prelude.{ℕ, ◌≡◌, if◌then◌else◌, Bool, List, [], ◌∷◌, ◌++◌, codes, Result, Ok, Err}
-use Rattle.elf_model.specs.Fields.{member_key, string_text}
-use Rattle.elf_model.specs.Lines.{name_byte_text, cut_mark}
-use Rattle.elf_model.specs.declared.formats.Format.{Format}
+use Rattle.elf_model.specs.Prelude.{cut_mark, member_key, name_byte_text, string_text}
 use Rattle.elf_model.specs.declared.formats.Format.TheVariants.{Columns, Object}
+use Rattle.elf_model.specs.declared.formats.Format.{Format}
+use Rattle.elf_source.specs.Prelude.{IsOutFault, OutState, SinkTakes, SinkTakesPrefix}
 use Rattle.elf_source.specs.declared.faults.OutFault.{OutFault}
-use Rattle.elf_source.specs.Output.{OutState, SinkTakes, SinkTakesPrefix, IsOutFault}
 
 -- the sink took what stands before the rest of a text
 pub record TakesBefore (old new : OutState) (text rest : List ℕ) : Type 0 where

@@ -1,7 +1,6 @@
 -- A text that is written to a terminal.
 use Rattle.std.specs.Prelude.{ℕ, ◌≡◌, ◌≤◌, ◌==◌, ◌⊎◌, if◌then◌else◌, List, [], ◌∷◌, ◌++◌}
-use Rattle.elf_model.specs.Text.{newline}
-use Rattle.elf_model.specs.Lines.{name_byte_text}
+use Rattle.elf_model.specs.Prelude.{name_byte_text, newline}
 
 -- a byte of a text: a newline stands as it is, any other byte is spelt as in a name
 unfoldable pub reported_byte : ℕ → List ℕ

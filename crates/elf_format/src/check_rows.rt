@@ -1,9 +1,7 @@
 //! The lines of files among many.
 ghost use Rattle.std.specs.Prelude.{◌≡◌, ◌++◌, ◌≤◌, length};
 ghost use Rattle.arrayvec.specs.ArrayVec.{array_vec_len};
-ghost use Rattle.elf_model.specs.Checking.{check_front, check_line, fault_fields, file_status_name};
-ghost use Rattle.elf_model.specs.Checking.{unnamed_line};
-ghost use Rattle.elf_model.specs.Fields.{with_fields};
+ghost use Rattle.elf_model.specs.Prelude.{check_front, check_line, fault_fields, file_status_name, unnamed_line, with_fields};
 ghost use Rattle.elf_source.specs.Output.{OutPuts};
 ghost use Rattle.elf_format.specs.Fronts.{front_of};
 

@@ -1,8 +1,7 @@
 //! A line of a listing while it is put together, field by field.
 ghost use Rattle.std.specs.Prelude.{◌≡◌, ◌+◌, ◌-◌, ◌<◌, ◌≤◌, ◌++◌, ◌∷◌, [], if◌then◌else◌, decimal, length, max, take};
 ghost use Rattle.arrayvec.specs.ArrayVec.{array_vec_len};
-ghost use Rattle.elf_model.specs.Text.{digit, hex, spaces, left_in, right_in};
-ghost use Rattle.elf_model.specs.NameTables.{number_sign};
+ghost use Rattle.elf_model.specs.Prelude.{digit, hex, left_in, number_sign, right_in, spaces};
 
 use crate::hexadecimal::hex8;
 use arrayvec::ArrayVec;

@@ -1,8 +1,6 @@
 //! The lines of dynamic entries.
 ghost use Rattle.std.specs.Prelude.{◌≡◌, ◌≤◌, ℕ, List, length, IfSome, option_copied};
-ghost use Rattle.elf_model.specs.Text.{name_of};
-ghost use Rattle.elf_model.specs.NameTables.{dynamic_tags};
-ghost use Rattle.elf_model.specs.LineFronts.{dynamic_prefix};
+ghost use Rattle.elf_model.specs.Prelude.{dynamic_prefix, dynamic_tags, name_of};
 ghost use Rattle.elf_record.specs.Dyn.{IsDyn};
 ghost use Rattle.elf_format.specs.Fronts.{front_of};
 

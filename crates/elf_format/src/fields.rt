@@ -2,10 +2,8 @@
 ghost use Rattle.std.specs.Prelude.{◌≡◌, ◌+◌, ◌≤◌, ◌++◌, ◌∷◌, [], length, max, IfSome};
 ghost use Rattle.std.specs.Prelude.{option_copied};
 ghost use Rattle.arrayvec.specs.ArrayVec.{array_vec_len};
-ghost use Rattle.elf_model.specs.Fields.{begun, closing, with_field};
-ghost use Rattle.elf_model.specs.Fields.Field.{Decimal, Hexadecimal, NameOrDecimal};
-ghost use Rattle.elf_model.specs.Fields.Field.{NameOrHexadecimal, NameOrNumber, Signed, ArgSpec};
-ghost use Rattle.elf_model.specs.Text.{space};
+ghost use Rattle.elf_model.specs.Prelude.{ArgSpec, Decimal, Hexadecimal, NameOrDecimal, NameOrHexadecimal, NameOrNumber, begun, closing, space, with_field};
+ghost use Rattle.elf_model.specs.Fields.Field.{Signed};
 ghost use Rattle.elf_format.specs.Rooms.{half_room, number_room, text_room};
 
 use crate::columns::{LineBuf, number_sign, put, put_hex, put_left, put_right, put_spaces};

@@ -1,10 +1,7 @@
 //! The line of what a layout lacks.
 ghost use Rattle.std.specs.Prelude.{◌≡◌, ◌+◌, ◌≤◌, ◌++◌, true, codes, decimal, length};
 ghost use Rattle.arrayvec.specs.ArrayVec.{array_vec_len};
-ghost use Rattle.elf_model.specs.ExplainLine.{entry_text, help_text, item_text, items_text};
-ghost use Rattle.elf_model.specs.ExplainLine.{missing_line, place_text, type_prefix};
-ghost use Rattle.elf_model.specs.Lines.{escaped, name_text};
-ghost use Rattle.elf_model.specs.NameTables.{number_sign, relocation_types};
+ghost use Rattle.elf_model.specs.Prelude.{entry_text, escaped, help_text, item_text, items_text, missing_line, name_text, number_sign, place_text, relocation_types, type_prefix};
 ghost use Rattle.elf_source.specs.Output.{OutPuts};
 ghost use Rattle.elf_format.specs.Named.{shown_as};
 

@@ -1,7 +1,6 @@
 //! Tables of names.
 ghost use Rattle.std.specs.Prelude.{◌≡◌, ◌≤◌, ◌++◌, ℕ, true, length, IfSome, option_copied};
-ghost use Rattle.elf_model.specs.NameTables.{names_where};
-ghost use Rattle.elf_model.specs.Text.{name_of};
+ghost use Rattle.elf_model.specs.Prelude.{name_of, names_where};
 ghost use Rattle.elf_format.specs.Tables.{are_short, entries};
 
 /// The name of a number in a table.

@@ -1,10 +1,8 @@
 //! The lines of notes.
-ghost use Rattle.elf_source.specs.Growth.{OutGrows};
+ghost use Rattle.elf_source.specs.Prelude.{IsOutFault, OutGrows, OutPuts};
 ghost use Rattle.std.specs.Prelude.{◌≡◌, ◌≤◌, ℕ, List, length, IfErr};
 ghost use Rattle.arrayvec.specs.ArrayVec.{array_vec_len};
-ghost use Rattle.elf_model.specs.LineFronts.{note_prefix};
-ghost use Rattle.elf_model.specs.Lines.{note_line};
-ghost use Rattle.elf_source.specs.Output.{IsOutFault, OutPuts};
+ghost use Rattle.elf_model.specs.Prelude.{note_line, note_prefix};
 ghost use Rattle.elf_format.specs.Fronts.{front_of};
 ghost use Rattle.elf_format.specs.Notes.{IsDescriptor, note_end};
 ghost use Rattle.elf_format.specs.Named.{shown_as};

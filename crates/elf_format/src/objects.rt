@@ -2,9 +2,7 @@
 ghost use Rattle.std.specs.Prelude.{◌≡◌, ℕ, ◌+◌, ◌≤◌, ◌++◌, length, max, IfSome};
 ghost use Rattle.std.specs.Prelude.{option_copied};
 ghost use Rattle.arrayvec.specs.ArrayVec.{array_vec_len};
-ghost use Rattle.elf_model.specs.Fields.{member_key, name_or_value, quoted, string_byte};
-ghost use Rattle.elf_model.specs.Fields.{string_text};
-ghost use Rattle.elf_model.specs.Lines.{name_byte_text};
+ghost use Rattle.elf_model.specs.Prelude.{member_key, name_byte_text, name_or_value, quoted, string_byte, string_text};
 
 use crate::columns::{LineBuf, put, put_hex};
 use itoa::{Buffer, Integer};

@@ -1,8 +1,6 @@
 //! The lines of relocation entries.
 ghost use Rattle.std.specs.Prelude.{◌≡◌, ◌≤◌, ℕ, List, length, IfSome, option_copied};
-ghost use Rattle.elf_model.specs.Text.{name_of};
-ghost use Rattle.elf_model.specs.NameTables.{relocation_names, relocation_types};
-ghost use Rattle.elf_model.specs.LineFronts.{relocation_prefix};
+ghost use Rattle.elf_model.specs.Prelude.{name_of, relocation_names, relocation_prefix, relocation_types};
 ghost use Rattle.elf_record.specs.Rela.{IsRela};
 ghost use Rattle.elf_format.specs.Fronts.{front_of};
 

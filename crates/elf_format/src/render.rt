@@ -1,7 +1,6 @@
 //! The two renderings of a line.
+ghost use Rattle.elf_model.specs.declared.formats.Format.TheVariants.{Columns as InColumns, Object as AsObject};
 ghost use Rattle.elf_model.specs.declared.formats.Format.{Format as Spec};
-ghost use Rattle.elf_model.specs.declared.formats.Format.TheVariants.{Columns as InColumns};
-ghost use Rattle.elf_model.specs.declared.formats.Format.TheVariants.{Object as AsObject};
 
 use elf_model::Format;
 

@@ -1,9 +1,6 @@
 //! The lines of a file header and of a refusal.
 ghost use Rattle.std.specs.Prelude.{◌≡◌, ℕ, ◌≤◌, List, length, IfSome, option_copied};
-ghost use Rattle.elf_model.specs.Text.{name_of};
-ghost use Rattle.elf_model.specs.Causes.{cause_word};
-ghost use Rattle.elf_model.specs.Lines.{header_line, refusal_line};
-ghost use Rattle.elf_model.specs.NameTables.{file_types};
+ghost use Rattle.elf_model.specs.Prelude.{cause_word, file_types, header_line, name_of, refusal_line};
 ghost use Rattle.elf_record.specs.Ehdr.{IsEhdr};
 ghost use Rattle.elf_source.specs.Output.{OutPuts};
 

@@ -1,11 +1,8 @@
 //! The lines of section headers.
 ghost use Rattle.std.specs.Prelude.{◌≡◌, ◌+◌, ◌≤◌, ◌++◌, ℕ, List, length, IfSome, option_copied};
 ghost use Rattle.arrayvec.specs.ArrayVec.{array_vec_len};
-ghost use Rattle.elf_model.specs.Text.{name_of};
-ghost use Rattle.elf_model.specs.NameTables.{flags_with_letters, flags_column, letters_of, names_where};
+ghost use Rattle.elf_model.specs.Prelude.{flags_column, flags_with_letters, letters_of, name_of, names_where, section_flags, section_flags_text, section_prefix, section_types};
 ghost use Rattle.elf_format.specs.Tables.{letters};
-ghost use Rattle.elf_model.specs.NameTables.{section_flags, section_flags_text, section_types};
-ghost use Rattle.elf_model.specs.LineFronts.{section_prefix};
 ghost use Rattle.elf_record.specs.Shdr.{IsShdr};
 ghost use Rattle.elf_format.specs.Fronts.{front_of};
 

@@ -2,9 +2,7 @@
 ghost use Rattle.std.specs.Prelude.{◌≡◌, ◌+◌, ◌≤◌, ◌++◌, ◌∷◌, [], if◌then◌else◌, ℕ, List, length};
 ghost use Rattle.std.specs.Prelude.{codes, IfSome, option_copied};
 ghost use Rattle.arrayvec.specs.ArrayVec.{array_vec_len};
-ghost use Rattle.elf_model.specs.Text.{name_of};
-ghost use Rattle.elf_model.specs.NameTables.{segment_flags_text, segment_types};
-ghost use Rattle.elf_model.specs.Lines.{segment_line};
+ghost use Rattle.elf_model.specs.Prelude.{name_of, segment_flags_text, segment_line, segment_types};
 ghost use Rattle.elf_record.specs.Phdr.{IsPhdr};
 
 use crate::columns::LineBuf;

@@ -1,15 +1,10 @@
 //! The lines of symbols.
-ghost use Rattle.elf_source.specs.Growth.{OutGrows};
+ghost use Rattle.elf_source.specs.Prelude.{IsOutFault, OutGrows, OutPuts};
 ghost use Rattle.std.specs.Prelude.{◌≡◌, ◌≤◌, ℕ, List, length, IfErr, IfSome, option_copied, false};
-ghost use Rattle.elf_model.specs.Text.{name_of};
-ghost use Rattle.elf_model.specs.NameTables.{symbol_types, bindings, visibilities, places};
-ghost use Rattle.elf_model.specs.Records.{e_machine};
-ghost use Rattle.elf_model.specs.LineFronts.{symbol_prefix};
-ghost use Rattle.elf_model.specs.Lines.{named_line};
+ghost use Rattle.elf_model.specs.Prelude.{bindings, e_machine, name_of, named_line, places, symbol_prefix, symbol_types, visibilities};
 ghost use Rattle.elf_model.specs.Names.DisplayedName.{Whole};
 ghost use Rattle.elf_record.specs.Sym.{IsSym};
 ghost use Rattle.elf_format.specs.Fronts.{front_of};
-ghost use Rattle.elf_source.specs.Output.{IsOutFault, OutPuts};
 
 use crate::constant_names::ConstantNames;
 use crate::fields::{

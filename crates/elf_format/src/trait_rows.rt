@@ -1,11 +1,7 @@
 //! The lines of files' traits.
 ghost use Rattle.std.specs.Prelude.{◌≡◌, ◌+◌, ◌≤◌, length};
 ghost use Rattle.arrayvec.specs.ArrayVec.{array_vec_len};
-ghost use Rattle.elf_model.specs.TraitWords.{canary_word, cet_word, column_name, column_word, fortify_word, file_kind_name, lacking_line};
-ghost use Rattle.elf_model.specs.TraitWords.{pages_word, path_word, relro_word, stack_word, text_word, trait_front, trait_line};
-ghost use Rattle.elf_model.specs.Fields.{with_field};
-ghost use Rattle.elf_model.specs.Fields.Field.{ArgSpec};
-ghost use Rattle.elf_model.specs.Text.{space};
+ghost use Rattle.elf_model.specs.Prelude.{ArgSpec, canary_word, cet_word, column_name, column_word, file_kind_name, fortify_word, lacking_line, pages_word, path_word, relro_word, space, stack_word, text_word, trait_front, trait_line, with_field};
 ghost use Rattle.elf_format.specs.Fronts.{front_of};
 ghost use Rattle.elf_format.specs.Rooms.{text_room};
 ghost use Rattle.elf_source.specs.Output.{OutPuts};

@@ -1,13 +1,6 @@
 -- Worked examples of the binding of names over two files, and of what a symbol asks others for.
 use Rattle.std.specs.Prelude.{ℕ, ◌≡◌, ◌+◌, ◌*◌, List, [], ◌∷◌, codes, Option, None, Some, Result, Ok, Err}
-use Rattle.elf_model.specs.Bindings.{Binding, BoundTo, BoundToNone, StoppedIn, bound_in, definition_cost, definition_lookup, reference_at, symbols_hashed}
-use Rattle.elf_model.specs.Bytes.{little}
-use Rattle.elf_model.specs.Fixtures.{with_bytes}
-use Rattle.elf_model.specs.FixturesHash.{words}
-use Rattle.elf_model.specs.FixturesVersions.{hostile_library, versioned_without_sections}
-use Rattle.elf_model.specs.Loader.{VersionQuery, NoVersion, Version, SymbolQuery}
-use Rattle.elf_model.specs.LoaderScope.{lookup_tables_of}
-use Rattle.elf_model.specs.Style.{without_sections}
+use Rattle.elf_model.specs.Prelude.{Binding, BoundTo, BoundToNone, NoVersion, StoppedIn, SymbolQuery, Version, VersionQuery, bound_in, definition_cost, definition_lookup, hostile_library, little, lookup_tables_of, reference_at, symbols_hashed, versioned_without_sections, with_bytes, without_sections, words}
 use Rattle.elf_model.specs.declared.causes.Cause.TheVariants.{HashShape, NameOutside, VersionCut, VersionIndex}
 use Rattle.elf_model.specs.declared.causes.Refusal.{Refusal}
 

@@ -1,13 +1,10 @@
 -- Worked examples of what binds the symbols of some objects, and of the lines of that.
 use Rattle.std.specs.Prelude.{ℕ, ◌≡◌, true, false, if◌then◌else◌, List, [], ◌∷◌, ◌++◌, codes, Option, None, Some}
 use Rattle.std.specs.Str.{bytes_eq}
-use Rattle.elf_model.specs.BoundSymbols.{BoundItem, BoundObjects, Faulty, Told, bound_items, any_unbound, bound_text}
-use Rattle.elf_model.specs.Bytes.{little}
-use Rattle.elf_model.specs.Fixtures.{with_bytes}
-use Rattle.elf_model.specs.FixturesVersions.{needed_file, needed_version, versioned_without_sections}
-use Rattle.elf_model.specs.declared.causes.Cause.TheVariants.{HashShape, NameOutside}
-use Rattle.elf_model.specs.declared.formats.Format.TheVariants.{Columns, Object}
+use Rattle.elf_model.specs.Prelude.{BoundItem, BoundObjects, Faulty, Told, any_unbound, bound_items, bound_text, little, needed_file, needed_version, versioned_without_sections, with_bytes}
 use Rattle.elf_model.specs.declared.states.BindingState.{BindingState}
+use Rattle.elf_model.specs.declared.formats.Format.TheVariants.{Columns, Object}
+use Rattle.elf_model.specs.declared.causes.Cause.TheVariants.{HashShape, NameOutside}
 use Rattle.elf_model.specs.declared.states.BindingState.TheVariants as state
 
 -- a library that asks for a version of `puts`, of a needed file, and defines two versions of `f`; with a weak `puts`; that asks

@@ -1,9 +1,6 @@
 -- Worked examples of hash tables in a loader's lookup: their counts, filters, buckets and chains.
 use Rattle.std.specs.Prelude.{[], ◌∷◌, ◌++◌, codes}
-use Rattle.elf_model.specs.Bytes.{little}
-use Rattle.elf_model.specs.Fixtures.{with_bytes}
-use Rattle.elf_model.specs.FixturesHash.{words}
-use Rattle.elf_model.specs.FixturesVersions.{versioned_library, versioned_without_sections}
+use Rattle.elf_model.specs.Prelude.{little, versioned_library, versioned_without_sections, with_bytes, words}
 use Rattle.elf_gnu_examples.specs.LoaderWords.{LoaderCosts, Fails, LoaderFinds, absent_0, absent_2, first_f, found_1, of_v1, of_v2, second_f}
 
 -- no bucket; three words of a filter; words of a filter past the table; a shift of 32; a section of fewer bytes; fewer than

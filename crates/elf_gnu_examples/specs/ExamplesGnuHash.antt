@@ -1,10 +1,6 @@
 -- Worked examples of the hash function of the GNU system, and of lookups in tables that stand alone.
 use Rattle.std.specs.Prelude.{◌≡◌, ℕ, ◌==◌, if◌then◌else◌, Bool, List, [], ◌∷◌, ◌++◌, codes, replicate, None, Some, Result, Ok, Err}
-use Rattle.elf_model.specs.Bytes.{little}
-use Rattle.elf_model.specs.Chains.{HashTable}
-use Rattle.elf_model.specs.Fixtures.{zeros, with_bytes}
-use Rattle.elf_model.specs.FixturesHash.{words}
-use Rattle.elf_model.specs.GnuHash.{gnu_hash, gnu_looked_up}
+use Rattle.elf_model.specs.Prelude.{HashTable, gnu_hash, gnu_looked_up, little, with_bytes, words, zeros}
 use Rattle.elf_model.specs.declared.causes.Cause.TheVariants.{HashIndex, NameOutside}
 use Rattle.elf_model.specs.declared.causes.Refusal.{Refusal}
 

@@ -1,10 +1,6 @@
 -- Worked examples of what dynamic entries tell of how a file is linked, and of their refusals in order.
 use Rattle.std.specs.Prelude.{ℕ, ◌≡◌, ◌+◌, ◌*◌, List, [], ◌∷◌, codes, Option, None, Some, Result, Ok, Err}
-use Rattle.elf_model.specs.Bytes.{little}
-use Rattle.elf_model.specs.Fixtures.{with_bytes}
-use Rattle.elf_model.specs.FixturesTables.{one_load, tagged}
-use Rattle.elf_model.specs.FixturesVersions.{versioned_library, versioned_without_sections}
-use Rattle.elf_model.specs.Links.{LinkState, links_ceiling, links_of, no_link_info}
+use Rattle.elf_model.specs.Prelude.{LinkState, links_ceiling, links_of, little, no_link_info, one_load, tagged, versioned_library, versioned_without_sections, with_bytes}
 use Rattle.elf_model.specs.declared.causes.Cause.TheVariants.{LoadOverlap, NameOutside, NotElf, Unmapped}
 use Rattle.elf_model.specs.declared.causes.Refusal.{Refusal}
 

@@ -1,8 +1,6 @@
 -- Worked examples of the numbers of versions in a loader's lookup: their words, and the tables of definitions and needs.
 use Rattle.std.specs.Prelude.{◌++◌, codes}
-use Rattle.elf_model.specs.Bytes.{little}
-use Rattle.elf_model.specs.Fixtures.{with_bytes}
-use Rattle.elf_model.specs.FixturesVersions.{versioned_library, versioned_without_sections}
+use Rattle.elf_model.specs.Prelude.{little, versioned_library, versioned_without_sections, with_bytes}
 use Rattle.elf_gnu_examples.specs.LoaderWords.{LoaderCosts, Fails, LoaderFinds, absent_2, first_f, found_1, found_2, of_none, of_v1, of_v2, only_g, second_f}
 
 -- two default versions; the hidden number 1; the number 0; a number that no record names, asked for by its name or not

@@ -1,8 +1,6 @@
 -- Worked examples of the symbols that a loader takes: their values, places, types, bindings, visibilities and names.
 use Rattle.std.specs.Prelude.{◌++◌, codes}
-use Rattle.elf_model.specs.Bytes.{little}
-use Rattle.elf_model.specs.Fixtures.{with_bytes}
-use Rattle.elf_model.specs.FixturesVersions.{versioned_library}
+use Rattle.elf_model.specs.Prelude.{little, versioned_library, with_bytes}
 use Rattle.elf_gnu_examples.specs.LoaderWords.{LoaderCosts, Fails, LoaderFinds, absent_2, found_2, of_v2}
 
 -- a name that is outside

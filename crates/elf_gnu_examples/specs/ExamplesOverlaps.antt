@@ -1,9 +1,6 @@
 -- Worked examples of a loader's lookup in libraries whose LOAD segments lie over each other.
 use Rattle.std.specs.Prelude.{ℕ, ◌-◌, ◌^◌, List, ◌++◌, codes}
-use Rattle.elf_model.specs.Bytes.{little}
-use Rattle.elf_model.specs.Fixtures.{with_bytes}
-use Rattle.elf_model.specs.FixturesTables.{program_header}
-use Rattle.elf_model.specs.FixturesVersions.{versioned_library, versioned_without_sections}
+use Rattle.elf_model.specs.Prelude.{little, program_header, versioned_library, versioned_without_sections, with_bytes}
 use Rattle.elf_gnu_examples.specs.LoaderWords.{LoaderCosts, Fails, LoaderFinds, found_2, of_v2, second_f}
 
 -- a segment that is loaded at an address, of so many bytes in memory and none in the file

@@ -1,9 +1,7 @@
 -- Worked examples of the records of versions in a loader's lookup: their flags, their strings, tables of no bytes; and of hash tables
 -- of the gABI by segments, and of other machines.
 use Rattle.std.specs.Prelude.{◌++◌, codes}
-use Rattle.elf_model.specs.Bytes.{little}
-use Rattle.elf_model.specs.Fixtures.{with_bytes}
-use Rattle.elf_model.specs.FixturesVersions.{versioned_library, versioned_without_sections}
+use Rattle.elf_model.specs.Prelude.{little, versioned_library, versioned_without_sections, with_bytes}
 use Rattle.elf_gnu_examples.specs.LoaderWords.{Fails, LoaderFinds, absent_0, absent_2, first_f, found_1, found_2, of_v1, of_v2, second_f}
 
 -- a definition with another flag than BASE names a version, and one with both does not

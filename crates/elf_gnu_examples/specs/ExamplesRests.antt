@@ -1,8 +1,6 @@
 -- Worked examples of a loader's lookup by the program headers: what is left of a segment at an address.
 use Rattle.std.specs.Prelude.{◌++◌, codes}
-use Rattle.elf_model.specs.Bytes.{little}
-use Rattle.elf_model.specs.Fixtures.{with_bytes}
-use Rattle.elf_model.specs.FixturesVersions.{versioned_without_sections}
+use Rattle.elf_model.specs.Prelude.{little, versioned_without_sections, with_bytes}
 use Rattle.elf_gnu_examples.specs.LoaderWords.{LoaderCosts, Fails, LoaderFinds, absent_0, found_2}
 
 -- no bucket; a bucket past the symbols of the section headers: symbols and chain words go on to the end of the segment

@@ -1,11 +1,7 @@
 -- Worked examples of a loader's lookup by the program headers in a file with section headers; and of hash tables with words of
 -- 8 bytes, as Alpha's files have them.
 use Rattle.std.specs.Prelude.{[], ◌∷◌, ◌++◌, ℕ, List, codes, true}
-use Rattle.elf_model.specs.Bytes.{little}
-use Rattle.elf_model.specs.Fixtures.{with_bytes}
-use Rattle.elf_model.specs.FixturesHash.{words}
-use Rattle.elf_model.specs.FixturesVersions.{versioned_library, versioned_without_sections}
-use Rattle.elf_model.specs.Style.{looked_at}
+use Rattle.elf_model.specs.Prelude.{little, looked_at, versioned_library, versioned_without_sections, with_bytes, words}
 use Rattle.elf_gnu_examples.specs.LoaderWords.{LoaderCosts, Fails, LoaderFinds, found_2, of_v2, second_f}
 
 -- a lookup by the program headers

@@ -1,13 +1,6 @@
 -- Worked examples of what is wanted: a name and a version; and of long names of versions.
 use Rattle.std.specs.Prelude.{◌≡◌, ℕ, ◌+◌, ◌*◌, true, false, List, [], ◌∷◌, ◌++◌, codes, replicate}
-use Rattle.elf_model.specs.Bytes.{little}
-use Rattle.elf_model.specs.FindApplyAnswer.{find_answer}
-use Rattle.elf_model.specs.Fixtures.{zeros, with_bytes}
-use Rattle.elf_model.specs.FixturesHash.{words}
-use Rattle.elf_model.specs.FixturesVersions.{versioned_library, versioned_without_sections}
-use Rattle.elf_model.specs.Loader.{NoVersion, Version, DefaultVersion, parse_query, is_complete}
-use Rattle.elf_model.specs.LoaderAnswer.{loader_answer}
-use Rattle.elf_model.specs.LoaderFind.{loader_ceiling}
+use Rattle.elf_model.specs.Prelude.{DefaultVersion, NoVersion, Version, find_answer, is_complete, little, loader_answer, loader_ceiling, parse_query, versioned_library, versioned_without_sections, with_bytes, words, zeros}
 use Rattle.elf_model.specs.declared.formats.Format.TheVariants.{Columns, Object}
 use Rattle.elf_gnu_examples.specs.LoaderWords.{LoaderFinds, LoaderCosts, second_f, found_2}
 

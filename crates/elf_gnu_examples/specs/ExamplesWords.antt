@@ -1,8 +1,6 @@
 -- Worked examples of words of symbols' versions without records: nothing names a version, and the words are not looked at.
 use Rattle.std.specs.Prelude.{ℕ, List, ◌++◌, codes}
-use Rattle.elf_model.specs.Bytes.{little}
-use Rattle.elf_model.specs.Fixtures.{with_bytes}
-use Rattle.elf_model.specs.FixturesVersions.{versioned_library, versioned_without_sections}
+use Rattle.elf_model.specs.Prelude.{little, versioned_library, versioned_without_sections, with_bytes}
 use Rattle.elf_gnu_examples.specs.LoaderWords.{LoaderCosts, Fails, LoaderFinds, absent_2, first_f, found_1, found_2, of_v1, of_v2, second_f}
 
 -- the library without a section of definitions and without one of needs, and the one without section headers without their entries

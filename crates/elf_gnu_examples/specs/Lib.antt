@@ -17,3 +17,4 @@ pub mod ExamplesViews
 pub mod ExamplesBindings
 pub mod ExamplesBoundSymbols
 pub mod ExamplesLinks
+pub mod Prelude

@@ -1,17 +1,7 @@
 -- Worked examples of the rows of some names.
 use Rattle.std.specs.Prelude.{◌≡◌, ℕ, List, [], ◌∷◌, ◌++◌, codes, map, true, false}
+use Rattle.elf_model.specs.Prelude.{ListingStyle, RELOCS, RowsOf, SECTIONS, SYMBOLS, VERSIONS, archive_items, archive_of, cost, listing, listing_cost, little, member, most_bytes, one_call, one_symbol_table, report_of, standard, versioned_library, wanted_text, with_bytes}
 use Rattle.elf_model.specs.declared.formats.Format.TheVariants.{Columns}
-use Rattle.elf_model.specs.Archive.{archive_items}
-use Rattle.elf_model.specs.Bytes.{little}
-use Rattle.elf_model.specs.Choice.{RowsOf, most_bytes, wanted_text}
-use Rattle.elf_model.specs.Cost.{cost, listing_cost}
-use Rattle.elf_model.specs.Fixtures.{with_bytes, one_symbol_table}
-use Rattle.elf_model.specs.FixturesApply.{one_call}
-use Rattle.elf_model.specs.FixturesArchive.{archive_of, member}
-use Rattle.elf_model.specs.FixturesVersions.{versioned_library}
-use Rattle.elf_model.specs.Listing.{report_of, RELOCS, SECTIONS, SYMBOLS, VERSIONS}
-use Rattle.elf_model.specs.Report.{listing}
-use Rattle.elf_model.specs.Style.{ListingStyle, standard}
 
 -- how the rows of some names are shown: so many bytes of a name as the longest has
 unfoldable pub rows_named : List (List ℕ) → ListingStyle

@@ -1,17 +1,8 @@
 -- Worked examples of the versions behind the names of symbols.
 use Rattle.std.specs.Prelude.{◌≡◌, ℕ, ◌+◌, ◌*◌, List, [], ◌∷◌, ◌++◌, codes, map, true, false}
-use Rattle.elf_model.specs.declared.formats.Format.{Format}
+use Rattle.elf_model.specs.Prelude.{EveryRow, ListingStyle, RELOCS, RowFilter, RowsOf, SYMBOLS, listing, listing_cost, little, report_of, section_at, style_ceiling, suffixed_relocation_rows, suffixed_symbol_rows, versioned_library, wanted_text, with_bytes}
 use Rattle.elf_model.specs.declared.formats.Format.TheVariants.{Columns, Object}
-use Rattle.elf_model.specs.Bytes.{little}
-use Rattle.elf_model.specs.Choice.{RowFilter, EveryRow, RowsOf, wanted_text}
-use Rattle.elf_model.specs.Cost.{listing_cost, style_ceiling}
-use Rattle.elf_model.specs.Fixtures.{with_bytes}
-use Rattle.elf_model.specs.FixturesVersions.{versioned_library}
-use Rattle.elf_model.specs.Listing.{report_of, RELOCS, SYMBOLS}
-use Rattle.elf_model.specs.Records.{section_at}
-use Rattle.elf_model.specs.Report.{listing}
-use Rattle.elf_model.specs.Style.{ListingStyle}
-use Rattle.elf_model.specs.Suffixes.{suffixed_relocation_rows, suffixed_symbol_rows}
+use Rattle.elf_model.specs.declared.formats.Format.{Format}
 
 -- how rows are shown: with versions, so many bytes of a name, as a line is written and rows are chosen
 unfoldable pub with_versions : ℕ → Format → RowFilter → ListingStyle

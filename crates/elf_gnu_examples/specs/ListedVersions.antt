@@ -1,16 +1,8 @@
 -- Worked examples of the rows of symbol versions.
 use Rattle.std.specs.Prelude.{◌≡◌, ℕ, ◌+◌, ◌-◌, ◌==◌, List, [], ◌∷◌, ◌++◌, length, drop, take, replicate, filter, codes, true, false}
 use Rattle.std.specs.List.{concat}
+use Rattle.elf_model.specs.Prelude.{ALL, EveryRow, GNU_ALL, HEADER, ListingStyle, VERSIONS, cost, hostile_library, listing, listing_cost, little, one_table, report_of, standard, versioned_library, versioned_without_sections, with_bytes}
 use Rattle.elf_model.specs.declared.formats.Format.TheVariants.{Columns}
-use Rattle.elf_model.specs.Bytes.{little}
-use Rattle.elf_model.specs.Choice.{EveryRow}
-use Rattle.elf_model.specs.Cost.{cost, listing_cost}
-use Rattle.elf_model.specs.Fixtures.{with_bytes}
-use Rattle.elf_model.specs.FixturesTables.{one_table}
-use Rattle.elf_model.specs.FixturesVersions.{versioned_library, versioned_without_sections, hostile_library}
-use Rattle.elf_model.specs.Listing.{report_of, HEADER, VERSIONS, ALL, GNU_ALL}
-use Rattle.elf_model.specs.Report.{listing}
-use Rattle.elf_model.specs.Style.{ListingStyle, standard}
 
 -- how rows are shown here: 63 bytes of a name, and the names of the GNU system's numbers
 abbrev standard_style : ListingStyle

@@ -1,8 +1,6 @@
 -- What the worked examples of a loader's lookups are said by.
 use Rattle.std.specs.Prelude.{◌≡◌, ℕ, List, codes}
-use Rattle.elf_model.specs.Loader.{parse_query}
-use Rattle.elf_model.specs.LoaderAnswer.{loader_answer}
-use Rattle.elf_model.specs.LoaderFind.{loader_cost}
+use Rattle.elf_model.specs.Prelude.{loader_answer, loader_cost, parse_query}
 use Rattle.elf_model.specs.declared.formats.Format.TheVariants.{Columns}
 
 -- a lookup in a file, with eight headers permitted, finds a symbol and writes these lines

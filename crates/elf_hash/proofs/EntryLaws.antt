@@ -1,17 +1,13 @@
 -- The first entries of a table, entry by entry, and where they stand.
 use Rattle.std.proofs.Common.{◌≡◌, ℕ, zero, suc, ◌+◌, ◌/◌, ◌==◌, Bool, true, false, List, Option, None, Some, refl, sym, ap, subst, ◌∙◌, arith}
 use Rattle.std.specs.Prelude.{option_map}
-use Rattle.elf_model.specs.Dynamic.{dynamic_at, dynamic_count}
-use Rattle.elf_model.specs.Find.{first_that}
-use Rattle.elf_model.specs.LoaderScope.{tagged_row}
-use Rattle.elf_model.specs.Records.{d_tag, p_offset, p_filesz}
-use Rattle.elf_model.specs.Tables.{DYNAMIC_SIZE}
-use Rattle.elf_record.specs.Dyn.{IsDyn}
+use Rattle.elf_model.specs.Prelude.{DYNAMIC_SIZE, d_tag, dynamic_at, dynamic_count, first_that, p_filesz, p_offset, tagged_row}
+use Rattle.elf_record.specs.Prelude.{IsDyn}
 use Rattle.elf_record.specs.declared.dyn_entry.Dyn.{Dyn}
 use Rattle.elf_table.specs.Tables.{TableRange}
-use Rattle.elf_hash.specs.Entries.{AreTaggedEntries, AreListed, EachTag, TakesEntry, dynamic_entry_at, entry_here, first_entry, listed_entry, tagged_entry}
-use Rattle.elf_hash.specs.declared.dyn_entry.DynamicTags.{DynamicTags}
+use Rattle.elf_hash.specs.Prelude.{AreListed, AreTaggedEntries, EachTag, TakesEntry, dynamic_entry_at, entry_here, first_entry, listed_entry, tagged_entry}
 use Rattle.elf_hash.specs.declared.dyn_entry.DynEntry.{DynEntry}
+use Rattle.elf_hash.specs.declared.dyn_entry.DynamicTags.{DynamicTags}
 
 module _ (file : List ℕ) (tag : ℕ) where
   here_some : (at : ℕ) → (d_tag file at == tag) ≡ true → entry_here file at tag ≡ Some (dynamic_entry_at file at)

@@ -2,21 +2,12 @@
 use Rattle.std.proofs.Common.{◌≡◌, ℕ, zero, suc, ◌+◌, ◌-◌, ◌*◌, ◌<◌, ◌≤◌, max, min, nat_lt, Bool, true, false, List, Option, None, Some, Result, Ok, refl, sym, ap, subst, ◌∙◌, arith, nat_cmp}
 use Rattle.std.specs.Ordering.{ord_max}
 use Rattle.std.proofs.lemmas.Bool.Decides.{nat_tests}
-use Rattle.elf_model.specs.Bytes.{field}
-use Rattle.elf_model.specs.Chains.{HashTable as Table}
-use Rattle.elf_model.specs.Find.{first_that}
-use Rattle.elf_model.specs.GnuHash.{chain_word, is_chain_end, gnu_bucket_at, gnu_first, gnu_nbucket, is_chained}
-use Rattle.elf_model.specs.LoaderScope.{GnuTable, SysvTable, HashStyle, LookupTables}
-use Rattle.elf_model.specs.Hash.{sysv_nchain}
-use Rattle.elf_model.specs.Traits.{before_strings, gnu_symbols, hashed_symbol_count, max_bucket, is_last_in, unfound}
+use Rattle.elf_model.specs.Prelude.{GnuTable, HashStyle, HashTable as Table, LookupTables, SysvTable, before_strings, chain_word, field, first_that, gnu_bucket_at, gnu_first, gnu_nbucket, gnu_symbols, hashed_symbol_count, is_chain_end, is_chained, is_last_in, max_bucket, sysv_nchain, unfound}
 use Rattle.elf_source.specs.Source.{CountedState}
-use Rattle.elf_table.specs.Ledger.{CallReads, IsRead}
+use Rattle.elf_table.specs.Prelude.{Advances, CallReads, CursorState, EndsRows, GivesRow, IsRead, TableRange, row_at, size_of, unread_bytes}
 use Rattle.elf_table.specs.declared.fault.Fault.{Fault}
 use Rattle.elf_table.proofs.LedgerLaws.{CallReads-more}
-use Rattle.elf_table.specs.Cursors.{Advances, EndsRows, GivesRow, CursorState, row_at, unread_bytes}
-use Rattle.elf_table.specs.Tables.{TableRange, size_of}
-use Rattle.elf_hash.specs.Counts.{IsGnu, IsSysv}
-use Rattle.elf_hash.specs.Extents.{SymbolsBegin, EndsChain, ReturnsExtent, extent_bytes, last_in}
+use Rattle.elf_hash.specs.Prelude.{EndsChain, IsGnu, IsSysv, ReturnsExtent, SymbolsBegin, extent_bytes, last_in}
 use Rattle.elf_hash.specs.declared.gnu_table.GnuHashTable.{GnuHashTable as Gnu}
 use Rattle.elf_hash.specs.declared.sysv_table.SysvHashTable.{SysvHashTable as Sysv}
 use Rattle.elf_hash.proofs.GnuSteps.{chain_is}

@@ -1,25 +1,14 @@
 -- What the first segment of dynamic entries tells, within what is asked for.
 use Rattle.std.proofs.Common.{◌≡◌, ℕ, zero, suc, ◌+◌, ◌*◌, ◌/◌, ◌<◌, ◌≤◌, List, None, Some, Result, Ok, Err, IfErr, refl, sym, ap, subst, ◌∙◌, arith}
 use Rattle.std.proofs.Math.Nat.{div-mul-le_self}
-use Rattle.elf_model.specs.Checks.{first_refusal}
-use Rattle.elf_model.specs.LoaderScope.{dynamic_segment_index, lookup_tables_by_segments, scope_in_segments, scope_in_segment}
-use Rattle.elf_model.specs.Numbers.{PT_DYNAMIC}
-use Rattle.elf_model.specs.Overlaps.{overlap_checks}
-use Rattle.elf_model.specs.Records.{p_offset, p_filesz, segment_at}
-use Rattle.elf_model.specs.Tables.{segment_dynamic_checks}
+use Rattle.elf_model.specs.Prelude.{PT_DYNAMIC, dynamic_segment_index, first_refusal, lookup_tables_by_segments, overlap_checks, p_filesz, p_offset, scope_in_segment, scope_in_segments, segment_at, segment_dynamic_checks}
 use Rattle.elf_model.specs.declared.causes.Cause.TheVariants.{NoHash}
 use Rattle.elf_source.specs.Source.{CountedState}
-use Rattle.elf_table.specs.Faults.{IsOfCheck, IsOfRead}
-use Rattle.elf_table.specs.Ledger.{CallDid, fault_of_result}
+use Rattle.elf_table.specs.Prelude.{CallDid, IsOfCheck, IsOfRead, RefusedBy, TableInBounds, TableRange, dynamic_table_at, fault_of_result, first_of_kind, rows, size_of}
 use Rattle.elf_table.specs.declared.fault.Fault.{Fault}
 use Rattle.elf_table.specs.declared.fault.Fault.TheVariants.{Refused, Source}
 use Rattle.elf_table.proofs.LedgerLaws.{CallDid-stop}
-use Rattle.elf_table.specs.Relocations.{RefusedBy}
-use Rattle.elf_table.specs.Sections.{rows}
-use Rattle.elf_table.specs.Tables.{TableRange, TableInBounds, size_of}
-use Rattle.elf_table.specs.Views.{dynamic_table_at, first_of_kind}
-use Rattle.elf_hash.specs.LookupTablesFound.{FindsLookupTables}
-use Rattle.elf_hash.specs.Segments.{entries_asked, scope_by_entries}
+use Rattle.elf_hash.specs.Prelude.{FindsLookupTables, entries_asked, scope_by_entries}
 use Rattle.elf_hash.specs.declared.lookup_tables.LookupTables.{LookupTables}
 use Rattle.elf_hash.proofs.SettleLaws.{checked_fails, checked_passes}
 

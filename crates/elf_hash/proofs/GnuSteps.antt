@@ -1,24 +1,18 @@
 -- A walk in a table of the GNU system step by step: what it meets at the symbol that it has come to.
 use Rattle.std.proofs.Common.{◌≡◌, ℕ, zero, suc, ◌+◌, ◌-◌, ◌*◌, ◌/◌, ◌%◌, ◌^◌, ◌<◌, ◌≤◌, ◌&&◌, inl, inr, not, nat_lt, if◌then◌else◌, Bool, true, false, List, Option, None, Some, Result, Ok, Err, refl, sym, ap, ◌∙◌, arith, add-one}
 use Rattle.std.proofs.lemmas.Bool.{cases_eq, cases_lt, ne_eqb}
-use Rattle.elf_model.specs.Bytes.{field}
-use Rattle.elf_model.specs.Chains.{HashTable as Table, WalkEnd, NotThere, Untried, Answers, Last, end_of_match, ChainResult as NoteScan, nothing_tried}
-use Rattle.elf_model.specs.Cost.{cost_where, sum_over}
-use Rattle.elf_model.specs.GnuHash.{IsGnuLookup, chain_word, is_chain_end, end_of_chain, gnu_bucket_of, gnu_chain_at, gnu_end, gnu_looked_up, gnu_start, gnu_symbol, gnu_tried, gnu_walked_at, gnu_word_at, holds_none, is_chained, hash_bits_match, is_set, filter_may_contain}
-use Rattle.elf_model.specs.HashLaws.{GoesOn}
+use Rattle.elf_model.specs.Prelude.{Answers, ChainResult as NoteScan, GoesOn, HashTable as Table, IsGnuLookup, Last, NotThere, Untried, WalkEnd, chain_word, cost_where, end_of_chain, end_of_match, field, filter_may_contain, gnu_bucket_of, gnu_chain_at, gnu_end, gnu_looked_up, gnu_start, gnu_symbol, gnu_tried, gnu_walked_at, gnu_word_at, hash_bits_match, holds_none, is_chain_end, is_chained, is_set, nothing_tried, sum_over}
 use Rattle.elf_model.specs.declared.causes.Cause.TheVariants.{HashIndex}
 use Rattle.elf_model.specs.declared.causes.Refusal.{Refusal}
 use Rattle.elf_model.proofs.GnuHashLaws.{gnu_lookup_answers, gnu_lookup_is_one}
 use Rattle.elf_model.proofs.LookupSteps.{goes_on_more}
 use Rattle.elf_model.proofs.WalkLaws.{not_both}
-use Rattle.elf_table.specs.Faults.{IsOfRead}
+use Rattle.elf_table.specs.Prelude.{IsOfRead}
 use Rattle.elf_table.specs.declared.fault.Fault.{Fault}
 use Rattle.elf_table.specs.declared.fault.Fault.TheVariants.{Refused}
-use Rattle.elf_hash.specs.Counts.{IsGnu}
-use Rattle.elf_hash.specs.declared.answer.SymbolMatch.{SymbolMatch}
-use Rattle.elf_hash.specs.Trials.{TriesSymbol, TriesDefinedSymbol}
-use Rattle.elf_hash.specs.Walks.{HoldsHash, walk_bytes}
+use Rattle.elf_hash.specs.Prelude.{HoldsHash, IsGnu, TriesDefinedSymbol, TriesSymbol, walk_bytes}
 use Rattle.elf_hash.specs.declared.gnu_table.GnuHashTable.{GnuHashTable}
+use Rattle.elf_hash.specs.declared.answer.SymbolMatch.{SymbolMatch}
 use Rattle.elf_hash.proofs.WalkLaws.{Meets, bytes_most, bytes_tried, meets_answer, meets_fault, meets_refusal, meets_untried}
 
 -- one where it is so

@@ -1,24 +1,16 @@
 -- What a file tells of what a lookup is made in, behind its load, and what asking for it costs.
 use Rattle.std.proofs.Common.{◌≡◌, ℕ, ◌+◌, ◌*◌, ◌≤◌, ◌==◌, true, false, inl, inr, List, ◌++◌, length, Option, None, Some, Result, Err, refl, sym, ap, subst, ◌∙◌, arith, eq-eqb, ne_eqb}
 use Rattle.std.proofs.lemmas.Bool.{cases_Bool, eqb-true}
-use Rattle.elf_model.specs.Budget.{IsBudgetRefusal}
-use Rattle.elf_model.specs.Checks.{first_refusal, before_headers, header_checks, early_checks, load_checks}
-use Rattle.elf_model.specs.LoaderFind.{segments_asked}
-use Rattle.elf_model.specs.LoaderScope.{LookupTables as IsScopeOf, scope_by_sections, lookup_tables_by_segments, lookup_tables_of}
-use Rattle.elf_model.specs.Records.{e_phnum, e_shnum}
+use Rattle.elf_model.specs.Prelude.{IsBudgetRefusal, LookupTables as IsScopeOf, before_headers, e_phnum, e_shnum, early_checks, first_refusal, header_checks, load_checks, lookup_tables_by_segments, lookup_tables_of, scope_by_sections, segments_asked}
 use Rattle.elf_model.specs.declared.causes.Refusal.{Refusal}
 use Rattle.elf_model.proofs.CheckSteps.{first_refusal-none, first_refusal-some}
-use Rattle.elf_record.specs.Ehdr.{IsEhdr}
+use Rattle.elf_record.specs.Prelude.{IsEhdr}
 use Rattle.elf_record.specs.declared.ehdr.Ehdr.{Ehdr}
-use Rattle.elf_table.specs.Faults.{HeaderRead, IsOfRead}
-use Rattle.elf_table.specs.Load.{LoadedAs, load_cost}
-use Rattle.elf_table.specs.Store.{StoreState}
+use Rattle.elf_table.specs.Prelude.{HeaderRead, IsOfRead, LoadedAs, StoreState, load_cost}
 use Rattle.elf_table.specs.declared.fault.Fault.{Fault}
 use Rattle.elf_table.specs.declared.fault.Fault.TheVariants.{Refused, Source}
 use Rattle.elf_table.proofs.LoadLaws.{load-within, load_most}
-use Rattle.elf_hash.specs.Finding.{scope_cost, scope_loaded, segments_bytes}
-use Rattle.elf_hash.specs.LookupTablesFound.{FindsLookupTables}
-use Rattle.elf_hash.specs.Segments.{entries_asked}
+use Rattle.elf_hash.specs.Prelude.{FindsLookupTables, entries_asked, scope_cost, scope_loaded, segments_bytes}
 use Rattle.elf_hash.specs.declared.lookup_tables.LookupTables.{LookupTables}
 
 -- a fault of a read tells nothing

@@ -2,14 +2,11 @@
 use Rattle.std.proofs.Common.{◌≡◌, ℕ, ◌+◌, ◌*◌, ◌≤◌, List, ◌++◌, None, Err, refl, sym, ap, ◌∙◌, arith}
 use Rattle.std.specs.Prelude.{is_none}
 use Rattle.std.proofs.lemmas.List.{append_assoc}
-use Rattle.elf_model.specs.Checks.{first_refusal, before_headers, early_checks, header_checks, load_checks, section_name_checks}
-use Rattle.elf_model.specs.Records.{e_phnum}
+use Rattle.elf_model.specs.Prelude.{before_headers, e_phnum, early_checks, first_refusal, header_checks, load_checks, section_name_checks}
 use Rattle.elf_model.proofs.CheckSteps.{first_refusal-none, first_refusal-some, passes_front}
 use Rattle.elf_model.proofs.SumLemmas.{cost_where-le}
 use Rattle.elf_record.specs.declared.ehdr.Ehdr.{Ehdr}
-use Rattle.elf_table.specs.Faults.{HeaderRead, IsOfRead}
-use Rattle.elf_table.specs.Load.{LoadedAs, early_of, load_cost}
-use Rattle.elf_table.specs.Store.{StoreState}
+use Rattle.elf_table.specs.Prelude.{HeaderRead, IsOfRead, LoadedAs, StoreState, early_of, load_cost}
 use Rattle.elf_table.specs.declared.fault.Fault.{Fault}
 use Rattle.elf_table.specs.declared.fault.Fault.TheVariants.{Refused, Source}
 use Rattle.elf_hash.specs.Loading.{LoadsSegments, segments_load_cost}

@@ -1,24 +1,17 @@
 -- The lookup of a name is the walk for a symbol that has it.
 use Rattle.std.proofs.Common.{◌≡◌, ℕ, ◌+◌, ◌*◌, List, length, Option, None, Some, Result, Ok, Err, refl, sym, ap, subst, ◌∙◌, arith}
-use Rattle.elf_model.specs.Chains.{ChainResult as NoteScan}
-use Rattle.elf_model.specs.Hash.{Lookup as Looked, looked_up, symbol_at, sysv_hash}
-use Rattle.elf_model.specs.SysvWalk.{has_name, lookup_answer, parse_lookup, section_table_of, sysv_walked}
-use Rattle.elf_model.specs.Tables.{linked_at}
+use Rattle.elf_model.specs.Prelude.{ChainResult as NoteScan, Lookup as Looked, has_name, linked_at, looked_up, lookup_answer, parse_lookup, section_table_of, symbol_at, sysv_hash, sysv_walked}
 use Rattle.elf_model.proofs.SysvWalkLaws.{sysv_walk_is_bounded, sysv_walk_is_lookup}
 use Rattle.elf_record.specs.Sym.{IsSym}
 use Rattle.elf_source.specs.Source.{CountedState}
-use Rattle.elf_table.specs.Ledger.{CallReads, fault_of_result}
+use Rattle.elf_table.specs.Prelude.{CallReads, fault_of_result, row_at}
 use Rattle.elf_table.specs.declared.fault.Fault.{Fault}
 use Rattle.elf_table.specs.declared.fault.Fault.TheVariants.{Refused, Source}
-use Rattle.elf_table.specs.Cursors.{row_at}
-use Rattle.elf_hash.specs.Lookups.{LooksBySysv, GivesLookup as Finds, lookup_in, step_bytes, symbol_bytes}
-use Rattle.elf_hash.specs.Tables.{IsHashSection}
-use Rattle.elf_hash.specs.Trials.{SaysHasName}
-use Rattle.elf_hash.specs.Walks.{GivesWalked, WalksChain, walk_bytes}
-use Rattle.elf_hash.specs.declared.answer.SymbolMatch.{SymbolMatch}
-use Rattle.elf_hash.specs.declared.hash_section.HashSection.{HashSection}
+use Rattle.elf_hash.specs.Prelude.{GivesLookup as Finds, GivesWalked, IsHashSection, LooksBySysv, SaysHasName, WalksChain, lookup_in, step_bytes, symbol_bytes, walk_bytes}
 use Rattle.elf_hash.specs.declared.chain_result.ChainMatch.{ChainMatch}
 use Rattle.elf_hash.specs.declared.chain_result.ChainResult.{ChainResult}
+use Rattle.elf_hash.specs.declared.hash_section.HashSection.{HashSection}
+use Rattle.elf_hash.specs.declared.answer.SymbolMatch.{SymbolMatch}
 use Rattle.elf_hash.proofs.NamedLaws.{row_is}
 
 -- what steps ask for, each a chain word, a symbol and a name

@@ -2,29 +2,16 @@
 use Rattle.std.proofs.Common.{◌≡◌, ◌⊎◌, inl, inr, ℕ, ◌/◌, ◌<◌, ◌≤◌, ◌||◌, nat_lt, Bool, true, false, List, [], ◌∷◌, ◌++◌, Option, None, Some, Result, Ok, Err, refl, sym, ap, subst, ◌∙◌, arith}
 use Rattle.std.proofs.lemmas.Bool.Decides.{nat_tests}
 use Rattle.std.specs.Prelude.{is_none, option_map}
-use Rattle.elf_model.specs.Checks.{Check, refuse, first_refusal}
-use Rattle.elf_model.specs.LoaderScope.{HashStyle as IsHashKind, checks_of_row, has_wide_kind, hash_row, least_size, rest_checks, rest_place, rest_size, rows_checks, segment_checks, segment_lookup_tables, segment_strings, segment_strings_at, segment_symbols, segment_words, tagged_row}
-use Rattle.elf_model.specs.Mapped.{mapped_bytes, mapped_checks, mapped_place}
-use Rattle.elf_model.specs.Numbers.{DT_SYMTAB, DT_STRTAB, DT_STRSZ}
-use Rattle.elf_model.specs.Records.{d_un, e_machine}
-use Rattle.elf_model.specs.Tables.{SYMBOL_SIZE}
+use Rattle.elf_model.specs.Prelude.{Check, DT_STRSZ, DT_STRTAB, DT_SYMTAB, HashStyle as IsHashKind, SYMBOL_SIZE, checks_of_row, d_un, e_machine, first_refusal, has_wide_kind, hash_row, least_size, mapped_bytes, mapped_checks, mapped_place, refuse, rest_checks, rest_place, rest_size, rows_checks, segment_checks, segment_lookup_tables, segment_strings, segment_strings_at, segment_symbols, segment_words, tagged_row}
 use Rattle.elf_model.specs.declared.causes.Cause.TheVariants.{HashShape, NoHash, Unmapped}
+use Rattle.elf_table.specs.Prelude.{ChecksThenValue, RefusedBy, StringTableRange, TableRange, rest_mapped, strings, strings_in, strings_mapped}
 use Rattle.elf_table.specs.declared.fault.Fault.{Fault}
 use Rattle.elf_table.specs.declared.fault.Fault.TheVariants.{Refused, Source}
-use Rattle.elf_table.specs.HashSections.{ChecksThenValue}
-use Rattle.elf_table.specs.Relocations.{RefusedBy}
-use Rattle.elf_table.specs.Sections.{strings}
-use Rattle.elf_table.specs.Tables.{TableRange, StringTableRange, strings_in}
-use Rattle.elf_table.specs.Views.{rest_mapped, strings_mapped}
-use Rattle.elf_hash.specs.Entries.{AreTaggedEntries, dynamic_entry_at}
-use Rattle.elf_hash.specs.HashStyles.{hash_style_of}
-use Rattle.elf_hash.specs.LookupTablesFound.{FindsLookupTables, IsLookupTables}
-use Rattle.elf_hash.specs.Segments.{AreRowsSymbols, TellSymbols, rows_records, scope_by_entries, version_rows}
-use Rattle.elf_hash.specs.Versions.{AreVersions}
-use Rattle.elf_hash.specs.declared.dyn_entry.DynamicTags.{DynamicTags}
+use Rattle.elf_hash.specs.Prelude.{AreRowsSymbols, AreTaggedEntries, AreVersions, FindsLookupTables, IsLookupTables, TellSymbols, dynamic_entry_at, hash_style_of, rows_records, scope_by_entries, version_rows}
 use Rattle.elf_hash.specs.declared.dyn_entry.DynEntry.{DynEntry}
-use Rattle.elf_hash.specs.declared.lookup_tables.LookupTables.{LookupTables}
 use Rattle.elf_hash.specs.declared.symbols.DynamicSymbols.{DynamicSymbols}
+use Rattle.elf_hash.specs.declared.dyn_entry.DynamicTags.{DynamicTags}
+use Rattle.elf_hash.specs.declared.lookup_tables.LookupTables.{LookupTables}
 use Rattle.elf_hash.specs.declared.versions.VersionTables.{VersionTables}
 use Rattle.elf_hash.proofs.SettleLaws.{checked_fails, checked_passes, passed_both, refused_back, refused_front}
 use Rattle.elf_hash.proofs.SegmentLaws.{IsRest, entry_passes, entry_refused, row_some}

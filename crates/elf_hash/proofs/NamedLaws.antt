@@ -1,19 +1,14 @@
 -- The trial of a symbol by its name: where the symbol stands, and what its name is compared with.
 use Rattle.std.proofs.Common.{◌≡◌, ℕ, ◌<◌, Bool, true, false, List, Option, None, Some, Result, Ok, Err, refl, ap, ◌∙◌, arith}
-use Rattle.elf_model.specs.Hash.{same_symbol, symbol_at}
-use Rattle.elf_model.specs.Names.{same}
-use Rattle.elf_model.specs.Records.{st_name}
-use Rattle.elf_model.specs.SysvWalk.{fault_at}
+use Rattle.elf_model.specs.Prelude.{fault_at, same, same_symbol, st_name, symbol_at}
 use Rattle.elf_model.specs.declared.causes.Refusal.{Refusal}
-use Rattle.elf_record.specs.Sym.{IsSym}
+use Rattle.elf_record.specs.Prelude.{IsSym}
 use Rattle.elf_record.specs.declared.sym.Sym.{Sym}
+use Rattle.elf_table.specs.Prelude.{ComparesName, StringTableRange, TableRange, row_at, strings_in}
 use Rattle.elf_table.specs.declared.fault.Fault.{Fault}
 use Rattle.elf_table.specs.declared.fault.Fault.TheVariants.{Refused, Source}
-use Rattle.elf_table.specs.Cursors.{row_at}
-use Rattle.elf_table.specs.NamesRead.{ComparesName}
-use Rattle.elf_table.specs.Tables.{TableRange, StringTableRange, strings_in}
+use Rattle.elf_hash.specs.Prelude.{SaysHasName, TriesSymbol}
 use Rattle.elf_hash.specs.declared.answer.SymbolMatch.{SymbolMatch}
-use Rattle.elf_hash.specs.Trials.{SaysHasName, TriesSymbol}
 
 -- the symbol, where its name is the wanted one
 abbrev pub picked : Sym → Result Bool Fault → Result (Option SymbolMatch) Fault

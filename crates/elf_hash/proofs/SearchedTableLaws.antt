@@ -1,19 +1,14 @@
 -- The counts of a table of either kind are held against its size, as a loader's lookup does; and its walk is the one there.
 use Rattle.std.proofs.Common.{◌≡◌, ℕ, Bool, List, [], ◌∷◌, Ok, Err, refl, sym, ap, ◌∙◌}
-use Rattle.elf_model.specs.Checks.{first_refusal, refuse}
-use Rattle.elf_model.specs.Loader.{SymbolQuery, answers}
-use Rattle.elf_model.specs.LoaderFind.{counts_check, walk_in}
-use Rattle.elf_model.specs.LoaderScope.{GnuTable, LookupTables, SysvTable}
+use Rattle.elf_model.specs.Prelude.{GnuTable, LookupTables, SymbolQuery, SysvTable, answers, counts_check, first_refusal, refuse, walk_in}
 use Rattle.elf_model.specs.declared.causes.Cause.TheVariants.{HashShape}
 use Rattle.elf_table.specs.declared.fault.Fault.{Fault}
 use Rattle.elf_table.specs.declared.fault.Fault.TheVariants.{Refused, Source}
-use Rattle.elf_hash.specs.Counts.{HasGnuCounts, HasSysvCounts, gnu_misshapen, sysv_misshapen}
-use Rattle.elf_hash.specs.HashStyles.{hash_style_of}
-use Rattle.elf_hash.specs.SearchedTables.{HasCounts, IsPlaceIn, walked_in}
+use Rattle.elf_hash.specs.Prelude.{HasCounts, HasGnuCounts, HasSysvCounts, IsPlaceIn, gnu_misshapen, hash_style_of, sysv_misshapen, walked_in}
 use Rattle.elf_hash.specs.declared.gnu_table.GnuHashTable.{GnuHashTable as GnuHashTable}
-use Rattle.elf_hash.specs.declared.hash_style.HashStyle.TheVariants.{Gnu, Sysv}
 use Rattle.elf_hash.specs.declared.place.HashTableLocation.{HashTableLocation}
 use Rattle.elf_hash.specs.declared.sysv_table.SysvHashTable.{SysvHashTable as SysvHashTable}
+use Rattle.elf_hash.specs.declared.hash_style.HashStyle.TheVariants.{Gnu, Sysv}
 use Rattle.elf_hash.specs.declared.table.HashTable.TheVariants.{Gnu as IsGnuTable, Sysv as IsSysvTable}
 
 module _ (file : List ℕ) (scope : LookupTables) (place : HashTableLocation) (is : IsPlaceIn scope place) where

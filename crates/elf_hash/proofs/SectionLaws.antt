@@ -1,19 +1,12 @@
 -- What a lookup is made in, by the section headers.
 use Rattle.std.proofs.Common.{◌≡◌, ℕ, List, [], None, Some, Result, Ok, Err, refl, ap, ◌∙◌}
-use Rattle.elf_model.specs.LoaderScope.{HashStyle as IsHashKind, GnuTable, SysvTable, hash_section, scope_by_sections, section_checks, section_lookup_tables, version_checks, section_words, records_of_type, least_size}
-use Rattle.elf_model.specs.Find.{hash_checks_from}
-use Rattle.elf_model.specs.Numbers.{SHT_HASH, SHT_GNU_HASH, SHT_GNU_VERDEF, SHT_GNU_VERNEED}
-use Rattle.elf_model.specs.Records.{e_machine, section_at, sh_offset, sh_size}
-use Rattle.elf_model.specs.VersionRows.{first_of_type}
-use Rattle.elf_model.specs.declared.causes.Cause.TheVariants.{NoHash}
+use Rattle.elf_model.specs.Prelude.{GnuTable, HashStyle as IsHashKind, SHT_GNU_HASH, SHT_GNU_VERDEF, SHT_GNU_VERNEED, SHT_HASH, SysvTable, e_machine, first_of_type, hash_checks_from, hash_section, least_size, records_of_type, scope_by_sections, section_at, section_checks, section_lookup_tables, section_words, sh_offset, sh_size, version_checks}
 use Rattle.elf_model.specs.declared.versions.VersionKind.TheVariants.{Definition, File}
+use Rattle.elf_model.specs.declared.causes.Cause.TheVariants.{NoHash}
+use Rattle.elf_table.specs.Prelude.{AreHashed, ChecksThenValue, StringTableRange, TableRange, strings_in}
 use Rattle.elf_table.specs.declared.fault.Fault.{Fault}
 use Rattle.elf_table.specs.declared.fault.Fault.TheVariants.{Refused, Source}
-use Rattle.elf_table.specs.HashSections.{AreHashed, ChecksThenValue}
-use Rattle.elf_table.specs.Tables.{TableRange, StringTableRange, strings_in}
-use Rattle.elf_hash.specs.HashStyles.{hash_style_of}
-use Rattle.elf_hash.specs.LookupTablesFound.{FindsLookupTables, IsLookupTables}
-use Rattle.elf_hash.specs.Versions.{AreVersions}
+use Rattle.elf_hash.specs.Prelude.{AreVersions, FindsLookupTables, IsLookupTables, hash_style_of}
 use Rattle.elf_hash.specs.declared.lookup_tables.LookupTables.{LookupTables}
 use Rattle.elf_hash.specs.declared.versions.VersionTables.{VersionTables}
 use Rattle.elf_hash.proofs.SettleLaws.{passed_both}

@@ -1,32 +1,20 @@
 -- What the dynamic entries of a segment tell of, one by one.
 use Rattle.std.proofs.Common.{◌≡◌, ℕ, ◌+◌, ◌-◌, ◌/◌, Bool, true, false, List, [], ◌∷◌, ◌++◌, length, Option, None, Some, Ok, Err, refl, sym, ap, subst, ◌∙◌}
 use Rattle.std.specs.Prelude.{◌&&◌, is_none, is_some, not, option_map}
-use Rattle.elf_model.specs.Checks.{Check, refuse, first_refusal, is_outside}
-use Rattle.elf_model.specs.Loader.{VersionRecordTable as IsTableOf, VersymTable as IsWordsOf}
-use Rattle.elf_model.specs.LoaderScope.{GnuTable, SysvTable, checks_of_row, hash_row, records_of_tag, rest_checks, rest_place, rest_size, segment_strings, segment_words, tagged_row, words_row}
-use Rattle.elf_model.specs.Mapped.{mapped_at, mapped_place}
-use Rattle.elf_model.specs.Numbers.{DT_HASH, DT_GNU_HASH, DT_VERDEF, DT_VERNEED}
-use Rattle.elf_model.specs.Records.{d_un, p_filesz, p_offset, p_vaddr}
+use Rattle.elf_model.specs.Prelude.{Check, DT_GNU_HASH, DT_HASH, DT_VERDEF, DT_VERNEED, GnuTable, SysvTable, VersionRecordTable as IsTableOf, VersymTable as IsWordsOf, checks_of_row, d_un, first_refusal, hash_row, is_outside, mapped_at, mapped_place, p_filesz, p_offset, p_vaddr, records_of_tag, refuse, rest_checks, rest_place, rest_size, segment_strings, segment_words, tagged_row, words_row}
+use Rattle.elf_model.specs.declared.versions.VersionKind.TheVariants.{Definition, File}
 use Rattle.elf_model.specs.declared.causes.Cause.TheVariants.{TableOutside, Unmapped}
 use Rattle.elf_model.specs.declared.versions.VersionKind.{VersionKind}
-use Rattle.elf_model.specs.declared.versions.VersionKind.TheVariants.{Definition, File}
+use Rattle.elf_table.specs.Prelude.{ChecksThenValue, RefusedBy, TableRange, rest_mapped, rest_of, rows, strings_in}
 use Rattle.elf_table.specs.declared.fault.Fault.{Fault}
 use Rattle.elf_table.specs.declared.fault.Fault.TheVariants.{Refused}
-use Rattle.elf_table.specs.HashSections.{ChecksThenValue}
-use Rattle.elf_table.specs.Relocations.{RefusedBy}
-use Rattle.elf_table.specs.Sections.{rows}
-use Rattle.elf_table.specs.Tables.{TableRange, strings_in}
-use Rattle.elf_table.specs.Views.{rest_mapped, rest_of}
-use Rattle.elf_hash.specs.Entries.{AreTaggedEntries, dynamic_entry_at}
-use Rattle.elf_hash.specs.Segments.{ReturnsHash, rows_records, version_rows}
-use Rattle.elf_hash.specs.Symbols.{AreVersymTable, IsVersionRecordTable, IsVersymTable}
-use Rattle.elf_hash.specs.Versions.{AreInFront, AreVersions}
-use Rattle.elf_hash.specs.declared.dyn_entry.DynamicTags.{DynamicTags}
+use Rattle.elf_hash.specs.Prelude.{AreInFront, AreTaggedEntries, AreVersions, AreVersymTable, IsVersionRecordTable, IsVersymTable, ReturnsHash, dynamic_entry_at, rows_records, version_rows}
 use Rattle.elf_hash.specs.declared.dyn_entry.DynEntry.{DynEntry}
-use Rattle.elf_hash.specs.declared.hash_style.HashStyle.TheVariants.{Gnu, Sysv}
+use Rattle.elf_hash.specs.declared.dyn_entry.DynamicTags.{DynamicTags}
 use Rattle.elf_hash.specs.declared.symbols.VersionRecordTable.{VersionRecordTable}
-use Rattle.elf_hash.specs.declared.symbols.VersymTable.{VersymTable}
 use Rattle.elf_hash.specs.declared.versions.VersionTables.{VersionTables}
+use Rattle.elf_hash.specs.declared.symbols.VersymTable.{VersymTable}
+use Rattle.elf_hash.specs.declared.hash_style.HashStyle.TheVariants.{Gnu, Sysv}
 use Rattle.elf_hash.proofs.SettleLaws.{checked_fails, checked_passes, passed_both, refused_back, refused_front}
 use Rattle.elf_hash.proofs.VersionLaws.{both_in_front, records_kept}
 

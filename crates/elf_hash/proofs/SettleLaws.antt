@@ -2,13 +2,9 @@
 use Rattle.std.proofs.Common.{◌≡◌, ℕ, false, List, [], ◌++◌, None, Ok, Err, sym, ◌∙◌}
 use Rattle.elf_model.specs.Checks.{Check, first_refusal}
 use Rattle.elf_model.proofs.CheckSteps.{first_refusal-none, first_refusal-some}
-use Rattle.elf_table.specs.Faults.{IsOfCheck}
-use Rattle.elf_table.specs.Load.{LoadedFile}
-use Rattle.elf_table.specs.Store.{StoreState}
+use Rattle.elf_table.specs.Prelude.{IsOfCheck, LoadedFile, RefusedBy, StoreState, checked}
 use Rattle.elf_table.specs.declared.fault.Fault.{Fault}
 use Rattle.elf_table.specs.declared.fault.Fault.TheVariants.{Refused, Source}
-use Rattle.elf_table.specs.Relocations.{RefusedBy}
-use Rattle.elf_table.specs.Sections.{checked}
 use Rattle.elf_table.proofs.RelocationLaws.{passed_first, table-fails}
 use Rattle.elf_hash.specs.Headers.{FindsIn}
 

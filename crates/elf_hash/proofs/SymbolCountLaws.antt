@@ -1,12 +1,10 @@
 -- Where the symbols of a lookup begin, and their strings.
 use Rattle.std.proofs.Common.{◌≡◌, ℕ, ◌<◌, List, ◌∙◌, sym, arith}
 use Rattle.elf_model.specs.LoaderScope.{LookupTables}
-use Rattle.elf_hash.specs.Extents.{SymbolsBegin}
-use Rattle.elf_hash.specs.SearchedTables.{IsTable, place_of_table}
+use Rattle.elf_hash.specs.Prelude.{IsDynamicSymbols, IsTable, SymbolsBegin, place_of_table}
+use Rattle.elf_hash.specs.declared.symbols.DynamicSymbols.{DynamicSymbols}
 use Rattle.elf_hash.specs.declared.table.HashTable.{HashTable}
 use Rattle.elf_hash.specs.declared.table.HashTable.TheVariants.{Gnu, Sysv}
-use Rattle.elf_hash.specs.Symbols.{IsDynamicSymbols}
-use Rattle.elf_hash.specs.declared.symbols.DynamicSymbols.{DynamicSymbols}
 
 -- a table is of as many symbols as the definitions say
 as_many : (file : List ℕ) (scope : LookupTables) (table : HashTable) → IsTable file scope table → (place_of_table table).symbols ≡ scope.table.symbols

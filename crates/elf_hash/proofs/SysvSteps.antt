@@ -1,23 +1,17 @@
 -- A walk in a table of the gABI step by step: what it meets at the word that it has come to.
 use Rattle.std.proofs.Common.{◌≡◌, ℕ, zero, suc, ◌+◌, ◌*◌, ◌%◌, ◌<◌, ◌≤◌, inl, inr, Bool, true, false, List, Option, None, Some, Result, Ok, Err, refl, sym, ap, subst, ◌∙◌, arith, add-one}
 use Rattle.std.proofs.lemmas.Bool.{cases_eq, cases_lt}
-use Rattle.elf_model.specs.Bytes.{field}
-use Rattle.elf_model.specs.Chains.{HashTable as Table, WalkEnd, NotThere, Untried, Answers, Last, end_of_match, ChainResult as NoteScan}
-use Rattle.elf_model.specs.Hash.{sysv_nchain, sysv_chain_at, walk_word, IsFirst}
-use Rattle.elf_model.specs.HashLaws.{GoesOn}
-use Rattle.elf_model.specs.SysvWalk.{EndsAtWord, IsSysvWalk, is_sysv_index, sysv_bucket_of, sysv_end, sysv_walked, sysv_walked_at, sysv_cycle, sysv_word, sysv_word_at}
+use Rattle.elf_model.specs.Prelude.{Answers, ChainResult as NoteScan, EndsAtWord, GoesOn, HashTable as Table, IsFirst, IsSysvWalk, Last, NotThere, Untried, WalkEnd, end_of_match, field, is_sysv_index, sysv_bucket_of, sysv_chain_at, sysv_cycle, sysv_end, sysv_nchain, sysv_walked, sysv_walked_at, sysv_word, sysv_word_at, walk_word}
 use Rattle.elf_model.specs.declared.causes.Cause.TheVariants.{HashCycle, HashIndex}
 use Rattle.elf_model.specs.declared.causes.Refusal.{Refusal}
 use Rattle.elf_model.proofs.LookupSteps.{goes_on_more}
 use Rattle.elf_model.proofs.SysvWalkLaws.{sysv_walk_answers, sysv_walk_is_bounded, sysv_walk_is_one}
 use Rattle.elf_model.proofs.WalkLaws.{not_both}
-use Rattle.elf_table.specs.Faults.{IsOfRead}
+use Rattle.elf_table.specs.Prelude.{IsOfRead}
 use Rattle.elf_table.specs.declared.fault.Fault.{Fault}
 use Rattle.elf_table.specs.declared.fault.Fault.TheVariants.{Refused}
-use Rattle.elf_hash.specs.Counts.{IsSysv}
+use Rattle.elf_hash.specs.Prelude.{IsSysv, TriesSymbol, walk_bytes}
 use Rattle.elf_hash.specs.declared.answer.SymbolMatch.{SymbolMatch}
-use Rattle.elf_hash.specs.Trials.{TriesSymbol}
-use Rattle.elf_hash.specs.Walks.{walk_bytes}
 use Rattle.elf_hash.specs.declared.sysv_table.SysvHashTable.{SysvHashTable}
 use Rattle.elf_hash.proofs.WalkLaws.{Meets, bytes_tried, meets_answer, meets_fault, meets_refusal, meets_untried}
 

@@ -1,28 +1,17 @@
 -- The tables of versions by the section headers.
 use Rattle.std.proofs.Common.{◌≡◌, ℕ, ◌/◌, ◌<◌, ◌==◌, not, true, false, inl, inr, List, [], ◌∷◌, ◌++◌, length, Option, None, Some, Ok, Err, refl, sym, ap, ◌∙◌, arith, eq-eqb}
 use Rattle.std.proofs.lemmas.Bool.{cases_Bool, eqb-true}
-use Rattle.elf_model.specs.Checks.{Check, refuse, first_refusal, unless_empty, range_checks_of, table_checks, strings_checks}
-use Rattle.elf_model.specs.Loader.{VersymTable as IsWordsOf, VersionRecordTable as IsTableOf}
-use Rattle.elf_model.specs.LoaderScope.{checks_of_type, has_bytes, records_of_type, records_with, section_words, version_checks, words_section}
-use Rattle.elf_model.specs.Numbers.{SHT_GNU_VERSYM, SHT_GNU_VERDEF, SHT_GNU_VERNEED}
-use Rattle.elf_model.specs.Records.{section_at, sh_offset, sh_size, sh_link}
-use Rattle.elf_model.specs.Tables.{all_checks}
-use Rattle.elf_model.specs.VersionRows.{first_of_type, version_table}
-use Rattle.elf_model.specs.Versions.{VERSYM_SIZE}
+use Rattle.elf_model.specs.Prelude.{Check, SHT_GNU_VERDEF, SHT_GNU_VERNEED, SHT_GNU_VERSYM, VERSYM_SIZE, VersionRecordTable as IsTableOf, VersymTable as IsWordsOf, all_checks, checks_of_type, first_of_type, first_refusal, has_bytes, range_checks_of, records_of_type, records_with, refuse, section_at, section_words, sh_link, sh_offset, sh_size, strings_checks, table_checks, unless_empty, version_checks, version_table, words_section}
 use Rattle.elf_model.specs.declared.causes.Cause.TheVariants.{BadLink}
-use Rattle.elf_model.specs.declared.versions.VersionKind.{VersionKind}
 use Rattle.elf_model.specs.declared.versions.VersionKind.TheVariants.{Definition, File}
+use Rattle.elf_model.specs.declared.versions.VersionKind.{VersionKind}
+use Rattle.elf_table.specs.Prelude.{ChecksThenValue, RefusedBy, TableRange, byte_rows, rows, string_table_at, strings_in, table_at}
 use Rattle.elf_table.specs.declared.fault.Fault.{Fault}
-use Rattle.elf_table.specs.HashSections.{ChecksThenValue}
-use Rattle.elf_table.specs.Relocations.{RefusedBy}
-use Rattle.elf_table.specs.Sections.{byte_rows, rows, string_table_at, table_at}
-use Rattle.elf_table.specs.Tables.{TableRange, strings_in}
 use Rattle.elf_table.proofs.RelocationLaws.{table-fails, table-passes}
-use Rattle.elf_hash.specs.Symbols.{AreVersionRecordTables, AreVersymTable, IsVersionRecordTable, IsVersymTable, table_if_any}
-use Rattle.elf_hash.specs.Versions.{AreInFront, AreVersions, records_at, words_checks}
+use Rattle.elf_hash.specs.Prelude.{AreInFront, AreVersionRecordTables, AreVersions, AreVersymTable, IsVersionRecordTable, IsVersymTable, records_at, table_if_any, words_checks}
 use Rattle.elf_hash.specs.declared.symbols.VersionRecordTable.{VersionRecordTable}
-use Rattle.elf_hash.specs.declared.symbols.VersymTable.{VersymTable}
 use Rattle.elf_hash.specs.declared.versions.VersionTables.{VersionTables}
+use Rattle.elf_hash.specs.declared.symbols.VersymTable.{VersymTable}
 use Rattle.elf_hash.proofs.SettleLaws.{checked_fails, checked_passes, none_refused, passed_both, refused_back, refused_front}
 
 -- the words of a section: its own checks

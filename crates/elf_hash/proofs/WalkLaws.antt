@@ -1,19 +1,16 @@
 -- How walks end, and what they ask for by the symbols that are tried and the chain words that are read.
 use Rattle.std.proofs.Common.{◌≡◌, ℕ, suc, ◌+◌, ◌≤◌, Bool, List, Option, Result, Ok, Err, IfSome, ap, ◌∙◌, arith, mul-le-mul_right, suc-mul}
-use Rattle.elf_model.specs.Bytes.{field, slice}
-use Rattle.elf_model.specs.Chains.{ChainResult as NoteScan, refused_walk}
+use Rattle.elf_model.specs.Prelude.{ChainResult as NoteScan, field, refused_walk, slice}
 use Rattle.elf_model.specs.declared.causes.Refusal.{Refusal}
 use Rattle.elf_model.proofs.Slices.{field-slice}
 use Rattle.elf_source.specs.Source.{CountedState}
-use Rattle.elf_table.specs.Faults.{IsOfRead}
-use Rattle.elf_table.specs.Ledger.{CallReads, fault_of_result}
+use Rattle.elf_table.specs.Prelude.{CallReads, IsOfRead, fault_of_result}
 use Rattle.elf_table.specs.declared.fault.Fault.{Fault}
 use Rattle.elf_table.specs.declared.fault.Fault.TheVariants.{Refused, Source}
-use Rattle.elf_hash.specs.Trials.{TriesSymbol}
-use Rattle.elf_hash.specs.Walks.{GivesWalked, WalksChain, index_of, walk_bytes}
-use Rattle.elf_hash.specs.declared.answer.SymbolMatch.{SymbolMatch}
+use Rattle.elf_hash.specs.Prelude.{GivesWalked, TriesSymbol, WalksChain, index_of, walk_bytes}
 use Rattle.elf_hash.specs.declared.chain_result.ChainMatch.{ChainMatch}
 use Rattle.elf_hash.specs.declared.chain_result.ChainResult.{ChainResult}
+use Rattle.elf_hash.specs.declared.answer.SymbolMatch.{SymbolMatch}
 
 -- eight bytes that are read
 pub filter_read : (file : List ℕ) (at word : ℕ) (bytes : List ℕ) → word ≡ field bytes 0 8 → bytes ≡ slice file at 8 → word ≡ field file at 8

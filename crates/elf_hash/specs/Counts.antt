@@ -1,9 +1,6 @@
 -- A hash table as the code has it, by its counts, and what it is of a file.
 use Rattle.std.specs.Prelude.{ℕ, ◌≡◌, ◌+◌, ◌*◌, ◌==◌, ◌||◌, nat_lt, not, count_ones, Bool, true, false, List, Result, Ok, Err}
-use Rattle.elf_model.specs.Budget.{IsBudgetRefusal}
-use Rattle.elf_model.specs.Chains.{HashTable as Table}
-use Rattle.elf_model.specs.GnuHash.{gnu_nbucket, gnu_first, gnu_nbloom, gnu_shift, before_chains}
-use Rattle.elf_model.specs.Hash.{sysv_nbucket, sysv_nchain}
+use Rattle.elf_model.specs.Prelude.{HashTable as Table, IsBudgetRefusal, before_chains, gnu_first, gnu_nbloom, gnu_nbucket, gnu_shift, sysv_nbucket, sysv_nchain}
 use Rattle.elf_model.specs.declared.causes.Cause.TheVariants.{HashShape}
 use Rattle.elf_table.specs.declared.fault.Fault.{Fault}
 use Rattle.elf_table.specs.declared.fault.Fault.TheVariants.{Refused, Source}

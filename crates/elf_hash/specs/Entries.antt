@@ -1,10 +1,6 @@
 -- The first of dynamic entries with each of the tags that locate a lookup's tables.
 use Rattle.std.specs.Prelude.{ℕ, zero, suc, ◌≡◌, ◌+◌, ◌==◌, true, false, List, Option, None, Some, option_map}
-use Rattle.elf_model.specs.Dynamic.{dynamic_count}
-use Rattle.elf_model.specs.LoaderScope.{tagged_row}
-use Rattle.elf_model.specs.Numbers.{DT_HASH, DT_GNU_HASH, DT_SYMTAB, DT_STRTAB, DT_STRSZ, DT_VERSYM, DT_VERDEF, DT_VERNEED}
-use Rattle.elf_model.specs.Records.{d_tag, d_un}
-use Rattle.elf_model.specs.Tables.{DYNAMIC_SIZE}
+use Rattle.elf_model.specs.Prelude.{DT_GNU_HASH, DT_HASH, DT_STRSZ, DT_STRTAB, DT_SYMTAB, DT_VERDEF, DT_VERNEED, DT_VERSYM, DYNAMIC_SIZE, d_tag, d_un, dynamic_count, tagged_row}
 use Rattle.elf_table.specs.Tables.{TableRange}
 use Rattle.elf_hash.specs.declared.dyn_entry.DynamicTags.{DynamicTags}
 use Rattle.elf_hash.specs.declared.dyn_entry.DynEntry.{DynEntry}

@@ -1,12 +1,8 @@
 -- How many symbols a hash table knows, and what asking for it costs.
 use Rattle.std.specs.Prelude.{ℕ, suc, ◌≡◌, ◌+◌, ◌-◌, ◌*◌, ◌<◌, List, None, Some, Result}
-use Rattle.elf_model.specs.Chains.{HashTable}
-use Rattle.elf_model.specs.Find.{first_that}
-use Rattle.elf_model.specs.GnuHash.{gnu_nbucket}
-use Rattle.elf_model.specs.LoaderScope.{GnuTable, SysvTable, LookupTables}
-use Rattle.elf_model.specs.Traits.{hashed_symbol_count, is_last_in}
+use Rattle.elf_model.specs.Prelude.{GnuTable, HashTable, LookupTables, SysvTable, first_that, gnu_nbucket, hashed_symbol_count, is_last_in}
 use Rattle.elf_source.specs.Source.{CountedState}
-use Rattle.elf_table.specs.Ledger.{CallReads, IsRead, fault_of_result}
+use Rattle.elf_table.specs.Prelude.{CallReads, IsRead, fault_of_result}
 use Rattle.elf_table.specs.declared.fault.Fault.{Fault}
 
 -- how many symbols there are up to the end of the chain that begins at a symbol index

@@ -1,14 +1,10 @@
 -- The tables that a lookup searches in a file, and what finding them costs.
 use Rattle.std.specs.Prelude.{ℕ, ◌+◌, ◌*◌, ◌==◌, true, false, List, None, Some, Result}
-use Rattle.elf_model.specs.Checks.{first_refusal, before_headers}
-use Rattle.elf_model.specs.Cost.{cost_where}
-use Rattle.elf_model.specs.LoaderFind.{segments_asked}
-use Rattle.elf_model.specs.LoaderScope.{LookupTables as IsScopeOf, scope_by_sections, lookup_tables_by_segments, lookup_tables_of}
-use Rattle.elf_model.specs.Records.{FILE_HEADER_SIZE, SECTION_HEADER_SIZE, PROGRAM_HEADER_SIZE, e_shnum}
+use Rattle.elf_model.specs.Prelude.{FILE_HEADER_SIZE, LookupTables as IsScopeOf, PROGRAM_HEADER_SIZE, SECTION_HEADER_SIZE, before_headers, cost_where, e_shnum, first_refusal, lookup_tables_by_segments, lookup_tables_of, scope_by_sections, segments_asked}
 use Rattle.elf_model.specs.declared.causes.Refusal.{Refusal}
 use Rattle.elf_record.specs.declared.ehdr.Ehdr.{Ehdr}
 use Rattle.elf_source.specs.Source.{CountedState}
-use Rattle.elf_table.specs.Ledger.{CallReads, fault_of_result}
+use Rattle.elf_table.specs.Prelude.{CallReads, fault_of_result}
 use Rattle.elf_table.specs.declared.fault.Fault.{Fault}
 use Rattle.elf_hash.specs.LookupTablesFound.{FindsLookupTables}
 use Rattle.elf_hash.specs.declared.lookup_tables.LookupTables.{LookupTables}

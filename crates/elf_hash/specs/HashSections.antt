@@ -1,7 +1,6 @@
 -- The section that holds a hash table.
 use Rattle.std.specs.Prelude.{ℕ, List}
-use Rattle.elf_model.specs.LoaderScope.{HashStyle as IsHashKind, least_size}
-use Rattle.elf_model.specs.Records.{section_at}
+use Rattle.elf_model.specs.Prelude.{HashStyle as IsHashKind, least_size, section_at}
 use Rattle.elf_hash.specs.HashStyles.{hash_style_of}
 use Rattle.elf_hash.specs.declared.hash_style.HashStyle.{HashStyle}
 

@@ -1,9 +1,7 @@
 -- What is found by the headers of a loaded file.
 use Rattle.std.specs.Prelude.{ℕ, ◌≡◌, ◌^◌, ◌<◌, List, Result, IfOk, IfErr}
 use Rattle.elf_source.specs.Source.{CountedState}
-use Rattle.elf_table.specs.Faults.{IsOfCheck}
-use Rattle.elf_table.specs.Load.{LoadedFile}
-use Rattle.elf_table.specs.Store.{StoreState}
+use Rattle.elf_table.specs.Prelude.{IsOfCheck, LoadedFile, StoreState}
 use Rattle.elf_table.specs.declared.fault.Fault.{Fault}
 
 -- a loaded file is as long as the source, and offsets in it may be added

@@ -15,3 +15,4 @@ pub mod LookupTablesFound
 pub mod Segments
 pub mod Symbols
 pub mod Versions
+pub mod Prelude

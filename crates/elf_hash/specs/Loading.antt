@@ -1,13 +1,8 @@
 -- The load of a file that locates no section headers: its file header and its program headers.
 use Rattle.std.specs.Prelude.{ℕ, ◌≡◌, ◌+◌, ◌*◌, ◌^◌, ◌<◌, ◌≤◌, List, ◌++◌, is_none, None, Some, Result, Ok, Err}
-use Rattle.elf_model.specs.Budget.{IsBudgetRefusal}
-use Rattle.elf_model.specs.Checks.{first_refusal, before_headers, header_checks, load_checks}
-use Rattle.elf_model.specs.Cost.{cost_where}
-use Rattle.elf_model.specs.Records.{FILE_HEADER_SIZE, PROGRAM_HEADER_SIZE, e_phnum}
+use Rattle.elf_model.specs.Prelude.{FILE_HEADER_SIZE, IsBudgetRefusal, PROGRAM_HEADER_SIZE, before_headers, cost_where, e_phnum, first_refusal, header_checks, load_checks}
 use Rattle.elf_source.specs.Source.{CountedState}
-use Rattle.elf_table.specs.Ledger.{CallReads, fault_of_result}
-use Rattle.elf_table.specs.Load.{LoadedFile, HoldsProgramHeaders}
-use Rattle.elf_table.specs.Store.{StoreState}
+use Rattle.elf_table.specs.Prelude.{CallReads, HoldsProgramHeaders, LoadedFile, StoreState, fault_of_result}
 use Rattle.elf_table.specs.declared.fault.Fault.{Fault}
 use Rattle.elf_table.specs.declared.fault.Fault.TheVariants.{Refused, Source}
 

@@ -1,8 +1,6 @@
 -- The tables that a lookup searches in a file, and where they lie.
 use Rattle.std.specs.Prelude.{ℕ, ◌≡◌, ◌+◌, ◌≤◌, List, Result, Ok, Err}
-use Rattle.elf_model.specs.Budget.{IsBudgetRefusal}
-use Rattle.elf_model.specs.LoaderScope.{LookupTables as IsScopeOf}
-use Rattle.elf_model.specs.Records.{e_machine}
+use Rattle.elf_model.specs.Prelude.{IsBudgetRefusal, LookupTables as IsScopeOf, e_machine}
 use Rattle.elf_model.specs.declared.causes.Refusal.{Refusal}
 use Rattle.elf_table.specs.declared.fault.Fault.{Fault}
 use Rattle.elf_table.specs.declared.fault.Fault.TheVariants.{Refused, Source}

@@ -1,16 +1,13 @@
 -- What a lookup answers, and what it asks for.
 use Rattle.std.specs.Prelude.{ℕ, ◌≡◌, ◌+◌, ◌*◌, ◌/◌, List, None, Some, Result, Ok, Err}
-use Rattle.elf_model.specs.Budget.{IsBudgetRefusal}
-use Rattle.elf_model.specs.Find.{find_cost, first_hash, looked, looked_in}
-use Rattle.elf_model.specs.Hash.{Lookup as Looked, Found as IsFound, Absent as IsAbsent, Refused as IsRefused, refused_after}
-use Rattle.elf_model.specs.Names.{pad64}
-use Rattle.elf_model.specs.Records.{section_at}
+use Rattle.elf_model.specs.Prelude.{Absent as IsAbsent, Found as IsFound, IsBudgetRefusal, Lookup as Looked, find_cost, first_hash, looked, looked_in, pad64, refused_after, section_at}
 use Rattle.elf_model.specs.declared.causes.Cause.TheVariants.{NoHash}
+use Rattle.elf_model.specs.Hash.{Refused as IsRefused}
 use Rattle.elf_record.specs.Sym.{IsSym}
 use Rattle.elf_source.specs.Source.{CountedState}
+use Rattle.elf_table.specs.Prelude.{CallReads, fault_of_result}
 use Rattle.elf_table.specs.declared.fault.Fault.{Fault}
 use Rattle.elf_table.specs.declared.fault.Fault.TheVariants.{Refused, Source}
-use Rattle.elf_table.specs.Ledger.{CallReads, fault_of_result}
 use Rattle.elf_hash.specs.declared.lookup.Lookup.{Lookup}
 use Rattle.elf_hash.specs.declared.lookup.Lookup.TheVariants.{Found, Absent}
 use Rattle.elf_hash.specs.declared.chain_result.ChainResult.{ChainResult}

@@ -1,15 +1,8 @@
 -- A hash table of either kind as a loader's lookup has it: its counts, and the walk in it for the first symbol that answers.
 use Rattle.std.specs.Prelude.{ℕ, ◌≡◌, ◌+◌, ◌≤◌, Bool, true, false, List, [], ◌∷◌, None, Some, Result, Ok, Err}
-use Rattle.elf_model.specs.Budget.{IsBudgetRefusal}
-use Rattle.elf_model.specs.Chains.{ChainResult as NoteScan}
-use Rattle.elf_model.specs.Checks.{first_refusal}
-use Rattle.elf_model.specs.GnuHash.{gnu_hash, gnu_looked_up}
-use Rattle.elf_model.specs.Hash.{sysv_hash}
-use Rattle.elf_model.specs.LoaderFind.{counts_check}
-use Rattle.elf_model.specs.LoaderScope.{GnuTable, LookupTables, SysvTable, least_size}
-use Rattle.elf_model.specs.SysvWalk.{sysv_walked}
+use Rattle.elf_model.specs.Prelude.{ChainResult as NoteScan, GnuTable, IsBudgetRefusal, LookupTables, SysvTable, counts_check, first_refusal, gnu_hash, gnu_looked_up, least_size, sysv_hash, sysv_walked}
 use Rattle.elf_model.specs.declared.causes.Refusal.{Refusal}
-use Rattle.elf_table.specs.Faults.{IsOfRead}
+use Rattle.elf_table.specs.Prelude.{IsOfRead}
 use Rattle.elf_table.specs.declared.fault.Fault.{Fault}
 use Rattle.elf_table.specs.declared.fault.Fault.TheVariants.{Refused, Source}
 use Rattle.elf_hash.specs.Counts.{IsGnu, IsTablePlace, IsSysv}

@@ -1,20 +1,13 @@
 -- The tables that a lookup searches, by the dynamic entries of a segment, stage by stage.
 use Rattle.std.specs.Prelude.{ℕ, ◌≡◌, ◌||◌, true, is_none, List, [], ◌++◌, Option, None, Some, Result, Ok, Err, IfOk}
-use Rattle.elf_model.specs.Checks.{Check, first_refusal, pass}
-use Rattle.elf_model.specs.Cost.{cost_where}
-use Rattle.elf_model.specs.Loader.{VersionRecordTable as IsTableOf}
-use Rattle.elf_model.specs.LoaderScope.{LookupTables as IsScopeOf, tagged_row, rest_checks, checks_of_row, hash_row, segment_checks, segment_lookup_tables, segment_strings, segment_strings_at, segment_symbols, segment_words, records_of_tag, records_with, dynamic_segment_index, words_row}
-use Rattle.elf_model.specs.Numbers.{DT_VERDEF, DT_VERNEED}
-use Rattle.elf_model.specs.Records.{d_un, p_filesz, segment_at}
-use Rattle.elf_model.specs.Tables.{segment_dynamic_checks}
+use Rattle.elf_model.specs.Prelude.{Check, DT_VERDEF, DT_VERNEED, LookupTables as IsScopeOf, VersionRecordTable as IsTableOf, checks_of_row, cost_where, d_un, dynamic_segment_index, first_refusal, hash_row, p_filesz, pass, records_of_tag, records_with, rest_checks, segment_at, segment_checks, segment_dynamic_checks, segment_lookup_tables, segment_strings, segment_strings_at, segment_symbols, segment_words, tagged_row, words_row}
+use Rattle.elf_model.specs.declared.versions.VersionKind.TheVariants.{Definition, File}
 use Rattle.elf_model.specs.declared.causes.Cause.TheVariants.{NoHash}
 use Rattle.elf_model.specs.declared.causes.Refusal.{Refusal}
-use Rattle.elf_model.specs.declared.versions.VersionKind.TheVariants.{Definition, File}
 use Rattle.elf_source.specs.Source.{CountedState}
-use Rattle.elf_table.specs.Ledger.{CallReads, CallDid, fault_of_result}
-use Rattle.elf_table.specs.Load.{HoldsProgramHeaders}
-use Rattle.elf_table.specs.declared.fault.Fault.{Fault}
+use Rattle.elf_table.specs.Prelude.{CallDid, CallReads, HoldsProgramHeaders, fault_of_result}
 use Rattle.elf_table.specs.declared.segment_view.ExecutionView.{ExecutionView}
+use Rattle.elf_table.specs.declared.fault.Fault.{Fault}
 use Rattle.elf_hash.specs.HashStyles.{hash_style_of}
 use Rattle.elf_hash.specs.LookupTablesFound.{FindsLookupTables, LookupTablesInBounds}
 use Rattle.elf_hash.specs.Symbols.{IsDynamicSymbols}

@@ -1,12 +1,8 @@
 -- What the trial of a symbol answers.
 use Rattle.std.specs.Prelude.{ℕ, ◌≡◌, ◌<◌, Bool, true, false, List, Option, None, Some, Result, Ok, Err}
-use Rattle.elf_model.specs.Budget.{IsBudgetRefusal}
-use Rattle.elf_model.specs.Hash.{symbol_count}
-use Rattle.elf_model.specs.Records.{sh_offset}
-use Rattle.elf_model.specs.SysvWalk.{has_name}
-use Rattle.elf_model.specs.Tables.{strings_of}
+use Rattle.elf_model.specs.Prelude.{IsBudgetRefusal, has_name, sh_offset, strings_of, symbol_count}
 use Rattle.elf_model.specs.declared.causes.Refusal.{Refusal}
-use Rattle.elf_table.specs.Tables.{TableRange, StringTableRange, strings_in}
+use Rattle.elf_table.specs.Prelude.{StringTableRange, TableRange, strings_in}
 use Rattle.elf_table.specs.declared.fault.Fault.{Fault}
 use Rattle.elf_table.specs.declared.fault.Fault.TheVariants.{Refused, Source}
 use Rattle.elf_hash.specs.declared.answer.SymbolMatch.{SymbolMatch}

@@ -1,11 +1,6 @@
 -- The tables of versions by the section headers: their checks, and what they are.
 use Rattle.std.specs.Prelude.{ℕ, ◌==◌, not, List, [], ◌∷◌, ◌++◌, Option, IfSome}
-use Rattle.elf_model.specs.Checks.{Check, refuse, unless_empty, table_checks}
-use Rattle.elf_model.specs.Loader.{VersymTable as IsWordsOf, VersionRecordTable as IsTableOf}
-use Rattle.elf_model.specs.LoaderScope.{checks_of_section, records_with, words_section}
-use Rattle.elf_model.specs.Records.{sh_offset, sh_size, sh_link}
-use Rattle.elf_model.specs.Tables.{strings_of}
-use Rattle.elf_model.specs.Versions.{VERSYM_SIZE}
+use Rattle.elf_model.specs.Prelude.{Check, VERSYM_SIZE, VersionRecordTable as IsTableOf, VersymTable as IsWordsOf, checks_of_section, records_with, refuse, sh_link, sh_offset, sh_size, strings_of, table_checks, unless_empty, words_section}
 use Rattle.elf_model.specs.declared.causes.Cause.TheVariants.{BadLink}
 use Rattle.elf_model.specs.declared.versions.VersionKind.{VersionKind}
 use Rattle.elf_table.specs.Tables.{TableInBounds}

@@ -1,11 +1,8 @@
 -- What a walk along a chain answers, and what it asks for.
 use Rattle.std.specs.Prelude.{ℕ, ◌≡◌, ◌+◌, ◌*◌, ◌<◌, ◌≤◌, true, false, List, Option, None, Some, Result, Ok, Err, IfSome}
-use Rattle.elf_model.specs.Budget.{IsBudgetRefusal}
-use Rattle.elf_model.specs.Chains.{ChainResult as NoteScan}
-use Rattle.elf_model.specs.GnuHash.{gnu_start, holds_none}
+use Rattle.elf_model.specs.Prelude.{ChainResult as NoteScan, IsBudgetRefusal, gnu_start, holds_none}
 use Rattle.elf_source.specs.Source.{CountedState}
-use Rattle.elf_table.specs.Ledger.{CallReads, fault_of_result}
-use Rattle.elf_table.specs.Faults.{IsOfRead}
+use Rattle.elf_table.specs.Prelude.{CallReads, IsOfRead, fault_of_result}
 use Rattle.elf_table.specs.declared.fault.Fault.{Fault}
 use Rattle.elf_table.specs.declared.fault.Fault.TheVariants.{Refused, Source}
 use Rattle.elf_hash.specs.declared.answer.SymbolMatch.{SymbolMatch}

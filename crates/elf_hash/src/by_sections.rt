@@ -1,10 +1,8 @@
 //! The tables that a lookup searches, by the section headers.
 ghost use Rattle.std.specs.Prelude.{◌≡◌, ◌<◌, ◌^◌, ℕ, List, IfSome};
 ghost use Rattle.std.specs.Option.{option_map};
-ghost use Rattle.elf_model.specs.LoaderScope.{hash_section, scope_by_sections, section_checks, section_lookup_tables};
-ghost use Rattle.elf_model.specs.Records.{section_at};
-ghost use Rattle.elf_table.specs.Load.{HoldsSectionHeaders};
-ghost use Rattle.elf_table.specs.HashSections.{ChecksThenValue};
+ghost use Rattle.elf_model.specs.Prelude.{hash_section, scope_by_sections, section_at, section_checks, section_lookup_tables};
+ghost use Rattle.elf_table.specs.Prelude.{ChecksThenValue, HoldsSectionHeaders};
 ghost use Rattle.elf_hash.specs.HashStyles.{hash_style_of};
 ghost use Rattle.elf_hash.specs.Headers.{FindsIn, HasHeader};
 ghost use Rattle.elf_hash.specs.HashSections.{found_at};
@@ -28,7 +26,8 @@ use elf_table::{Fault, SectionView, refused};
 /// tables of versions.
 pub(crate) fn by_sections(file: &SectionView<'_>) -> Result<LookupTables, Fault>
     requires small { file.now.loaded.size < 2 ^ 63 }
-    ensures { FindsIn HoldsSectionHeaders file.now.loaded file.now.store.now result LookupTablesInBounds
+    ensures { FindsIn HoldsSectionHeaders file.now.loaded file.now.store.now result
+        LookupTablesInBounds
         (λ bytes. FindsLookupTables bytes (scope_by_sections bytes) result) }
 {
     let Some((kind, section)) = hash_section(file) else {
@@ -62,9 +61,11 @@ fn section_lookup_tables(
     section: u16,
 ) -> Result<LookupTables, Fault>
     requires { HasHeader section file.now.store.now.loaded file.now.loaded.size }
-    ensures { FindsIn HoldsSectionHeaders file.now.loaded file.now.store.now result LookupTablesInBounds (λ bytes.
+    ensures { FindsIn HoldsSectionHeaders file.now.loaded file.now.store.now result
+        LookupTablesInBounds (λ bytes.
         ChecksThenValue (section_checks bytes (hash_style_of kind) (section_at bytes section))
-        (IsLookupTables bytes (section_lookup_tables bytes (hash_style_of kind) (section_at bytes section)))
+        (IsLookupTables bytes
+        (section_lookup_tables bytes (hash_style_of kind) (section_at bytes section)))
         result) }
 {
     let (index, (table, names)) = file.hashed(section, kind.min_hash_bytes())?;

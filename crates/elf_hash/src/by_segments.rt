@@ -1,9 +1,7 @@
 //! The tables that a lookup searches, by the program headers.
 ghost use Rattle.std.specs.Prelude.{◌≡◌, ◌<◌, ◌^◌, ℕ, List};
-ghost use Rattle.elf_model.specs.LoaderScope.{lookup_tables_by_segments, scope_in_segments, has_wide_kind, segment_checks, segment_lookup_tables};
-ghost use Rattle.elf_model.specs.Records.{d_un, segment_at};
-ghost use Rattle.elf_table.specs.Load.{HoldsProgramHeaders};
-ghost use Rattle.elf_table.specs.HashSections.{ChecksThenValue};
+ghost use Rattle.elf_model.specs.Prelude.{d_un, has_wide_kind, lookup_tables_by_segments, scope_in_segments, segment_at, segment_checks, segment_lookup_tables};
+ghost use Rattle.elf_table.specs.Prelude.{ChecksThenValue, HoldsProgramHeaders};
 ghost use Rattle.elf_hash.specs.Entries.{AreTaggedEntries};
 ghost use Rattle.elf_hash.specs.HashStyles.{hash_style_of};
 ghost use Rattle.elf_hash.specs.Headers.{FindsIn, HasHeader, IsOfSource};
@@ -63,9 +61,11 @@ fn by_entries(
     found: &DynamicTags,
 ) -> Result<LookupTables, Fault>
     requires { HasHeader segment view.now.store.now.segments view.now.loaded.size }
-    ensures { FindsIn HoldsProgramHeaders view.now.loaded view.now.store.now result LookupTablesInBounds (λ bytes.
+    ensures { FindsIn HoldsProgramHeaders view.now.loaded view.now.store.now result
+        LookupTablesInBounds (λ bytes.
         AreTaggedEntries bytes (segment_at bytes segment) found.now →
-        FindsLookupTables bytes (scope_by_entries bytes segment (segment_at bytes segment)) result) }
+        FindsLookupTables bytes (scope_by_entries bytes segment (segment_at bytes segment))
+        result) }
 {
     let Some((kind, row)) = hash_entry(found) else {
         return refused(0x20, Cause::NoHash);
@@ -100,12 +100,15 @@ fn segment_lookup_tables(
     row: &DynEntry,
 ) -> Result<LookupTables, Fault>
     requires { HasHeader segment view.now.store.now.segments view.now.loaded.size }
-    ensures { FindsIn HoldsProgramHeaders view.now.loaded view.now.store.now result LookupTablesInBounds (λ bytes.
+    ensures { FindsIn HoldsProgramHeaders view.now.loaded view.now.store.now result
+        LookupTablesInBounds (λ bytes.
         AreTaggedEntries bytes (segment_at bytes segment) found.now →
         d_un bytes row.now.at ≡ row.now.value →
-        ChecksThenValue (segment_checks bytes (hash_style_of kind) (segment_at bytes segment) row.now.at)
+        ChecksThenValue
+        (segment_checks bytes (hash_style_of kind) (segment_at bytes segment) row.now.at)
         (IsLookupTables bytes
-        (segment_lookup_tables bytes (hash_style_of kind) segment (segment_at bytes segment) row.now.at))
+        (segment_lookup_tables bytes (hash_style_of kind) segment (segment_at bytes segment)
+        row.now.at))
         result) }
 {
     let hash = view.rest(row.value, row.at)?;

@@ -3,7 +3,7 @@ ghost use Rattle.std.specs.Prelude.{◌≡◌, ℕ, ◌+◌, ◌/◌, ◌≤◌,
 ghost use Rattle.elf_table.specs.Ledger.{CallDid, fault_of_result};
 ghost use Rattle.elf_hash.specs.SearchedTables.{HasCounts, IsPlaceIn, IsTable, HashTableInBounds, ReturnsExcluded, counts_bytes, place_of_table, walked_in};
 ghost use Rattle.elf_hash.specs.Walks.{WalksChain, walk_bytes};
-ghost use Rattle.elf_model.specs.LoaderScope.{LookupTables};
+ghost use Rattle.elf_model.specs.Prelude.{LookupTables};
 ghost use Rattle.elf_model.specs.declared.causes.Refusal.{Refusal};
 
 use crate::chain_result::ChainResult;
@@ -66,7 +66,8 @@ pub fn walk<S: Source, T: Matcher>(
     ensures { CallDid src.old src.new (fault_of_result result) (walk_bytes 12
         ((place_of_table table.now).size / 4) ((place_of_table table.now).size / 4)
         (T.cost trial.now))
-        (λ file. (scope : LookupTables) (says : ℕ → Result Bool Refusal) → IsTable file scope table.now →
+        (λ file. (scope : LookupTables) (says : ℕ → Result Bool Refusal) →
+        IsTable file scope table.now →
         T.is_of trial.now file says → WalksChain (T.stands trial.now file) 12 (T.cost trial.now)
         (walked_in file scope name.now says) src.old src.new result) }
 {

@@ -1,9 +1,7 @@
 //! The dynamic entries that tell of a lookup's tables.
 ghost use Rattle.std.specs.Prelude.{◌≡◌, ℕ, List, IfErr, IfOk};
 ghost use Rattle.elf_record.specs.Dyn.{IsDyn};
-ghost use Rattle.elf_table.specs.Faults.{IsOfRead};
-ghost use Rattle.elf_table.specs.Ledger.{CallDid, fault_of_result};
-ghost use Rattle.elf_table.specs.Tables.{TableInBounds, size_of};
+ghost use Rattle.elf_table.specs.Prelude.{CallDid, IsOfRead, TableInBounds, fault_of_result, size_of};
 ghost use Rattle.elf_hash.specs.Entries.{AreListed, TakesEntry, entry_here, first_entry, no_entries};
 
 use crate::dyn_entry::{DynEntry, DynamicTags};

@@ -4,10 +4,7 @@ ghost use Rattle.elf_table.specs.Ledger.{CallDid, IsRead, fault_of_result};
 ghost use Rattle.elf_hash.specs.Counts.{IsGnu, IsTablePlace};
 ghost use Rattle.elf_hash.specs.Extents.{SymbolsBegin, EndsChain, ReturnsExtent, last_in};
 ghost use Rattle.elf_hash.specs.SearchedTables.{IsTable, HashTableInBounds, place_of_table};
-ghost use Rattle.elf_model.specs.Bytes.{field, slice};
-ghost use Rattle.elf_model.specs.Chains.{HashTable as Place};
-ghost use Rattle.elf_model.specs.LoaderScope.{LookupTables};
-ghost use Rattle.elf_model.specs.Traits.{before_strings, gnu_symbols, max_bucket, unfound};
+ghost use Rattle.elf_model.specs.Prelude.{HashTable as Place, LookupTables, before_strings, field, gnu_symbols, max_bucket, slice, unfound};
 
 use crate::gnu_table::GnuHashTable;
 use crate::gnu_walk::is_chain_end;

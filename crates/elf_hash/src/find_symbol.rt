@@ -1,13 +1,11 @@
 //! The call that looks a name up.
 ghost use Rattle.std.specs.Prelude.{◌≡◌, ℕ, ◌+◌, ◌*◌, ◌/◌, ◌≤◌, length, IfOk};
-ghost use Rattle.elf_table.specs.Ledger.{CallDid, fault_of_result};
+ghost use Rattle.elf_table.specs.Prelude.{CallDid, HoldsSectionHeaders, fault_of_result};
 ghost use Rattle.elf_hash.specs.Lookups.{FindsBySysv, LooksBySysv, after_headers_bytes, find_bytes, lookup_in, looked_after, step_bytes, steps_of};
 ghost use Rattle.elf_hash.specs.Counts.{IsSysv};
 ghost use Rattle.elf_hash.specs.Tables.{IsPlaceOf, IsHashSection, Lies};
 ghost use Rattle.elf_hash.specs.Walks.{IsShort};
-ghost use Rattle.elf_model.specs.Hash.{looked_up};
-ghost use Rattle.elf_model.specs.SysvWalk.{section_table_of};
-ghost use Rattle.elf_table.specs.Load.{HoldsSectionHeaders};
+ghost use Rattle.elf_model.specs.Prelude.{looked_up, section_table_of};
 
 use crate::chain_result::ChainResult;
 use crate::checks::{checked, first_hash};

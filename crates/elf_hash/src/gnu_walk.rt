@@ -4,9 +4,7 @@ ghost use Rattle.elf_table.specs.Ledger.{CallDid, fault_of_result};
 ghost use Rattle.elf_hash.specs.Counts.{IsGnu};
 ghost use Rattle.elf_hash.specs.Trials.{TriesDefinedSymbol};
 ghost use Rattle.elf_hash.specs.Walks.{HoldsHash, Starts, WalksChain, walk_bytes};
-ghost use Rattle.elf_model.specs.Chains.{HashTable as Place};
-ghost use Rattle.elf_model.specs.Cost.{cost_where};
-ghost use Rattle.elf_model.specs.GnuHash.{is_chain_end, gnu_looked_up, hash_bits_match, is_set};
+ghost use Rattle.elf_model.specs.Prelude.{HashTable as Place, cost_where, gnu_looked_up, hash_bits_match, is_chain_end, is_set};
 ghost use Rattle.elf_model.specs.declared.causes.Refusal.{Refusal};
 
 use crate::answer::SymbolMatch;
@@ -164,7 +162,8 @@ fn tried_where<S: Source, T: Matcher>(
 ) -> Result<Option<SymbolMatch>, Fault>
     requires below { index < T.symbols trial.now }
     requires lies { T.lies trial.now src.old.seen.size }
-    ensures { CallDid src.old src.new (fault_of_result result) (cost_where is_wanted (T.cost trial.now))
+    ensures { CallDid src.old src.new (fault_of_result result)
+        (cost_where is_wanted (T.cost trial.now))
         (λ file. (says : ℕ → Result Bool Refusal) → T.is_of trial.now file says →
         TriesDefinedSymbol is_wanted (T.stands trial.now file) says index result) }
 {

@@ -1,8 +1,7 @@
 //! The tables that a lookup searches, found by the headers of a file.
 ghost use Rattle.std.specs.Prelude.{◌≡◌, ◌+◌, ◌*◌, ◌<◌, ◌≤◌, ◌^◌, ℕ, List, IfOk};
 ghost use Rattle.elf_model.specs.LoaderFind.{segments_asked};
-ghost use Rattle.elf_table.specs.Ledger.{CallReads, CallDid, fault_of_result};
-ghost use Rattle.elf_table.specs.Load.{HoldsSectionHeaders, SegmentsInBounds};
+ghost use Rattle.elf_table.specs.Prelude.{CallDid, CallReads, HoldsSectionHeaders, SegmentsInBounds, fault_of_result};
 ghost use Rattle.elf_hash.specs.Finding.{FindsScope, scope_loaded, segments_bytes};
 ghost use Rattle.elf_hash.specs.Headers.{IsOfSource};
 ghost use Rattle.elf_hash.specs.LookupTablesFound.{FindsLookupTables, LookupTablesInBounds};
@@ -55,7 +54,8 @@ fn loaded_scope<S: Source>(
     requires whole { store.old.loaded ≡ loaded.header.e_shnum }
     requires few { loaded.header.e_phnum ≤ store.old.slots }
     ensures did { CallDid src.old src.new (fault_of_result result)
-        (segments_bytes loaded.header src.old.seen.size) (λ file. HoldsSectionHeaders file loaded store.old →
+        (segments_bytes loaded.header src.old.seen.size)
+        (λ file. HoldsSectionHeaders file loaded store.old →
         CallReads src.old src.new (fault_of_result result) (segments_asked file)
         × FindsLookupTables file (scope_loaded file) result) }
     ensures slots { store.new.slots ≡ store.old.slots }

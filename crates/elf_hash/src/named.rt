@@ -3,8 +3,7 @@ ghost use Rattle.std.specs.Prelude.{◌≤◌, length};
 ghost use Rattle.elf_hash.specs.Lookups.{symbol_bytes};
 ghost use Rattle.elf_hash.specs.Trials.{SaysHasName};
 ghost use Rattle.elf_record.specs.Sym.{IsSym};
-ghost use Rattle.elf_table.specs.Cursors.{row_at};
-ghost use Rattle.elf_table.specs.Tables.{SymbolTableInBounds};
+ghost use Rattle.elf_table.specs.Prelude.{SymbolTableInBounds, row_at};
 
 use crate::answer::SymbolMatch;
 use crate::matcher::Matcher;

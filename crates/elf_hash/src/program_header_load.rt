@@ -20,7 +20,8 @@ pub fn load_by_segments<S: Source>(
     src: &mut Counted<S>,
     store: &mut HeaderStore,
 ) -> Result<Loaded, Fault>
-    ensures did { CallDid src.old src.new (fault_of_result result) (64 + store.old.slots * 56) (λ file.
+    ensures did { CallDid src.old src.new (fault_of_result result) (64 + store.old.slots * 56)
+        (λ file.
         e_shnum file ≡ 0 → LoadsShown file store.old.slots store.new src.old src.new result) }
     ensures slots { store.new.slots ≡ store.old.slots }
     ensures fits { IfOk result (FitsSource src.old.seen.size store.new) }

@@ -1,15 +1,8 @@
 //! The tables of versions by the section headers.
 ghost use Rattle.std.specs.Prelude.{◌≡◌, ◌<◌, ◌^◌, ℕ, List, [], IfErr, IfSome};
-ghost use Rattle.elf_model.specs.LoaderScope.{checks_of_type, has_bytes, records_of_type, section_words, version_checks, words_section};
-ghost use Rattle.elf_model.specs.Numbers.{SHT_GNU_VERDEF, SHT_GNU_VERNEED};
-ghost use Rattle.elf_model.specs.Records.{section_at, sh_link};
-ghost use Rattle.elf_model.specs.Tables.{all_checks};
-ghost use Rattle.elf_model.specs.VersionRows.{version_table};
+ghost use Rattle.elf_model.specs.Prelude.{SHT_GNU_VERDEF, SHT_GNU_VERNEED, all_checks, checks_of_type, has_bytes, records_of_type, section_at, section_words, sh_link, version_checks, version_table, words_section};
 ghost use Rattle.elf_model.specs.declared.versions.VersionKind.TheVariants.{Definition, File as NeededFile, Need};
-ghost use Rattle.elf_table.specs.Load.{HoldsSectionHeaders};
-ghost use Rattle.elf_table.specs.HashSections.{ChecksThenValue};
-ghost use Rattle.elf_table.specs.Sections.{string_table_at};
-ghost use Rattle.elf_table.specs.Tables.{TableInBounds, StringsInBounds};
+ghost use Rattle.elf_table.specs.Prelude.{ChecksThenValue, HoldsSectionHeaders, StringsInBounds, TableInBounds, string_table_at};
 ghost use Rattle.elf_hash.specs.Headers.{FindsIn, HasHeader};
 ghost use Rattle.elf_hash.specs.Symbols.{AreVersymTable, IsVersionRecordTable, VersionRecordsInBounds};
 ghost use Rattle.elf_hash.specs.Versions.{AreInFront, AreVersions, VersionsInBounds, records_at, words_checks};
@@ -29,7 +22,8 @@ use elf_table::{Fault, Names, SectionView, Table, refused};
 /// The first check that fails: those of the words, of the definitions, of the needs.
 pub(crate) fn section_versions(file: &SectionView<'_>, link: u32) -> Result<VersionTables, Fault>
     requires small { file.now.loaded.size < 2 ^ 63 }
-    ensures { FindsIn HoldsSectionHeaders file.now.loaded file.now.store.now result VersionsInBounds (λ bytes.
+    ensures { FindsIn HoldsSectionHeaders file.now.loaded file.now.store.now result
+        VersionsInBounds (λ bytes.
         (at : ℕ) → sh_link bytes at ≡ link → ChecksThenValue (version_checks bytes at)
         (AreVersions bytes (section_words bytes)
         (records_of_type bytes SHT_GNU_VERDEF Definition
@@ -135,7 +129,8 @@ fn section_records(
 ) -> Result<VersionRecordTable, Fault>
     requires header { HasHeader section file.now.store.now.loaded file.now.loaded.size }
     requires kind { kind ≡ Need → ⊥ }
-    ensures { FindsIn HoldsSectionHeaders file.now.loaded file.now.store.now result VersionRecordsInBounds (λ bytes.
+    ensures { FindsIn HoldsSectionHeaders file.now.loaded file.now.store.now result
+        VersionRecordsInBounds (λ bytes.
         ChecksThenValue (all_checks version_table bytes (section_at bytes section))
         (IsVersionRecordTable bytes (records_at bytes kind (section_at bytes section))) result) }
 {
@@ -158,7 +153,8 @@ fn section_records(
 fn record_names(file: &SectionView<'_>, section: u16, table: Table) -> Result<Names, Fault>
     requires below { section < file.now.store.now.loaded }
     ensures some { IfErr result (λ fault. 0 < table.count) }
-    ensures finds { FindsIn HoldsSectionHeaders file.now.loaded file.now.store.now result StringsInBounds
+    ensures finds { FindsIn HoldsSectionHeaders file.now.loaded file.now.store.now result
+        StringsInBounds
         (λ bytes. 0 < table.count → result ≡ string_table_at bytes (section_at bytes section)) }
 {
     if table.is_empty() {

@@ -1,11 +1,8 @@
 //! The symbols and the tables of versions by the program headers.
 ghost use Rattle.std.specs.Prelude.{◌≡◌, ◌/◌, ◌<◌, ◌≤◌, ◌^◌, ℕ, List, IfSome, option_map};
-ghost use Rattle.elf_model.specs.LoaderScope.{checks_of_row, records_of_tag, rest_checks, rows_checks, segment_strings, segment_words, tagged_row, words_row};
-ghost use Rattle.elf_model.specs.Records.{segment_at};
+ghost use Rattle.elf_model.specs.Prelude.{checks_of_row, records_of_tag, rest_checks, rows_checks, segment_at, segment_strings, segment_words, tagged_row, words_row};
 ghost use Rattle.elf_model.specs.declared.versions.VersionKind.TheVariants.{Need};
-ghost use Rattle.elf_table.specs.Load.{HoldsProgramHeaders};
-ghost use Rattle.elf_table.specs.HashSections.{ChecksThenValue};
-ghost use Rattle.elf_table.specs.Tables.{StringsInBounds, strings_in};
+ghost use Rattle.elf_table.specs.Prelude.{ChecksThenValue, HoldsProgramHeaders, StringsInBounds, strings_in};
 ghost use Rattle.elf_hash.specs.Entries.{AreTaggedEntries, dynamic_entry_at};
 ghost use Rattle.elf_hash.specs.Headers.{FindsIn};
 ghost use Rattle.elf_hash.specs.Segments.{AreRowsSymbols, TellSymbols, rows_records, version_rows};
@@ -33,7 +30,8 @@ pub(crate) fn segment_symbols(
     row: u64,
 ) -> Result<DynamicSymbols, Fault>
     requires small { view.now.loaded.size < 2 ^ 63 }
-    ensures { FindsIn HoldsProgramHeaders view.now.loaded view.now.store.now result DynamicSymbolsInBounds (λ bytes.
+    ensures { FindsIn HoldsProgramHeaders view.now.loaded view.now.store.now result
+        DynamicSymbolsInBounds (λ bytes.
         (at : ℕ) → AreTaggedEntries bytes at found.now →
         ChecksThenValue (rows_checks bytes at row) (AreRowsSymbols bytes segment at) result) }
 {
@@ -92,7 +90,8 @@ fn segment_versions(
 ) -> Result<VersionTables, Fault>
     requires small { view.now.loaded.size < 2 ^ 63 }
     requires names { StringsInBounds view.now.loaded.size names }
-    ensures { FindsIn HoldsProgramHeaders view.now.loaded view.now.store.now result VersionsInBounds (λ bytes.
+    ensures { FindsIn HoldsProgramHeaders view.now.loaded view.now.store.now result
+        VersionsInBounds (λ bytes.
         (at : ℕ) → AreTaggedEntries bytes at found.now →
         strings_in bytes names ≡ segment_strings bytes at → ChecksThenValue (version_rows bytes at)
         (AreVersions bytes (segment_words bytes segment at) (rows_records bytes at)) result) }

@@ -21,9 +21,11 @@ impl DynamicSymbols {
     pub fn extent<S: Source>(&self, src: &mut Counted<S>, table: &HashTable) -> Result<u64, Fault>
         requires within { HashTableInBounds src.old.seen.size table.now }
         requires count { self.now.table.count ≡ (place_of_table table.now).symbols }
-        ensures did { CallDid src.old src.new (fault_of_result result) (place_of_table table.now).size
+        ensures did { CallDid src.old src.new (fault_of_result result)
+            (place_of_table table.now).size
             (λ file. (scope : LookupTables) → IsTable file scope table.now →
-            IsDynamicSymbols file scope.symbols self.now → ReturnsExtent file scope src.old src.new result) }
+            IsDynamicSymbols file scope.symbols self.now →
+            ReturnsExtent file scope src.old src.new result) }
         ensures few { IfOk result (λ count. count ≤ self.now.table.count) }
     {
         symbol_extent(src, table, self.table.at(), self.names.at())

@@ -3,8 +3,7 @@ ghost use Rattle.std.specs.Prelude.{◌≡◌, ℕ, ◌+◌, ◌<◌, ◌≤◌,
 ghost use Rattle.elf_table.specs.Ledger.{CallDid, fault_of_result};
 ghost use Rattle.elf_hash.specs.Counts.{IsSysv};
 ghost use Rattle.elf_hash.specs.Walks.{IsShort, WalksChain, walk_bytes};
-ghost use Rattle.elf_model.specs.Chains.{HashTable as Place};
-ghost use Rattle.elf_model.specs.SysvWalk.{is_sysv_index, sysv_walked};
+ghost use Rattle.elf_model.specs.Prelude.{HashTable as Place, is_sysv_index, sysv_walked};
 ghost use Rattle.elf_model.specs.declared.causes.Refusal.{Refusal};
 
 use crate::answer::SymbolMatch;

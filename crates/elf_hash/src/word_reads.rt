@@ -13,7 +13,8 @@ use elf_table::{Fault, fill};
 /// A fault of the read, or a refusal for want of budget, at the offset.
 pub fn read_word<S: Source>(src: &mut Counted<S>, at: u64) -> Result<u32, Fault>
     requires { at + 4 ≤ src.old.seen.size }
-    ensures { CallDid src.old src.new (fault_of_result result) 4 (λ file. IsRead result (field file at 4)) }
+    ensures { CallDid src.old src.new (fault_of_result result) 4
+        (λ file. IsRead result (field file at 4)) }
 {
     let mut bytes = [0; 4];
     fill(src, at, &mut bytes)?;
@@ -26,7 +27,8 @@ pub fn read_word<S: Source>(src: &mut Counted<S>, at: u64) -> Result<u32, Fault>
 /// A fault of the read, or a refusal for want of budget, at the offset.
 pub(crate) fn read_filter<S: Source>(src: &mut Counted<S>, at: u64) -> Result<u64, Fault>
     requires { at + 8 ≤ src.old.seen.size }
-    ensures { CallDid src.old src.new (fault_of_result result) 8 (λ file. IsRead result (field file at 8)) }
+    ensures { CallDid src.old src.new (fault_of_result result) 8
+        (λ file. IsRead result (field file at 8)) }
 {
     let mut bytes = [0; 8];
     fill(src, at, &mut bytes)?;

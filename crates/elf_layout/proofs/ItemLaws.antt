@@ -11,9 +11,9 @@ use Rattle.std.proofs.Math.Nat.{pow-le-pow_right}
 use Rattle.std.proofs.lemmas.List.{get_or_default}
 use Rattle.std.proofs.lemmas.Str.Parse.{without_leading_plus_none}
 use Rattle.std.proofs.lemmas.Str.Pattern.{NoCharPasses-char, drop_at_char, starts_char}
-use Rattle.elf_layout.specs.Spelled.{EQUALS, IsAddress, IsItemOf, IsSplitAtEquals, ParsesItem, item_address}
+use Rattle.elf_layout.specs.Prelude.{EQUALS, IsAddress, IsItemOf, IsSplitAtEquals, ParsesItem, item_address}
+use Rattle.elf_layout.specs.declared.layout.Item.TheVariants.{Define, Entry, Section, Table, Thread}
 use Rattle.elf_layout.specs.declared.layout.Item.{Item}
-use Rattle.elf_layout.specs.declared.layout.Item.TheVariants.{Section, Define, Entry, Table, Thread}
 
 -- the clause of `rsplit_once` at `=`
 abbrev SplitsAtLast : List ℕ → Option (Bor (List ℕ) × Bor (List ℕ)) → Type 0

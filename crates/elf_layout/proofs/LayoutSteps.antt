@@ -5,8 +5,7 @@ use Rattle.std.proofs.lemmas.List.Elements.{All-cons}
 use Rattle.std.proofs.lemmas.List.Sums.{sum_by-cons}
 use Rattle.std.proofs.lemmas.Bool.{ne_eqb}
 use Rattle.std.proofs.lemmas.Bool.Decides.{eqb_tells}
-use Rattle.elf_model.specs.Names.{pad64}
-use Rattle.elf_model.specs.Placing.{address_in}
+use Rattle.elf_model.specs.Prelude.{address_in, pad64}
 use Rattle.elf_layout.specs.Layouts.{HasKey, LacksKey, items_cost}
 
 pub drop-at : {A : Type 0} (items : List A) (i : ℕ) (d item : A) → i < length items → item ≡ get_or items i d → drop i items ≡ item ∷ drop (i + 1) items

@@ -8,7 +8,7 @@ use Rattle.std.proofs.lemmas.Cmp.{alike_right, ranked}
 use Rattle.std.proofs.lemmas.List.{get_or-take}
 use Rattle.std.proofs.lemmas.List.Sorted.{searchable_from_sorted}
 use Rattle.elf_model.specs.Placing.{address_in}
-use Rattle.elf_layout.specs.Lent.{KeysAscend, FindsKey, Follows, borrowed_index, placed}
+use Rattle.elf_layout.specs.Prelude.{FindsKey, Follows, KeysAscend, borrowed_index, placed}
 use Rattle.elf_layout.specs.declared.lent.LentSection.{LentSection}
 use Rattle.elf_layout.proofs.LayoutSteps.{address_in-hit, address_in-miss}
 

@@ -14,13 +14,10 @@ use Rattle.std.proofs.lemmas.List.Splits.{length-slice_split}
 use Rattle.std.proofs.lemmas.List.Sums.{count_by-le-length}
 use Rattle.std.proofs.lemmas.List.Elements.{All-nil, All-push}
 use Rattle.elf_model.specs.Placing.{Layout}
-use Rattle.elf_layout.specs.Listed.{AreAlike, GiveItems, HasTwice, IsLastAlike, KeysNeverDescend, ParsesSameItem, with_item, with_items}
-use Rattle.elf_layout.specs.Layouts.{HaveNames, IsName}
-use Rattle.elf_layout.specs.Lent.{Follows, MayFollow, lent_name, name_order, named}
-use Rattle.elf_layout.specs.Spelled.{ParsesItem}
-use Rattle.elf_layout.specs.declared.lent.LentName.{LentName}
+use Rattle.elf_layout.specs.Prelude.{AreAlike, Follows, GiveItems, HasTwice, HaveNames, IsLastAlike, IsName, KeysNeverDescend, MayFollow, ParsesItem, ParsesSameItem, lent_name, name_order, named, with_item, with_items}
+use Rattle.elf_layout.specs.declared.layout.Item.TheVariants.{Define, Entry, Section, Table, Thread}
 use Rattle.elf_layout.specs.declared.layout.Item.{Item}
-use Rattle.elf_layout.specs.declared.layout.Item.TheVariants.{Section, Define, Entry, Table, Thread}
+use Rattle.elf_layout.specs.declared.lent.LentName.{LentName}
 use Rattle.elf_layout.proofs.ItemLaws.{SameItem, one_item}
 use Rattle.elf_layout.proofs.LayoutSteps.{drop-at}
 use Rattle.elf_layout.proofs.NameSteps.{order_same}

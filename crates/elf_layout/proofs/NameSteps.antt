@@ -7,14 +7,10 @@ use Rattle.std.proofs.lemmas.Cmp.{nat_list_cmp_total, tied_itself}
 use Rattle.std.proofs.lemmas.List.{get_or_default, get_or-take, take-append-drop, take-take, take_all}
 use Rattle.std.proofs.lemmas.Map.Text.{is_eq-slice_cmp}
 use Rattle.std.proofs.lemmas.Slice.Eq.{bytes_eq-Decides, starts_is}
-use Rattle.elf_model.specs.ApplyCost.{longest}
-use Rattle.elf_model.specs.Bytes.{slice}
-use Rattle.elf_model.specs.Names.{begins, same}
-use Rattle.elf_model.specs.Placing.{address_named}
+use Rattle.elf_model.specs.Prelude.{address_named, begins, longest, same, slice}
 use Rattle.elf_model.specs.declared.causes.Cause.{Cause}
 use Rattle.elf_model.specs.declared.causes.Cause.TheVariants.{NameUnended}
-use Rattle.elf_layout.specs.Lent.{MayFollow, lent_name, named, name_order, MayBorrow, FindsKey, BeginsWith, BeginsAt, IsAddressAt, search_end}
-use Rattle.elf_layout.specs.Layouts.{IsName}
+use Rattle.elf_layout.specs.Prelude.{BeginsAt, BeginsWith, FindsKey, IsAddressAt, IsName, MayBorrow, MayFollow, lent_name, name_order, named, search_end}
 use Rattle.elf_layout.specs.declared.lent.LentName.{LentName}
 use Rattle.std.specs.Cmp.Lexicographic.{pointwise}
 use Rattle.std.specs.Ordering.{ord_max}

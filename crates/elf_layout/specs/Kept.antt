@@ -1,6 +1,6 @@
 -- Addresses, however they are kept, as a layout.
 use Rattle.std.specs.Prelude.{◌≡◌}
-use Rattle.elf_model.specs.Placing.{Layout, Compared, Searched}
+use Rattle.elf_model.specs.Prelude.{Compared, Layout, Searched}
 use Rattle.elf_model.specs.declared.relocation_types.RelocationBase.{RelocationBase}
 use Rattle.elf_layout.specs.Layouts.{names_for}
 use Rattle.elf_layout.specs.declared.addresses.Among.{Among}

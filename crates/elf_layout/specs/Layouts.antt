@@ -1,7 +1,6 @@
 -- What is put into a layout, and what its names cost.
 use Rattle.std.specs.Prelude.{ℕ, ◌≡◌, ◌≢◌, ◌+◌, ◌≤◌, ◌<◌, List, [], ◌∷◌, ◌++◌, length, sum_by, All, Any, Result, Ok, Err}
-use Rattle.elf_model.specs.Names.{pad64}
-use Rattle.elf_model.specs.Placing.{Layout}
+use Rattle.elf_model.specs.Prelude.{Layout, pad64}
 use Rattle.elf_model.specs.declared.relocation_types.RelocationBase.{RelocationBase}
 use Rattle.elf_model.specs.declared.relocation_types.RelocationBase.TheVariants as base
 use Rattle.elf_layout.specs.declared.layout.Item.{Item}

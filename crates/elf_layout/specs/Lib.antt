@@ -4,3 +4,4 @@ pub mod Lent
 pub mod Listed
 pub mod Spelled
 pub mod Texts
+pub mod Prelude

@@ -1,7 +1,6 @@
 //! The addresses that are given, however they are kept.
 ghost use Rattle.std.specs.Prelude.{◌≡◌, ◌<◌, ◌^◌};
-ghost use Rattle.elf_model.specs.ApplyCost.{layout_names_cost};
-ghost use Rattle.elf_model.specs.Placing.{address_in, has_base};
+ghost use Rattle.elf_model.specs.Prelude.{address_in, has_base, layout_names_cost};
 ghost use Rattle.elf_layout.specs.Kept.{IsAmong, kept_as, borrowed_as};
 ghost use Rattle.elf_layout.specs.Layouts.{names_for};
 

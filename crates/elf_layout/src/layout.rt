@@ -1,7 +1,6 @@
 //! The addresses that are given for sections, names and entries of names.
 ghost use Rattle.std.specs.Prelude.{◌≡◌, ◌≤◌, ◌<◌, ◌^◌, [], length, MatchBool};
-ghost use Rattle.elf_model.specs.ApplyCost.{layout_names_cost};
-ghost use Rattle.elf_model.specs.Placing.{Compared, address_in, has_base};
+ghost use Rattle.elf_model.specs.Prelude.{Compared, address_in, has_base, layout_names_cost};
 ghost use Rattle.elf_layout.specs.Layouts.{Adds, HasKey, HaveNames, IsName, LacksKey, OnName};
 ghost use Rattle.elf_layout.specs.Layouts.{Pushes, names_for};
 

@@ -3,10 +3,7 @@ ghost use Rattle.std.specs.Prelude.{◌≡◌, ◌≢◌, ◌≤◌, ◌<◌, �
 ghost use Rattle.std.specs.Prelude.{IfOk, IfErr, [], length, slice_index, slice_index_or, take};
 ghost use Rattle.std.specs.Ordering.{nat_cmp};
 ghost use Rattle.std.specs.declared.cmp.Ordering.TheVariants.{Less};
-ghost use Rattle.elf_model.specs.ApplyCost.{longest, lookup_cost};
-ghost use Rattle.elf_model.specs.Bytes.{slice};
-ghost use Rattle.elf_model.specs.Names.{pad64};
-ghost use Rattle.elf_model.specs.Placing.{Searched, address_in, address_named};
+ghost use Rattle.elf_model.specs.Prelude.{Searched, address_in, address_named, longest, lookup_cost, pad64, slice};
 ghost use Rattle.elf_model.specs.declared.causes.Cause.TheVariants.{NameUnended};
 ghost use Rattle.elf_layout.specs.Layouts.{IsName};
 ghost use Rattle.elf_layout.specs.Lent.{BeginsWith, BeginsAt, FindsKey, Follows, IsAddressAt};

@@ -1,21 +1,18 @@
 -- What a listing asks for within its budget.
 use Rattle.std.proofs.Common.{subst, ◌≡◌, ℕ, ◌+◌, ◌^◌, ◌<◌, ◌≤◌, false, Option, None, Some, Result, Err, refl, sym, ap, ◌∙◌, arith}
 use Rattle.std.specs.Prelude.{IfSome}
+use Rattle.elf_model.specs.Prelude.{first_refusal, has_tables, known_parts, length_checks, style_ceiling}
 use Rattle.elf_model.specs.declared.formats.Format.{Format}
-use Rattle.elf_model.specs.Checks.{first_refusal, length_checks}
-use Rattle.elf_model.specs.Cost.{style_ceiling}
-use Rattle.elf_model.specs.Listing.{has_tables, known_parts}
 use Rattle.elf_model.specs.declared.causes.Refusal.{Refusal}
-use Rattle.elf_source.specs.Source.{SourceState, CountedState, ReadsUpTo, SetsLimit, ExceedsBudget, counted}
+use Rattle.elf_source.specs.Prelude.{CountedState, ExceedsBudget, OutState, ReadsUpTo, SetsLimit, SourceState, counted}
 use Rattle.elf_source.proofs.LimitLaws.{late_budget, within_budget}
-use Rattle.elf_table.specs.Faults.{IsReadRefusal}
-use Rattle.elf_options.specs.Permitted.{style_of}
-use Rattle.elf_options.specs.declared.caps.Caps.{Caps}
+use Rattle.elf_table.specs.Prelude.{IsReadRefusal}
+use Rattle.elf_table.specs.declared.run_fault.RunFault.TheVariants.{Out}
 use Rattle.elf_table.specs.declared.run_fault.RunFault.{RunFault}
-use Rattle.elf_table.specs.declared.run_fault.RunFault.TheVariants.{Refused, Source, Out}
-use Rattle.elf_source.specs.Output.{OutState}
-use Rattle.elf_listing.specs.Reports.{AsksWithin, FaultSays, ReturnsStop}
-use Rattle.elf_listing.specs.Shows.{StopSays}
+use Rattle.elf_options.specs.Prelude.{style_of}
+use Rattle.elf_options.specs.declared.caps.Caps.{Caps}
+use Rattle.elf_table.specs.declared.run_fault.RunFault.TheVariants.{Refused, Source}
+use Rattle.elf_listing.specs.Prelude.{AsksWithin, FaultSays, ReturnsStop, StopSays}
 
 pub asks_within : {X : Type 0} (caps : Caps) (parts : ℕ) (s0 s1 s2 s3 : CountedState) (n : ℕ) (result : Result X RunFault) → s0.asked ≤ 2 ^ 127 → SetsLimit s0 s1 caps.limits.budget
     → ReadsUpTo s1 s2 (style_ceiling s1.seen.size caps.limits.headers (style_of caps.style)) → SetsLimit s2 s3 None

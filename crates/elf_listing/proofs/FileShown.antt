@@ -1,32 +1,18 @@
 -- The items of a whole listing: the file header's, and what stands behind it.
 use Rattle.std.proofs.lemmas.Bool.{cases_Bool, eqb-true, or_left, or_right}
 use Rattle.std.proofs.Common.{◌≡◌, ℕ, ◌==◌, ◌||◌, inl, inr, Bool, true, List, [], ◌∷◌, ◌++◌, None, Err, false, sym, ap, ◌∙◌, refl, append-nil, append_assoc}
-use Rattle.elf_model.specs.Budget.{IsBudgetRefusal}
-use Rattle.elf_model.specs.Checks.{first_refusal, header_checks, load_checks}
-use Rattle.elf_model.specs.Lines.{header_line}
-use Rattle.elf_model.specs.Listing.{ListingItem, Line, Fault, fault_of, has, has_tables, known_parts, where_asked, each, HEADER, SEGMENTS, NOTES, DYNAMIC, VERSIONS}
-use Rattle.elf_model.specs.Records.{e_shnum, e_phnum}
-use Rattle.elf_model.specs.Style.{ListingStyle, viewed as view_of}
-use Rattle.elf_model.specs.Report.{listing, load_items, loaded_items, table_items, kinds_rows, view_checks}
-use Rattle.elf_model.specs.HeaderTables.{file_sections, file_segments}
-use Rattle.elf_model.specs.TableKinds.{TableHeaders, symbols, relocations, suffixed_symbols, relocations_with_versions, section_notes, section_dynamic, segment_notes, segment_dynamic, section_kinds, segment_kinds, table_headers}
-use Rattle.elf_model.specs.VersionLaws.{records_rows}
-use Rattle.elf_model.specs.VersionRows.{version_definitions, version_needs, symbol_versions}
+use Rattle.elf_model.specs.Prelude.{DYNAMIC, Fault, HEADER, IsBudgetRefusal, Line, ListingItem, ListingStyle, NOTES, SEGMENTS, TableHeaders, VERSIONS, e_phnum, e_shnum, each, fault_of, file_sections, file_segments, first_refusal, has, has_tables, header_checks, header_line, kinds_rows, known_parts, listing, load_checks, load_items, loaded_items, records_rows, relocations, relocations_with_versions, section_dynamic, section_kinds, section_notes, segment_dynamic, segment_kinds, segment_notes, segment_row, suffixed_symbols, symbol_versions, symbols, table_headers, table_items, version_definitions, version_needs, view_checks, viewed as view_of, where_asked}
+use Rattle.elf_model.specs.declared.formats.Format.{Format}
+use Rattle.elf_model.specs.declared.causes.Refusal.{Refusal}
 use Rattle.elf_model.proofs.VersionNameLaws.{back-none, front-none, records-none}
 use Rattle.elf_model.proofs.CostLemmas.{headers_none, headers_some}
-use Rattle.elf_model.specs.Rows.{segment_row}
-use Rattle.elf_model.specs.declared.causes.Refusal.{Refusal}
-use Rattle.elf_model.specs.declared.formats.Format.{Format}
 use Rattle.elf_model.proofs.ListingLemmas.{guarded-passes, guarded-fault, load_some}
-use Rattle.elf_table.specs.Load.{LoadedFile, HoldsSectionHeaders, LoadedAs}
-use Rattle.elf_table.specs.Faults.{HeaderRead}
-use Rattle.elf_table.specs.Store.{StoreState}
+use Rattle.elf_table.specs.Prelude.{HeaderRead, HoldsSectionHeaders, LoadedAs, LoadedFile, StoreState}
 use Rattle.elf_table.specs.declared.fault.Fault.{Fault as TableFault}
 use Rattle.elf_table.specs.declared.fault.Fault.TheVariants.{Refused}
-use Rattle.elf_listing.specs.Parts.{listed_by, part_items, relocations_part, symbols_part}
-use Rattle.elf_listing.specs.Viewed.{ChecksView, viewed_headers}
+use Rattle.elf_listing.specs.Prelude.{ChecksView, listed_by, part_items, relocations_part, symbols_part, viewed_headers}
+use Rattle.elf_listing.specs.declared.parts.Part.TheVariants.{Definitions, Headers, Needs, SectionDynamic, SectionNotes, SegmentDynamic, SegmentNotes, SymbolVersions}
 use Rattle.elf_listing.specs.declared.parts.Part.{Part}
-use Rattle.elf_listing.specs.declared.parts.Part.TheVariants.{Headers, SectionNotes, SegmentNotes, SectionDynamic, SegmentDynamic, Definitions, Needs, SymbolVersions}
 
 -- the file header's part
 abbrev pub header_part : Format → List ℕ → ℕ → List ListingItem

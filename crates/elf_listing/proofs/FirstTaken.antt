@@ -1,26 +1,16 @@
 -- What is taken in of the first section that holds records of a kind.
 use Rattle.std.proofs.Common.{◌≡◌, ℕ, ◌+◌, ◌*◌, ◌/◌, ◌≤◌, ◌==◌, not, true, false, List, [], ◌++◌, length, Option, None, Some, Result, Ok, Err, refl, sym, ap, ◌∙◌, subst, arith, append-nil}
-use Rattle.elf_model.specs.Checks.{Check, first_refusal}
-use Rattle.elf_model.specs.Records.{sh_offset, sh_size, section_at}
-use Rattle.elf_model.specs.Suffixes.{or_refusal, walk_refusal}
-use Rattle.elf_model.specs.Tables.{all_checks, strings_of}
-use Rattle.elf_model.specs.VersionRows.{first_of_type, first_strings, first_versions, section_versions, version_table}
-use Rattle.elf_model.specs.Versions.{VisitedRecord, visited_from, versions_in}
+use Rattle.elf_model.specs.Prelude.{Check, VisitedRecord, all_checks, first_of_type, first_refusal, first_strings, first_versions, or_refusal, section_at, section_versions, sh_offset, sh_size, strings_of, version_table, versions_in, visited_from, walk_refusal}
+use Rattle.elf_model.specs.declared.versions.VersionKind.TheVariants.{Definition, File}
 use Rattle.elf_model.specs.declared.causes.Refusal.{Refusal}
 use Rattle.elf_model.specs.declared.versions.VersionKind.{VersionKind}
-use Rattle.elf_model.specs.declared.versions.VersionKind.TheVariants.{Definition, File}
-use Rattle.elf_table.specs.Faults.{IsOfCheck, IsOfRead, IsReadFault}
+use Rattle.elf_table.specs.Prelude.{IsOfCheck, IsOfRead, IsReadFault, RefusedBy, StringTableRange, TableRange, rows, strings_in}
 use Rattle.elf_table.specs.declared.fault.Fault.{Fault}
 use Rattle.elf_table.specs.declared.fault.Fault.TheVariants.{Refused, Source}
 use Rattle.elf_source.specs.Source.{CountedState}
-use Rattle.elf_table.specs.Relocations.{RefusedBy}
-use Rattle.elf_table.specs.Sections.{rows}
-use Rattle.elf_table.specs.Tables.{TableRange, StringTableRange, strings_in}
-use Rattle.elf_note.specs.NumberNames.{NamesNumbers, ReadsNumberNames}
-use Rattle.elf_note.specs.Reading.{StartsVersions, VersionCursorState, versions_left}
+use Rattle.elf_note.specs.Prelude.{NamesNumbers, ReadsNumberNames, StartsVersions, VersionCursorState, versions_left}
 use Rattle.elf_note.specs.declared.version_names.VersionNameRef.{VersionNameRef}
-use Rattle.elf_listing.specs.SymbolVersions.{AreRecordsWhole, NumberedOr, NumbersTaken, TakenIn, TakenOr}
-use Rattle.elf_listing.specs.Versions.{kind_type}
+use Rattle.elf_listing.specs.Prelude.{AreRecordsWhole, NumberedOr, NumbersTaken, TakenIn, TakenOr, kind_type}
 use Rattle.elf_listing.proofs.VersionSections.{left_all}
 
 -- what a found section refuses

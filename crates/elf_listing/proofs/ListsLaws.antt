@@ -4,15 +4,14 @@ use Rattle.elf_source.specs.declared.source.Source.{Ghosts as Sources}
 use Rattle.elf_source.specs.declared.sink.Sink.{Ghosts as Sinks}
 use Rattle.elf_source.proofs.GrowthLaws.{grows_not}
 use Rattle.elf_note.proofs.SpendsLaws.{SpendsAtMost-none, SpendsAtMost-to}
-use Rattle.elf_table.specs.Faults.{IsOfCheck}
+use Rattle.elf_table.specs.Prelude.{IsOfCheck, stop_of}
 use Rattle.elf_table.specs.declared.fault.Fault.{Fault}
-use Rattle.elf_table.specs.declared.fault.Fault.TheVariants.{Refused, Source}
 use Rattle.elf_table.specs.declared.names.NameEnd.{NameEnd}
-use Rattle.elf_table.specs.declared.names.NameEnd.TheVariants.{Whole}
-use Rattle.elf_listing.specs.Shows.{SameFile, ListingReads, ListingCalls}
-use Rattle.elf_table.specs.Stops.{stop_of}
-use Rattle.elf_listing.specs.declared.listing.Listing.{Listing}
 use Rattle.elf_table.specs.declared.run_fault.RunFault.{RunFault}
+use Rattle.elf_table.specs.declared.names.NameEnd.TheVariants.{Whole}
+use Rattle.elf_table.specs.declared.fault.Fault.TheVariants.{Refused, Source}
+use Rattle.elf_listing.specs.Prelude.{ListingCalls, ListingReads, SameFile}
+use Rattle.elf_listing.specs.declared.listing.Listing.{Listing}
 use Rattle.elf_listing.proofs.ShowLaws.{SpentCredit-failed, SpentCredit-then, SpentCredit-within}
 
 -- it is of the same file as before

@@ -1,25 +1,18 @@
 -- The loop of a listing over a cursor's rows.
 use Rattle.std.proofs.Common.{◌≡◌, ℕ, ◌+◌, ◌*◌, ◌<◌, ◌≤◌, Bool, true, false, List, Option, None, Some, Ok, Err, refl, sym, ap, ◌∙◌, arith}
-use Rattle.elf_model.specs.Bytes.{slice}
-use Rattle.elf_model.specs.Listing.{ListingItem, each}
-use Rattle.elf_source.specs.Output.{OutState}
-use Rattle.elf_source.specs.Source.{CountedState, ReadsUpTo}
+use Rattle.elf_model.specs.Prelude.{ListingItem, each, slice}
+use Rattle.elf_source.specs.Prelude.{CountedState, OutState, ReadsUpTo}
 use Rattle.elf_note.specs.Ahead.{ReadsOnCredit}
 use Rattle.elf_note.proofs.SpendsLaws.{SpendsAtMost-reads, SpendsAtMost-then, SpendsAtMost-to}
-use Rattle.elf_table.specs.Faults.{IsAt, IsReadFault}
-use Rattle.elf_table.specs.Cursors.{CursorState, GivesRow, HoldsRows, unread_bytes, next_row, ShowsRow}
-use Rattle.elf_table.specs.Tables.{TableRange, size_of}
+use Rattle.elf_table.specs.Prelude.{CursorState, GivesRow, HoldsRows, IsAt, IsReadFault, ShowsRow, TableRange, next_row, size_of, stop_of, unread_bytes}
 use Rattle.elf_table.specs.declared.fault.Fault.{Fault}
 use Rattle.elf_table.specs.declared.row.Row.{Row}
-use Rattle.elf_options.specs.Permitted.{style_of}
-use Rattle.elf_options.specs.declared.caps.ListingStyle.{ListingStyle as Shape}
-use Rattle.elf_listing.specs.Kinds.{row_size, row_items, own_cost, rows_cost, IsRowOf, KindOf}
-use Rattle.elf_listing.specs.RowCursors.{AdvancesRows, EndsListed, GivesListed, reading, rows_to_give, rows_listed}
-use Rattle.elf_listing.specs.declared.row_cursor.RowCursor.{RowCursor}
-use Rattle.elf_listing.specs.Shows.{SpentCredit, WroteUntilStop, WroteItems}
-use Rattle.elf_table.specs.Stops.{stop_of}
-use Rattle.elf_listing.specs.declared.rows.RowLayout.{RowLayout}
 use Rattle.elf_table.specs.declared.run_fault.RunFault.{RunFault}
+use Rattle.elf_options.specs.Prelude.{style_of}
+use Rattle.elf_options.specs.declared.caps.ListingStyle.{ListingStyle as Shape}
+use Rattle.elf_listing.specs.Prelude.{AdvancesRows, EndsListed, GivesListed, IsRowOf, KindOf, SpentCredit, WroteItems, WroteUntilStop, own_cost, reading, row_items, row_size, rows_cost, rows_listed, rows_to_give}
+use Rattle.elf_listing.specs.declared.row_cursor.RowCursor.{RowCursor}
+use Rattle.elf_listing.specs.declared.rows.RowLayout.{RowLayout}
 use Rattle.elf_listing.proofs.EachLaws.{each-none, each-more, each-front}
 use Rattle.elf_listing.proofs.ShowLaws.{SpentCredit-fault, StopSays-then, Whole-none, Whole-then, WroteUntilStop-then, WroteUntilStop-more, WroteUntilStop-unread}
 

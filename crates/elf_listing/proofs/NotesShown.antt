@@ -1,31 +1,22 @@
 -- The notes of a table, by what is left of them.
 use Rattle.std.proofs.Common.{◌≡◌, ℕ, ◌+◌, zero, suc, Bool, true, Option, None, Some, Ok, List, [], ◌∷◌, ◌++◌, inl, inr, length, drop, refl, sym, ap, ◌∙◌, arith, append_assoc, append-nil, add-zero, zero-add}
-use Rattle.elf_model.specs.Bytes.{slice}
-use Rattle.elf_model.specs.LineFronts.{note_prefix}
-use Rattle.elf_model.specs.Lines.{note_line}
-use Rattle.elf_model.specs.Listing.{ListingItem, Line, Fault as FaultItem}
-use Rattle.elf_model.specs.Names.{DisplayedName}
-use Rattle.elf_model.specs.Notes.{Note, NoteScan, NextNote, Ends as EndsHere, Broken, OneNote, next_note, walk_from, walked, with_note, note_shown}
-use Rattle.elf_model.specs.Rows.{note_row, notes_rows, walk_rows}
-use Rattle.elf_model.specs.Style.{ListingStyle}
+use Rattle.elf_model.specs.Prelude.{DisplayedName, Fault as FaultItem, Line, ListingItem, ListingStyle, NextNote, Note, NoteScan, OneNote, next_note, note_line, note_prefix, note_row, note_shown, notes_rows, slice, walk_from, walk_rows, walked, with_note}
 use Rattle.elf_model.specs.declared.causes.Cause.TheVariants.{NoteCut}
+use Rattle.elf_model.specs.Notes.{Ends as EndsHere, Broken}
 use Rattle.elf_model.proofs.NoteLaws.{walked-is}
 use Rattle.elf_record.specs.declared.note_head.NoteHead.{NoteHead}
 use Rattle.elf_format.specs.Named.{shown_as}
-use Rattle.elf_note.specs.NoteCursors.{AdvancesNote, NoteCursorState, IsNoteFound, NameIs, ShowsNote, StopsNote, notes_from, notes_left, no_notes, cut_at, note_cut}
+use Rattle.elf_note.specs.Prelude.{AdvancesNote, IsNoteFound, NameIs, NoteCursorState, ShowsNote, StopsNote, cut_at, no_notes, note_cut, notes_from, notes_left}
 use Rattle.elf_note.specs.declared.note_row.NoteRow.{NoteRow}
 use Rattle.elf_source.specs.Output.{OutState}
-use Rattle.elf_table.specs.Faults.{IsOfRead}
-use Rattle.elf_table.specs.Windows.{WindowState, HoldsBytes, StillHolds}
-use Rattle.elf_options.specs.declared.caps.ListingStyle.{ListingStyle as Shape}
+use Rattle.elf_table.specs.Prelude.{HoldsBytes, IsOfRead, StillHolds, WindowState, stop_of}
+use Rattle.elf_table.specs.declared.names.NameEnd.TheVariants.{Cut as NameCut, Whole as NameWhole}
 use Rattle.elf_table.specs.declared.fault.Fault.{Fault}
-use Rattle.elf_table.specs.declared.fault.Fault.TheVariants.{Refused, Source as Unread}
 use Rattle.elf_table.specs.declared.names.NameEnd.{NameEnd}
-use Rattle.elf_table.specs.declared.names.NameEnd.TheVariants.{Whole as NameWhole, Cut as NameCut}
-use Rattle.elf_listing.specs.Notes.{IsNoteRow, WrittenBefore, note_items}
-use Rattle.elf_listing.specs.Shows.{WroteItems, WrotePrefix, WroteUntilStop, cut_of}
-use Rattle.elf_table.specs.Stops.{stop_of}
 use Rattle.elf_table.specs.declared.run_fault.RunFault.{RunFault}
+use Rattle.elf_options.specs.declared.caps.ListingStyle.{ListingStyle as Shape}
+use Rattle.elf_table.specs.declared.fault.Fault.TheVariants.{Refused, Source as Unread}
+use Rattle.elf_listing.specs.Prelude.{IsNoteRow, WrittenBefore, WroteItems, WrotePrefix, WroteUntilStop, cut_of, note_items}
 use Rattle.elf_listing.proofs.ShowLaws.{Whole-none, Whole-then, WroteUntilStop-then, WroteUntilStop-more}
 
 -- what is left where no note is, and where no note stands

@@ -1,15 +1,8 @@
 -- The rows of symbols' versions, by where the names of their numbers are told to be.
 use Rattle.std.proofs.Common.{◌≡◌, ℕ, ◌+◌, ◌*◌, List, [], ◌∷◌, refl, sym, ap, ◌∙◌, arith}
-use Rattle.elf_model.specs.Bytes.{field, slice}
-use Rattle.elf_model.specs.Fields.{LinePrefix}
-use Rattle.elf_model.specs.Listing.{ListingItem}
-use Rattle.elf_model.specs.Records.{versym}
-use Rattle.elf_model.specs.Rows.{chosen_row}
-use Rattle.elf_model.specs.Style.{ListingStyle}
-use Rattle.elf_model.specs.VersionRows.{symbol_version_prefix}
-use Rattle.elf_model.specs.Versions.{number_in}
+use Rattle.elf_model.specs.Prelude.{LinePrefix, ListingItem, ListingStyle, chosen_row, field, number_in, slice, symbol_version_prefix, versym}
 use Rattle.elf_model.proofs.Slices.{field-slice}
-use Rattle.elf_listing.specs.Numbered.{reported_row, version_told}
+use Rattle.elf_listing.specs.Prelude.{reported_row, version_told}
 use Rattle.elf_listing.specs.declared.numbered.VersionStrings.{VersionStrings}
 
 -- the word of an entry

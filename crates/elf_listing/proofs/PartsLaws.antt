@@ -1,23 +1,19 @@
 -- What calls of a listing did one behind another.
-use Rattle.elf_options.specs.Permitted.{style_of}
+use Rattle.elf_options.specs.Prelude.{style_of}
+use Rattle.elf_options.specs.declared.caps.ListingStyle.{ListingStyle}
 use Rattle.std.proofs.Common.{◌≡◌, ℕ, ◌+◌, ◌-◌, ◌<◌, Bool, List, ◌++◌, Some, Result, Ok, Err, sym, ap, ◌∙◌, subst, arith, zero-add}
-use Rattle.elf_model.specs.Cost.{sum_over}
-use Rattle.elf_model.specs.Listing.{ListingItem, each}
-use Rattle.elf_model.specs.VersionRows.{symbol_versions}
+use Rattle.elf_model.specs.Prelude.{ListingItem, each, sum_over, symbol_versions}
 use Rattle.elf_model.proofs.SumLemmas.{last_cost, sums_split}
 use Rattle.elf_model.proofs.ListingLemmas.{rows_split}
 use Rattle.elf_source.specs.declared.source.Source.{Ghosts as Sources}
 use Rattle.elf_source.specs.declared.sink.Sink.{Ghosts as Sinks}
 use Rattle.elf_source.proofs.GrowthLaws.{grows_then}
-use Rattle.elf_options.specs.declared.caps.ListingStyle.{ListingStyle}
+use Rattle.elf_table.specs.declared.run_fault.RunFault.{RunFault}
 use Rattle.elf_table.specs.declared.file.SectionView.{SectionView}
-use Rattle.elf_listing.specs.HeadersListed.{ListsPair, asked_items}
-use Rattle.elf_listing.specs.Parts.{AwaitsAsked, asked_cost, relocations_part, symbols_part}
-use Rattle.elf_listing.specs.Shows.{ListingCalls, ListingWrote}
+use Rattle.elf_listing.specs.Prelude.{AwaitsAsked, ListingCalls, ListingWrote, ListsPair, asked_cost, asked_items, relocations_part, symbols_part}
+use Rattle.elf_listing.specs.declared.parts.Part.TheVariants.{Definitions, Needs, SymbolVersions}
 use Rattle.elf_listing.specs.declared.listing.Listing.{Listing}
 use Rattle.elf_listing.specs.declared.parts.Part.{Part}
-use Rattle.elf_listing.specs.declared.parts.Part.TheVariants.{Definitions, Needs, SymbolVersions}
-use Rattle.elf_table.specs.declared.run_fault.RunFault.{RunFault}
 use Rattle.elf_listing.proofs.FileShown.{versions_none}
 use Rattle.elf_listing.proofs.EachLaws.{each-more}
 use Rattle.elf_listing.proofs.ListsLaws.{ListingCalls-within, SameFile-then}

@@ -1,26 +1,20 @@
 -- The report of a listing, and of one that a budget cuts short.
-use Rattle.elf_options.specs.Permitted.{style_of}
+use Rattle.elf_options.specs.Prelude.{style_of}
+use Rattle.elf_options.specs.declared.caps.Caps.{Caps}
 use Rattle.std.proofs.Common.{◌≡◌, ℕ, ◌+◌, ◌^◌, ◌<◌, ◌≤◌, List, ◌∷◌, ◌++◌, length, None, Some, Ok, Err, Option, option_map, refl, sym, ap, ◌∙◌, inl, inr, ◌⊎◌, append-nil, arith}
-use Rattle.elf_model.specs.Budget.{IsBudgetRefusal, IsBudgeted, IsReport}
-use Rattle.elf_model.specs.Cost.{listing_cost}
-use Rattle.elf_model.specs.Lines.{refusal_line}
-use Rattle.elf_model.specs.Listing.{ListingItem, Fault as FaultItem, lines_of, fault_of, report_of, end_text}
-use Rattle.elf_model.specs.Report.{listing}
-use Rattle.elf_model.specs.Style.{ListingStyle}
+use Rattle.elf_model.specs.Prelude.{Fault as FaultItem, IsBudgetRefusal, IsBudgeted, IsReport, ListingItem, ListingStyle, end_text, fault_of, lines_of, listing, listing_cost, refusal_line, report_of}
 use Rattle.elf_model.specs.declared.causes.Cause.TheVariants.{Budget}
 use Rattle.elf_model.specs.declared.causes.Refusal.{Refusal}
 use Rattle.elf_model.proofs.BudgetLaws.{is_budget_fault}
 use Rattle.elf_model.proofs.ListingLemmas.{listings_append}
-use Rattle.elf_source.specs.Source.{CountedState, SetsLimit, counted}
-use Rattle.elf_source.specs.Output.{OutState, SinkTakes, SinkTakesPrefix}
+use Rattle.elf_source.specs.Prelude.{CountedState, OutState, SetsLimit, SinkTakes, SinkTakesPrefix, counted}
 use Rattle.elf_source.proofs.LimitLaws.{budget_below}
 use Rattle.elf_source.proofs.PutsLaws.{SinkTakes-then, SinkTakesPrefix-then, SinkTakesPrefix-more, SinkTakesPrefix-all}
-use Rattle.elf_table.specs.Faults.{IsReadRefusal}
-use Rattle.elf_options.specs.declared.caps.Caps.{Caps}
+use Rattle.elf_table.specs.Prelude.{IsReadRefusal}
+use Rattle.elf_table.specs.declared.run_fault.RunFault.TheVariants.{Out}
 use Rattle.elf_table.specs.declared.run_fault.RunFault.{RunFault}
-use Rattle.elf_table.specs.declared.run_fault.RunFault.TheVariants.{Refused, Source, Out}
-use Rattle.elf_listing.specs.Reports.{WroteReport, WroteText, WroteRefusal, ReturnsStop}
-use Rattle.elf_listing.specs.Shows.{WroteItems, WrotePrefix, IsNext, WroteUntilRefusal, WroteUntilStop, StopSays}
+use Rattle.elf_table.specs.declared.run_fault.RunFault.TheVariants.{Refused, Source}
+use Rattle.elf_listing.specs.Prelude.{IsNext, ReturnsStop, StopSays, WroteItems, WrotePrefix, WroteRefusal, WroteReport, WroteText, WroteUntilRefusal, WroteUntilStop}
 use Rattle.elf_listing.proofs.EachLaws.{lines_front}
 
 -- a report is what is listed, within every budget

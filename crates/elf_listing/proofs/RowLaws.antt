@@ -1,32 +1,20 @@
 -- The items of one row, by the line that was put.
-use Rattle.elf_model.specs.Style.{ListingStyle}
-use Rattle.std.proofs.Common.{◌≡◌, ℕ, ◌+◌, ◌*◌, List, [], ◌∷◌, Bool, true, false, Result, Ok, Err, refl, sym, ap, ◌∙◌, subst, arith, append-nil}
-use Rattle.elf_model.specs.Budget.{IsBudgetRefusal}
-use Rattle.elf_model.specs.Choice.{RowFilter, NoSuffix, Suffix, chooses}
-use Rattle.elf_model.specs.Records.{e_phoff, segment_at, section_at, sh_offset, st_name, e_machine, r_sym}
-use Rattle.elf_model.specs.Names.{DisplayedName, shown}
-use Rattle.elf_model.specs.Tables.{strings_of, entry_at}
-use Rattle.elf_model.specs.LineFronts.{symbol_prefix, relocation_prefix}
-use Rattle.elf_model.specs.Lines.{segment_line, named_line}
-use Rattle.elf_model.specs.Listing.{ListingItem, Line, Fault as FaultItem, lines_of}
-use Rattle.elf_model.specs.Fields.{LinePrefix}
-use Rattle.elf_model.specs.Rows.{segment_row, symbol_row, chosen_row, named_row, symbol_named, relocation_row}
-use Rattle.elf_model.specs.declared.causes.Refusal.{Refusal}
+use Rattle.elf_model.specs.Prelude.{DisplayedName, Fault as FaultItem, IsBudgetRefusal, Line, LinePrefix, ListingItem, ListingStyle, NoSuffix, RowFilter, Suffix, chooses, chosen_row, e_machine, e_phoff, entry_at, lines_of, named_line, named_row, r_sym, relocation_prefix, relocation_row, section_at, segment_at, segment_line, segment_row, sh_offset, shown, st_name, strings_of, symbol_named, symbol_prefix, symbol_row}
 use Rattle.elf_model.specs.declared.causes.Cause.{Cause}
+use Rattle.elf_model.specs.declared.causes.Refusal.{Refusal}
+use Rattle.std.proofs.Common.{◌≡◌, ℕ, ◌+◌, ◌*◌, List, [], ◌∷◌, Bool, true, false, Result, Ok, Err, refl, sym, ap, ◌∙◌, subst, arith, append-nil}
 use Rattle.elf_format.specs.Named.{shown_as}
 use Rattle.elf_source.specs.Output.{OutState, SinkTakes, SinkTakesPrefix}
 use Rattle.elf_source.proofs.PutsLaws.{SinkTakes-nothing}
-use Rattle.elf_table.specs.Faults.{IsOfRead}
-use Rattle.elf_table.specs.NamesRead.{NameRead, shown_by}
-use Rattle.elf_options.specs.declared.caps.ListingStyle.{ListingStyle as Shape}
-use Rattle.elf_options.specs.Chosen.{choice_of}
+use Rattle.elf_table.specs.Prelude.{IsOfRead, NameRead, shown_by, stop_of}
+use Rattle.elf_table.specs.declared.names.NameEnd.TheVariants.{Cut as NameCut, Whole as NameWhole}
 use Rattle.elf_table.specs.declared.fault.Fault.{Fault}
-use Rattle.elf_table.specs.declared.fault.Fault.TheVariants.{Refused, Source}
 use Rattle.elf_table.specs.declared.names.NameEnd.{NameEnd}
-use Rattle.elf_table.specs.declared.names.NameEnd.TheVariants.{Whole as NameWhole, Cut as NameCut}
-use Rattle.elf_listing.specs.Shows.{WroteItems, WrotePrefix, WroteUntilRefusal, WroteUntilStop, WroteSome, cut_of}
-use Rattle.elf_table.specs.Stops.{stop_of}
 use Rattle.elf_table.specs.declared.run_fault.RunFault.{RunFault}
+use Rattle.elf_options.specs.Prelude.{choice_of}
+use Rattle.elf_options.specs.declared.caps.ListingStyle.{ListingStyle as Shape}
+use Rattle.elf_table.specs.declared.fault.Fault.TheVariants.{Refused, Source}
+use Rattle.elf_listing.specs.Shows.{WroteItems, WrotePrefix, WroteUntilRefusal, WroteUntilStop, WroteSome, cut_of}
 
 -- the same items
 pub WroteSome-as : {X : Type 0} (a b : OutState) (result : Result X RunFault) {xs ys : List ListingItem} → xs ≡ ys → WroteSome a b result ys → WroteSome a b result xs

@@ -1,35 +1,20 @@
 -- What the tables of a loaded file ask for, by the section headers in the store.
-use Rattle.elf_model.specs.Style.{ListingStyle, viewed as view_of}
+use Rattle.elf_model.specs.Prelude.{Check, DYNAMIC, HeaderTable, ListingStyle, NOTES, PT_DYNAMIC, SECTIONS, SEGMENTS, TableKind, after_header, ceiling, cost_where, e_phnum, e_shnum, early_checks, file_segments, first_refusal, has, has_tables, header_checks, held_headers, is_loadable, is_outside, kind_by_kind, kinds_cost, known_parts, listing_cost, name_bytes, p_filesz, p_offset, p_type, pass, range_checks_of, refuse, relocations, relocations_with_versions, section_at, section_dynamic, section_kinds, section_name_checks, section_notes, sections_cost, segment_at, segment_dynamic, segment_kinds, segment_notes, segments_cost, sh_offset, sh_size, style_ceiling, suffixed_symbols, suffixes_most, sum_over, symbol_versions, symbols, table_checks_of, table_cost, tables_cost, version_definitions, version_needs, viewed as view_of, whole_checks_of}
+use Rattle.elf_model.specs.declared.causes.Cause.TheVariants.{SizeNotWhole, TableOutside}
 use Rattle.std.proofs.Common.{◌≡◌, ℕ, ◌+◌, ◌-◌, ◌*◌, ◌/◌, ◌%◌, ◌<◌, ◌≤◌, ◌==◌, ◌&&◌, ◌||◌, ◌⊎◌, inl, inr, not, if◌then◌else◌, Bool, true, false, List, [], ◌∷◌, length, Option, None, Some, Result, Ok, refl, sym, ap, ◌∙◌, arith}
 use Rattle.std.proofs.lemmas.Bool.{cases_Bool, eqb-true}
 use Rattle.std.specs.Prelude.{is_none}
-use Rattle.elf_model.specs.Checks.{Check, first_refusal, pass, refuse, is_outside, header_checks, early_checks, section_name_checks, range_checks_of, table_checks_of, whole_checks_of}
-use Rattle.elf_model.specs.Cost.{sum_over, cost_where, table_cost, kinds_cost, is_loadable, sections_cost, segments_cost, tables_cost, after_header, listing_cost, ceiling, style_ceiling, suffixes_most}
-use Rattle.elf_model.specs.Listing.{has, has_tables, known_parts, SECTIONS, SEGMENTS, NOTES, DYNAMIC}
-use Rattle.elf_model.specs.CostLaws.{kind_by_kind}
-use Rattle.elf_model.specs.Names.{name_bytes}
-use Rattle.elf_model.specs.HeaderTables.{HeaderTable, TableKind, file_segments, held_headers}
-use Rattle.elf_model.specs.VersionRows.{version_definitions, version_needs, symbol_versions}
-use Rattle.elf_model.specs.TableKinds.{symbols, relocations, suffixed_symbols, relocations_with_versions, section_notes, section_dynamic, segment_notes, segment_dynamic, section_kinds, segment_kinds}
-use Rattle.elf_model.specs.Numbers.{PT_DYNAMIC}
-use Rattle.elf_model.specs.Records.{e_shnum, e_phnum, sh_offset, sh_size, p_type, p_offset, p_filesz, section_at, segment_at}
-use Rattle.elf_model.specs.declared.causes.Cause.TheVariants.{SizeNotWhole, TableOutside}
 use Rattle.elf_model.proofs.CheckSteps.{first_refusal-none, passes_front}
 use Rattle.elf_model.proofs.CostLemmas.{tables_by, headers_none}
 use Rattle.elf_model.proofs.SumLemmas.{cost_where-le, cost_where-within, sum_over-le, sums_grow}
 use Rattle.elf_model.proofs.StoreLemmas.{rows_cost, segments_cost_rows, by_kind, any_rows, any_segments, sections_counted, places_decide_nothing}
-use Rattle.elf_record.specs.Ehdr.{IsEhdr}
+use Rattle.elf_record.specs.Prelude.{IsEhdr}
 use Rattle.elf_record.specs.declared.ehdr.Ehdr.{Ehdr}
-use Rattle.elf_table.specs.Load.{LoadedFile, HoldsSectionHeaders, IsOpened, early_of, load_cost}
-use Rattle.elf_table.specs.Sections.{byte_rows, rows, table_of, checked}
-use Rattle.elf_table.proofs.RelocationLaws.{passed_first}
-use Rattle.elf_table.specs.Store.{StoreState, HoldsSegments, row, segment_bytes}
-use Rattle.elf_table.specs.Tables.{TableRange, StringTableRange}
-use Rattle.elf_table.specs.Views.{dynamic_of}
+use Rattle.elf_table.specs.Prelude.{HoldsSectionHeaders, HoldsSegments, IsOpened, LoadedFile, StoreState, StringTableRange, TableRange, byte_rows, checked, dynamic_of, early_of, load_cost, row, rows, segment_bytes, table_of}
 use Rattle.elf_table.specs.declared.fault.Fault.{Fault}
-use Rattle.elf_listing.specs.Parts.{asked_cost, name_cost, segments_listed, store_sections, store_segments, tables_listed}
-use Rattle.elf_listing.specs.Viewed.{needs_segment_view, viewed_headers, view_cost}
-use Rattle.elf_listing.specs.declared.parts.Part.TheVariants.{Headers, SectionNotes, SegmentNotes, SectionDynamic, SegmentDynamic}
+use Rattle.elf_table.proofs.RelocationLaws.{passed_first}
+use Rattle.elf_listing.specs.Prelude.{asked_cost, name_cost, needs_segment_view, segments_listed, store_sections, store_segments, tables_listed, view_cost, viewed_headers}
+use Rattle.elf_listing.specs.declared.parts.Part.TheVariants.{Headers, SectionDynamic, SectionNotes, SegmentDynamic, SegmentNotes}
 use Rattle.elf_listing.proofs.FileShown.{viewed_none}
 use Rattle.elf_table.proofs.LoadLaws.{early_is}
 

@@ -1,38 +1,18 @@
 -- The items of one header, by what the store and the checks of a loaded file answer.
-use Rattle.elf_model.specs.Fields.{LinePrefix}
-use Rattle.elf_model.specs.Style.{ListingStyle}
+use Rattle.elf_model.specs.Prelude.{Check, DT_STRSZ, LinePrefix, ListingItem, ListingStyle, TableKind, all_checks, dynamic_at, dynamic_count, dynamic_row, dynamic_table_checks, e_machine, e_shnum, e_shoff, e_shstrndx, each, entry_count, first_refusal, guarded, listed_value, mapped_strings, named_row, no_name, p_filesz, p_offset, range_checks_of, section_at, section_dynamic, section_name, section_prefix, section_row, segment_dynamic_checks, sh_link, sh_name, sh_offset, sh_size, shown, slice, strings_at as strings_mapped, strings_checks, strings_of, table_checks, table_rows, unless_empty}
+use Rattle.elf_model.specs.declared.causes.Refusal.{Refusal}
 use Rattle.std.proofs.Common.{◌≡◌, ℕ, ◌+◌, ◌*◌, ◌/◌, ◌<◌, ◌==◌, ◌&&◌, not, Bool, true, false, inl, inr, if◌then◌else◌, List, [], ◌∷◌, ◌++◌, length, Option, None, Some, Result, Ok, Err, refl, sym, ap, ◌∙◌, subst, arith}
 use Rattle.std.proofs.lemmas.Bool.{cases_Bool, eqb-true}
-use Rattle.elf_model.specs.Bytes.{slice}
-use Rattle.elf_model.specs.Checks.{Check, first_refusal, table_checks, strings_checks, range_checks_of, unless_empty}
-use Rattle.elf_model.specs.LineFronts.{section_prefix}
-use Rattle.elf_model.specs.Listing.{ListingItem, each, guarded}
-use Rattle.elf_model.specs.Names.{shown}
-use Rattle.elf_model.specs.Numbers.{DT_STRSZ}
-use Rattle.elf_model.specs.Records.{e_machine, e_shnum, e_shoff, e_shstrndx, sh_name, sh_offset, sh_size, sh_link, p_offset, p_filesz, section_at}
-use Rattle.elf_model.specs.Report.{table_rows}
-use Rattle.elf_model.specs.HeaderTables.{TableKind}
-use Rattle.elf_model.specs.TableKinds.{section_dynamic}
-use Rattle.elf_model.specs.Rows.{section_row, section_name, dynamic_row, named_row, no_name}
-use Rattle.elf_model.specs.Dynamic.{dynamic_at, dynamic_count, listed_value}
 use Rattle.elf_model.proofs.CheckSteps.{first_refusal-none, first_refusal-some}
 use Rattle.elf_model.proofs.ListingLemmas.{guarded-passes, guarded-fault}
-use Rattle.elf_model.specs.Mapped.{mapped_strings, strings_at as strings_mapped}
-use Rattle.elf_model.specs.Tables.{all_checks, strings_of, entry_count, dynamic_table_checks, segment_dynamic_checks}
-use Rattle.elf_model.specs.declared.causes.Refusal.{Refusal}
-use Rattle.elf_note.specs.DynCursors.{AreStrings}
+use Rattle.elf_note.specs.Prelude.{AreStrings}
 use Rattle.elf_note.specs.declared.string_values.DynamicStrings.{DynamicStrings}
 use Rattle.elf_source.specs.Output.{OutState}
-use Rattle.elf_table.specs.Relocations.{RefusedBy}
-use Rattle.elf_table.specs.Tables.{TableRange, StringTableRange}
-use Rattle.elf_table.specs.Sections.{byte_rows, table_at, string_table_at as strings_linked, names_at, rows, section_names, checked as checked_as}
-use Rattle.elf_table.proofs.RelocationLaws.{passed_first, table-fails, table-passes}
-use Rattle.elf_table.specs.Views.{dynamic_table_at as table_of_segment}
+use Rattle.elf_table.specs.Prelude.{RefusedBy, StringTableRange, TableRange, byte_rows, checked as checked_as, dynamic_table_at as table_of_segment, names_at, rows, section_names, stop_of, string_table_at as strings_linked, table_at}
 use Rattle.elf_table.specs.declared.fault.Fault.{Fault}
+use Rattle.elf_table.proofs.RelocationLaws.{passed_first, table-fails, table-passes}
 use Rattle.elf_table.specs.declared.fault.Fault.TheVariants.{Refused, Source}
-use Rattle.elf_listing.specs.Parts.{shown_in}
-use Rattle.elf_listing.specs.Shows.{WroteUntilStop, WroteItems}
-use Rattle.elf_table.specs.Stops.{stop_of}
+use Rattle.elf_listing.specs.Prelude.{WroteItems, WroteUntilStop, shown_in}
 use Rattle.elf_listing.proofs.RowLaws.{WroteUntilStop-first}
 use Rattle.elf_listing.proofs.ShowLaws.{Whole-none}
 

@@ -1,12 +1,7 @@
 -- The items of one program header, by what the store and the checks of a viewed file answer.
-use Rattle.elf_model.specs.Style.{ListingStyle}
+use Rattle.elf_model.specs.Prelude.{Line, ListingStyle, segment_at, segment_line, segment_row}
 use Rattle.std.proofs.Common.{◌≡◌, ℕ, ◌<◌, List, [], ◌∷◌, Option, Some, sym, ap}
-use Rattle.elf_model.specs.Lines.{segment_line}
-use Rattle.elf_model.specs.Listing.{Line}
-use Rattle.elf_model.specs.Records.{segment_at}
-use Rattle.elf_model.specs.Rows.{segment_row}
-use Rattle.elf_table.specs.Load.{LoadedFile, HoldsSectionHeaders, HoldsProgramHeaders}
-use Rattle.elf_table.specs.Store.{StoreState}
+use Rattle.elf_table.specs.Prelude.{HoldsProgramHeaders, HoldsSectionHeaders, LoadedFile, StoreState}
 use Rattle.elf_listing.specs.Viewed.{IsViewed}
 
 -- a file whose program headers are loaded is viewed

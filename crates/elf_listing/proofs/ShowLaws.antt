@@ -1,20 +1,19 @@
 -- What one part written after another comes to.
 use Rattle.std.proofs.Common.{ℕ, ◌+◌, ◌≤◌, List, [], ◌++◌, Result, Ok, Err, refl, sym, ap, ◌∙◌, arith, append_assoc}
-use Rattle.elf_source.specs.Source.{CountedState, ReadsUpTo}
-use Rattle.elf_source.specs.Output.{OutState}
+use Rattle.elf_source.specs.Prelude.{CountedState, OutState, ReadsUpTo}
 use Rattle.elf_source.proofs.PutsLaws.{SinkTakes-nothing, SinkTakes-then, SinkTakesPrefix-then, SinkTakesPrefix-more}
 use Rattle.elf_source.proofs.ReadsLaws.{ReadsUpTo-to, ReadsUpTo-then, IsSourceFault-then, ExceedsBudget-then, ExceedsBudget-more}
 use Rattle.elf_note.specs.Ahead.{ReadsOnCredit}
 use Rattle.elf_note.proofs.SpendsLaws.{SpendsAtMost-reads, SpendsAtMost-then, SpendsAtMost-to}
-use Rattle.elf_table.specs.Faults.{IsAt, IsReadFault}
-use Rattle.elf_model.specs.declared.causes.Refusal.{Refusal}
+use Rattle.elf_table.specs.Prelude.{IsAt, IsReadFault, stop_of}
 use Rattle.elf_table.specs.declared.fault.Fault.{Fault}
-use Rattle.elf_table.specs.declared.fault.Fault.TheVariants.{Refused as Refuses, Source as Unread}
-use Rattle.elf_model.specs.Listing.{ListingItem, lines_of}
-use Rattle.elf_table.specs.Stops.{stop_of}
-use Rattle.elf_listing.specs.Shows.{WroteItems, WrotePrefix, WroteUntilStop, WroteSome, StopSays, IsOfOutput, ListingCosts, SpentCredit}
+use Rattle.elf_table.specs.declared.run_fault.RunFault.TheVariants.{Out}
 use Rattle.elf_table.specs.declared.run_fault.RunFault.{RunFault}
-use Rattle.elf_table.specs.declared.run_fault.RunFault.TheVariants.{Refused, Source, Out}
+use Rattle.elf_model.specs.Prelude.{ListingItem, lines_of}
+use Rattle.elf_model.specs.declared.causes.Refusal.{Refusal}
+use Rattle.elf_table.specs.declared.fault.Fault.TheVariants.{Refused as Refuses, Source as Unread}
+use Rattle.elf_listing.specs.Shows.{WroteItems, WrotePrefix, WroteUntilStop, WroteSome, StopSays, IsOfOutput, ListingCosts, SpentCredit}
+use Rattle.elf_table.specs.declared.run_fault.RunFault.TheVariants.{Refused, Source}
 use Rattle.elf_model.proofs.ListingLemmas.{listings_append}
 use Rattle.elf_listing.proofs.EachLaws.{lines_front}
 

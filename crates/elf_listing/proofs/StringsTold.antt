@@ -1,28 +1,15 @@
 -- The string of a dynamic entry, by whether it tells of one.
-use Rattle.elf_model.specs.Style.{ListingStyle}
-use Rattle.std.proofs.Common.{◌≡◌, ℕ, Bool, true, false, List, [], ◌∷◌, Option, None, Some, Result, Ok, Err, refl, sym, ap, ◌∙◌, subst}
-use Rattle.elf_model.specs.Checks.{first_refusal}
-use Rattle.elf_model.specs.Fields.{LinePrefix}
-use Rattle.elf_model.specs.LineFronts.{dynamic_prefix}
-use Rattle.elf_model.specs.Listing.{ListingItem, Fault as FaultItem}
-use Rattle.elf_model.specs.Mapped.{mapped_checks, mapped_place, strings_at}
-use Rattle.elf_model.specs.Names.{DisplayedName, shown}
-use Rattle.elf_model.specs.Records.{d_tag, d_un}
-use Rattle.elf_model.specs.Rows.{dynamic_row, is_string_tag, named_row, no_name}
+use Rattle.elf_model.specs.Prelude.{DisplayedName, Fault as FaultItem, LinePrefix, ListingItem, ListingStyle, d_tag, d_un, dynamic_prefix, dynamic_row, first_refusal, is_string_tag, mapped_checks, mapped_place, named_row, no_name, shown, strings_at}
 use Rattle.elf_model.specs.declared.causes.Cause.{Cause}
-use Rattle.elf_model.specs.declared.causes.Cause.TheVariants.{Unmapped}
 use Rattle.elf_model.specs.declared.causes.Refusal.{Refusal}
+use Rattle.elf_model.specs.declared.causes.Cause.TheVariants.{Unmapped}
+use Rattle.std.proofs.Common.{◌≡◌, ℕ, Bool, true, false, List, [], ◌∷◌, Option, None, Some, Result, Ok, Err, refl, sym, ap, ◌∙◌, subst}
 use Rattle.elf_source.specs.Output.{OutState}
-use Rattle.elf_table.specs.NamesRead.{NameRead}
-use Rattle.elf_table.specs.Sections.{answered}
-use Rattle.elf_table.specs.Tables.{StringTableRange, strings_in}
-use Rattle.elf_table.specs.Views.{strings_mapped}
+use Rattle.elf_table.specs.Prelude.{NameRead, StringTableRange, answered, stop_of, strings_in, strings_mapped}
 use Rattle.elf_table.specs.declared.fault.Fault.{Fault}
-use Rattle.elf_table.specs.declared.fault.Fault.TheVariants.{Refused}
 use Rattle.elf_table.specs.declared.names.NameEnd.{NameEnd}
-use Rattle.elf_listing.specs.Shows.{WroteUntilStop}
-use Rattle.elf_table.specs.Stops.{stop_of}
-use Rattle.elf_listing.specs.Strings.{StringsFound, ToldRead, string_told_by, string_told}
+use Rattle.elf_table.specs.declared.fault.Fault.TheVariants.{Refused}
+use Rattle.elf_listing.specs.Prelude.{StringsFound, ToldRead, WroteUntilStop, string_told, string_told_by}
 use Rattle.elf_listing.proofs.RowLaws.{Ends-first, WroteUntilStop-name}
 
 -- the row of an entry by its bytes before the name, and its string

@@ -2,20 +2,10 @@
 use Rattle.std.proofs.Common.{◌≡◌, ℕ, ◌+◌, ◌*◌, ◌/◌, ◌≤◌, ◌==◌, if◌then◌else◌, Bool, true, false, Option, None, Some, Result, Ok, refl, sym, ap, ◌∙◌, subst, arith}
 use Rattle.std.proofs.Math.Nat.{mul-add}
 use Rattle.std.specs.Prelude.{is_none}
-use Rattle.elf_model.specs.Checks.{pass, table_checks_of}
-use Rattle.elf_model.specs.Cost.{table_cost}
-use Rattle.elf_model.specs.HeaderTables.{HeaderTable, TableKind}
-use Rattle.elf_model.specs.Names.{name_bytes}
-use Rattle.elf_model.specs.Records.{sh_offset, sh_size}
-use Rattle.elf_model.specs.Suffixes.{first_numbers}
-use Rattle.elf_model.specs.TableKinds.{suffixes_cost}
-use Rattle.elf_model.specs.VersionCost.{walks_cost}
+use Rattle.elf_model.specs.Prelude.{HeaderTable, TableKind, first_numbers, name_bytes, pass, sh_offset, sh_size, suffixes_cost, table_checks_of, table_cost, walks_cost}
 use Rattle.elf_model.proofs.StoreLemmas.{places_decide_nothing}
-use Rattle.elf_table.specs.Store.{StoreState, row}
-use Rattle.elf_table.specs.Sections.{rows, table_of}
-use Rattle.elf_table.specs.Tables.{TableRange}
-use Rattle.elf_listing.specs.Parts.{store_sections}
-use Rattle.elf_listing.specs.Suffixed.{suffix_bytes, walks_asked}
+use Rattle.elf_table.specs.Prelude.{StoreState, TableRange, row, rows, table_of}
+use Rattle.elf_listing.specs.Prelude.{store_sections, suffix_bytes, walks_asked}
 use Rattle.elf_listing.proofs.SectionCosts.{within_kind}
 
 -- so many names cost what their rows do, a word and a name each, and what finds them

@@ -1,21 +1,11 @@
 -- What finds the versions of a table's symbols, by the checks of its section of version numbers and the walks.
 use Rattle.std.proofs.Common.{◌≡◌, ℕ, ◌+◌, ◌*◌, ◌/◌, ◌==◌, if◌then◌else◌, Bool, true, false, List, Option, None, Some, Result, Ok, Err, ◌⊎◌, inl, inr, refl, sym, ap, ◌∙◌}
-use Rattle.elf_model.specs.Checks.{first_refusal}
-use Rattle.elf_model.specs.HeaderTables.{HeaderTable}
-use Rattle.elf_model.specs.Names.{name_bytes}
-use Rattle.elf_model.specs.Records.{section_at, sh_offset}
-use Rattle.elf_model.specs.Suffixes.{first_numbers, version_numbers_of, or_refusal, suffixes_refusal}
-use Rattle.elf_model.specs.Tables.{all_checks, entry_count}
-use Rattle.elf_model.specs.VersionCost.{walks_cost}
-use Rattle.elf_model.specs.VersionRows.{symbol_versions}
+use Rattle.elf_model.specs.Prelude.{HeaderTable, all_checks, entry_count, first_numbers, first_refusal, name_bytes, or_refusal, section_at, sh_offset, suffixes_refusal, symbol_versions, version_numbers_of, walks_cost}
 use Rattle.elf_model.specs.declared.causes.Refusal.{Refusal}
+use Rattle.elf_table.specs.Prelude.{AreVersioned, RefusedBy, TableRange}
 use Rattle.elf_table.specs.declared.fault.Fault.{Fault}
 use Rattle.elf_table.specs.declared.fault.Fault.TheVariants.{Refused, Source}
-use Rattle.elf_table.specs.Relocations.{RefusedBy}
-use Rattle.elf_table.specs.Versions.{AreVersioned}
-use Rattle.elf_table.specs.Tables.{TableRange}
-use Rattle.elf_listing.specs.Suffixed.{AreSuffixes, SuffixesOr, suffix_bytes, walks_asked}
-use Rattle.elf_listing.specs.SymbolVersions.{AreNumbered, NumberedOr, walks_refusal}
+use Rattle.elf_listing.specs.Prelude.{AreNumbered, AreSuffixes, NumberedOr, SuffixesOr, suffix_bytes, walks_asked, walks_refusal}
 use Rattle.elf_listing.specs.declared.suffixes.VersionLookup.{VersionLookup}
 use Rattle.elf_listing.proofs.FirstTaken.{or-none}
 

@@ -1,28 +1,17 @@
 -- A line that was put in pieces ends in the name and its version.
 use Rattle.std.proofs.Common.{◌≡◌, ℕ, Bool, true, false, List, [], ◌∷◌, ◌++◌, Result, Ok, Err, refl, sym, ap, ◌∙◌, append_assoc, subst}
 use Rattle.std.specs.Prelude.{codes, if◌then◌else◌}
-use Rattle.elf_model.specs.Choice.{Suffixed}
-use Rattle.elf_model.specs.Fields.{LinePrefix, closing, member_key, quoted, string_text}
-use Rattle.elf_model.specs.Lines.{cut_mark, escaped, name_member, name_text}
-use Rattle.elf_model.specs.Names.{DisplayedName}
-use Rattle.elf_model.specs.Suffixes.{line_suffixed, suffix_members, suffix_text, suffixed_line, version_member, version_sign}
-use Rattle.elf_model.specs.Text.{newline}
-use Rattle.elf_model.specs.declared.formats.Format.{Format}
-use Rattle.elf_model.specs.declared.formats.Format.TheVariants.{Columns, Object}
-use Rattle.elf_format.specs.Named.{line_tailed, escaped_bytes, tailed_line}
-use Rattle.elf_table.specs.NamesRead.{shown_by}
-use Rattle.elf_table.specs.declared.names.NameEnd.{NameEnd}
-use Rattle.elf_table.specs.declared.names.NameEnd.TheVariants.{Whole, Cut}
-use Rattle.elf_model.specs.Choice.{EveryRow}
-use Rattle.elf_model.specs.Listing.{lines_of}
-use Rattle.elf_model.specs.Suffixes.{suffixed_row}
+use Rattle.elf_model.specs.Prelude.{DisplayedName, EveryRow, LinePrefix, Suffixed, closing, cut_mark, escaped, line_suffixed, lines_of, member_key, name_member, name_text, newline, quoted, string_text, suffix_members, suffix_text, suffixed_line, suffixed_row, version_member, version_sign}
 use Rattle.elf_model.specs.declared.causes.Cause.{Cause}
-use Rattle.elf_format.specs.Named.{shown_as}
+use Rattle.elf_model.specs.declared.formats.Format.TheVariants.{Columns, Object}
+use Rattle.elf_model.specs.declared.formats.Format.{Format}
+use Rattle.elf_format.specs.Prelude.{escaped_bytes, line_tailed, shown_as, tailed_line}
+use Rattle.elf_table.specs.Prelude.{NameRead, shown_by}
+use Rattle.elf_table.specs.declared.names.NameEnd.TheVariants.{Cut, Whole}
+use Rattle.elf_table.specs.declared.names.NameEnd.{NameEnd}
 use Rattle.elf_source.specs.Output.{SinkTakes, SinkTakesPrefix, OutState}
-use Rattle.elf_table.specs.NamesRead.{NameRead}
-use Rattle.elf_listing.specs.Shows.{WroteItems, cut_of}
+use Rattle.elf_listing.specs.Prelude.{WroteItems, after_version, before_version, cut_of}
 use Rattle.elf_listing.proofs.RowLaws.{WroteUntilStop-line, Whole-line}
-use Rattle.elf_listing.specs.SuffixTexts.{before_version, after_version}
 
 -- texts in pieces
 three_is : (name sign version end : List ℕ) → name ++ (sign ++ (version ++ end)) ≡ (name ++ (sign ++ version)) ++ end

@@ -1,35 +1,22 @@
 -- Rows that end in a name with its version, by what was read of both.
 use Rattle.std.proofs.Common.{◌≡◌, ℕ, ◌+◌, ◌*◌, ◌≤◌, ◌==◌, ◌&&◌, not, if◌then◌else◌, Bool, true, false, List, [], ◌∷◌, ◌++◌, Option, None, Some, Result, Ok, Err, IfErr, refl, sym, ap, ◌∙◌, subst, arith, map}
 use Rattle.std.specs.List.{list_any}
-use Rattle.elf_model.specs.Budget.{IsBudgetRefusal}
-use Rattle.elf_model.specs.Choice.{RowFilter, EveryRow, NoSuffix, RowsOf, Suffix, Suffixed, chooses, is_named, wanted_text}
-use Rattle.elf_model.specs.Fields.{LinePrefix}
-use Rattle.elf_model.specs.LineFronts.{relocation_prefix, symbol_prefix}
-use Rattle.elf_model.specs.Listing.{ListingItem, Line, Fault as FaultItem}
-use Rattle.elf_model.specs.Names.{DisplayedName, shown}
-use Rattle.elf_model.specs.Records.{e_machine, r_sym, section_at, sh_link, sh_offset, st_name}
-use Rattle.elf_model.specs.Rows.{named_row, symbol_named}
-use Rattle.elf_model.proofs.SuffixLaws.{unsuffixed_line}
-use Rattle.elf_model.specs.Style.{ListingStyle}
-use Rattle.elf_model.specs.Suffixes.{relocation_row_with_version, suffixed_row, symbol_row_with_version, symbol_suffix}
-use Rattle.elf_model.specs.Tables.{entry_at, linked_at, strings_of}
+use Rattle.elf_model.specs.Prelude.{DisplayedName, EveryRow, Fault as FaultItem, IsBudgetRefusal, Line, LinePrefix, ListingItem, ListingStyle, NoSuffix, RowFilter, RowsOf, Suffix, Suffixed, chooses, e_machine, entry_at, is_named, linked_at, named_row, r_sym, relocation_prefix, relocation_row_with_version, section_at, sh_link, sh_offset, shown, st_name, strings_of, suffixed_row, symbol_named, symbol_prefix, symbol_row_with_version, symbol_suffix, wanted_text}
 use Rattle.elf_model.specs.declared.causes.Cause.{Cause}
 use Rattle.elf_model.specs.declared.causes.Refusal.{Refusal}
-use Rattle.elf_table.specs.Stops.{stop_of}
+use Rattle.elf_model.proofs.SuffixLaws.{unsuffixed_line}
+use Rattle.elf_table.specs.Prelude.{NameRead, shown_by, stop_of}
+use Rattle.elf_table.specs.declared.names.NameEnd.TheVariants.{Cut as NameCut, Whole as NameWhole}
 use Rattle.elf_table.specs.declared.fault.Fault.{Fault}
+use Rattle.elf_table.specs.declared.names.NameEnd.{NameEnd}
 use Rattle.elf_table.specs.declared.fault.Fault.TheVariants.{Refused, Source}
 use Rattle.elf_note.proofs.SpendsLaws.{SpendsAtMost-then, SpendsAtMost-to}
-use Rattle.elf_source.specs.Output.{OutState}
+use Rattle.elf_source.specs.Prelude.{OutState}
 use Rattle.elf_source.specs.declared.source.Source.{Ghosts as Sources}
 use Rattle.elf_source.specs.declared.sink.Sink.{Ghosts as Sinks}
-use Rattle.elf_table.specs.NamesRead.{NameRead, shown_by}
-use Rattle.elf_table.specs.declared.names.NameEnd.{NameEnd}
-use Rattle.elf_table.specs.declared.names.NameEnd.TheVariants.{Whole as NameWhole, Cut as NameCut}
-use Rattle.elf_options.specs.Chosen.{choice_of}
-use Rattle.elf_options.specs.Names.{texts_of}
+use Rattle.elf_options.specs.Prelude.{choice_of, texts_of}
 use Rattle.elf_options.specs.declared.row_filter.RowFilter.{RowFilter as Choice}
-use Rattle.elf_listing.specs.Shows.{ListingReads, WroteUntilStop}
-use Rattle.elf_listing.specs.Suffixed.{SuffixRead, suffix_read}
+use Rattle.elf_listing.specs.Prelude.{ListingReads, SuffixRead, WroteUntilStop, suffix_read}
 use Rattle.elf_listing.specs.declared.listing.Listing.{Listing}
 use Rattle.elf_listing.specs.declared.read_suffix.VersionSuffixEnd.{VersionSuffixEnd}
 use Rattle.elf_listing.proofs.ListsLaws.{SameFile-then}

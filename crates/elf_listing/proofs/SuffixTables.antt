@@ -1,35 +1,19 @@
 -- The rows of a table with versions behind the names of symbols: those of a plain table, the first refusal, or its own.
 use Rattle.std.proofs.Common.{◌≡◌, ℕ, ◌+◌, ◌*◌, ◌<◌, ◌≤◌, nat_lt, ◌==◌, ◌&&◌, not, if◌then◌else◌, Bool, true, false, List, [], ◌∷◌, Option, None, Some, Result, Ok, Err, ◌⊎◌, inl, inr, refl, sym, ap, ◌∙◌, arith}
 use Rattle.std.proofs.lemmas.Bool.{le-ltb, ne_eqb}
-use Rattle.elf_model.specs.Budget.{IsBudgetRefusal}
-use Rattle.elf_model.specs.Checks.{first_refusal, is_symbol_table, refuse}
-use Rattle.elf_model.specs.Choice.{RowFilter, Suffix, NoSuffix}
-use Rattle.elf_model.specs.Fields.{LinePrefix}
-use Rattle.elf_model.specs.LineFronts.{relocation_prefix}
-use Rattle.elf_model.specs.Listing.{ListingItem, Fault as FaultItem, each}
-use Rattle.elf_model.specs.Names.{DisplayedName}
-use Rattle.elf_model.specs.Records.{e_machine, r_sym, section_at, sh_link, sh_type}
-use Rattle.elf_model.specs.Report.{table_rows}
-use Rattle.elf_model.specs.Rows.{chosen_row, relocation_row, symbol_named, symbol_row}
-use Rattle.elf_model.specs.Style.{ListingStyle}
-use Rattle.elf_model.specs.Suffixes.{after_refusal, version_numbers_of, relocation_row_with_version, suffixed_relocation_rows, suffixed_row, symbol_row_with_version, suffixed_symbol_rows, suffixes_refusal, symbol_suffix}
-use Rattle.elf_model.specs.TableKinds.{relocations, relocations_with_versions, suffixed_symbols, symbols}
-use Rattle.elf_model.specs.Tables.{all_checks, entry_at, entry_count, has_symbols, linked_at, relocation_table_checks, symbol_checks_of, symbol_table}
-use Rattle.elf_model.specs.declared.causes.Cause.{Cause}
+use Rattle.elf_model.specs.Prelude.{DisplayedName, Fault as FaultItem, IsBudgetRefusal, LinePrefix, ListingItem, ListingStyle, NoSuffix, RowFilter, Suffix, after_refusal, all_checks, chosen_row, e_machine, each, entry_at, entry_count, first_refusal, has_symbols, is_symbol_table, linked_at, r_sym, refuse, relocation_prefix, relocation_row, relocation_row_with_version, relocation_table_checks, relocations, relocations_with_versions, section_at, sh_link, sh_type, suffixed_relocation_rows, suffixed_row, suffixed_symbol_rows, suffixed_symbols, suffixes_refusal, symbol_checks_of, symbol_named, symbol_row, symbol_row_with_version, symbol_suffix, symbol_table, symbols, table_rows, version_numbers_of}
 use Rattle.elf_model.specs.declared.causes.Cause.TheVariants.{BadLink, SymbolIndex}
+use Rattle.elf_model.specs.declared.causes.Cause.{Cause}
 use Rattle.elf_model.specs.declared.causes.Refusal.{Refusal}
 use Rattle.elf_model.proofs.SuffixLaws.{each_same, unsuffixed_row, unversioned_entries, unversioned_symbols}
-use Rattle.elf_table.specs.Stops.{stop_of}
+use Rattle.elf_table.specs.Prelude.{AreRelocations, RefersTo, StringTableRange, TableRange, stop_of}
 use Rattle.elf_table.specs.declared.fault.Fault.{Fault}
-use Rattle.elf_table.specs.declared.fault.Fault.TheVariants.{Refused, Source}
 use Rattle.elf_table.specs.declared.run_fault.RunFault.{RunFault}
-use Rattle.elf_source.specs.Output.{OutState}
+use Rattle.elf_table.specs.declared.fault.Fault.TheVariants.{Refused, Source}
+use Rattle.elf_source.specs.Prelude.{OutState}
 use Rattle.elf_source.specs.declared.source.Source.{Ghosts as Sources}
 use Rattle.elf_source.specs.declared.sink.Sink.{Ghosts as Sinks}
-use Rattle.elf_table.specs.Relocations.{AreRelocations, RefersTo}
-use Rattle.elf_table.specs.Tables.{TableRange, StringTableRange}
-use Rattle.elf_listing.specs.Shows.{ListingReads, ListingCalls, WroteUntilStop, WroteItems}
-use Rattle.elf_listing.specs.Suffixed.{AreSuffixes, LinkedOr, SuffixesOr}
+use Rattle.elf_listing.specs.Prelude.{AreSuffixes, LinkedOr, ListingCalls, ListingReads, SuffixesOr, WroteItems, WroteUntilStop}
 use Rattle.elf_listing.specs.declared.listing.Listing.{Listing}
 use Rattle.elf_listing.specs.declared.suffixes.VersionLookup.{VersionLookup}
 use Rattle.elf_listing.proofs.ListsLaws.{SameFile-then}

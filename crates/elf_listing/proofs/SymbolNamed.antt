@@ -1,19 +1,11 @@
 -- The symbol that a relocation entry names, by what the file's sections answer.
 use Rattle.std.proofs.Common.{◌≡◌, ℕ, ◌+◌, ◌*◌, ◌<◌, ◌≤◌, ◌==◌, nat_lt, true, false, List, Result, Ok, Err, IfErr, refl, sym, ap, ◌∙◌, subst, arith}
 use Rattle.std.proofs.lemmas.Bool.{lt-ltb, le-ltb}
-use Rattle.elf_model.specs.Bytes.{slice}
-use Rattle.elf_model.specs.Names.{DisplayedName, shown}
-use Rattle.elf_model.specs.Records.{sh_offset, st_name}
-use Rattle.elf_model.specs.Rows.{no_name, symbol_named}
-use Rattle.elf_model.specs.Tables.{linked_at, entry_at, entry_count, has_symbols, strings_of}
-use Rattle.elf_model.specs.declared.causes.Cause.{Cause}
+use Rattle.elf_model.specs.Prelude.{DisplayedName, entry_at, entry_count, has_symbols, linked_at, no_name, sh_offset, shown, slice, st_name, strings_of, symbol_named}
 use Rattle.elf_model.specs.declared.causes.Cause.TheVariants.{BadLink, SymbolIndex}
+use Rattle.elf_model.specs.declared.causes.Cause.{Cause}
 use Rattle.elf_source.specs.Source.{CountedState, ReadsUpTo}
-use Rattle.elf_table.specs.Faults.{IsReadFault}
-use Rattle.elf_table.specs.Tables.{TableRange, StringTableRange}
-use Rattle.elf_table.specs.Relocations.{AreSymbols}
-use Rattle.elf_table.specs.Cursors.{row_at}
-use Rattle.elf_table.specs.NamesRead.{NameRead}
+use Rattle.elf_table.specs.Prelude.{AreSymbols, IsReadFault, NameRead, StringTableRange, TableRange, row_at}
 use Rattle.elf_table.specs.declared.fault.Fault.{Fault}
 use Rattle.elf_table.specs.declared.names.NameEnd.{NameEnd}
 use Rattle.elf_listing.proofs.VersionedCosts.{IsReadFault-account}

@@ -1,31 +1,19 @@
 -- A section of version records, by its checks and a walk over its bytes.
 use Rattle.std.proofs.Common.{◌≡◌, ℕ, ◌+◌, ◌*◌, ◌/◌, ◌≤◌, ◌==◌, Bool, true, false, List, [], ◌∷◌, ◌++◌, length, Option, None, Some, Result, Ok, Err, refl, sym, ap, ◌∙◌, arith}
-use Rattle.elf_model.specs.Bytes.{slice}
-use Rattle.elf_model.specs.Checks.{Check, first_refusal, range_checks_of, strings_checks}
-use Rattle.elf_model.specs.Listing.{ListingItem}
-use Rattle.elf_model.specs.Records.{sh_link, sh_offset, sh_size, section_at}
-use Rattle.elf_model.specs.Report.{table_rows}
-use Rattle.elf_model.specs.Style.{ListingStyle}
-use Rattle.elf_model.specs.Tables.{all_checks, strings_of}
-use Rattle.elf_model.specs.VersionRows.{version_table, versions_rows, visited_rows}
-use Rattle.elf_model.specs.Versions.{visited_from, record_size, versions_in}
-use Rattle.elf_model.specs.declared.versions.VersionKind.{VersionKind}
+use Rattle.elf_model.specs.Prelude.{Check, ListingItem, ListingStyle, all_checks, first_refusal, range_checks_of, record_size, section_at, sh_link, sh_offset, sh_size, slice, strings_checks, strings_of, table_rows, version_table, versions_in, versions_rows, visited_from, visited_rows}
 use Rattle.elf_model.specs.declared.versions.VersionKind.TheVariants.{Definition, File, Need}
+use Rattle.elf_model.specs.declared.versions.VersionKind.{VersionKind}
 use Rattle.elf_model.proofs.CheckSteps.{first_refusal-none, first_refusal-some}
 use Rattle.elf_model.proofs.VersionSteps.{met-ended}
+use Rattle.elf_table.specs.Prelude.{RefusedBy, StringTableRange, TableRange, byte_rows, names_at, rows, string_table_at, strings_in}
 use Rattle.elf_table.specs.declared.fault.Fault.{Fault}
-use Rattle.elf_table.specs.declared.fault.Fault.TheVariants.{Refused, Source}
 use Rattle.elf_table.specs.declared.run_fault.RunFault.{RunFault}
+use Rattle.elf_table.specs.declared.fault.Fault.TheVariants.{Refused, Source}
 use Rattle.elf_note.proofs.SpendsLaws.{SpendsAtMost-reads, SpendsAtMost-then, SpendsAtMost-to}
-use Rattle.elf_source.specs.Output.{OutState}
-use Rattle.elf_source.specs.Source.{CountedState, ReadsUpTo}
-use Rattle.elf_table.specs.Relocations.{RefusedBy}
-use Rattle.elf_table.specs.Sections.{byte_rows, names_at, rows, string_table_at}
-use Rattle.elf_table.specs.Tables.{TableRange, StringTableRange, strings_in}
+use Rattle.elf_source.specs.Prelude.{CountedState, OutState, ReadsUpTo}
 use Rattle.elf_table.proofs.RelocationLaws.{passed_first, table-fails}
 use Rattle.elf_note.specs.Reading.{StartsVersions, VersionCursorState, versions_left}
-use Rattle.elf_listing.specs.Shows.{SpentCredit, WroteItems}
-use Rattle.elf_listing.specs.Versions.{records_kind, versions_items}
+use Rattle.elf_listing.specs.Prelude.{SpentCredit, WroteItems, records_kind, versions_items}
 use Rattle.elf_listing.proofs.SectionShown.{table_passes}
 use Rattle.elf_listing.proofs.ShowLaws.{StopSays-then, Whole-none}
 

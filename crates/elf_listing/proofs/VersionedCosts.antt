@@ -1,29 +1,17 @@
 -- What the rows of symbols' versions ask for, and what finds the names of their numbers.
 use Rattle.std.proofs.Common.{◌≡◌, ℕ, ◌+◌, ◌*◌, ◌/◌, ◌<◌, ◌≤◌, ◌==◌, ◌&&◌, not, min, if◌then◌else◌, Bool, true, false, inl, inr, List, [], ◌∷◌, Option, None, Some, Result, Ok, Err, refl, sym, ap, ◌∙◌, arith}
 use Rattle.std.specs.Prelude.{is_none}
-use Rattle.elf_model.specs.Checks.{is_outside, pass, refuse, table_checks_of}
-use Rattle.elf_model.specs.Cost.{cost_where, table_cost}
-use Rattle.elf_model.specs.HeaderTables.{HeaderTable, first_typed, header_field}
-use Rattle.elf_model.specs.Names.{name_bytes}
-use Rattle.elf_model.specs.Numbers.{SHT_GNU_VERSYM}
-use Rattle.elf_model.specs.Records.{sh_link, sh_offset, sh_size, sh_type}
-use Rattle.elf_model.specs.VersionCost.{has_symbol_table, is_inside, versioned_cost, walk_cost, walks_cost}
-use Rattle.elf_model.specs.VersionRows.{symbol_versions}
+use Rattle.elf_model.specs.Prelude.{HeaderTable, SHT_GNU_VERSYM, cost_where, first_typed, has_symbol_table, header_field, is_inside, is_outside, max_records, name_bytes, pass, record_size, refuse, sh_link, sh_offset, sh_size, sh_type, symbol_versions, table_checks_of, table_cost, versioned_cost, walk_cost, walks_cost}
 use Rattle.elf_model.specs.declared.causes.Cause.TheVariants.{TableOutside}
+use Rattle.elf_model.specs.declared.versions.VersionKind.{VersionKind}
 use Rattle.elf_model.proofs.StoreLemmas.{places_decide_nothing}
-use Rattle.elf_table.specs.Faults.{IsReadFault}
-use Rattle.elf_table.specs.Store.{StoreState, row}
+use Rattle.elf_table.specs.Prelude.{IsReadFault, StoreState, TableRange, byte_rows, checked, row, rows, table_of}
 use Rattle.elf_table.specs.declared.fault.Fault.{Fault}
 use Rattle.elf_table.specs.declared.fault.Fault.TheVariants.{Refused, Source}
 use Rattle.elf_source.specs.Source.{CountedState, ReadsUpTo}
 use Rattle.elf_source.proofs.ReadsLaws.{IsSourceFault-then, ExceedsBudget-then}
-use Rattle.elf_table.specs.Sections.{byte_rows, checked, rows, table_of}
-use Rattle.elf_table.specs.Tables.{TableRange}
 use Rattle.elf_table.proofs.RelocationLaws.{passed_first}
-use Rattle.elf_listing.specs.Parts.{store_sections}
-use Rattle.elf_listing.specs.Versions.{kind_type}
-use Rattle.elf_model.specs.Versions.{max_records, record_size}
-use Rattle.elf_model.specs.declared.versions.VersionKind.{VersionKind}
+use Rattle.elf_listing.specs.Prelude.{kind_type, store_sections}
 use Rattle.elf_note.specs.Reading.{bytes_each}
 
 -- the rows of a section, with what finds the names, are what its header counts for

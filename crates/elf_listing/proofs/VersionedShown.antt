@@ -5,52 +5,32 @@ use Rattle.std.proofs.lemmas.List.Elements.{All-nil}
 use Rattle.std.specs.Prelude.{All}
 use Rattle.std.specs.Prelude.{is_none}
 use Rattle.std.specs.Result.{is_ok}
-use Rattle.elf_model.specs.Choice.{RowFilter}
-use Rattle.elf_model.specs.Checks.{first_refusal, pass, table_checks_of}
-use Rattle.elf_model.specs.Cost.{cost_where, table_cost}
-use Rattle.elf_model.specs.HeaderTables.{HeaderTable, TableKind, file_sections, first_typed, header_field}
-use Rattle.elf_model.specs.Listing.{ListingItem, Fault as FaultItem, each, fault_of}
-use Rattle.elf_model.specs.Names.{DisplayedName, name_bytes, shown}
-use Rattle.elf_model.specs.Numbers.{SHT_GNU_VERDEF, SHT_GNU_VERNEED}
-use Rattle.elf_model.specs.Records.{e_shnum, sh_offset, sh_size, sh_type, section_at, versym}
-use Rattle.elf_model.specs.Report.{kinds_rows, table_rows}
-use Rattle.elf_model.specs.Fields.{LinePrefix}
-use Rattle.elf_model.specs.Rows.{chosen_row, refused_row}
-use Rattle.elf_model.specs.Style.{ListingStyle}
-use Rattle.elf_model.specs.Tables.{all_checks, entry_count, strings_of}
-use Rattle.elf_model.specs.VersionCost.{has_symbol_table, versioned_cost, versioned_rows, walk_cost, walks_cost, is_inside}
-use Rattle.elf_model.specs.VersionLaws.{records_rows}
-use Rattle.elf_model.specs.VersionRows.{end_rows, first_of_type, first_strings, first_versions, visited_rows, numbered_row, section_versions, symbol_version_prefix, symbol_version_row, symbol_version_rows, symbol_versions, version_definitions, version_named, version_needs, version_strings, version_table, versioned_symbols, versions_rows}
-use Rattle.elf_model.specs.Versions.{VERSYM_SIZE, VisitedRecord, Versions, named_by, name_index, named_at, number_in, version_of, versions_in, visited_from}
+use Rattle.elf_model.specs.Prelude.{DisplayedName, Fault as FaultItem, HeaderTable, LinePrefix, ListingItem, ListingStyle, RowFilter, SHT_GNU_VERDEF, SHT_GNU_VERNEED, TableKind, VERSYM_SIZE, Versions, VisitedRecord, all_checks, chosen_row, cost_where, e_shnum, each, end_rows, entry_count, fault_of, file_sections, first_of_type, first_refusal, first_strings, first_typed, first_versions, has_symbol_table, header_field, is_inside, kinds_rows, name_bytes, name_index, named_at, named_by, number_in, numbered_row, pass, records_rows, refused_row, section_at, section_versions, sh_offset, sh_size, sh_type, shown, strings_of, symbol_version_prefix, symbol_version_row, symbol_version_rows, symbol_versions, table_checks_of, table_cost, table_rows, version_definitions, version_named, version_needs, version_of, version_strings, version_table, versioned_cost, versioned_rows, versioned_symbols, versions_in, versions_rows, versym, visited_from, visited_rows, walk_cost, walks_cost}
 use Rattle.elf_model.specs.declared.causes.Cause.{Cause}
-use Rattle.elf_model.specs.declared.causes.Cause.TheVariants.{VersionCut, VersionIndex}
-use Rattle.elf_model.specs.declared.causes.Refusal.{Refusal}
-use Rattle.elf_model.specs.declared.versions.VersionKind.{VersionKind}
 use Rattle.elf_model.specs.declared.versions.VersionKind.TheVariants.{Definition, File, Need}
+use Rattle.elf_model.specs.declared.causes.Refusal.{Refusal}
+use Rattle.elf_model.specs.declared.causes.Cause.TheVariants.{VersionCut, VersionIndex}
+use Rattle.elf_model.specs.declared.versions.VersionKind.{VersionKind}
 use Rattle.elf_model.proofs.VersionNameLaws.{IsDefinition, back-none, each-none, front-none, named-is, names_are_shown, table-kinds}
 use Rattle.elf_model.proofs.LookupSteps.{first_that-holds}
-use Rattle.elf_note.specs.NumberNames.{IsNameOfRecord, NamesNumbers, name_at}
+use Rattle.elf_note.specs.Prelude.{IsNameOfRecord, NamesNumbers, name_at}
+use Rattle.elf_note.specs.declared.version_names.VersionNameRef.TheVariants.{Defined, Needed, Nowhere}
 use Rattle.elf_note.specs.declared.version_names.VersionNameRef.{VersionNameRef}
-use Rattle.elf_note.specs.declared.version_names.VersionNameRef.TheVariants.{Nowhere, Defined, Needed}
-use Rattle.elf_table.specs.Tables.{TableRange, StringTableRange, strings_in}
-use Rattle.elf_table.specs.Stops.{stop_of}
+use Rattle.elf_table.specs.Prelude.{StringTableRange, TableRange, stop_of, strings_in}
 use Rattle.elf_table.specs.declared.fault.Fault.{Fault}
-use Rattle.elf_table.specs.declared.fault.Fault.TheVariants.{Refused, Source}
 use Rattle.elf_table.specs.declared.run_fault.RunFault.{RunFault}
-use Rattle.elf_source.specs.Output.{OutState}
+use Rattle.elf_table.specs.declared.fault.Fault.TheVariants.{Refused, Source}
+use Rattle.elf_source.specs.Prelude.{OutState}
 use Rattle.elf_source.specs.declared.source.Source.{Ghosts as Sources}
 use Rattle.elf_source.specs.declared.sink.Sink.{Ghosts as Sinks}
-use Rattle.elf_listing.specs.Shows.{WroteUntilRefusal, ListingReads, ListingCalls, WroteUntilStop, WroteItems}
+use Rattle.elf_listing.specs.Prelude.{AreNumbered, AreRecordsWhole, ListingCalls, ListingReads, NumberedOr, WroteItems, WroteUntilRefusal, WroteUntilStop, kind_type, reported_row, version_told, versioned_items, walks_refusal}
 use Rattle.elf_listing.specs.declared.listing.Listing.{Listing}
+use Rattle.elf_listing.specs.declared.numbered.VersionStrings.{VersionStrings}
 use Rattle.elf_listing.proofs.ListsLaws.{SameFile-then}
 use Rattle.elf_listing.proofs.RowLaws.{Ends-first, WrotePrefix-none}
 use Rattle.elf_listing.proofs.ShowLaws.{SpentCredit-then, Whole-none}
 use Rattle.elf_listing.proofs.SectionShown.{table_passes}
-use Rattle.elf_listing.specs.Numbered.{reported_row, version_told}
-use Rattle.elf_listing.specs.SymbolVersions.{AreNumbered, AreRecordsWhole, NumberedOr, versioned_items, walks_refusal}
 use Rattle.elf_listing.proofs.FirstTaken.{or-none, walk-whole}
-use Rattle.elf_listing.specs.Versions.{kind_type}
-use Rattle.elf_listing.specs.declared.numbered.VersionStrings.{VersionStrings}
 
 -- rows without a fault have checks that pass, and no record that is refused
 passes-none : (checks : Option Refusal) (members : List ListingItem)

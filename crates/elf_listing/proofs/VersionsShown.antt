@@ -1,27 +1,18 @@
 -- The rows of symbol versions, by what is left of a walk over their records.
 use Rattle.std.proofs.Common.{◌≡◌, ℕ, ◌+◌, ◌-◌, ◌*◌, ◌≤◌, List, [], ◌∷◌, ◌++◌, Option, None, Some, Ok, Err, refl, sym, ap, ◌∙◌, append_assoc, append-nil, arith}
-use Rattle.elf_model.specs.Listing.{ListingItem, Fault as FaultItem}
-use Rattle.elf_model.specs.Rows.{chosen_row}
-use Rattle.elf_model.specs.Names.{DisplayedName, shown}
-use Rattle.elf_model.specs.Style.{ListingStyle}
-use Rattle.elf_model.specs.VersionRows.{end_rows, visited_rows, version_prefix, version_row}
-use Rattle.elf_model.specs.Versions.{VisitedRecord, Versions, flags_word, hash_word, name_index, named_at, no_versions, number_word, with_visited}
+use Rattle.elf_model.specs.Prelude.{DisplayedName, Fault as FaultItem, ListingItem, ListingStyle, Versions, VisitedRecord, chosen_row, end_rows, flags_word, hash_word, name_index, named_at, no_versions, number_word, shown, version_prefix, version_row, visited_rows, with_visited}
 use Rattle.elf_model.specs.declared.causes.Refusal.{Refusal}
-use Rattle.elf_table.specs.Stops.{stop_of}
+use Rattle.elf_table.specs.Prelude.{CallDid, stop_of}
 use Rattle.elf_table.specs.declared.fault.Fault.{Fault}
-use Rattle.elf_table.specs.declared.fault.Fault.TheVariants.{Refused, Source as Unread}
-use Rattle.elf_source.specs.Output.{OutState}
-use Rattle.elf_source.specs.Source.{CountedState, ReadsUpTo}
-use Rattle.elf_table.specs.Ledger.{CallDid}
-use Rattle.elf_options.specs.Permitted.{style_of}
-use Rattle.elf_options.specs.declared.caps.ListingStyle.{ListingStyle as Shape}
-use Rattle.elf_note.specs.Reading.{IsCursorOf, GivesVersion, IsVersion, KeepsWalk, LeavesWalk, StepsIn, ReturnsVersion, VersionCursorState, unread, versions_left, why_stopped_now}
-use Rattle.elf_note.proofs.TakenLaws.{going-did, unread-fewer}
-use Rattle.elf_note.specs.declared.record.VersionRecord.{VersionRecord}
-use Rattle.elf_listing.specs.Notes.{WrittenBefore}
-use Rattle.elf_listing.specs.Shows.{WrotePrefix, WroteUntilStop, WroteItems}
-use Rattle.elf_listing.specs.Versions.{versions_items}
 use Rattle.elf_table.specs.declared.run_fault.RunFault.{RunFault}
+use Rattle.elf_table.specs.declared.fault.Fault.TheVariants.{Refused, Source as Unread}
+use Rattle.elf_source.specs.Prelude.{CountedState, OutState, ReadsUpTo}
+use Rattle.elf_options.specs.Prelude.{style_of}
+use Rattle.elf_options.specs.declared.caps.ListingStyle.{ListingStyle as Shape}
+use Rattle.elf_note.specs.Prelude.{GivesVersion, IsCursorOf, IsVersion, KeepsWalk, LeavesWalk, ReturnsVersion, StepsIn, VersionCursorState, unread, versions_left, why_stopped_now}
+use Rattle.elf_note.specs.declared.record.VersionRecord.{VersionRecord}
+use Rattle.elf_note.proofs.TakenLaws.{going-did, unread-fewer}
+use Rattle.elf_listing.specs.Prelude.{WrittenBefore, WroteItems, WrotePrefix, WroteUntilStop, versions_items}
 use Rattle.elf_listing.proofs.NotesShown.{before_more, before_stopped}
 
 -- the row of a record as it is given

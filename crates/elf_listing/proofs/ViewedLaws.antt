@@ -1,15 +1,8 @@
 -- Program headers that are loaded stay those of a source that is read, and are checked where a style goes by them.
 use Rattle.std.proofs.Common.{◌≡◌, ℕ, ◌==◌, ◌&&◌, ◌||◌, Bool, true, false, List, [], None, if◌then◌else◌, refl, ap, ◌∙◌, sym, eq-eqb}
-use Rattle.elf_model.specs.Checks.{first_refusal}
-use Rattle.elf_model.specs.Cost.{needs_segments}
-use Rattle.elf_model.specs.Listing.{has, SEGMENTS, NOTES, DYNAMIC}
-use Rattle.elf_model.specs.Overlaps.{overlap_checks}
-use Rattle.elf_model.specs.Records.{e_shnum}
-use Rattle.elf_model.specs.Report.{view_checks}
-use Rattle.elf_model.specs.Style.{ListingStyle}
+use Rattle.elf_model.specs.Prelude.{DYNAMIC, ListingStyle, NOTES, SEGMENTS, e_shnum, first_refusal, has, needs_segments, overlap_checks, view_checks}
 use Rattle.elf_source.specs.Source.{CountedState, ReadsUpTo}
-use Rattle.elf_table.specs.Load.{HoldsSectionHeaders, LoadedFile}
-use Rattle.elf_table.specs.Store.{StoreState}
+use Rattle.elf_table.specs.Prelude.{HoldsSectionHeaders, LoadedFile, StoreState}
 use Rattle.elf_listing.specs.Viewed.{IsViewed, needs_segment_view, viewed_headers}
 
 pub still_viewed : {a b : CountedState} {n : ℕ} (loaded : LoadedFile) (store : StoreState) → ReadsUpTo a b n → IsViewed a.seen.file loaded store → IsViewed b.seen.file loaded store

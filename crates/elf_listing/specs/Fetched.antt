@@ -1,18 +1,12 @@
 -- What a call did that reads the name that an entry refers to.
 use Rattle.std.specs.Prelude.{ℕ, ◌≡◌, ◌+◌, ◌==◌, not, false, List, Option, Some, Result, Ok, Err, IfOk}
-use Rattle.elf_model.specs.Names.{name_bytes}
-use Rattle.elf_model.specs.Rows.{symbol_named}
-use Rattle.elf_model.specs.Numbers.{SHN_UNDEF}
-use Rattle.elf_model.specs.Records.{st_shndx}
-use Rattle.elf_model.specs.Tables.{SYMBOL_SIZE, entry_at, linked_at}
+use Rattle.elf_model.specs.Prelude.{SHN_UNDEF, SYMBOL_SIZE, entry_at, linked_at, name_bytes, st_shndx, symbol_named}
 use Rattle.elf_source.specs.declared.source.Source.{Ghosts as Sources}
 use Rattle.elf_source.specs.declared.sink.Sink.{Ghosts as Sinks}
-use Rattle.elf_record.specs.Dyn.{IsDyn}
+use Rattle.elf_record.specs.Prelude.{IsDyn}
 use Rattle.elf_record.specs.declared.dyn_entry.Dyn.{Dyn}
+use Rattle.elf_table.specs.Prelude.{NameRead, RefersTo, StringTableRange, TableRange}
 use Rattle.elf_table.specs.declared.fault.Fault.{Fault}
-use Rattle.elf_table.specs.NamesRead.{NameRead}
-use Rattle.elf_table.specs.Relocations.{RefersTo}
-use Rattle.elf_table.specs.Tables.{TableRange, StringTableRange}
 use Rattle.elf_table.specs.declared.names.NameEnd.{NameEnd}
 use Rattle.elf_listing.specs.Parts.{name_cost, shown_in}
 use Rattle.elf_listing.specs.Shows.{ListingReads}

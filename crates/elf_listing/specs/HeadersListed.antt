@@ -1,19 +1,15 @@
 -- What a call did that lists the tables of a file, part by part and header by header.
 use Rattle.std.specs.Prelude.{ℕ, ◌+◌, ◌++◌, List, Result}
-use Rattle.elf_model.specs.Listing.{ListingItem, each, where_asked, SEGMENTS}
-use Rattle.elf_model.specs.Records.{e_phnum}
-use Rattle.elf_model.specs.Report.{table_items}
-use Rattle.elf_model.specs.Rows.{segment_row}
-use Rattle.elf_model.specs.Style.{ListingStyle}
+use Rattle.elf_model.specs.Prelude.{ListingItem, ListingStyle, SEGMENTS, e_phnum, each, segment_row, table_items, where_asked}
 use Rattle.elf_options.specs.Permitted.{style_of}
-use Rattle.elf_table.specs.Store.{StoreState}
+use Rattle.elf_table.specs.Prelude.{StoreState}
+use Rattle.elf_table.specs.declared.run_fault.RunFault.{RunFault}
 use Rattle.elf_source.specs.declared.source.Source.{Ghosts as Sources}
 use Rattle.elf_source.specs.declared.sink.Sink.{Ghosts as Sinks}
 use Rattle.elf_listing.specs.Parts.{asked_cost, listed_by, part_cost, part_items, segments_listed, tables_listed}
 use Rattle.elf_listing.specs.Shows.{ListingCalls, ListingWrote}
 use Rattle.elf_listing.specs.declared.listing.Listing.{Listing}
 use Rattle.elf_listing.specs.declared.parts.Part.{Part}
-use Rattle.elf_table.specs.declared.run_fault.RunFault.{RunFault}
 
 -- a part of the header of an index
 abbrev pub ListsHeader : {S W X : Type 0} {s : Sources S} {w : Sinks W} → Part → Listing S W s w → Listing S W s w → Result X RunFault → ℕ → Type 0

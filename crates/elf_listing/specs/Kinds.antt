@@ -1,21 +1,12 @@
 -- The kinds of tables whose rows are listed.
 use Rattle.std.specs.Prelude.{ℕ, ◌≡◌, ◌+◌, ◌*◌, ◌^◌, ◌<◌, List, Some, Result, IfSome, length}
-use Rattle.elf_model.specs.Bytes.{slice}
-use Rattle.elf_model.specs.Dynamic.{dynamic_at}
-use Rattle.elf_model.specs.Records.{e_phoff, sh_link, sh_offset, section_at}
-use Rattle.elf_model.specs.Names.{name_bytes}
-use Rattle.elf_model.specs.Style.{ListingStyle}
+use Rattle.elf_model.specs.Prelude.{DYNAMIC_SIZE, ListingItem, ListingStyle, RELA_SIZE, SYMBOL_SIZE, VERSYM_SIZE, dynamic_at, dynamic_row, e_phoff, each, name_bytes, relocation_row, relocation_row_with_version, section_at, segment_row, sh_link, sh_offset, slice, strings_of, symbol_row, symbol_row_with_version}
 use Rattle.elf_options.specs.Permitted.{style_of}
-use Rattle.elf_model.specs.Tables.{SYMBOL_SIZE, RELA_SIZE, DYNAMIC_SIZE, strings_of}
-use Rattle.elf_model.specs.Listing.{ListingItem, each}
-use Rattle.elf_model.specs.Rows.{segment_row, symbol_row, relocation_row, dynamic_row}
-use Rattle.elf_model.specs.Suffixes.{relocation_row_with_version, symbol_row_with_version}
-use Rattle.elf_model.specs.Versions.{VERSYM_SIZE}
 use Rattle.elf_source.specs.declared.source.Source.{Ghosts as Sources}
 use Rattle.elf_source.specs.declared.sink.Sink.{Ghosts as Sinks}
-use Rattle.elf_table.specs.Relocations.{RefersTo}
-use Rattle.elf_table.specs.Tables.{TableRange, TableInBounds, StringsInBounds, SymbolTableInBounds, strings_in}
+use Rattle.elf_table.specs.Prelude.{RefersTo, StringsInBounds, SymbolTableInBounds, TableInBounds, TableRange, strings_in}
 use Rattle.elf_table.specs.declared.row.Row.{Row}
+use Rattle.elf_table.specs.declared.run_fault.RunFault.{RunFault}
 use Rattle.elf_listing.specs.Numbered.{NumberedWithin, reported_row}
 use Rattle.elf_listing.specs.RowCursors.{rows_listed}
 use Rattle.elf_listing.specs.Shows.{ListingCalls, WroteSome}
@@ -24,7 +15,6 @@ use Rattle.elf_listing.specs.Strings.{strings_reported, AreWithin, AreOf}
 use Rattle.elf_listing.specs.declared.listing.Listing.{Listing}
 use Rattle.elf_listing.specs.declared.rows.RowLayout.{RowLayout}
 use Rattle.elf_listing.specs.declared.rows.RowLayout.TheVariants.{Segments, Symbols, Relocations, Dynamic, Versions, SuffixedSymbols, SuffixedRelocations}
-use Rattle.elf_table.specs.declared.run_fault.RunFault.{RunFault}
 
 -- the size of a row in bytes
 abbrev pub row_size : RowLayout → ℕ

@@ -15,3 +15,4 @@ pub mod SuffixTexts
 pub mod SymbolVersions
 pub mod Versions
 pub mod Viewed
+pub mod Prelude

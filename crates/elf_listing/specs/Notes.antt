@@ -1,21 +1,16 @@
 -- The notes of a table, shown one after another.
 use Rattle.std.specs.Prelude.{ℕ, ◌≡◌, List, [], ◌∷◌, ◌++◌, length, take, Result}
-use Rattle.elf_model.specs.Lines.{SHOWN_DESCRIPTOR}
-use Rattle.elf_model.specs.Listing.{ListingItem}
-use Rattle.elf_model.specs.Bytes.{slice}
-use Rattle.elf_model.specs.Notes.{Note, NoteScan, note_align, note_shown, walked}
-use Rattle.elf_model.specs.Rows.{note_row, walk_rows}
-use Rattle.elf_model.specs.Style.{ListingStyle}
+use Rattle.elf_model.specs.Prelude.{ListingItem, ListingStyle, Note, NoteScan, SHOWN_DESCRIPTOR, note_align, note_row, note_shown, slice, walk_rows, walked}
 use Rattle.elf_options.specs.Permitted.{style_of}
-use Rattle.elf_note.specs.NoteCursors.{NameIs}
+use Rattle.elf_note.specs.Prelude.{NameIs}
 use Rattle.elf_note.specs.declared.note_row.NoteRow.{NoteRow}
-use Rattle.elf_source.specs.Output.{OutState}
+use Rattle.elf_source.specs.Prelude.{OutState}
 use Rattle.elf_source.specs.declared.source.Source.{Ghosts as Sources}
 use Rattle.elf_source.specs.declared.sink.Sink.{Ghosts as Sinks}
-use Rattle.elf_table.specs.Tables.{TableRange}
+use Rattle.elf_table.specs.Prelude.{TableRange}
+use Rattle.elf_table.specs.declared.run_fault.RunFault.{RunFault}
 use Rattle.elf_listing.specs.Shows.{ListingCalls, ListingWrote, WroteItems, WroteSome}
 use Rattle.elf_listing.specs.declared.listing.Listing.{Listing}
-use Rattle.elf_table.specs.declared.run_fault.RunFault.{RunFault}
 
 -- a row shows a note: its head, its name as it is shown, the first bytes of its descriptor
 pub record IsNoteRow (cap : ℕ) (note : Note) (row : NoteRow) (name : List ℕ) : Type 0 where

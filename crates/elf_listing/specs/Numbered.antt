@@ -1,22 +1,15 @@
 -- Where the names of the numbers of versions are.
 use Rattle.std.specs.Prelude.{ℕ, ◌≡◌, nat_lt, if◌then◌else◌, List, Some, Result, Err}
-use Rattle.elf_model.specs.Listing.{ListingItem}
-use Rattle.elf_model.specs.Names.{DisplayedName, name_bytes, shown}
-use Rattle.elf_model.specs.Records.{versym}
-use Rattle.elf_model.specs.Rows.{chosen_row, no_name}
-use Rattle.elf_model.specs.Style.{ListingStyle}
-use Rattle.elf_model.specs.VersionRows.{symbol_version_prefix}
-use Rattle.elf_model.specs.Versions.{number_in}
+use Rattle.elf_model.specs.Prelude.{DisplayedName, ListingItem, ListingStyle, chosen_row, name_bytes, no_name, number_in, shown, symbol_version_prefix, versym}
 use Rattle.elf_model.specs.declared.causes.Cause.{Cause}
 use Rattle.elf_model.specs.declared.causes.Cause.TheVariants.{VersionIndex}
+use Rattle.elf_table.specs.Prelude.{NameRead, StringsInBounds, strings_in}
 use Rattle.elf_table.specs.declared.fault.Fault.{Fault}
+use Rattle.elf_table.specs.declared.names.NameEnd.{NameEnd}
 use Rattle.elf_source.specs.declared.source.Source.{Ghosts as Sources}
 use Rattle.elf_source.specs.declared.sink.Sink.{Ghosts as Sinks}
-use Rattle.elf_table.specs.NamesRead.{NameRead}
-use Rattle.elf_table.specs.Tables.{StringsInBounds, strings_in}
-use Rattle.elf_table.specs.declared.names.NameEnd.{NameEnd}
-use Rattle.elf_note.specs.NumberNames.{name_at}
-use Rattle.elf_note.specs.declared.version_names.VersionNameRef.TheVariants.{Nowhere, Defined, Needed}
+use Rattle.elf_note.specs.Prelude.{name_at}
+use Rattle.elf_note.specs.declared.version_names.VersionNameRef.TheVariants.{Defined, Needed, Nowhere}
 use Rattle.elf_listing.specs.Shows.{ListingReads}
 use Rattle.elf_listing.specs.declared.listing.Listing.{Listing}
 use Rattle.elf_listing.specs.declared.numbered.VersionStrings.{VersionStrings}

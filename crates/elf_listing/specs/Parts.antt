@@ -1,20 +1,8 @@
 -- The parts of a listing behind the file header: what is listed of each section, and what it asks for.
 use Rattle.std.specs.Prelude.{ℕ, ◌+◌, ◌*◌, ◌==◌, ◌&&◌, ◌≡◌, not, Bool, true, false, List, Option, None, Some, Result}
-use Rattle.elf_model.specs.Cost.{sum_over, cost_where, table_cost}
-use Rattle.elf_model.specs.Listing.{ListingItem, each, fault_of, has, SECTIONS, SEGMENTS, SYMBOLS, RELOCS, NOTES, DYNAMIC}
-use Rattle.elf_model.specs.Names.{DisplayedName, shown, name_bytes}
-use Rattle.elf_model.specs.Records.{section_at, segment_at}
-use Rattle.elf_model.specs.Report.{table_rows}
-use Rattle.elf_model.specs.Rows.{no_name, section_row, segment_row}
-use Rattle.elf_model.specs.Style.{ListingStyle}
-use Rattle.elf_model.specs.HeaderTables.{HeaderTable, TableKind, held_headers}
-use Rattle.elf_model.specs.TableKinds.{relocations_with_versions, suffixed_symbols, symbols, relocations, section_notes, segment_notes, section_dynamic, segment_dynamic}
-use Rattle.elf_model.specs.VersionLaws.{records_rows}
-use Rattle.elf_model.specs.VersionRows.{symbol_versions, version_definitions, version_needs}
+use Rattle.elf_model.specs.Prelude.{DYNAMIC, DisplayedName, HeaderTable, ListingItem, ListingStyle, NOTES, RELOCS, SECTIONS, SEGMENTS, SYMBOLS, TableKind, cost_where, each, fault_of, has, held_headers, name_bytes, no_name, records_rows, relocations, relocations_with_versions, section_at, section_dynamic, section_notes, section_row, segment_at, segment_dynamic, segment_notes, segment_row, shown, suffixed_symbols, sum_over, symbol_versions, symbols, table_cost, table_rows, version_definitions, version_needs}
 use Rattle.elf_model.specs.declared.causes.Cause.{Cause}
-use Rattle.elf_table.specs.Load.{LoadedFile}
-use Rattle.elf_table.specs.Store.{StoreState, row, segment_bytes}
-use Rattle.elf_table.specs.Tables.{StringTableRange, strings_in}
+use Rattle.elf_table.specs.Prelude.{LoadedFile, StoreState, StringTableRange, row, segment_bytes, strings_in}
 use Rattle.elf_listing.specs.declared.parts.Part.{Part}
 use Rattle.elf_listing.specs.declared.parts.Part.TheVariants.{Headers, Segments, Symbols, Relocations, SectionNotes, SegmentNotes, SectionDynamic, SegmentDynamic, Definitions, Needs, SymbolVersions, SuffixedSymbols, SuffixedRelocations}
 

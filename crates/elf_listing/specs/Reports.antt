@@ -1,18 +1,14 @@
 -- What the call that writes a listing did.
 use Rattle.std.specs.Prelude.{ℕ, ◌≡◌, ◌<◌, ◌+◌, ◌≤◌, false, List, Option, None, Some, Result, Ok, Err, IfSome}
-use Rattle.elf_model.specs.Budget.{IsBudgeted, IsBudgetRefusal}
-use Rattle.elf_model.specs.Checks.{first_refusal, length_checks}
-use Rattle.elf_model.specs.Cost.{style_ceiling}
-use Rattle.elf_model.specs.Lines.{refusal_line}
-use Rattle.elf_model.specs.Listing.{has_tables, known_parts}
-use Rattle.elf_model.specs.declared.causes.Refusal.{Refusal}
+use Rattle.elf_model.specs.Prelude.{IsBudgetRefusal, IsBudgeted, first_refusal, has_tables, known_parts, length_checks, refusal_line, style_ceiling}
 use Rattle.elf_model.specs.declared.formats.Format.{Format}
-use Rattle.elf_source.specs.Source.{CountedState, KeepsSource, IsSourceFault}
-use Rattle.elf_source.specs.Output.{OutState, SinkTakes, SinkTakesPrefix, IsOutFault}
-use Rattle.elf_options.specs.Permitted.{style_of}
+use Rattle.elf_model.specs.declared.causes.Refusal.{Refusal}
+use Rattle.elf_source.specs.Prelude.{CountedState, IsOutFault, IsSourceFault, KeepsSource, OutState, SinkTakes, SinkTakesPrefix}
+use Rattle.elf_options.specs.Prelude.{style_of}
 use Rattle.elf_options.specs.declared.caps.Caps.{Caps}
+use Rattle.elf_table.specs.declared.run_fault.RunFault.TheVariants.{Out}
 use Rattle.elf_table.specs.declared.run_fault.RunFault.{RunFault}
-use Rattle.elf_table.specs.declared.run_fault.RunFault.TheVariants.{Refused, Source, Out}
+use Rattle.elf_table.specs.declared.run_fault.RunFault.TheVariants.{Refused, Source}
 
 -- a text with this fault was written: all of it where the answer names the fault, or that there is none; else a front of it
 abbrev pub WroteText : {X : Type 0} → OutState → OutState → Result X RunFault → List ℕ → Option Refusal → Type 0

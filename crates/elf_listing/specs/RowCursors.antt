@@ -2,8 +2,7 @@
 use Rattle.std.specs.Prelude.{ℕ, suc, ◌≡◌, Bool, true, false, List, [], Option, None, Some, Result, Ok, Err}
 use Rattle.elf_model.specs.Dynamic.{dynamic_count}
 use Rattle.elf_note.specs.DynCursors.{entries_left}
-use Rattle.elf_table.specs.Cursors.{CursorState, HoldsRows, GivesRow, FailsRows}
-use Rattle.elf_table.specs.Tables.{TableRange, size_of}
+use Rattle.elf_table.specs.Prelude.{CursorState, FailsRows, GivesRow, HoldsRows, TableRange, size_of}
 use Rattle.elf_table.specs.declared.fault.Fault.{Fault}
 use Rattle.elf_listing.specs.declared.row_cursor.RowCursor.{RowCursor}
 use Rattle.elf_listing.specs.declared.row_cursor.RowCursor.TheVariants.{All, Entries}

@@ -1,26 +1,20 @@
 -- What a call that writes a part of a listing did.
 use Rattle.std.specs.Prelude.{ℕ, ◌≡◌, ◌+◌, Bool, true, false, List, ◌∷◌, ◌++◌, None, Some, Result, Ok, Err, IfErr}
-use Rattle.elf_model.specs.Budget.{IsBudgetRefusal}
-use Rattle.elf_model.specs.Fields.{LinePrefix}
-use Rattle.elf_model.specs.Listing.{ListingItem, Fault, lines_of, fault_of}
-use Rattle.elf_model.specs.Names.{DisplayedName}
-use Rattle.elf_model.specs.Rows.{named_row}
+use Rattle.elf_model.specs.Prelude.{DisplayedName, Fault, IsBudgetRefusal, LinePrefix, ListingItem, fault_of, lines_of, named_row}
 use Rattle.elf_model.specs.declared.causes.Cause.{Cause}
 use Rattle.elf_model.specs.declared.causes.Refusal.{Refusal}
-use Rattle.elf_source.specs.Source.{CountedState, ReadsUpTo, IsSourceFault}
-use Rattle.elf_source.specs.Output.{OutState, SinkTakes, SinkTakesPrefix, IsOutFault}
-use Rattle.elf_source.specs.Growth.{OutGrows}
+use Rattle.elf_source.specs.Prelude.{CountedState, IsOutFault, IsSourceFault, OutGrows, OutState, ReadsUpTo, SinkTakes, SinkTakesPrefix}
 use Rattle.elf_source.specs.declared.source.Source.{Ghosts as Sources}
 use Rattle.elf_source.specs.declared.sink.Sink.{Ghosts as Sinks}
 use Rattle.elf_note.specs.Ahead.{ReadsOnCredit}
-use Rattle.elf_table.specs.Faults.{IsReadRefusal, IsReadFault}
-use Rattle.elf_table.specs.NamesRead.{NameRead}
+use Rattle.elf_table.specs.Prelude.{IsReadFault, IsReadRefusal, NameRead}
+use Rattle.elf_table.specs.declared.names.NameEnd.TheVariants.{Cut as NameCut, Whole as NameWhole}
 use Rattle.elf_table.specs.declared.fault.Fault.{Fault as Failure}
 use Rattle.elf_table.specs.declared.names.NameEnd.{NameEnd}
-use Rattle.elf_table.specs.declared.names.NameEnd.TheVariants.{Whole as NameWhole, Cut as NameCut}
-use Rattle.elf_listing.specs.declared.listing.Listing.{Listing}
+use Rattle.elf_table.specs.declared.run_fault.RunFault.TheVariants.{Out}
 use Rattle.elf_table.specs.declared.run_fault.RunFault.{RunFault}
-use Rattle.elf_table.specs.declared.run_fault.RunFault.TheVariants.{Refused, Source, Out}
+use Rattle.elf_listing.specs.declared.listing.Listing.{Listing}
+use Rattle.elf_table.specs.declared.run_fault.RunFault.TheVariants.{Refused, Source}
 
 -- the lines of all items were written, and none is a fault
 pub record WroteItems (old new : OutState) (items : List ListingItem) : Type 0 where

@@ -1,18 +1,12 @@
 -- The strings that dynamic entries tell of.
 use Rattle.std.specs.Prelude.{ℕ, ◌≡◌, Bool, true, false, List, Result, Ok, Err, IfOk, IfErr}
-use Rattle.elf_model.specs.Mapped.{strings_at}
-use Rattle.elf_model.specs.Names.{DisplayedName, shown}
-use Rattle.elf_model.specs.Records.{d_tag, d_un}
-use Rattle.elf_model.specs.Rows.{is_string_tag, no_name}
+use Rattle.elf_model.specs.Prelude.{DisplayedName, d_tag, d_un, is_string_tag, no_name, shown, strings_at}
 use Rattle.elf_model.specs.declared.causes.Cause.{Cause}
 use Rattle.elf_model.specs.declared.causes.Refusal.{Refusal}
-use Rattle.elf_table.specs.NamesRead.{NameRead}
-use Rattle.elf_table.specs.Tables.{StringTableRange, StringsInBounds, strings_in}
-use Rattle.elf_table.specs.Faults.{IsOfCheck}
-use Rattle.elf_table.specs.Load.{HoldsProgramHeaders}
+use Rattle.elf_table.specs.Prelude.{HoldsProgramHeaders, IsOfCheck, NameRead, StringTableRange, StringsInBounds, strings_in}
 use Rattle.elf_table.specs.declared.fault.Fault.{Fault as Failure}
-use Rattle.elf_table.specs.declared.fault.Fault.TheVariants.{Refused}
 use Rattle.elf_table.specs.declared.names.NameEnd.{NameEnd}
+use Rattle.elf_table.specs.declared.fault.Fault.TheVariants.{Refused}
 use Rattle.elf_listing.specs.declared.dynamic_row.DynamicStringTable.{DynamicStringTable}
 use Rattle.elf_listing.specs.declared.dynamic_row.DynamicStringTable.TheVariants.{LinkedSymbolTable, Mapped}
 

@@ -1,20 +1,13 @@
 -- What calls did that read the name of a version by its number.
 use Rattle.std.specs.Prelude.{ℕ, ◌≡◌, ◌≤◌, nat_lt, Bool, false, List, Option, None, Some, Result, Ok, Err}
-use Rattle.elf_model.specs.Choice.{Suffix, Suffixed}
-use Rattle.elf_model.specs.Names.{name_bytes, shown}
-use Rattle.elf_model.specs.Records.{versym}
-use Rattle.elf_model.specs.Suffixes.{suffix_of}
-use Rattle.elf_model.specs.VersionRows.{version_named, version_strings}
-use Rattle.elf_model.specs.Versions.{VERSYM_SIZE, VisitedRecord, name_index, named_at}
-use Rattle.elf_model.specs.declared.causes.Cause.TheVariants.{VersionIndex}
+use Rattle.elf_model.specs.Prelude.{Suffix, Suffixed, VERSYM_SIZE, VisitedRecord, name_bytes, name_index, named_at, shown, suffix_of, version_named, version_strings, versym}
 use Rattle.elf_model.specs.declared.causes.Refusal.{Refusal}
-use Rattle.elf_table.specs.Faults.{IsOfRead}
+use Rattle.elf_model.specs.declared.causes.Cause.TheVariants.{VersionIndex}
+use Rattle.elf_table.specs.Prelude.{IsOfRead, NameRead, StringTableRange, strings_in}
 use Rattle.elf_table.specs.declared.fault.Fault.{Fault}
+use Rattle.elf_table.specs.declared.names.NameEnd.{NameEnd}
 use Rattle.elf_source.specs.declared.source.Source.{Ghosts as Sources}
 use Rattle.elf_source.specs.declared.sink.Sink.{Ghosts as Sinks}
-use Rattle.elf_table.specs.NamesRead.{NameRead}
-use Rattle.elf_table.specs.Tables.{StringTableRange, strings_in}
-use Rattle.elf_table.specs.declared.names.NameEnd.{NameEnd}
 use Rattle.elf_listing.specs.Shows.{ListingReads}
 use Rattle.elf_listing.specs.Suffixed.{SuffixNamed}
 use Rattle.elf_listing.specs.SymbolVersions.{AreNumbered}

@@ -1,7 +1,7 @@
 -- What stands around a version behind a name.
 use Rattle.std.specs.Prelude.{if◌then◌else◌, Bool, List, ℕ, ◌++◌, codes}
-use Rattle.elf_model.specs.declared.formats.Format.{Format}
 use Rattle.elf_model.specs.declared.formats.Format.TheVariants.{Columns, Object}
+use Rattle.elf_model.specs.declared.formats.Format.{Format}
 
 -- what stands between a name and its version
 unfoldable pub before_version : Format → (is_default : Bool) → List ℕ

@@ -1,27 +1,15 @@
 -- The versions behind the names of symbols: what finds them, and what a call did that reads one.
 use Rattle.std.specs.Prelude.{ℕ, ◌≡◌, ◌+◌, ◌==◌, not, if◌then◌else◌, Bool, false, List, Option, None, Some, Result, Ok, Err, IfOk, IfSome, length, ◌⊎◌}
-use Rattle.elf_model.specs.Budget.{IsBudgetRefusal}
-use Rattle.elf_model.specs.Choice.{Suffix, NoSuffix, Suffixed}
-use Rattle.elf_model.specs.HeaderTables.{HeaderTable}
-use Rattle.elf_model.specs.Names.{DisplayedName, name_bytes}
-use Rattle.elf_model.specs.Numbers.{SHN_UNDEF}
-use Rattle.elf_model.specs.Records.{section_at, sh_offset, st_shndx}
-use Rattle.elf_model.specs.Suffixes.{first_numbers, version_numbers_of, suffixed_row, suffixes_refusal, symbol_suffix}
-use Rattle.elf_model.specs.Choice.{EveryRow}
-use Rattle.elf_model.specs.Tables.{SYMBOL_SIZE, entry_count}
-use Rattle.elf_model.specs.VersionCost.{walks_cost}
-use Rattle.elf_model.specs.Versions.{VERSYM_SIZE, VERSION_NUMBERS}
+use Rattle.elf_model.specs.Prelude.{DisplayedName, EveryRow, HeaderTable, IsBudgetRefusal, LinePrefix, NoSuffix, SHN_UNDEF, SYMBOL_SIZE, Suffix, Suffixed, VERSION_NUMBERS, VERSYM_SIZE, entry_count, first_numbers, name_bytes, section_at, sh_offset, st_shndx, suffixed_row, suffixes_refusal, symbol_suffix, version_numbers_of, walks_cost}
 use Rattle.elf_model.specs.declared.causes.Cause.{Cause}
 use Rattle.elf_model.specs.declared.causes.Refusal.{Refusal}
-use Rattle.elf_model.specs.Fields.{LinePrefix}
+use Rattle.elf_table.specs.Prelude.{NameRead, StringTableRange, TableInBounds, TableRange, shown_by}
 use Rattle.elf_table.specs.declared.fault.Fault.{Fault}
-use Rattle.elf_table.specs.declared.fault.Fault.TheVariants.{Refused, Source}
+use Rattle.elf_table.specs.declared.names.NameEnd.{NameEnd}
 use Rattle.elf_table.specs.declared.run_fault.RunFault.{RunFault}
+use Rattle.elf_table.specs.declared.fault.Fault.TheVariants.{Refused, Source}
 use Rattle.elf_source.specs.declared.source.Source.{Ghosts as Sources}
 use Rattle.elf_source.specs.declared.sink.Sink.{Ghosts as Sinks}
-use Rattle.elf_table.specs.NamesRead.{NameRead, shown_by}
-use Rattle.elf_table.specs.Tables.{TableRange, TableInBounds, StringTableRange}
-use Rattle.elf_table.specs.declared.names.NameEnd.{NameEnd}
 use Rattle.elf_listing.specs.Numbered.{NumberedWithin}
 use Rattle.elf_listing.specs.Parts.{store_sections}
 use Rattle.elf_listing.specs.Shows.{ListingReads, ListingCalls, WroteSome}

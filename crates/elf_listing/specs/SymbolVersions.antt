@@ -1,32 +1,18 @@
 -- The versions of symbols, shown one after another, and the names of their numbers.
 use Rattle.std.specs.Prelude.{ℕ, ◌≡◌, ◌+◌, ◌*◌, min, nat_lt, if◌then◌else◌, List, [], ◌++◌, Option, None, Some, Result, Ok, Err, IfOk}
-use Rattle.elf_model.specs.Checks.{first_refusal}
-use Rattle.elf_model.specs.Listing.{ListingItem, each}
-use Rattle.elf_model.specs.Names.{name_bytes}
-use Rattle.elf_model.specs.Records.{section_at}
-use Rattle.elf_model.specs.Rows.{refused_row}
-use Rattle.elf_model.specs.Numbers.{SHT_GNU_VERDEF, SHT_GNU_VERNEED}
-use Rattle.elf_model.specs.Style.{ListingStyle}
-use Rattle.elf_model.specs.Suffixes.{or_refusal, walk_refusal}
-use Rattle.elf_model.specs.Tables.{all_checks}
-use Rattle.elf_model.specs.VersionCost.{walk_cost, walks_cost}
-use Rattle.elf_model.specs.VersionRows.{first_of_type, first_strings, first_versions, section_versions, version_table}
-use Rattle.elf_model.specs.Versions.{VERSYM_SIZE, VisitedRecord, record_size}
-use Rattle.elf_model.specs.declared.causes.Cause.TheVariants.{VersionCut}
-use Rattle.elf_model.specs.declared.causes.Refusal.{Refusal}
-use Rattle.elf_model.specs.declared.versions.VersionKind.{VersionKind}
+use Rattle.elf_model.specs.Prelude.{IsBudgetRefusal, ListingItem, ListingStyle, SHT_GNU_VERDEF, SHT_GNU_VERNEED, VERSYM_SIZE, VisitedRecord, all_checks, each, first_of_type, first_refusal, first_strings, first_versions, name_bytes, or_refusal, record_size, refused_row, section_at, section_versions, version_table, walk_cost, walk_refusal, walks_cost}
 use Rattle.elf_model.specs.declared.versions.VersionKind.TheVariants.{Definition, File}
-use Rattle.elf_table.specs.Load.{section_place}
-use Rattle.elf_options.specs.Permitted.{style_of}
+use Rattle.elf_model.specs.declared.causes.Refusal.{Refusal}
+use Rattle.elf_model.specs.declared.causes.Cause.TheVariants.{VersionCut}
+use Rattle.elf_model.specs.declared.versions.VersionKind.{VersionKind}
+use Rattle.elf_table.specs.Prelude.{StringTableRange, StringsInBounds, TableRange, section_place, strings_in}
 use Rattle.elf_table.specs.declared.fault.Fault.{Fault}
-use Rattle.elf_table.specs.declared.fault.Fault.TheVariants.{Refused, Source}
-use Rattle.elf_model.specs.Budget.{IsBudgetRefusal}
 use Rattle.elf_table.specs.declared.run_fault.RunFault.{RunFault}
+use Rattle.elf_options.specs.Permitted.{style_of}
+use Rattle.elf_table.specs.declared.fault.Fault.TheVariants.{Refused, Source}
 use Rattle.elf_source.specs.declared.source.Source.{Ghosts as Sources}
 use Rattle.elf_source.specs.declared.sink.Sink.{Ghosts as Sinks}
-use Rattle.elf_table.specs.Tables.{TableRange, StringTableRange, StringsInBounds, strings_in}
-use Rattle.elf_note.specs.NumberNames.{NamesNumbers}
-use Rattle.elf_note.specs.Reading.{bytes_each}
+use Rattle.elf_note.specs.Prelude.{NamesNumbers, bytes_each}
 use Rattle.elf_note.specs.declared.version_names.VersionNameRef.{VersionNameRef}
 use Rattle.elf_listing.specs.Numbered.{NumberedWithin, reported_row}
 use Rattle.elf_listing.specs.Parts.{store_sections}

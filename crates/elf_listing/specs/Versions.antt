@@ -1,24 +1,18 @@
 -- The records of symbol versions, shown one after another.
 use Rattle.std.specs.Prelude.{ℕ, ◌≡◌, ◌+◌, ◌*◌, List, ◌++◌, Some, Result}
-use Rattle.elf_model.specs.Listing.{ListingItem}
-use Rattle.elf_model.specs.Names.{name_bytes}
-use Rattle.elf_model.specs.Style.{ListingStyle}
-use Rattle.elf_model.specs.HeaderTables.{TableKind}
-use Rattle.elf_model.specs.Numbers.{SHT_GNU_VERDEF, SHT_GNU_VERNEED}
-use Rattle.elf_model.specs.VersionRows.{end_rows, visited_rows, version_records, version_row}
-use Rattle.elf_model.specs.Versions.{VisitedRecord, Versions, record_size}
-use Rattle.elf_model.specs.declared.versions.VersionKind.{VersionKind}
+use Rattle.elf_model.specs.Prelude.{ListingItem, ListingStyle, SHT_GNU_VERDEF, SHT_GNU_VERNEED, TableKind, Versions, VisitedRecord, end_rows, name_bytes, record_size, version_records, version_row, visited_rows}
 use Rattle.elf_model.specs.declared.versions.VersionKind.TheVariants.{Definition, File, Need}
+use Rattle.elf_model.specs.declared.versions.VersionKind.{VersionKind}
 use Rattle.elf_options.specs.Permitted.{style_of}
 use Rattle.elf_source.specs.declared.source.Source.{Ghosts as Sources}
 use Rattle.elf_source.specs.declared.sink.Sink.{Ghosts as Sinks}
-use Rattle.elf_table.specs.Tables.{StringTableRange, strings_in}
-use Rattle.elf_note.specs.Reading.{IsCursorOf, IsVersion, VersionCursorState, bytes_each, unread, versions_left}
+use Rattle.elf_table.specs.Prelude.{StringTableRange, strings_in}
+use Rattle.elf_table.specs.declared.run_fault.RunFault.{RunFault}
+use Rattle.elf_note.specs.Prelude.{IsCursorOf, IsVersion, VersionCursorState, bytes_each, unread, versions_left}
 use Rattle.elf_note.specs.declared.record.VersionRecord.{VersionRecord}
 use Rattle.elf_listing.specs.Parts.{of_sections}
 use Rattle.elf_listing.specs.Shows.{ListingCalls, ListingWrote, WroteSome}
 use Rattle.elf_listing.specs.declared.listing.Listing.{Listing}
-use Rattle.elf_table.specs.declared.run_fault.RunFault.{RunFault}
 
 -- what a call did that shows a record, with its name in a string table: where the record is the file's, its row
 abbrev pub ListsRecord : {S W X : Type 0} {s : Sources S} {w : Sinks W} → Listing S W s w → Listing S W s w → Result X RunFault → VersionRecord → ℕ → StringTableRange → Type 0

@@ -1,12 +1,8 @@
 -- The program headers that are loaded beside a file: where they describe its tables.
 use Rattle.std.specs.Prelude.{ℕ, ◌≡◌, ◌*◌, ◌<◌, ◌≤◌, ◌==◌, ◌&&◌, ◌||◌, Bool, List, Option, None, Some, Result, Ok, Err, if◌then◌else◌}
-use Rattle.elf_model.specs.Budget.{IsBudgetRefusal}
-use Rattle.elf_model.specs.Checks.{Check, first_refusal}
-use Rattle.elf_model.specs.Cost.{cost_where}
-use Rattle.elf_model.specs.Listing.{has, SEGMENTS, NOTES, DYNAMIC}
+use Rattle.elf_model.specs.Prelude.{Check, DYNAMIC, IsBudgetRefusal, NOTES, SEGMENTS, cost_where, first_refusal, has}
 use Rattle.elf_source.specs.Source.{CountedState}
-use Rattle.elf_table.specs.Load.{IsOpen, LoadedFile, SegmentsInBounds}
-use Rattle.elf_table.specs.Store.{StoreState, HoldsSegments}
+use Rattle.elf_table.specs.Prelude.{HoldsSegments, IsOpen, LoadedFile, SegmentsInBounds, StoreState}
 use Rattle.elf_table.specs.declared.fault.Fault.{Fault}
 use Rattle.elf_table.specs.declared.fault.Fault.TheVariants.{Refused, Source}
 

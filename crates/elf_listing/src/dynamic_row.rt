@@ -1,7 +1,6 @@
 //! The row of a dynamic entry, shown.
 ghost use Rattle.std.specs.Prelude.{◌≡◌, ℕ, List};
-ghost use Rattle.elf_model.specs.Records.{d_tag};
-ghost use Rattle.elf_model.specs.Rows.{is_string_tag};
+ghost use Rattle.elf_model.specs.Prelude.{d_tag, is_string_tag};
 ghost use Rattle.elf_record.specs.Dyn.{IsDyn};
 ghost use Rattle.elf_listing.specs.Fetched.{FetchesString};
 ghost use Rattle.elf_listing.specs.Kinds.{ListsRow, RowFits};

@@ -1,9 +1,7 @@
 //! A cursor over the rows of a table that are listed.
 ghost use Rattle.std.specs.Prelude.{◌≡◌, ◌+◌, ◌<◌, ◌≤◌, None, IfErr};
 ghost use Rattle.elf_source.specs.Source.{ReadsUpTo};
-ghost use Rattle.elf_table.specs.Cursors.{ShowsRow, unread_bytes};
-ghost use Rattle.elf_table.specs.Faults.{IsReadFault};
-ghost use Rattle.elf_table.specs.Tables.{TableInBounds};
+ghost use Rattle.elf_table.specs.Prelude.{IsReadFault, ShowsRow, TableInBounds, unread_bytes};
 ghost use Rattle.elf_listing.specs.Kinds.{row_size};
 ghost use Rattle.elf_listing.specs.RowCursors.{AdvancesRows, BeginsTable, reading};
 

@@ -2,14 +2,8 @@
 ghost use Rattle.elf_source.specs.Growth.{OutGrows};
 ghost use Rattle.std.specs.Prelude.{◌≡◌, ◌+◌, ◌-◌, ◌^◌, ◌≤◌, [], ◌∷◌, true, false, ℕ, List};
 ghost use Rattle.std.specs.Prelude.{Some, None, Ok, IfErr};
-ghost use Rattle.elf_model.specs.Checks.{first_refusal, length_checks};
+ghost use Rattle.elf_model.specs.Prelude.{HEADER, Line as LineItem, after_header, e_shnum, first_refusal, has, has_tables, header_line, known_parts, length_checks, listing as listed_items, listing_cost, load_items, style_ceiling, table_items, viewed as view_of, where_asked};
 ghost use Rattle.elf_model.specs.declared.causes.Refusal.{Refusal as Refuses};
-ghost use Rattle.elf_model.specs.Cost.{listing_cost, style_ceiling, after_header};
-ghost use Rattle.elf_model.specs.Lines.{header_line};
-ghost use Rattle.elf_model.specs.Listing.{Line as LineItem, has, has_tables, known_parts, where_asked, HEADER};
-ghost use Rattle.elf_model.specs.Records.{e_shnum};
-ghost use Rattle.elf_model.specs.Report.{listing as listed_items, load_items, table_items};
-ghost use Rattle.elf_model.specs.Style.{viewed as view_of};
 ghost use Rattle.elf_record.specs.Ehdr.{IsEhdr};
 ghost use Rattle.elf_listing.specs.Parts.{tables_listed};
 ghost use Rattle.elf_listing.specs.Viewed.{IsReady};

@@ -1,14 +1,9 @@
 //! The program headers that describe the tables of a listing.
 ghost use Rattle.std.specs.Prelude.{◌≡◌, ◌&&◌, ◌||◌, true, ℕ, List, Some, IfErr, OnOk};
-ghost use Rattle.elf_model.specs.Listing.{has, SEGMENTS, NOTES, DYNAMIC};
-ghost use Rattle.elf_model.specs.Records.{e_shnum};
-ghost use Rattle.elf_model.specs.Report.{view_checks};
+ghost use Rattle.elf_model.specs.Prelude.{DYNAMIC, NOTES, SEGMENTS, e_shnum, has, view_checks};
 ghost use Rattle.elf_source.specs.Source.{ReadsUpTo};
-ghost use Rattle.elf_table.specs.Faults.{IsOfCheck, IsOfRead, IsReadFault};
-ghost use Rattle.elf_table.specs.Load.{HoldsSectionHeaders};
+ghost use Rattle.elf_table.specs.Prelude.{ChecksDecide, HoldsSectionHeaders, HoldsSegments, IsOfCheck, IsOfRead, IsReadFault};
 ghost use Rattle.elf_options.specs.Permitted.{style_of};
-ghost use Rattle.elf_table.specs.Store.{HoldsSegments};
-ghost use Rattle.elf_table.specs.Views.{ChecksDecide};
 ghost use Rattle.elf_listing.specs.Viewed.{AwaitsView, ChecksView, needs_segment_view, view_cost, viewed_headers};
 
 use bitflags::Flags;
@@ -40,7 +35,8 @@ pub(crate) fn load_view<S: Source>(
         HoldsSectionHeaders file loaded.now store.old → OnOk result
         (HoldsSectionHeaders file loaded.now store.new × HoldsSegments file store.new) }
     ensures checked { (file : List ℕ) → src.old.seen.file ≡ Some file →
-        HoldsSectionHeaders file loaded.now store.old → (style.entry.by_segments ≡ true → e_shnum file ≡ 0) →
+        HoldsSectionHeaders file loaded.now store.old →
+        (style.entry.by_segments ≡ true → e_shnum file ≡ 0) →
         ChecksView (view_checks file (style_of style.entry) parts.0) result }
 {
     read_view(src, store, loaded, parts)?;

@@ -1,24 +1,18 @@
 -- Whether a symbol answers, by what is read of it.
 use Rattle.std.proofs.Common.{◌≡◌, ℕ, ◌<◌, ◌≤◌, nat_lt, Bool, true, false, List, Option, None, Some, Result, Ok, Err, refl, sym, ap, subst, ◌∙◌, arith}
 use Rattle.std.proofs.lemmas.Bool.Decides.{nat_tests}
-use Rattle.elf_model.specs.Bytes.{field}
-use Rattle.elf_model.specs.Loader.{VersionQuery, DynamicSymbols as AreSymbolsOf, VersymTable as AreWordsOf, SymbolQuery, answers, fits, is_exported, symbol_offset, version_fits, versym_at}
-use Rattle.elf_model.specs.Names.{same}
-use Rattle.elf_model.specs.Records.{st_name}
-use Rattle.elf_model.specs.declared.causes.Cause.TheVariants.{VersionCut}
+use Rattle.elf_model.specs.Prelude.{DynamicSymbols as AreSymbolsOf, SymbolQuery, VersionQuery, VersymTable as AreWordsOf, answers, field, fits, is_exported, same, st_name, symbol_offset, version_fits, versym_at}
 use Rattle.elf_model.specs.declared.causes.Refusal.{Refusal}
-use Rattle.elf_record.specs.Sym.{IsSym}
+use Rattle.elf_model.specs.declared.causes.Cause.TheVariants.{VersionCut}
+use Rattle.elf_record.specs.Prelude.{IsSym}
 use Rattle.elf_record.specs.declared.sym.Sym.{Sym}
+use Rattle.elf_table.specs.Prelude.{Refuses as RefusesName, row_at, strings_in}
 use Rattle.elf_table.specs.declared.fault.Fault.{Fault}
 use Rattle.elf_table.specs.declared.fault.Fault.TheVariants.{Refused, Source}
-use Rattle.elf_table.specs.Cursors.{row_at}
-use Rattle.elf_table.specs.NamesRead.{Refuses as RefusesName}
-use Rattle.elf_table.specs.Tables.{strings_in}
-use Rattle.elf_hash.specs.Symbols.{AreVersymTable, IsDynamicSymbols}
+use Rattle.elf_hash.specs.Prelude.{AreVersymTable, IsDynamicSymbols, TriesSymbol}
 use Rattle.elf_hash.specs.declared.symbols.DynamicSymbols.{DynamicSymbols}
-use Rattle.elf_hash.specs.declared.symbols.VersymTable.{VersymTable}
-use Rattle.elf_hash.specs.Trials.{TriesSymbol}
 use Rattle.elf_hash.specs.declared.answer.SymbolMatch.{SymbolMatch}
+use Rattle.elf_hash.specs.declared.symbols.VersymTable.{VersymTable}
 use Rattle.elf_loader.specs.Answering.{SaysOf, IsSymbolWithVersym, ReturnsAnswer, ReturnsFit}
 
 -- without words each version fits

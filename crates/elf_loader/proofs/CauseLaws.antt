@@ -1,11 +1,6 @@
 -- The refusals of a segment and of its dynamic entries are not that there is no hash table.
 use Rattle.std.proofs.Common.{◌≡◌, ℕ, ◌%◌, ◌==◌, not, nat_lt, Bool, true, false, List, [], ◌∷◌, length, Option, None, Some, Ok, Err, refl, sym, ap, ◌∙◌}
-use Rattle.elf_model.specs.Checks.{Check, first_refusal, is_outside, refuse}
-use Rattle.elf_model.specs.LoaderScope.{LookupTables as IsScopeOf, dynamic_segment_index, lookup_tables_by_segments, scope_in_segment, scope_in_segments}
-use Rattle.elf_model.specs.Overlaps.{first_page, loads_from, overlap_checks, overlaps_from, page_behind}
-use Rattle.elf_model.specs.Records.{e_phnum, p_offset, p_filesz, segment_at}
-use Rattle.elf_model.specs.Tables.{segment_dynamic_checks}
-use Rattle.elf_model.specs.Traits.{has_none, known_symbols}
+use Rattle.elf_model.specs.Prelude.{Check, LookupTables as IsScopeOf, dynamic_segment_index, e_phnum, first_page, first_refusal, has_none, is_outside, known_symbols, loads_from, lookup_tables_by_segments, overlap_checks, overlaps_from, p_filesz, p_offset, page_behind, refuse, scope_in_segment, scope_in_segments, segment_at, segment_dynamic_checks}
 use Rattle.elf_model.specs.declared.causes.Cause.TheVariants.{LoadOverlap, SizeNotWhole, TableOutside}
 use Rattle.elf_model.specs.declared.causes.Refusal.{Refusal}
 

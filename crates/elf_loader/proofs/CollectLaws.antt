@@ -1,17 +1,14 @@
 -- The numbers of a wanted version, of all records of versions.
 use Rattle.std.proofs.Common.{◌≡◌, ℕ, ◌+◌, ◌*◌, ◌≤◌, ◌||◌, Bool, true, false, List, [], Option, None, Some, Ok, Err, refl, sym, ◌∙◌, arith}
-use Rattle.elf_model.specs.Loader.{VersionQuery, CompareResult, VersymTable as AreWordsOf, asked_name, compared_with, readings}
-use Rattle.elf_model.specs.LoaderFind.{version_indices}
-use Rattle.elf_model.specs.LoaderScope.{LookupTables}
+use Rattle.elf_model.specs.Prelude.{CompareResult, LookupTables, VersionQuery, VersymTable as AreWordsOf, asked_name, compared_with, readings, version_indices}
 use Rattle.elf_source.specs.Source.{CountedState}
-use Rattle.elf_table.specs.Ledger.{CallReads}
+use Rattle.elf_table.specs.Prelude.{CallReads}
 use Rattle.elf_table.specs.declared.fault.Fault.{Fault}
 use Rattle.elf_table.specs.declared.fault.Fault.TheVariants.{Refused, Source}
 use Rattle.elf_table.proofs.LedgerLaws.{CallReads-more}
-use Rattle.elf_hash.specs.Symbols.{AreVersymTable}
+use Rattle.elf_hash.specs.Prelude.{AreVersymTable}
 use Rattle.elf_hash.specs.declared.symbols.VersymTable.{VersymTable}
-use Rattle.elf_loader.specs.Comparing.{CollectsNumbers, CompareCosts}
-use Rattle.elf_loader.specs.NumberSets.{has_number}
+use Rattle.elf_loader.specs.Prelude.{CollectsNumbers, CompareCosts, has_number}
 
 -- without words, or without a wanted version, there are none
 pub no-words : (file : List ℕ) (scope : LookupTables) (asked : VersionQuery) → AreVersymTable scope.symbols.words None → version_indices file scope asked ≡ record { numbers = []; refused = None; read = 0 }

@@ -2,19 +2,16 @@
 use Rattle.std.proofs.Common.{◌≡◌, ℕ, suc, ◌+◌, ◌%◌, ◌^◌, ◌≤◌, ◌==◌, ◌||◌, nat_lt, length, Bool, true, false, List, ◌∷◌, Result, Ok, Err, Some, refl, sym, ap, ◌∙◌, arith}
 use Rattle.std.proofs.lemmas.Bool.Decides.{nat_tests}
 use Rattle.std.specs.List.{position_or_len}
-use Rattle.elf_model.specs.Loader.{CompareResult, VersionRecordRead, Meets, Refuses, Misses, compared_with, is_among, one_more, with_number}
-use Rattle.elf_model.specs.Names.{same}
-use Rattle.elf_model.specs.Versions.{VisitedRecord, name_index, named_at, names_version, number_in, number_word}
+use Rattle.elf_model.specs.Prelude.{CompareResult, Meets, Misses, Refuses, VersionRecordRead, VisitedRecord, compared_with, is_among, name_index, named_at, names_version, number_in, number_word, one_more, same, with_number}
 use Rattle.elf_model.specs.declared.causes.Cause.{Cause}
 use Rattle.elf_model.specs.declared.causes.Refusal.{Refusal}
 use Rattle.elf_model.proofs.ReadingLaws.{compared-fault, compared-is, compared-none}
+use Rattle.elf_table.specs.Prelude.{Refuses as RefusesName}
 use Rattle.elf_table.specs.declared.fault.Fault.{Fault}
 use Rattle.elf_table.specs.declared.fault.Fault.TheVariants.{Refused, Source}
-use Rattle.elf_table.specs.NamesRead.{Refuses as RefusesName}
-use Rattle.elf_note.specs.Reading.{IsVersion}
+use Rattle.elf_note.specs.Prelude.{IsVersion}
 use Rattle.elf_note.specs.declared.record.VersionRecord.{VersionRecord}
-use Rattle.elf_loader.specs.Comparing.{CompareProgress, ComparesOne}
-use Rattle.elf_loader.specs.NumberSets.{has_number}
+use Rattle.elf_loader.specs.Prelude.{CompareProgress, ComparesOne, has_number}
 
 -- a number is one of some with another in front
 pub among-more : (n number : ℕ) (numbers : List ℕ) → is_among n (number ∷ numbers) ≡ (number == n || is_among n numbers)

@@ -1,16 +1,10 @@
 -- The first segment of dynamic entries, as a pass over its entries finds it.
 use Rattle.std.proofs.Common.{◌≡◌, ℕ, ◌*◌, ◌/◌, ◌≤◌, List, Some, Ok, Err, refl, ap, arith}
 use Rattle.std.proofs.Math.Nat.{div-mul-le_self}
-use Rattle.elf_model.specs.LoaderScope.{dynamic_segment_index}
-use Rattle.elf_model.specs.Records.{p_offset, p_filesz, segment_at}
-use Rattle.elf_model.specs.Tables.{segment_dynamic_checks}
-use Rattle.elf_model.specs.TraitCost.{trait_entries_asked}
-use Rattle.elf_table.specs.Faults.{IsOfRead}
+use Rattle.elf_model.specs.Prelude.{dynamic_segment_index, p_filesz, p_offset, segment_at, segment_dynamic_checks, trait_entries_asked}
+use Rattle.elf_table.specs.Prelude.{IsOfRead, TableRange, dynamic_table_at, rows, size_of}
 use Rattle.elf_table.specs.declared.fault.Fault.{Fault}
 use Rattle.elf_table.specs.declared.fault.Fault.TheVariants.{Refused, Source}
-use Rattle.elf_table.specs.Sections.{rows}
-use Rattle.elf_table.specs.Tables.{TableRange, size_of}
-use Rattle.elf_table.specs.Views.{dynamic_table_at}
 use Rattle.elf_hash.proofs.FoundLaws.{dynamic_is}
 use Rattle.elf_hash.proofs.SettleLaws.{checked_fails}
 use Rattle.elf_loader.specs.Entries.{ReturnsTraitEntries}

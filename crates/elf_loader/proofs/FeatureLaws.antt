@@ -1,17 +1,11 @@
 -- The first list of properties among segments, and the word of features in it.
 use Rattle.std.proofs.Common.{◌≡◌, ℕ, suc, ◌+◌, ◌-◌, ◌*◌, ◌<◌, ◌≤◌, ◌==◌, Bool, true, false, List, length, Option, None, Some, Result, Ok, Err, refl, sym, ap, subst, ◌∙◌, arith, mul-le-mul, add-mul}
-use Rattle.elf_model.specs.Cost.{sum_over}
-use Rattle.elf_model.specs.Numbers.{EM_X86_64, PT_NOTE}
-use Rattle.elf_model.specs.Properties.{PropertyList, features_in, listed_from, listed_in, property_list}
-use Rattle.elf_model.specs.Records.{e_machine, e_phnum, p_type, segment_at}
-use Rattle.elf_model.specs.TraitCost.{properties_asked}
-use Rattle.elf_model.specs.Traits.{x86_feature_word}
+use Rattle.elf_model.specs.Prelude.{EM_X86_64, PT_NOTE, PropertyList, e_machine, e_phnum, features_in, listed_from, listed_in, p_type, properties_asked, property_list, segment_at, sum_over, x86_feature_word}
 use Rattle.elf_model.specs.declared.causes.Refusal.{Refusal}
 use Rattle.elf_model.proofs.SumLemmas.{last_cost, sums_grow}
 use Rattle.elf_table.specs.declared.fault.Fault.{Fault}
 use Rattle.elf_table.specs.declared.fault.Fault.TheVariants.{Refused, Source}
-use Rattle.elf_loader.specs.Features.{ReturnsValue}
-use Rattle.elf_loader.specs.Lists.{ReturnsList, all_notes_asked, is_list, list_at, notes_asked}
+use Rattle.elf_loader.specs.Prelude.{ReturnsList, ReturnsValue, all_notes_asked, is_list, list_at, notes_asked}
 use Rattle.elf_loader.specs.declared.trait_notes.PropertyRange.{PropertyRange}
 
 module _ (file : List ℕ) where

@@ -1,30 +1,18 @@
 -- The stages of a file's traits, one behind another.
 use Rattle.std.proofs.Common.{◌≡◌, ℕ, ◌+◌, ◌-◌, ◌*◌, ◌/◌, ◌≤◌, List, Option, None, Some, Result, Ok, Err, IfErr, IfOk, refl, sym, ap, subst, ◌∙◌, arith, mul-le-mul}
 use Rattle.elf_source.specs.Source.{CountedState, ReadsUpTo}
-use Rattle.elf_table.specs.Faults.{IsOfRead, IsReadFault}
-use Rattle.elf_table.specs.Ledger.{CallDid, fault_of_result}
+use Rattle.elf_table.specs.Prelude.{CallDid, IsOfRead, IsReadFault, TableRange, fault_of_result}
 use Rattle.elf_table.specs.declared.fault.Fault.{Fault}
 use Rattle.elf_table.specs.declared.fault.Fault.TheVariants.{Refused, Source}
-use Rattle.elf_table.specs.Tables.{TableRange}
-use Rattle.elf_model.specs.LoaderScope.{dynamic_segment_index}
-use Rattle.elf_model.specs.Records.{p_offset, p_filesz, segment_at}
-use Rattle.elf_loader.specs.Entries.{AreListedValues, ReturnsTraitEntries}
-use Rattle.elf_loader.specs.declared.trait_tags.TraitTags.{TraitTags}
-use Rattle.elf_model.specs.GnuHash.{gnu_nbucket}
-use Rattle.elf_model.specs.LoaderScope.{GnuTable, SysvTable, HashStyle, LookupTables as IsScopeOf, least_size}
-use Rattle.elf_model.specs.TraitCost.{hash_words_asked, symbols_asked}
-use Rattle.elf_model.specs.Traits.{SymbolTraitFlags, x86_feature_word, hashed_symbol_count, known_symbols, loaded_traits, marks_from, no_symbol_traits, find_symbol_traits, traits_with}
-use Rattle.elf_model.specs.declared.causes.Refusal.{Refusal}
+use Rattle.elf_model.specs.Prelude.{GnuTable, HashStyle, LookupTables as IsScopeOf, SymbolTraitFlags, SysvTable, dynamic_segment_index, find_symbol_traits, gnu_nbucket, hash_words_asked, hashed_symbol_count, known_symbols, least_size, loaded_traits, marks_from, no_symbol_traits, p_filesz, p_offset, segment_at, symbols_asked, traits_with, x86_feature_word}
 use Rattle.elf_model.specs.declared.traits.Hardening.{Hardening}
-use Rattle.elf_hash.specs.Extents.{extent_bytes}
-use Rattle.elf_loader.specs.Features.{ReturnsValue}
-use Rattle.elf_loader.specs.TraitStages.{marks_asked, marks_told}
-use Rattle.elf_hash.specs.SearchedTables.{place_of_table}
-use Rattle.elf_hash.proofs.FoundLaws.{size_within}
-use Rattle.elf_loader.specs.Known.{KnownLie, KnownLies, ReturnsKnown, counts_asked}
-use Rattle.elf_loader.specs.Marks.{ReturnsMarks, symbol_traits_of}
+use Rattle.elf_model.specs.declared.causes.Refusal.{Refusal}
+use Rattle.elf_loader.specs.Prelude.{AreListedValues, KnownLie, KnownLies, ReturnsKnown, ReturnsMarks, ReturnsTraitEntries, ReturnsValue, counts_asked, marks_asked, marks_told, symbol_traits_of}
 use Rattle.elf_loader.specs.declared.known.CountedSymbols.{CountedSymbols}
 use Rattle.elf_loader.specs.declared.symbol_traits.SymbolTraits.{SymbolTraits}
+use Rattle.elf_loader.specs.declared.trait_tags.TraitTags.{TraitTags}
+use Rattle.elf_hash.specs.Prelude.{extent_bytes, place_of_table}
+use Rattle.elf_hash.proofs.FoundLaws.{size_within}
 use Rattle.elf_loader.proofs.CauseLaws.{entries_pass}
 use Rattle.elf_loader.proofs.EntryLaws.{read_entries}
 use Rattle.elf_loader.proofs.ValueLaws.{values_are}

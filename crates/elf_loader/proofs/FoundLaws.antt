@@ -1,32 +1,22 @@
 -- The version of a symbol that is found.
 use Rattle.std.proofs.Common.{◌≡◌, ℕ, ◌+◌, ◌*◌, ◌<◌, ◌≤◌, subst, nat_lt, true, false, is_some, List, [], Option, None, Some, Result, Ok, Err, refl, sym, ap, ◌∙◌, arith}
 use Rattle.std.proofs.lemmas.Bool.Decides.{nat_tests}
-use Rattle.elf_model.specs.Bytes.{field}
-use Rattle.elf_model.specs.Chains.{ChainResult}
-use Rattle.elf_model.specs.Cost.{cost_where}
-use Rattle.elf_model.specs.Loader.{VersionQuery, NumberNameSource, VersymTable, asked_name, naming_of, readings, versym_at}
-use Rattle.elf_model.specs.LoaderFind.{LoaderLookup, TOLD_BYTES, found_in, found_lookup, named_by_record}
-use Rattle.elf_model.specs.LoaderScope.{LookupTables}
-use Rattle.elf_model.specs.Names.{DisplayedName, shown}
-use Rattle.elf_model.specs.Names.DisplayedName.{Whole}
-use Rattle.elf_model.specs.Records.{versym}
-use Rattle.elf_model.specs.Versions.{VisitedRecord, name_index, number_in}
+use Rattle.elf_model.specs.Prelude.{ChainResult, DisplayedName, LoaderLookup, LookupTables, NumberNameSource, TOLD_BYTES, VersionQuery, VersymTable, VisitedRecord, asked_name, cost_where, field, found_in, found_lookup, name_index, named_by_record, naming_of, number_in, readings, shown, versym, versym_at}
 use Rattle.elf_model.specs.declared.causes.Cause.{Cause}
 use Rattle.elf_model.specs.declared.causes.Refusal.{Refusal}
+use Rattle.elf_model.specs.Names.DisplayedName.{Whole}
 use Rattle.elf_source.specs.Source.{CountedState}
-use Rattle.elf_table.specs.Ledger.{CallReads}
+use Rattle.elf_table.specs.Prelude.{CallReads, row_at}
 use Rattle.elf_table.specs.declared.fault.Fault.{Fault}
 use Rattle.elf_table.specs.declared.fault.Fault.TheVariants.{Refused, Source}
 use Rattle.elf_table.proofs.LedgerLaws.{CallReads-more, CallReads-none}
-use Rattle.elf_hash.specs.Symbols.{AreVersymTable, IsVersymTable}
+use Rattle.elf_hash.specs.Prelude.{AreVersymTable, IsVersymTable}
 use Rattle.elf_hash.specs.declared.symbols.VersymTable.{VersymTable as Words}
-use Rattle.elf_table.specs.Cursors.{row_at}
-use Rattle.elf_loader.specs.FoundVersions.{FindsVersion, IsVersionFound, LookupSpends, IsRelocationReported, name_shown}
-use Rattle.elf_loader.specs.Telling.{ReturnsVersionName, parsed_member_bytes}
+use Rattle.elf_loader.specs.Prelude.{FindsVersion, IsRelocationReported, IsVersionFound, LookupSpends, ReturnsVersionName, name_shown, parsed_member_bytes}
 use Rattle.elf_loader.specs.declared.found.FoundVersion.{FoundVersion}
 use Rattle.elf_loader.specs.declared.resolved_version_name.ResolvedVersionName.{ResolvedVersionName}
+use Rattle.elf_loader.specs.declared.found.VersionName.TheVariants.{Told, Unnamed, Wanted}
 use Rattle.elf_loader.specs.declared.found.VersionName.{VersionName}
-use Rattle.elf_loader.specs.declared.found.VersionName.TheVariants.{Wanted, Unnamed, Told}
 
 -- where a version is wanted, it is told as it is wanted
 pub in-wanted :

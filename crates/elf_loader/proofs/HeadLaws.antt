@@ -1,9 +1,8 @@
 -- What stops the read of a property's head.
 use Rattle.std.proofs.Common.{◌≡◌, ℕ, List, Err, refl}
-use Rattle.elf_model.specs.Bytes.{slice}
-use Rattle.elf_model.specs.Properties.{NoProperty, next_property}
+use Rattle.elf_model.specs.Prelude.{NoProperty, next_property, slice}
 use Rattle.elf_model.specs.declared.causes.Cause.TheVariants.{NoteCut}
-use Rattle.elf_table.specs.Faults.{IsOfRead}
+use Rattle.elf_table.specs.Prelude.{IsOfRead}
 use Rattle.elf_table.specs.declared.fault.Fault.{Fault}
 use Rattle.elf_table.specs.declared.fault.Fault.TheVariants.{Refused, Source}
 use Rattle.elf_loader.specs.Features.{ReadsHead}

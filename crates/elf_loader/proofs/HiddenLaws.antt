@@ -1,12 +1,11 @@
 -- What a lookup does while what the file header tells of section headers is hidden.
 use Rattle.std.proofs.Common.{◌≡◌, ℕ, Bool, true, false, List, Result, refl, subst}
-use Rattle.elf_model.specs.Loader.{SymbolQuery}
-use Rattle.elf_model.specs.Style.{looked_at, without_sections}
+use Rattle.elf_model.specs.Prelude.{SymbolQuery, looked_at, without_sections}
 use Rattle.elf_source.specs.Source.{CountedState, MasksSectionHeaders}
 use Rattle.elf_table.proofs.FaultLaws.{charges_hidden}
-use Rattle.elf_table.specs.Ledger.{CallReads, CallDid, fault_of_result}
+use Rattle.elf_table.specs.Prelude.{CallDid, CallReads, fault_of_result}
 use Rattle.elf_table.specs.declared.fault.Fault.{Fault}
-use Rattle.elf_loader.specs.Lookups.{LooksUp}
+use Rattle.elf_loader.specs.Prelude.{LooksUp}
 use Rattle.elf_loader.specs.declared.lookup.SymbolLookup.{SymbolLookup}
 
 -- the file that is looked at

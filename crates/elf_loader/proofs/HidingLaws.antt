@@ -1,17 +1,13 @@
 -- What is found while what the file header tells of section headers is hidden.
 use Rattle.std.proofs.Common.{◌≡◌, ℕ, List, Result, refl, subst, true}
-use Rattle.elf_model.specs.Records.{e_shnum}
-use Rattle.elf_model.specs.Style.{without_sections}
-use Rattle.elf_model.specs.TraitCost.{segment_traits_cost, traits_cost}
-use Rattle.elf_model.specs.Traits.{traits_by_segments, traits_of}
+use Rattle.elf_model.specs.Prelude.{e_shnum, segment_traits_cost, traits_by_segments, traits_cost, traits_of, without_sections}
 use Rattle.elf_model.specs.declared.traits.Hardening.{Hardening}
 use Rattle.elf_model.proofs.StyleLemmas.{view_tells_of_none}
 use Rattle.elf_source.specs.Source.{CountedState, MasksSectionHeaders}
 use Rattle.elf_table.proofs.FaultLaws.{charges_hidden}
-use Rattle.elf_table.specs.Ledger.{CallReads, CallDid, fault_of_result}
+use Rattle.elf_table.specs.Prelude.{CallDid, CallReads, fault_of_result}
 use Rattle.elf_table.specs.declared.fault.Fault.{Fault}
-use Rattle.elf_loader.specs.Features.{ReturnsValue}
-use Rattle.elf_loader.specs.TraitStages.{FindsShown, FindsTraits}
+use Rattle.elf_loader.specs.Prelude.{FindsShown, FindsTraits, ReturnsValue}
 
 cost_is : (file : List ℕ) (headers : ℕ) → segment_traits_cost (without_sections file) headers ≡ traits_cost file headers
 unfolding traits_cost

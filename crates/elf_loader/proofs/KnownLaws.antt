@@ -1,20 +1,14 @@
 -- The symbols that a loader knows, by what a lookup is made in and the counts of its hash table.
 use Rattle.std.proofs.Common.{◌≡◌, ℕ, ◌≤◌, Bool, true, false, List, [], ◌∷◌, Option, None, Some, Ok, Err, refl, ap, arith}
-use Rattle.elf_model.specs.Budget.{IsBudgetRefusal}
-use Rattle.elf_model.specs.Checks.{first_refusal}
-use Rattle.elf_model.specs.LoaderFind.{counts_check}
-use Rattle.elf_model.specs.LoaderScope.{GnuTable, SysvTable, HashStyle, LookupTables as IsScopeOf, least_size, lookup_tables_by_segments}
-use Rattle.elf_model.specs.Traits.{has_none, known_symbols}
+use Rattle.elf_model.specs.Prelude.{GnuTable, HashStyle, IsBudgetRefusal, LookupTables as IsScopeOf, SysvTable, counts_check, first_refusal, has_none, known_symbols, least_size, lookup_tables_by_segments}
 use Rattle.elf_model.specs.declared.causes.Refusal.{Refusal}
 use Rattle.elf_source.specs.Source.{CountedState}
-use Rattle.elf_table.specs.Ledger.{CallReads, CallDid, fault_of_result}
+use Rattle.elf_table.specs.Prelude.{CallDid, CallReads, fault_of_result}
 use Rattle.elf_table.specs.declared.fault.Fault.{Fault}
 use Rattle.elf_table.specs.declared.fault.Fault.TheVariants.{Refused, Source}
-use Rattle.elf_hash.specs.HashStyles.{hash_style_of}
-use Rattle.elf_hash.specs.SearchedTables.{HasCounts, IsPlaceIn, counts_bytes}
+use Rattle.elf_hash.specs.Prelude.{FindsLookupTables, HasCounts, IsLookupTables, IsPlaceIn, counts_bytes, hash_style_of}
 use Rattle.elf_hash.specs.declared.hash_style.HashStyle.{HashStyle as Kind}
 use Rattle.elf_hash.specs.declared.table.HashTable.{HashTable}
-use Rattle.elf_hash.specs.LookupTablesFound.{IsLookupTables, FindsLookupTables}
 use Rattle.elf_hash.specs.declared.lookup_tables.LookupTables.{LookupTables}
 use Rattle.elf_loader.specs.Known.{AreKnown, ReturnsKnown, counts_asked, passed_over}
 

@@ -2,18 +2,16 @@
 use Rattle.std.proofs.Common.{◌≡◌, ℕ, zero, suc, ◌+◌, ◌<◌, ◌≤◌, nat_lt, true, false, List, ◌∷◌, ◌++◌, length, inl, inr, Option, None, Some, IfSome, MatchOption, option_map, refl, sym, ap, ◌∙◌, arith}
 use Rattle.std.proofs.lemmas.Bool.{cases_Bool}
 use Rattle.std.proofs.lemmas.Bool.Decides.{nat_tests}
-use Rattle.elf_model.specs.Checks.{first_refusal}
-use Rattle.elf_model.specs.Loader.{VersionRecordTable, VersionRecordRead, Meets, Refuses, Misses, end_reading, has_record, meetings, readings_of, position_after}
-use Rattle.elf_model.specs.Versions.{VisitedRecord, RecordCursorState, Versions, next_position, first_position, visited_at, visited_from, max_records, no_versions, record_checks, record_size, versions_in, with_visited}
-use Rattle.elf_model.specs.declared.causes.Cause.TheVariants.{VersionCut}
+use Rattle.elf_model.specs.Prelude.{Meets, Misses, RecordCursorState, Refuses, VersionRecordRead, VersionRecordTable, Versions, VisitedRecord, end_reading, first_position, first_refusal, has_record, max_records, meetings, next_position, no_versions, position_after, readings_of, record_checks, record_size, versions_in, visited_at, visited_from, with_visited}
 use Rattle.elf_model.specs.declared.causes.Refusal.{Refusal}
+use Rattle.elf_model.specs.declared.causes.Cause.TheVariants.{VersionCut}
 use Rattle.elf_model.proofs.ReadingLaws.{stands-next}
 use Rattle.elf_model.proofs.VersionSteps.{ends-inside, met-ended, met-most, met-record, met-refused}
-use Rattle.elf_hash.specs.Symbols.{IsVersionRecordTable}
+use Rattle.elf_hash.specs.Prelude.{IsVersionRecordTable}
 use Rattle.elf_hash.specs.declared.symbols.VersionRecordTable.{VersionRecordTable as Given}
-use Rattle.elf_note.specs.Reading.{GivesVersion, LeadsOn, StartsVersions, VersionCursorState, record_position_of, versions_left}
-use Rattle.elf_note.specs.declared.record.VersionRecord.{VersionRecord}
+use Rattle.elf_note.specs.Prelude.{GivesVersion, LeadsOn, StartsVersions, VersionCursorState, record_position_of, versions_left}
 use Rattle.elf_note.specs.declared.record_position.RecordPosition.{RecordPosition}
+use Rattle.elf_note.specs.declared.record.VersionRecord.{VersionRecord}
 
 -- what a walk stands at is a record that is in the table, or none
 abbrev pub cut_at : RecordCursorState → Refusal

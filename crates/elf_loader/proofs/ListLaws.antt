@@ -3,31 +3,21 @@ use Rattle.std.proofs.Common.{◌≡◌, ℕ, zero, suc, ◌+◌, ◌*◌, ◌�
 use Rattle.std.specs.Prelude.{is_none, option_map}
 use Rattle.std.specs.List.{position_or_len, starts_with}
 use Rattle.std.proofs.lemmas.Bool.{cases_Bool, eqb-true, ne_eqb}
-use Rattle.elf_model.specs.Bytes.{slice}
-use Rattle.elf_model.specs.Notes.{Note, NoteRow, NoteScan, NextNote, before_nul, note_shown, Ends, Broken, OneNote, descriptor_start, next_note, note_align, note_rows, padded_size, walk_from, walked, with_note}
-use Rattle.elf_model.specs.Properties.{PropertyList, first_listing, is_gnu_name, listed_in, is_property_note}
-use Rattle.elf_model.specs.Records.{p_type, p_offset, p_filesz, p_align, segment_at}
+use Rattle.elf_model.specs.Prelude.{Check, Cut, NextNote, Note, NoteRow, NoteScan, OneNote, PT_NOTE, PropertyList, before_nul, cost_where, descriptor_start, first_listing, first_refusal, is_gnu_name, is_property_note, listed_in, next_note, note_align, note_rows, note_shown, p_align, p_filesz, p_offset, p_type, padded_size, pass, range_checks_of, segment_at, segment_notes, slice, table_cost, unless_empty, walk_from, walked, with_note}
 use Rattle.elf_model.specs.declared.causes.Cause.TheVariants.{NoteCut}
 use Rattle.elf_model.specs.declared.causes.Refusal.{Refusal}
-use Rattle.elf_model.specs.Names.DisplayedName.{Whole, Cut}
+use Rattle.elf_model.specs.Notes.{Ends, Broken}
+use Rattle.elf_model.specs.Names.DisplayedName.{Whole}
 use Rattle.elf_model.proofs.NoteRowLaws.{note_shown_cut, note_shown_whole}
-use Rattle.elf_model.specs.Checks.{Check, first_refusal, pass, range_checks_of, unless_empty}
 use Rattle.elf_model.proofs.NoteLaws.{nothing-ends}
 use Rattle.elf_record.specs.declared.note_head.NoteHead.{NoteHead}
+use Rattle.elf_table.specs.Prelude.{HoldsBytes, RefusedBy, StillHolds, TableInBounds, TableRange, WindowState, byte_table_at, bytes_left, range_end, rows}
 use Rattle.elf_table.specs.declared.fault.Fault.{Fault}
 use Rattle.elf_table.specs.declared.fault.Fault.TheVariants.{Refused, Source as Unread}
-use Rattle.elf_note.specs.NoteCursors.{AdvancesNote, GivesNote, IsNoteFound, NameIs, NoteCursorState, ShowsNote, StopsNote, TakesItsBytes, cut_at, no_notes, note_cut, notes_left, note_size}
+use Rattle.elf_note.specs.Prelude.{AdvancesNote, GivesNote, IsNoteFound, NameIs, NoteCursorState, ShowsNote, StopsNote, TakesItsBytes, cut_at, no_notes, note_cut, note_size, notes_left}
 use Rattle.elf_note.specs.declared.note_row.NoteRow.{NoteRow as ListingWrote}
-use Rattle.elf_table.specs.Relocations.{RefusedBy}
-use Rattle.elf_table.specs.Sections.{rows}
-use Rattle.elf_table.specs.Views.{byte_table_at}
-use Rattle.elf_table.specs.Windows.{WindowState, HoldsBytes, StillHolds, bytes_left, range_end}
 use Rattle.elf_table.proofs.RelocationLaws.{table-fails, table-passes}
-use Rattle.elf_table.specs.Tables.{TableRange, TableInBounds}
-use Rattle.elf_model.specs.Cost.{cost_where, table_cost}
-use Rattle.elf_model.specs.Numbers.{PT_NOTE}
-use Rattle.elf_model.specs.TableKinds.{segment_notes}
-use Rattle.elf_loader.specs.Lists.{ReturnsList, first_list, is_list, list_among, list_at, notes_asked}
+use Rattle.elf_loader.specs.Prelude.{ReturnsList, first_list, is_list, list_among, list_at, notes_asked}
 use Rattle.elf_loader.specs.declared.trait_notes.PropertyRange.{PropertyRange}
 
 -- the checks of a table of notes by the program header at an offset

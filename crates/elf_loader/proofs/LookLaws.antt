@@ -1,42 +1,27 @@
 -- What a lookup gives, stage by stage.
 use mathlib.Core.Path.{fun_ext}
 use Rattle.std.proofs.Common.{◌≡◌, ℕ, ◌+◌, ◌*◌, ◌≤◌, Bool, false, List, [], ◌∷◌, ◌++◌, Option, None, Some, Result, Ok, Err, refl, sym, ap, subst, ◌∙◌, arith}
-use Rattle.elf_model.specs.Chains.{ChainResult as NoteScan}
-use Rattle.elf_model.specs.Checks.{before_headers, early_checks, first_refusal, header_checks, load_checks, section_name_checks}
-use Rattle.elf_model.specs.Cost.{cost_where}
-use Rattle.elf_model.specs.Loader.{CompareResult, SymbolQuery, answers, asked_name, is_among, symbol_offset}
-use Rattle.elf_model.specs.LoaderFind.{LoaderLookup, counts_check, found_in, loaded_in, loader_cost, loader_looked, looked_by, lookup_asks, record_cost, refused_lookup, segments_asked, walk_in, version_indices}
-use Rattle.elf_model.specs.LoaderScope.{LookupTables as IsScopeOf, lookup_tables_of}
-use Rattle.elf_model.specs.Records.{e_shnum}
+use Rattle.elf_model.specs.Prelude.{ChainResult as NoteScan, CompareResult, LoaderLookup, LookupTables as IsScopeOf, SymbolQuery, answers, asked_name, before_headers, cost_where, counts_check, e_shnum, early_checks, first_refusal, found_in, header_checks, is_among, load_checks, loaded_in, loader_cost, loader_looked, looked_by, lookup_asks, lookup_tables_of, record_cost, refused_lookup, section_name_checks, segments_asked, symbol_offset, version_indices, walk_in}
 use Rattle.elf_model.specs.declared.causes.Refusal.{Refusal}
 use Rattle.elf_model.proofs.CheckSteps.{first_refusal-none, passes_front}
 use Rattle.elf_record.specs.Sym.{IsSym}
 use Rattle.elf_source.specs.Source.{CountedState}
-use Rattle.elf_table.specs.Ledger.{CallReads}
+use Rattle.elf_table.specs.Prelude.{CallReads, row_at}
 use Rattle.elf_table.specs.declared.fault.Fault.{Fault}
 use Rattle.elf_table.specs.declared.fault.Fault.TheVariants.{Refused, Source}
 use Rattle.elf_table.proofs.LedgerLaws.{CallReads-more, CallReads-none, CallReads-then}
-use Rattle.elf_table.specs.Cursors.{row_at}
-use Rattle.elf_hash.specs.SearchedTables.{HasCounts, IsPlaceIn, counts_bytes, walked_in}
-use Rattle.elf_hash.specs.Walks.{GivesWalked, WalksChain, walk_bytes}
-use Rattle.elf_hash.specs.declared.answer.SymbolMatch.{SymbolMatch}
-use Rattle.elf_hash.specs.declared.hash_style.HashStyle.{HashStyle}
-use Rattle.elf_hash.specs.declared.hash_style.HashStyle.TheVariants.{Gnu, Sysv}
-use Rattle.elf_hash.specs.declared.table.HashTable.{HashTable}
+use Rattle.elf_hash.specs.Prelude.{FindsLookupTables, GivesWalked, HasCounts, IsLookupTables, IsPlaceIn, WalksChain, counts_bytes, scope_cost, walk_bytes, walked_in}
 use Rattle.elf_hash.specs.declared.chain_result.ChainResult.{ChainResult}
-use Rattle.elf_hash.proofs.SearchedTableLaws.{walk_in_is}
-use Rattle.elf_hash.specs.Finding.{scope_cost}
-use Rattle.elf_hash.specs.LookupTablesFound.{FindsLookupTables, IsLookupTables}
+use Rattle.elf_hash.specs.declared.hash_style.HashStyle.{HashStyle}
+use Rattle.elf_hash.specs.declared.table.HashTable.{HashTable}
 use Rattle.elf_hash.specs.declared.lookup_tables.LookupTables.{LookupTables}
-use Rattle.elf_loader.specs.Answering.{IsSymbolWithVersym}
-use Rattle.elf_loader.specs.Comparing.{CollectsNumbers}
-use Rattle.elf_loader.specs.FoundVersions.{FindsVersion, IsVersionFound}
-use Rattle.elf_loader.specs.Lookups.{LooksAfter, LooksUp, ReturnsLookup, looked_with, match_bytes}
-use Rattle.elf_loader.specs.NumberSets.{has_number}
-use Rattle.elf_loader.specs.Telling.{parsed_member_bytes}
+use Rattle.elf_hash.specs.declared.answer.SymbolMatch.{SymbolMatch}
+use Rattle.elf_hash.specs.declared.hash_style.HashStyle.TheVariants.{Gnu, Sysv}
+use Rattle.elf_hash.proofs.SearchedTableLaws.{walk_in_is}
+use Rattle.elf_loader.specs.Prelude.{CollectsNumbers, FindsVersion, IsSymbolWithVersym, IsVersionFound, LooksAfter, LooksUp, ReturnsLookup, has_number, looked_with, match_bytes, parsed_member_bytes}
+use Rattle.elf_loader.specs.declared.lookup.SymbolLookup.TheVariants.{Absent, Found as IsFoundSymbol}
 use Rattle.elf_loader.specs.declared.found.FoundVersion.{FoundVersion}
 use Rattle.elf_loader.specs.declared.lookup.SymbolLookup.{SymbolLookup}
-use Rattle.elf_loader.specs.declared.lookup.SymbolLookup.TheVariants.{Found as IsFoundSymbol, Absent}
 use Rattle.elf_loader.proofs.CollectLaws.{no-version}
 use Rattle.elf_loader.proofs.ReadLaws.{asks_all, asks_least, asks_records, by_absent, by_found, by_refused, looked_reads}
 

@@ -1,17 +1,13 @@
 -- What symbols tell, one after another.
 use Rattle.std.proofs.Common.{◌≡◌, ℕ, zero, suc, ◌+◌, ◌==◌, Bool, List, Result, Ok, Err, refl, sym, ap, subst, ◌∙◌, arith}
-use Rattle.elf_model.specs.Loader.{DynamicSymbols, symbol_offset}
-use Rattle.elf_model.specs.Names.{DisplayedName, shown}
-use Rattle.elf_model.specs.Names.DisplayedName.{Whole, Cut}
-use Rattle.elf_model.specs.Records.{st_name, st_shndx}
-use Rattle.elf_model.specs.Traits.{SymbolTraitFlags, marked_by, marked_with_symbol, marks_from}
+use Rattle.elf_model.specs.Prelude.{Cut, DisplayedName, DynamicSymbols, SymbolTraitFlags, marked_by, marked_with_symbol, marks_from, shown, st_name, st_shndx, symbol_offset}
 use Rattle.elf_model.specs.declared.causes.Cause.{Cause}
 use Rattle.elf_model.specs.declared.causes.Refusal.{Refusal}
-use Rattle.elf_table.specs.Faults.{IsAt, IsOfRead}
+use Rattle.elf_model.specs.Names.DisplayedName.{Whole}
+use Rattle.elf_table.specs.Prelude.{IsAt, IsOfRead, Refuses}
 use Rattle.elf_table.specs.declared.fault.Fault.{Fault}
 use Rattle.elf_table.specs.declared.fault.Fault.TheVariants.{Refused, Source}
-use Rattle.elf_table.specs.NamesRead.{Refuses}
-use Rattle.elf_loader.specs.Marks.{ReturnsMarks, marks_in, symbol_traits_of, marks_with}
+use Rattle.elf_loader.specs.Prelude.{ReturnsMarks, marks_in, marks_with, symbol_traits_of}
 use Rattle.elf_loader.specs.declared.symbol_traits.SymbolTraits.{SymbolTraits}
 
 module _ (file strings : List ℕ) where

@@ -1,20 +1,17 @@
 -- Looking for the record that names the version of a number, record by record.
 use Rattle.std.proofs.Common.{◌≡◌, ℕ, ◌+◌, ◌-◌, ◌*◌, ◌≤◌, Bool, true, false, List, [], ◌∷◌, Option, None, Some, Result, Ok, Err, refl, ◌∙◌, arith}
-use Rattle.elf_model.specs.BoundSymbols.{file_before, file_or}
-use Rattle.elf_model.specs.Budget.{IsBudgetRefusal}
-use Rattle.elf_model.specs.Loader.{Meets, Misses, NumberNameSource, VersionRecordRead, VersionRecordTable, Refuses, naming_of, one_later, readings_of}
-use Rattle.elf_model.specs.Versions.{VisitedRecord, names_version_index}
+use Rattle.elf_model.specs.Prelude.{IsBudgetRefusal, Meets, Misses, NumberNameSource, Refuses, VersionRecordRead, VersionRecordTable, VisitedRecord, file_before, file_or, names_version_index, naming_of, one_later, readings_of}
 use Rattle.elf_model.specs.declared.causes.Refusal.{Refusal}
 use Rattle.elf_source.specs.Source.{CountedState}
-use Rattle.elf_table.specs.Ledger.{CallReads}
+use Rattle.elf_table.specs.Prelude.{CallReads}
 use Rattle.elf_table.specs.declared.fault.Fault.{Fault}
 use Rattle.elf_table.specs.declared.fault.Fault.TheVariants.{Refused, Source}
 use Rattle.elf_table.proofs.LedgerLaws.{CallReads-more, CallReads-then}
-use Rattle.elf_hash.specs.Symbols.{IsVersionRecordTable}
+use Rattle.elf_hash.specs.Prelude.{IsVersionRecordTable}
 use Rattle.elf_hash.specs.declared.symbols.VersionRecordTable.{VersionRecordTable as Given}
-use Rattle.elf_note.specs.Reading.{SpendsRecord, StartsVersions, ReturnsVersion, VersionCursorState, versions_left}
-use Rattle.elf_loader.specs.Naming.{HasFile, NamedAs, NamesBefore, NamesFile}
+use Rattle.elf_note.specs.Prelude.{ReturnsVersion, SpendsRecord, StartsVersions, VersionCursorState, versions_left}
 use Rattle.elf_note.specs.declared.record.VersionRecord.{VersionRecord}
+use Rattle.elf_loader.specs.Prelude.{HasFile, NamedAs, NamesBefore, NamesFile}
 use Rattle.elf_loader.specs.declared.version_name_record.VersionNameRecord.{VersionNameRecord}
 use Rattle.elf_loader.proofs.TablesLaws.{more-pays}
 use Rattle.elf_loader.proofs.LeftReadings.{ended-left, left_of, refused-left, start-left}

@@ -2,12 +2,11 @@
 use Rattle.std.proofs.Common.{◌≡◌, ℕ, zero, suc, ◌+◌, ◌-◌, ◌<◌, ◌≤◌, ◌==◌, Bool, true, false, List, ◌∷◌, [], length, drop, Option, None, Some, Result, Ok, Err, refl, sym, ap, ◌∙◌, nat_lt, arith, min, ne_eqb, eq-eqb}
 use Rattle.std.specs.Prelude.{unwrap_or}
 use Rattle.std.proofs.lemmas.Bool.Decides.{nat_tests}
-use Rattle.elf_model.specs.Bytes.{field, slice}
-use Rattle.elf_model.specs.Properties.{GNU_PROPERTY_X86_FEATURE_1_AND, ListEnds, NoProperty, OneProperty, Property, PropertyWalk, bare_property, features_in, first_property, next_property, padded_property, pr_datasz, pr_type, properties_from, properties_in, property_word, with_property}
+use Rattle.elf_model.specs.Prelude.{GNU_PROPERTY_X86_FEATURE_1_AND, ListEnds, NoProperty, OneProperty, Property, PropertyWalk, bare_property, features_in, field, first_property, next_property, padded_property, pr_datasz, pr_type, properties_from, properties_in, property_word, slice, with_property}
 use Rattle.elf_model.specs.declared.causes.Cause.TheVariants.{NoteCut}
 use Rattle.elf_model.specs.declared.causes.Refusal.{Refusal}
 use Rattle.elf_model.proofs.Slices.{field-slice, slice-rest, slice-size, slice-slice}
-use Rattle.elf_loader.specs.Features.{found_after, property_at}
+use Rattle.elf_loader.specs.Prelude.{found_after, property_at}
 use Rattle.elf_loader.specs.declared.property.PropertyHeader.{PropertyHeader}
 
 module _ (file : List ℕ) (at left : ℕ) (within : at + left ≤ length file) where

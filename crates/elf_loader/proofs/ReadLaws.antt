@@ -1,27 +1,14 @@
 -- How much a lookup reads, and how much that is at most.
 use Rattle.std.proofs.Common.{◌≡◌, ℕ, zero, suc, ◌+◌, ◌*◌, ◌/◌, ◌<◌, ◌≤◌, nat_lt, Bool, false, inl, inr, List, Option, None, Some, Result, Ok, Err, IfSome, length, refl, sym, ap, subst, arith, mul-le-mul_right}
 use Rattle.std.proofs.lemmas.Bool.{cases_Bool}
-use Rattle.elf_model.specs.Chains.{ChainResult}
-use Rattle.elf_model.specs.Cost.{cost_where}
-use Rattle.elf_model.specs.Hash.{Absent}
-use Rattle.elf_model.specs.Loader.{VersionQuery, VersymTable, SymbolQuery, asked_name, naming_of, readings, versym_at}
-use Rattle.elf_model.specs.LoaderFind.{LoaderLookup, found_in, loader_ceiling, looked_by, lookup_asks, record_cost, refused_lookup}
-use Rattle.elf_model.specs.LoaderScope.{LookupTables}
-use Rattle.elf_model.specs.Names.{pad64}
-use Rattle.elf_model.specs.Records.{versym}
-use Rattle.elf_model.specs.Versions.{max_records, number_in}
+use Rattle.elf_model.specs.Prelude.{Absent, ChainResult, LoaderLookup, LookupTables, SymbolQuery, VersionQuery, VersymTable, asked_name, cost_where, found_in, loader_ceiling, looked_by, lookup_asks, max_records, naming_of, number_in, pad64, readings, record_cost, refused_lookup, versym, versym_at}
+use Rattle.elf_model.specs.declared.versions.VersionKind.TheVariants.{Definition, File, Need}
 use Rattle.elf_model.specs.declared.causes.Refusal.{Refusal}
 use Rattle.elf_model.specs.declared.versions.VersionKind.{VersionKind}
-use Rattle.elf_model.specs.declared.versions.VersionKind.TheVariants.{Definition, File, Need}
-use Rattle.elf_hash.specs.Walks.{walk_bytes}
-use Rattle.elf_hash.specs.Symbols.{VersionRecordsInBounds, DynamicSymbolsInBounds}
-use Rattle.elf_hash.specs.declared.symbols.VersionRecordTable.{VersionRecordTable}
+use Rattle.elf_hash.specs.Prelude.{DynamicSymbolsInBounds, VersionRecordsInBounds, walk_bytes}
 use Rattle.elf_hash.specs.declared.symbols.DynamicSymbols.{DynamicSymbols}
-use Rattle.elf_loader.specs.Comparing.{comparing_bytes}
-use Rattle.elf_loader.specs.FoundVersions.{LookupSpends}
-use Rattle.elf_loader.specs.Lookups.{lookup_bytes, match_bytes}
-use Rattle.elf_loader.specs.Tables.{max_records_of, max_versions_of}
-use Rattle.elf_loader.specs.Telling.{telling_bytes, parsed_member_bytes}
+use Rattle.elf_hash.specs.declared.symbols.VersionRecordTable.{VersionRecordTable}
+use Rattle.elf_loader.specs.Prelude.{LookupSpends, comparing_bytes, lookup_bytes, match_bytes, max_records_of, max_versions_of, parsed_member_bytes, telling_bytes}
 use Rattle.elf_loader.proofs.FoundLaws.{in-told, in-unnamed, in-wanted, told-spends}
 
 -- A SOURCE'S RECORDS are few

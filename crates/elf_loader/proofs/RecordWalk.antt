@@ -1,16 +1,15 @@
 -- A walk over the records of a table that reads each alone: what its steps ask for, and which record they give.
 use Rattle.std.proofs.Common.{◌≡◌, ℕ, zero, suc, ◌+◌, ◌-◌, ◌*◌, ◌<◌, ◌≤◌, false, List, ◌∷◌, inl, inr, None, Some, Ok, Err, ◌∙◌, arith, mul-le-mul_right, suc-mul}
 use Rattle.std.proofs.lemmas.Bool.{cases_lt}
-use Rattle.elf_model.specs.Loader.{Meets, VersionRecordRead, VersionRecordTable, Refuses}
-use Rattle.elf_model.specs.Versions.{VisitedRecord, max_records}
+use Rattle.elf_model.specs.Prelude.{Meets, Refuses, VersionRecordRead, VersionRecordTable, VisitedRecord, max_records}
+use Rattle.elf_model.specs.declared.versions.VersionKind.TheVariants.{Definition, File, Need}
 use Rattle.elf_model.specs.declared.causes.Refusal.{Refusal}
 use Rattle.elf_model.specs.declared.versions.VersionKind.{VersionKind}
-use Rattle.elf_model.specs.declared.versions.VersionKind.TheVariants.{Definition, File, Need}
+use Rattle.elf_table.specs.Prelude.{strings_in}
 use Rattle.elf_table.specs.declared.fault.Fault.{Fault}
-use Rattle.elf_hash.specs.Symbols.{IsVersionRecordTable}
+use Rattle.elf_hash.specs.Prelude.{IsVersionRecordTable}
 use Rattle.elf_hash.specs.declared.symbols.VersionRecordTable.{VersionRecordTable as Given}
-use Rattle.elf_table.specs.Tables.{strings_in}
-use Rattle.elf_note.specs.Reading.{GivesVersion, BufferedTable, KeepsWalk, LeadsOn, LeavesWalk, SpendsRecord, StartsVersions, VersionCursorState, bytes_each, unheld, unread, versions_left}
+use Rattle.elf_note.specs.Prelude.{BufferedTable, GivesVersion, KeepsWalk, LeadsOn, LeavesWalk, SpendsRecord, StartsVersions, VersionCursorState, bytes_each, unheld, unread, versions_left}
 use Rattle.elf_note.specs.declared.record.VersionRecord.{VersionRecord}
 use Rattle.elf_loader.proofs.LeftReadings.{left_of, read-left, step-left}
 

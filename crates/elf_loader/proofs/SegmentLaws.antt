@@ -1,8 +1,6 @@
 -- The first segment that may be written and run, one after another.
 use Rattle.std.proofs.Common.{◌≡◌, ℕ, suc, ◌+◌, ◌-◌, ◌<◌, ◌≤◌, true, false, List, None, Some, refl, ap, ◌∙◌, arith}
-use Rattle.elf_model.specs.Find.{first_that}
-use Rattle.elf_model.specs.Records.{e_phnum}
-use Rattle.elf_model.specs.Traits.{is_writable_code}
+use Rattle.elf_model.specs.Prelude.{e_phnum, first_that, is_writable_code}
 
 module _ (file : List ℕ) (index : ℕ) where
   here : (n : ℕ) → is_writable_code file index ≡ true → first_that (is_writable_code file) index (suc n) ≡ Some index

@@ -1,17 +1,12 @@
 -- What a file that tells of no section headers tells, up to its load, and what asking for it costs.
 use Rattle.std.proofs.Common.{◌≡◌, ℕ, ◌+◌, ◌*◌, ◌/◌, ◌≤◌, List, ◌++◌, Option, None, Some, Err, refl, ap, arith, mul-add}
-use Rattle.elf_model.specs.Checks.{first_refusal, before_headers, header_checks, load_checks}
-use Rattle.elf_model.specs.LoaderFind.{segments_asked}
-use Rattle.elf_model.specs.Records.{e_phnum, e_shnum}
-use Rattle.elf_model.specs.TraitCost.{properties_asked, segment_traits_cost, symbols_asked, trait_entries_asked, traits_ceiling}
-use Rattle.elf_model.specs.Traits.{loaded_traits, traits_by_segments}
-use Rattle.elf_model.specs.declared.causes.Refusal.{Refusal}
+use Rattle.elf_model.specs.Prelude.{before_headers, e_phnum, e_shnum, first_refusal, header_checks, load_checks, loaded_traits, properties_asked, segment_traits_cost, segments_asked, symbols_asked, trait_entries_asked, traits_by_segments, traits_ceiling}
 use Rattle.elf_model.specs.declared.traits.Hardening.{Hardening}
-use Rattle.elf_table.specs.Store.{StoreState}
+use Rattle.elf_model.specs.declared.causes.Refusal.{Refusal}
+use Rattle.elf_table.specs.Prelude.{StoreState}
 use Rattle.elf_table.specs.declared.fault.Fault.{Fault}
 use Rattle.elf_table.specs.declared.fault.Fault.TheVariants.{Refused, Source}
-use Rattle.elf_hash.specs.Loading.{LoadsSegments, segments_load_cost}
-use Rattle.elf_hash.specs.Segments.{entries_asked}
+use Rattle.elf_hash.specs.Prelude.{LoadsSegments, entries_asked, segments_load_cost}
 use Rattle.elf_hash.proofs.LoadedLaws.{segments_cost}
 use Rattle.elf_hash.proofs.LoadingLaws.{cost_passed, early_pass}
 use Rattle.elf_loader.specs.Features.{ReturnsValue}

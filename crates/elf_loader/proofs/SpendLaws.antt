@@ -2,13 +2,11 @@
 use Rattle.std.proofs.Common.{◌≡◌, ℕ, ◌+◌, ◌-◌, ◌*◌, ◌≤◌, List, [], Option, None, refl, sym, ap, ◌∙◌, arith}
 use Rattle.elf_source.specs.Source.{CountedState, ReadsUpTo}
 use Rattle.elf_source.proofs.ReadsLaws.{ReadsUpTo-to}
-use Rattle.elf_table.specs.Ledger.{CallReads}
+use Rattle.elf_table.specs.Prelude.{CallReads, CursorState, GivesRow, TableInBounds, TableRange, next_row, row_at, size_of, unread_bytes}
 use Rattle.elf_table.specs.declared.fault.Fault.{Fault}
 use Rattle.elf_table.proofs.LedgerLaws.{CallReads-then}
 use Rattle.elf_model.specs.Traits.{SymbolTraitFlags}
 use Rattle.elf_note.specs.Ahead.{ReadAheadState, IsAheadOf}
-use Rattle.elf_table.specs.Cursors.{GivesRow, CursorState, next_row, row_at, unread_bytes}
-use Rattle.elf_table.specs.Tables.{TableRange, TableInBounds, size_of}
 use Rattle.elf_loader.specs.Marks.{marks_in}
 
 -- a call behind reads that leave so much of what all may ask for

@@ -1,14 +1,12 @@
 -- A table of versions is compared, step by step of its cursor.
 use Rattle.std.proofs.Common.{◌≡◌, ℕ, ◌+◌, ◌-◌, ◌*◌, ◌≤◌, List, ◌∷◌, None, Some, Ok, Err, ◌∙◌, arith, mul-le-mul_right}
-use Rattle.elf_model.specs.Budget.{IsBudgetRefusal}
-use Rattle.elf_model.specs.Loader.{CompareResult, Meets, VersionRecordRead, VersionRecordTable, compared_with, readings_of}
-use Rattle.elf_model.specs.Versions.{VisitedRecord}
+use Rattle.elf_model.specs.Prelude.{CompareResult, IsBudgetRefusal, Meets, VersionRecordRead, VersionRecordTable, VisitedRecord, compared_with, readings_of}
 use Rattle.elf_source.specs.Source.{CountedState}
-use Rattle.elf_table.specs.Ledger.{CallReads}
+use Rattle.elf_table.specs.Prelude.{CallReads}
 use Rattle.elf_table.specs.declared.fault.Fault.{Fault}
 use Rattle.elf_table.specs.declared.fault.Fault.TheVariants.{Refused, Source}
 use Rattle.elf_table.proofs.LedgerLaws.{CallReads-more}
-use Rattle.elf_hash.specs.Symbols.{IsVersionRecordTable}
+use Rattle.elf_hash.specs.Prelude.{IsVersionRecordTable}
 use Rattle.elf_hash.specs.declared.symbols.VersionRecordTable.{VersionRecordTable as Given}
 use Rattle.elf_note.specs.Reading.{SpendsRecord, StartsVersions, ReturnsVersion, VersionCursorState, versions_left}
 use Rattle.elf_loader.specs.Comparing.{CompareProgress, CompareCosts, ComparesOne}

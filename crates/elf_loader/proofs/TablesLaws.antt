@@ -2,14 +2,13 @@
 use Rattle.std.proofs.Common.{◌≡◌, ℕ, ◌+◌, ◌*◌, ◌≤◌, List, [], ◌∷◌, ◌++◌, None, Result, Ok, Err, refl, ap, ◌∙◌, arith}
 use Rattle.elf_model.specs.Loader.{CompareResult, VersionRecordRead, VersionRecordTable as IsTableOf, compared_with, readings, readings_of}
 use Rattle.elf_source.specs.Source.{CountedState}
-use Rattle.elf_table.specs.Ledger.{CallReads}
+use Rattle.elf_table.specs.Prelude.{CallReads}
 use Rattle.elf_table.specs.declared.fault.Fault.{Fault}
 use Rattle.elf_table.specs.declared.fault.Fault.TheVariants.{Refused, Source}
 use Rattle.elf_table.proofs.LedgerLaws.{CallReads-more, CallReads-then}
-use Rattle.elf_hash.specs.Symbols.{AreVersionRecordTables, IsVersionRecordTable}
+use Rattle.elf_hash.specs.Prelude.{AreVersionRecordTables, IsVersionRecordTable}
 use Rattle.elf_hash.specs.declared.symbols.VersionRecordTable.{VersionRecordTable}
-use Rattle.elf_loader.specs.Comparing.{CompareCosts}
-use Rattle.elf_loader.specs.Tables.{readings_before}
+use Rattle.elf_loader.specs.Prelude.{CompareCosts, readings_before}
 use Rattle.elf_loader.proofs.CompareLaws.{as-none, as-then}
 
 -- a front of some tables, and the others

@@ -1,32 +1,22 @@
 -- The name of a symbol's version is told.
 use Rattle.std.proofs.Common.{◌≡◌, ℕ, ◌+◌, ◌*◌, ◌-◌, ◌^◌, ◌<◌, ◌≤◌, min, true, false, is_some, List, [], length, take, drop, None, Some, Result, Ok, Err, refl, sym, ap, subst, ◌∙◌, arith, length-take, length-drop}
 use Rattle.std.proofs.lemmas.List.{take-take}
-use Rattle.elf_model.specs.Bytes.{slice}
-use Rattle.elf_model.specs.Chains.{ChainResult}
-use Rattle.elf_model.specs.Loader.{NumberNameSource, VersymTable, versym_at}
-use Rattle.elf_model.specs.LoaderFind.{TOLD_BYTES, found_lookup, refused_lookup, named_by_record}
-use Rattle.elf_model.specs.LoaderScope.{LookupTables}
-use Rattle.elf_model.specs.Names.{DisplayedName, IsNameBytesAt, shown}
-use Rattle.elf_model.specs.Names.DisplayedName.{Whole as ShownWhole, Cut as ShownCut}
-use Rattle.elf_model.specs.Records.{versym}
-use Rattle.elf_model.specs.Versions.{VisitedRecord, name_index, named_at}
+use Rattle.elf_model.specs.Prelude.{ChainResult, Cut as ShownCut, DisplayedName, IsNameBytesAt, LookupTables, NumberNameSource, TOLD_BYTES, VersymTable, VisitedRecord, found_lookup, name_index, named_at, named_by_record, refused_lookup, shown, slice, versym, versym_at}
 use Rattle.elf_model.specs.declared.causes.Cause.{Cause}
-use Rattle.elf_model.specs.declared.causes.Cause.TheVariants.{VersionIndex}
 use Rattle.elf_model.specs.declared.causes.Refusal.{Refusal}
+use Rattle.elf_model.specs.declared.causes.Cause.TheVariants.{VersionIndex}
+use Rattle.elf_model.specs.Names.DisplayedName.{Whole as ShownWhole}
 use Rattle.elf_model.proofs.NameLemmas.{View, is_cut, is_empty, is_outside, is_unended, is_whole, view}
 use Rattle.elf_model.proofs.Nuls.{some-free}
 use Rattle.elf_model.proofs.Slices.{slice-size, slice-slice}
 use Rattle.elf_source.specs.Source.{CountedState}
-use Rattle.elf_table.specs.Ledger.{CallReads}
+use Rattle.elf_table.specs.Prelude.{CallReads, NameRead, StringTableRange, strings_in}
+use Rattle.elf_table.specs.declared.names.NameEnd.TheVariants.{Cut, Whole}
 use Rattle.elf_table.specs.declared.fault.Fault.{Fault}
+use Rattle.elf_table.specs.declared.names.NameEnd.{NameEnd}
 use Rattle.elf_table.specs.declared.fault.Fault.TheVariants.{Refused, Source}
 use Rattle.elf_table.proofs.LedgerLaws.{CallReads-more, CallReads-then}
-use Rattle.elf_table.specs.NamesRead.{NameRead}
-use Rattle.elf_table.specs.Tables.{StringTableRange, strings_in}
-use Rattle.elf_table.specs.declared.names.NameEnd.{NameEnd}
-use Rattle.elf_table.specs.declared.names.NameEnd.TheVariants.{Whole, Cut}
-use Rattle.elf_loader.specs.Naming.{NamesBefore}
-use Rattle.elf_loader.specs.Telling.{ReturnsVersionName, parsed_member_bytes}
+use Rattle.elf_loader.specs.Prelude.{NamesBefore, ReturnsVersionName, parsed_member_bytes}
 use Rattle.elf_loader.specs.declared.version_name_record.VersionNameRecord.{VersionNameRecord}
 
 -- the first record that has the number tells its name

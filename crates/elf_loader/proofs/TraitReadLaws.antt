@@ -1,11 +1,10 @@
 -- What reads of a list of properties tell of it.
 use Rattle.std.proofs.Common.{ℕ, ◌+◌, ◌-◌, ◌<◌, List, Option, Result, Err, ap, sym, ◌∙◌}
+use Rattle.elf_model.specs.Prelude.{features_in, slice}
 use Rattle.elf_model.specs.declared.causes.Refusal.{Refusal}
-use Rattle.elf_model.specs.Bytes.{slice}
-use Rattle.elf_model.specs.Properties.{features_in}
 use Rattle.elf_table.specs.declared.fault.Fault.{Fault}
 use Rattle.elf_table.specs.declared.fault.Fault.TheVariants.{Refused, Source}
-use Rattle.elf_loader.specs.Features.{ReadsHead, ReadsWord, ReturnsValue}
+use Rattle.elf_loader.specs.Prelude.{ReadsHead, ReadsWord, ReturnsValue}
 use Rattle.elf_loader.specs.declared.property.PropertyHeader.{PropertyHeader}
 use Rattle.elf_loader.proofs.PropertyLaws.{LeftOf, left_cut}
 

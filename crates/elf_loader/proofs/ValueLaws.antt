@@ -1,14 +1,10 @@
 -- The values of dynamic entries, entry by entry, and those of a file.
 use Rattle.std.proofs.Common.{◌≡◌, ℕ, suc, ◌+◌, ◌/◌, List, Option, None, Some, refl, sym, ap, ◌∙◌}
-use Rattle.elf_model.specs.Dynamic.{dynamic_count, dynamic_value, listed_value}
-use Rattle.elf_model.specs.LoaderScope.{dynamic_segment_index}
-use Rattle.elf_model.specs.Records.{p_offset, p_filesz, segment_at}
-use Rattle.elf_model.specs.Traits.{dynamic_entry_value}
-use Rattle.elf_table.specs.Cursors.{next_row}
-use Rattle.elf_table.specs.Tables.{TableRange}
+use Rattle.elf_model.specs.Prelude.{dynamic_count, dynamic_entry_value, dynamic_segment_index, dynamic_value, listed_value, p_filesz, p_offset, segment_at}
+use Rattle.elf_table.specs.Prelude.{TableRange, next_row}
 use Rattle.elf_note.specs.DynCursors.{DynCursorState, entries_left, first_value, value_here}
 use Rattle.elf_note.proofs.EntriesLeft.{value-end, value-step}
-use Rattle.elf_loader.specs.Entries.{AreListedValues, AreTraitEntries, EachValue, TakesValues, no_values}
+use Rattle.elf_loader.specs.Prelude.{AreListedValues, AreTraitEntries, EachValue, TakesValues, no_values}
 use Rattle.elf_loader.specs.declared.trait_tags.TraitTags.{TraitTags}
 
 -- a value that was found, or that of the entries that are left, is what a table has

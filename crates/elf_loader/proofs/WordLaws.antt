@@ -1,13 +1,12 @@
 -- The word of a property.
 use Rattle.std.proofs.Common.{◌≡◌, ◌≢◌, ℕ, ◌+◌, ◌≤◌, ◌==◌, true, false, List, length, Option, None, Some, Err, refl, sym, ap, ◌∙◌, ne_eqb, eq-eqb}
 use Rattle.std.specs.Prelude.{is_some}
-use Rattle.elf_model.specs.Bytes.{field, number, slice}
-use Rattle.elf_model.specs.Properties.{GNU_PROPERTY_X86_FEATURE_1_AND, Property, property_word}
+use Rattle.elf_model.specs.Prelude.{GNU_PROPERTY_X86_FEATURE_1_AND, Property, field, number, property_word, slice}
 use Rattle.elf_model.proofs.Slices.{slice-size}
-use Rattle.elf_table.specs.Faults.{IsOfRead}
+use Rattle.elf_table.specs.Prelude.{IsOfRead}
 use Rattle.elf_table.specs.declared.fault.Fault.{Fault}
 use Rattle.elf_table.specs.declared.fault.Fault.TheVariants.{Refused, Source}
-use Rattle.elf_loader.specs.Features.{ReadsWord, found_after, property_at}
+use Rattle.elf_loader.specs.Prelude.{ReadsWord, found_after, property_at}
 use Rattle.elf_loader.specs.declared.property.PropertyHeader.{PropertyHeader}
 
 -- it was found before

@@ -1,18 +1,16 @@
 -- Whether a symbol answers, as it is read.
 use Rattle.std.specs.Prelude.{ℕ, ◌≡◌, Bool, true, false, List, Option, None, Some, Result, Ok, Err}
-use Rattle.elf_model.specs.Budget.{IsBudgetRefusal}
+use Rattle.elf_model.specs.Prelude.{DynamicSymbols as AreSymbolsOf, IsBudgetRefusal, SymbolQuery, answers, field}
 use Rattle.elf_model.specs.declared.causes.Refusal.{Refusal}
 use Rattle.elf_record.specs.Sym.{IsSym}
-use Rattle.elf_model.specs.Bytes.{field}
-use Rattle.elf_model.specs.Loader.{DynamicSymbols as AreSymbolsOf, SymbolQuery, answers}
-use Rattle.elf_hash.specs.Symbols.{IsDynamicSymbols}
-use Rattle.elf_table.specs.Cursors.{row_at}
+use Rattle.elf_hash.specs.Prelude.{IsDynamicSymbols}
 use Rattle.elf_hash.specs.declared.symbols.DynamicSymbols.{DynamicSymbols}
-use Rattle.elf_hash.specs.declared.symbols.VersymTable.{VersymTable}
 use Rattle.elf_hash.specs.declared.answer.SymbolMatch.{SymbolMatch}
 use Rattle.elf_hash.specs.declared.answer.VersymEntry.{VersymEntry}
-use Rattle.elf_loader.specs.declared.version_match.VersionMatch.{VersionMatch}
+use Rattle.elf_hash.specs.declared.symbols.VersymTable.{VersymTable}
+use Rattle.elf_table.specs.Prelude.{row_at}
 use Rattle.elf_table.specs.declared.fault.Fault.{Fault}
+use Rattle.elf_loader.specs.declared.version_match.VersionMatch.{VersionMatch}
 use Rattle.elf_table.specs.declared.fault.Fault.TheVariants.{Refused, Source}
 
 -- the word of a symbol's version stands there in the file, where there are words of versions

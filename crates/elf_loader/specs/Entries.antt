@@ -1,21 +1,11 @@
 -- The values of the first dynamic entries with each of the tags by which a file is hardened.
 use Rattle.std.specs.Prelude.{ℕ, ◌≡◌, List, Option, None, Some, Result, Ok, Err}
-use Rattle.elf_model.specs.Budget.{IsBudgetRefusal}
-use Rattle.elf_model.specs.Checks.{first_refusal}
-use Rattle.elf_model.specs.Dynamic.{listed_value}
-use Rattle.elf_model.specs.LoaderScope.{dynamic_segment_index}
-use Rattle.elf_model.specs.Numbers.{DT_SONAME, DT_RPATH, DT_RUNPATH}
-use Rattle.elf_model.specs.Records.{segment_at}
-use Rattle.elf_model.specs.Tables.{segment_dynamic_checks}
-use Rattle.elf_model.specs.TraitCost.{trait_entries_asked}
-use Rattle.elf_model.specs.TraitNumbers.{DT_BIND_NOW, DT_FLAGS, DT_FLAGS_1, DT_TEXTREL}
-use Rattle.elf_model.specs.Traits.{dynamic_entry_value}
+use Rattle.elf_model.specs.Prelude.{DT_BIND_NOW, DT_FLAGS, DT_FLAGS_1, DT_RPATH, DT_RUNPATH, DT_SONAME, DT_TEXTREL, IsBudgetRefusal, dynamic_entry_value, dynamic_segment_index, first_refusal, listed_value, segment_at, segment_dynamic_checks, trait_entries_asked}
 use Rattle.elf_model.specs.declared.causes.Refusal.{Refusal}
 use Rattle.elf_source.specs.Source.{CountedState}
-use Rattle.elf_table.specs.Ledger.{CallReads, fault_of_result}
+use Rattle.elf_table.specs.Prelude.{CallReads, TableRange, fault_of_result}
 use Rattle.elf_table.specs.declared.fault.Fault.{Fault}
 use Rattle.elf_table.specs.declared.fault.Fault.TheVariants.{Refused, Source}
-use Rattle.elf_table.specs.Tables.{TableRange}
 use Rattle.elf_note.specs.DynCursors.{first_value, value_here}
 use Rattle.elf_loader.specs.declared.trait_tags.TraitTags.{TraitTags}
 

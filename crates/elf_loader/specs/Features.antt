@@ -1,8 +1,6 @@
 -- What reading a list of properties finds, step by step.
 use Rattle.std.specs.Prelude.{ℕ, ◌≡◌, ◌+◌, ◌==◌, min, true, false, List, Option, None, Some, Result, Ok, Err}
-use Rattle.elf_model.specs.Budget.{IsBudgetRefusal}
-use Rattle.elf_model.specs.Bytes.{slice}
-use Rattle.elf_model.specs.Properties.{GNU_PROPERTY_X86_FEATURE_1_AND, PROPERTY_HEAD_SIZE, NoProperty, OneProperty, Property, next_property, padded_property, property_word}
+use Rattle.elf_model.specs.Prelude.{GNU_PROPERTY_X86_FEATURE_1_AND, IsBudgetRefusal, NoProperty, OneProperty, PROPERTY_HEAD_SIZE, Property, next_property, padded_property, property_word, slice}
 use Rattle.elf_model.specs.declared.causes.Cause.TheVariants.{NoteCut}
 use Rattle.elf_model.specs.declared.causes.Refusal.{Refusal}
 use Rattle.elf_table.specs.declared.fault.Fault.{Fault}

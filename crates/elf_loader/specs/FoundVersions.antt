@@ -1,19 +1,12 @@
 -- The version of a symbol that is found, as a lookup answers it.
 use Rattle.std.specs.Prelude.{ℕ, ◌≡◌, ◌+◌, ◌*◌, Bool, List, [], Option, None, Some, option_map, Result, Ok, Err, IfOk, IfSome}
-use Rattle.elf_model.specs.Budget.{IsBudgetRefusal}
-use Rattle.elf_model.specs.Chains.{ChainResult}
-use Rattle.elf_model.specs.Cost.{cost_where}
+use Rattle.elf_model.specs.Prelude.{ChainResult, DisplayedName, FoundVersion as IsVersionOf, IsBudgetRefusal, IsNameBytesAt, LoaderLookup, LookupTables, VersionQuery as IsAsked, VersymTable as AreWordsOf, asked_name, cost_where, found_in, found_lookup}
 use Rattle.elf_model.specs.Hash.{Refused as IsRefused}
-use Rattle.elf_model.specs.Loader.{VersionQuery as IsAsked, VersymTable as AreWordsOf, asked_name}
-use Rattle.elf_model.specs.LoaderFind.{FoundVersion as IsVersionOf, LoaderLookup, found_in, found_lookup}
-use Rattle.elf_model.specs.LoaderScope.{LookupTables}
-use Rattle.elf_model.specs.Names.{DisplayedName, IsNameBytesAt}
 use Rattle.elf_model.specs.Names.DisplayedName.{Whole}
 use Rattle.elf_source.specs.Source.{CountedState}
-use Rattle.elf_table.specs.Ledger.{CallReads, fault_of_result}
+use Rattle.elf_table.specs.Prelude.{CallReads, fault_of_result, shown_by}
 use Rattle.elf_table.specs.declared.fault.Fault.{Fault}
 use Rattle.elf_table.specs.declared.fault.Fault.TheVariants.{Refused, Source}
-use Rattle.elf_table.specs.NamesRead.{shown_by}
 use Rattle.elf_loader.specs.Telling.{parsed_member_bytes}
 use Rattle.elf_loader.specs.declared.found.FoundVersion.{FoundVersion}
 use Rattle.elf_loader.specs.declared.found.VersionName.{VersionName}

@@ -1,15 +1,11 @@
 -- The symbols of a file that a loader knows.
 use Rattle.std.specs.Prelude.{ℕ, ◌≡◌, ◌+◌, ◌≤◌, true, false, List, Option, None, Some, Result, Ok, Err, IfSome}
-use Rattle.elf_model.specs.Budget.{IsBudgetRefusal}
-use Rattle.elf_model.specs.LoaderScope.{LookupTables as IsScopeOf, least_size}
-use Rattle.elf_model.specs.Traits.{has_none, known_symbols}
+use Rattle.elf_model.specs.Prelude.{IsBudgetRefusal, LookupTables as IsScopeOf, has_none, known_symbols, least_size}
 use Rattle.elf_source.specs.Source.{CountedState}
-use Rattle.elf_table.specs.Ledger.{CallReads, fault_of_result}
+use Rattle.elf_table.specs.Prelude.{CallReads, fault_of_result}
 use Rattle.elf_table.specs.declared.fault.Fault.{Fault}
 use Rattle.elf_table.specs.declared.fault.Fault.TheVariants.{Refused, Source}
-use Rattle.elf_hash.specs.SearchedTables.{IsTable, HashTableInBounds, place_of_table}
-use Rattle.elf_hash.specs.Segments.{entries_asked}
-use Rattle.elf_hash.specs.Symbols.{IsDynamicSymbols, DynamicSymbolsInBounds}
+use Rattle.elf_hash.specs.Prelude.{DynamicSymbolsInBounds, HashTableInBounds, IsDynamicSymbols, IsTable, entries_asked, place_of_table}
 use Rattle.elf_loader.specs.declared.known.CountedSymbols.{CountedSymbols}
 
 -- a fault of the tables that a lookup searches: without a hash table there are no symbols

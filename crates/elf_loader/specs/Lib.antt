@@ -12,3 +12,4 @@ pub mod TraitStages
 pub mod Known
 pub mod Lists
 pub mod Marks
+pub mod Prelude

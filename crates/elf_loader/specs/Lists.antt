@@ -1,23 +1,12 @@
 -- The first list of properties in the notes of a file, and the word of features in it.
 use Rattle.std.specs.Prelude.{ℕ, ◌≡◌, ◌+◌, ◌≤◌, ◌==◌, true, false, suc, List, length, Option, None, Some, Result, Ok, Err, IfSome}
-use Rattle.elf_model.specs.Budget.{IsBudgetRefusal}
-use Rattle.elf_model.specs.Bytes.{slice}
-use Rattle.elf_model.specs.Cost.{sum_over, table_cost}
-use Rattle.elf_model.specs.HeaderTables.{file_segments}
-use Rattle.elf_model.specs.Notes.{NoteScan, note_align, note_rows, walk_from}
-use Rattle.elf_model.specs.Numbers.{PT_NOTE}
-use Rattle.elf_model.specs.Properties.{PropertyList, first_listing, listed_in, property_list}
-use Rattle.elf_model.specs.Records.{e_phnum, p_type, segment_at}
-use Rattle.elf_model.specs.TableKinds.{segment_notes}
-use Rattle.elf_model.specs.TraitCost.{properties_asked}
-use Rattle.elf_model.specs.Traits.{TRAIT_NAME_BYTES, x86_feature_word}
+use Rattle.elf_model.specs.Prelude.{IsBudgetRefusal, NoteScan, PT_NOTE, PropertyList, TRAIT_NAME_BYTES, e_phnum, file_segments, first_listing, listed_in, note_align, note_rows, p_type, properties_asked, property_list, segment_at, segment_notes, slice, sum_over, table_cost, walk_from, x86_feature_word}
 use Rattle.elf_model.specs.declared.causes.Cause.TheVariants.{NoteCut}
 use Rattle.elf_model.specs.declared.causes.Refusal.{Refusal}
 use Rattle.elf_source.specs.Source.{CountedState}
-use Rattle.elf_table.specs.Ledger.{CallReads, fault_of_result}
+use Rattle.elf_table.specs.Prelude.{CallReads, TableRange, fault_of_result}
 use Rattle.elf_table.specs.declared.fault.Fault.{Fault}
 use Rattle.elf_table.specs.declared.fault.Fault.TheVariants.{Refused, Source}
-use Rattle.elf_table.specs.Tables.{TableRange}
 use Rattle.elf_loader.specs.Features.{ReturnsValue}
 use Rattle.elf_loader.specs.declared.trait_notes.PropertyRange.{PropertyRange}
 

@@ -1,18 +1,13 @@
 -- What a lookup answers, and what it asks for.
 use Rattle.std.specs.Prelude.{ℕ, ◌≡◌, ◌+◌, ◌*◌, ◌/◌, ◌≤◌, false, List, length, None, Some, option_map, Result, Ok, Err, IfSome}
-use Rattle.elf_model.specs.Budget.{IsBudgetRefusal}
-use Rattle.elf_model.specs.Hash.{Found as IsFound, Absent as IsAbsent, Refused as IsRefused}
-use Rattle.elf_model.specs.Loader.{VersionQuery, CompareResult, SymbolQuery, asked_name, is_among}
-use Rattle.elf_model.specs.LoaderFind.{LoaderLookup, loader_ceiling, loader_cost, loader_looked, looked_by, lookup_asks, record_cost, refused_lookup, walk_in}
-use Rattle.elf_model.specs.LoaderScope.{LookupTables}
-use Rattle.elf_model.specs.Names.{pad64}
-use Rattle.elf_model.specs.Records.{e_machine}
+use Rattle.elf_model.specs.Prelude.{Absent as IsAbsent, CompareResult, Found as IsFound, IsBudgetRefusal, LoaderLookup, LookupTables, SymbolQuery, VersionQuery, asked_name, e_machine, is_among, loader_ceiling, loader_cost, loader_looked, looked_by, lookup_asks, pad64, record_cost, refused_lookup, walk_in}
+use Rattle.elf_model.specs.Hash.{Refused as IsRefused}
 use Rattle.elf_record.specs.Sym.{IsSym}
 use Rattle.elf_source.specs.Source.{CountedState}
-use Rattle.elf_table.specs.Ledger.{CallReads, CallDid, fault_of_result}
+use Rattle.elf_table.specs.Prelude.{CallDid, CallReads, fault_of_result}
 use Rattle.elf_table.specs.declared.fault.Fault.{Fault}
 use Rattle.elf_table.specs.declared.fault.Fault.TheVariants.{Refused, Source}
-use Rattle.elf_hash.specs.LookupTablesFound.{IsLookupTables, LookupTablesInBounds}
+use Rattle.elf_hash.specs.Prelude.{IsLookupTables, LookupTablesInBounds}
 use Rattle.elf_hash.specs.declared.lookup_tables.LookupTables.{LookupTables as ScopeCode}
 use Rattle.elf_loader.specs.FoundVersions.{IsRelocationReported, version_found}
 use Rattle.elf_loader.specs.Telling.{parsed_member_bytes}

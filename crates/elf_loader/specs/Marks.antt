@@ -1,10 +1,6 @@
 -- The marks of hardening that symbols have, one after another.
 use Rattle.std.specs.Prelude.{ℕ, zero, suc, ◌≡◌, ◌+◌, List, Result, Ok, Err}
-use Rattle.elf_model.specs.Budget.{IsBudgetRefusal}
-use Rattle.elf_model.specs.Names.{shown}
-use Rattle.elf_model.specs.Records.{st_name}
-use Rattle.elf_model.specs.Tables.{SYMBOL_SIZE}
-use Rattle.elf_model.specs.Traits.{SymbolTraitFlags, TRAIT_NAME_BYTES, marked_with_symbol}
+use Rattle.elf_model.specs.Prelude.{IsBudgetRefusal, SYMBOL_SIZE, SymbolTraitFlags, TRAIT_NAME_BYTES, marked_with_symbol, shown, st_name}
 use Rattle.elf_model.specs.declared.causes.Refusal.{Refusal}
 use Rattle.elf_table.specs.declared.fault.Fault.{Fault}
 use Rattle.elf_table.specs.declared.fault.Fault.TheVariants.{Refused, Source}

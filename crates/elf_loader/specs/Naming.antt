@@ -1,15 +1,11 @@
 -- What looking for the name of a number gives.
 use Rattle.std.specs.Prelude.{ℕ, ◌≡◌, ◌+◌, ◌*◌, List, Option, None, Some, Result, Ok, Err, IfSome}
-use Rattle.elf_model.specs.Budget.{IsBudgetRefusal}
-use Rattle.elf_model.specs.BoundSymbols.{file_before}
-use Rattle.elf_model.specs.Loader.{NumberNameSource, VersionRecordRead, naming_of}
-use Rattle.elf_model.specs.Versions.{VisitedRecord}
+use Rattle.elf_model.specs.Prelude.{IsBudgetRefusal, NumberNameSource, VersionRecordRead, VisitedRecord, file_before, naming_of}
 use Rattle.elf_source.specs.Source.{CountedState}
-use Rattle.elf_table.specs.Ledger.{CallReads, CallDid, fault_of_result}
+use Rattle.elf_table.specs.Prelude.{CallDid, CallReads, StringsInBounds, fault_of_result, strings_in}
 use Rattle.elf_table.specs.declared.fault.Fault.{Fault}
 use Rattle.elf_table.specs.declared.fault.Fault.TheVariants.{Refused, Source}
-use Rattle.elf_table.specs.Tables.{StringsInBounds, strings_in}
-use Rattle.elf_note.specs.Reading.{IsVersion}
+use Rattle.elf_note.specs.Prelude.{IsVersion}
 use Rattle.elf_note.specs.declared.record.VersionRecord.{VersionRecord}
 use Rattle.elf_loader.specs.declared.version_name_record.VersionNameRecord.{VersionNameRecord}
 

@@ -1,10 +1,9 @@
 -- Tables of versions, one behind the other.
 use Rattle.std.specs.Prelude.{ℕ, ◌+◌, List, [], ◌∷◌, ◌++◌, Option, None, Some}
-use Rattle.elf_model.specs.Loader.{VersionRecordTable as IsTableOf, VersionRecordRead, readings, readings_of}
-use Rattle.elf_model.specs.Versions.{max_records}
-use Rattle.elf_hash.specs.Symbols.{AreVersionRecordTables, IsVersionRecordTable, table_if_any}
-use Rattle.elf_hash.specs.declared.symbols.VersionRecordTable.{VersionRecordTable}
+use Rattle.elf_model.specs.Prelude.{VersionRecordRead, VersionRecordTable as IsTableOf, max_records, readings, readings_of}
+use Rattle.elf_hash.specs.Prelude.{AreVersionRecordTables, IsVersionRecordTable, table_if_any}
 use Rattle.elf_hash.specs.declared.symbols.DynamicSymbols.{DynamicSymbols}
+use Rattle.elf_hash.specs.declared.symbols.VersionRecordTable.{VersionRecordTable}
 
 -- the records that a walk over some tables reads, in front of others
 unfoldable pub readings_before : List ℕ → List IsTableOf → List VersionRecordRead → List VersionRecordRead

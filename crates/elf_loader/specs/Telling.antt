@@ -1,19 +1,11 @@
 -- The name of a symbol's version, as a lookup reads it.
 use Rattle.std.specs.Prelude.{ℕ, ◌≡◌, ◌+◌, ◌*◌, true, is_some, List, None, Some, Result, Ok, Err}
-use Rattle.elf_model.specs.Budget.{IsBudgetRefusal}
-use Rattle.elf_model.specs.Chains.{ChainResult}
-use Rattle.elf_model.specs.Cost.{cost_where}
-use Rattle.elf_model.specs.Loader.{VersionQuery, NumberNameSource, VersymTable, asked_name, versym_at}
-use Rattle.elf_model.specs.LoaderFind.{TOLD_BYTES, found_lookup, refused_lookup, named_by_record}
-use Rattle.elf_model.specs.LoaderScope.{LookupTables}
-use Rattle.elf_model.specs.Names.{IsNameBytesAt, pad64}
-use Rattle.elf_model.specs.Records.{versym}
+use Rattle.elf_model.specs.Prelude.{ChainResult, IsBudgetRefusal, IsNameBytesAt, LookupTables, NumberNameSource, TOLD_BYTES, VersionQuery, VersymTable, asked_name, cost_where, found_lookup, named_by_record, pad64, refused_lookup, versym, versym_at}
 use Rattle.elf_source.specs.Source.{CountedState}
-use Rattle.elf_table.specs.Ledger.{CallReads}
+use Rattle.elf_table.specs.Prelude.{CallReads, shown_by}
 use Rattle.elf_table.specs.declared.fault.Fault.{Fault}
 use Rattle.elf_table.specs.declared.fault.Fault.TheVariants.{Refused, Source}
 use Rattle.elf_loader.specs.declared.resolved_version_name.ResolvedVersionName.{ResolvedVersionName}
-use Rattle.elf_table.specs.NamesRead.{shown_by}
 
 -- how many bytes reading a name may ask for
 abbrev pub parsed_member_bytes : ℕ

@@ -1,16 +1,12 @@
 -- The traits of a file, stage by stage, and what asking for them costs.
 use Rattle.std.specs.Prelude.{ℕ, ◌+◌, ◌-◌, ◌*◌, ◌/◌, List, None, Some, Result, Ok, Err}
-use Rattle.elf_model.specs.Names.{name_bytes}
-use Rattle.elf_model.specs.Tables.{SYMBOL_SIZE}
-use Rattle.elf_model.specs.TraitCost.{properties_asked, segment_traits_cost, symbols_asked, trait_entries_asked, traits_cost}
-use Rattle.elf_model.specs.Traits.{SymbolTraitFlags, TRAIT_NAME_BYTES, hashed_symbol_count, known_symbols, loaded_traits, find_symbol_traits, traits_by_segments, traits_of}
-use Rattle.elf_model.specs.declared.causes.Refusal.{Refusal}
+use Rattle.elf_model.specs.Prelude.{SYMBOL_SIZE, SymbolTraitFlags, TRAIT_NAME_BYTES, find_symbol_traits, hashed_symbol_count, known_symbols, loaded_traits, name_bytes, properties_asked, segment_traits_cost, symbols_asked, trait_entries_asked, traits_by_segments, traits_cost, traits_of}
 use Rattle.elf_model.specs.declared.traits.Hardening.{Hardening}
+use Rattle.elf_model.specs.declared.causes.Refusal.{Refusal}
 use Rattle.elf_source.specs.Source.{CountedState}
-use Rattle.elf_table.specs.Ledger.{CallReads, fault_of_result}
+use Rattle.elf_table.specs.Prelude.{CallReads, fault_of_result}
 use Rattle.elf_table.specs.declared.fault.Fault.{Fault}
-use Rattle.elf_hash.specs.Extents.{extent_bytes}
-use Rattle.elf_hash.specs.Segments.{entries_asked}
+use Rattle.elf_hash.specs.Prelude.{entries_asked, extent_bytes}
 use Rattle.elf_loader.specs.Features.{ReturnsValue}
 use Rattle.elf_loader.specs.Marks.{ReturnsMarks}
 use Rattle.elf_loader.specs.declared.symbol_traits.SymbolTraits.{SymbolTraits}

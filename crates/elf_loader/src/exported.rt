@@ -1,7 +1,6 @@
 //! Which symbols are offered to others.
 ghost use Rattle.std.specs.Prelude.{◌≡◌, ℕ, ◌∷◌, [], List};
-ghost use Rattle.elf_model.specs.Loader.{is_among, is_exported};
-ghost use Rattle.elf_model.specs.Numbers.{STB_GLOBAL, STB_WEAK, STB_GNU_UNIQUE, STT_NOTYPE, STT_OBJECT, STT_FUNC, STT_COMMON, STT_TLS, STT_GNU_IFUNC, STV_DEFAULT, STV_PROTECTED};
+ghost use Rattle.elf_model.specs.Prelude.{STB_GLOBAL, STB_GNU_UNIQUE, STB_WEAK, STT_COMMON, STT_FUNC, STT_GNU_IFUNC, STT_NOTYPE, STT_OBJECT, STT_TLS, STV_DEFAULT, STV_PROTECTED, is_among, is_exported};
 ghost use Rattle.elf_record.specs.Sym.{IsSym};
 
 use elf_record::Sym;

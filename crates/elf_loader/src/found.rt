@@ -6,8 +6,7 @@ ghost use Rattle.elf_loader.specs.FoundVersions.{FindsVersion};
 ghost use Rattle.elf_loader.specs.Tables.{max_versions_of};
 ghost use Rattle.elf_loader.specs.Telling.{telling_bytes};
 ghost use Rattle.elf_options.specs.Wants.{asked_of};
-ghost use Rattle.elf_model.specs.Loader.{VersymTable as AreWordsOf};
-ghost use Rattle.elf_model.specs.LoaderScope.{LookupTables as IsScopeOf};
+ghost use Rattle.elf_model.specs.Prelude.{LookupTables as IsScopeOf, VersymTable as AreWordsOf};
 ghost use Rattle.elf_hash.specs.Symbols.{IsDynamicSymbols, IsVersymTable, DynamicSymbolsInBounds};
 
 use crate::resolved_version_name::parsed_member_name;

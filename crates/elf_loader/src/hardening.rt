@@ -1,9 +1,7 @@
 //! The traits of a file.
 ghost use Rattle.std.specs.Prelude.{◌≡◌, ℕ, ◌<◌, ◌^◌, Ok};
-ghost use Rattle.elf_table.specs.Ledger.{CallDid, fault_of_result};
-ghost use Rattle.elf_table.specs.Load.{HoldsProgramHeaders};
-ghost use Rattle.elf_model.specs.Records.{e_shnum};
-ghost use Rattle.elf_model.specs.TraitCost.{traits_ceiling};
+ghost use Rattle.elf_table.specs.Prelude.{CallDid, HoldsProgramHeaders, fault_of_result};
+ghost use Rattle.elf_model.specs.Prelude.{e_shnum, traits_ceiling};
 ghost use Rattle.elf_loader.specs.TraitStages.{FindsMarks, FindsShown, FindsTraits, FindsViewed};
 ghost use Rattle.elf_loader.specs.TraitStages.{marks_bytes, view_bytes};
 ghost use Rattle.elf_loader.specs.Known.{KnownLie, ReturnsKnown};

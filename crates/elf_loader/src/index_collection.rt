@@ -4,9 +4,7 @@ ghost use Rattle.elf_table.specs.Ledger.{CallDid, fault_of_result};
 ghost use Rattle.elf_loader.specs.Comparing.{CollectsNumbers, ComparesRecords, comparing_bytes};
 ghost use Rattle.elf_loader.specs.Tables.{OfAnyTable, OfTables, max_records_of, max_versions_of};
 ghost use Rattle.elf_options.specs.Wants.{asked_of};
-ghost use Rattle.elf_model.specs.Loader.{asked_name};
-ghost use Rattle.elf_model.specs.LoaderFind.{record_cost, version_indices};
-ghost use Rattle.elf_model.specs.LoaderScope.{LookupTables as IsScopeOf};
+ghost use Rattle.elf_model.specs.Prelude.{LookupTables as IsScopeOf, asked_name, record_cost, version_indices};
 ghost use Rattle.elf_hash.specs.Symbols.{IsDynamicSymbols, VersionRecordsInBounds, DynamicSymbolsInBounds};
 
 use crate::name_comparison::compare_table;

@@ -1,7 +1,6 @@
 //! The symbols of a file that a loader knows.
 ghost use Rattle.std.specs.Prelude.{◌≡◌, ℕ, ◌+◌, ◌<◌, ◌^◌, IfOk};
-ghost use Rattle.elf_table.specs.Ledger.{CallDid, fault_of_result};
-ghost use Rattle.elf_table.specs.Load.{HoldsProgramHeaders};
+ghost use Rattle.elf_table.specs.Prelude.{CallDid, HoldsProgramHeaders, fault_of_result};
 ghost use Rattle.elf_loader.specs.Known.{FindsKnown, KnownLie, passed_over};
 
 use elf_hash::{DynamicSymbols, HashTable, counts, find_in_segments};

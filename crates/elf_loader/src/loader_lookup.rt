@@ -1,19 +1,13 @@
 //! The call that looks a name up as a loader does.
 ghost use Rattle.std.specs.Prelude.{◌≡◌, ℕ, ◌+◌, ◌*◌, ◌/◌, None, Ok};
-ghost use Rattle.elf_hash.specs.SearchedTables.{IsTable, place_of_table};
-ghost use Rattle.elf_hash.specs.Walks.{GivesWalked, walk_bytes};
+ghost use Rattle.elf_hash.specs.Prelude.{GivesWalked, IsTable, LookupTablesInBounds, place_of_table, walk_bytes};
 ghost use Rattle.elf_loader.specs.Answering.{IsSymbolWithVersym};
 ghost use Rattle.elf_loader.specs.Lookups.{AreShort, LooksOn, LooksThrough, MayLookOn, lookup_bytes};
 ghost use Rattle.elf_loader.specs.Lookups.{looked_with, match_bytes};
 ghost use Rattle.elf_loader.specs.NumberSets.{has_number};
 ghost use Rattle.elf_loader.specs.Tables.{max_versions_of};
 ghost use Rattle.elf_loader.specs.Telling.{telling_bytes};
-ghost use Rattle.elf_model.specs.Chains.{ChainResult as NoteScan};
-ghost use Rattle.elf_model.specs.Loader.{asked_name};
-ghost use Rattle.elf_model.specs.LoaderFind.{loaded_in, looked_by, record_cost, walk_in};
-ghost use Rattle.elf_model.specs.LoaderFind.{version_indices};
-ghost use Rattle.elf_model.specs.Style.{looked_at};
-ghost use Rattle.elf_hash.specs.LookupTablesFound.{LookupTablesInBounds};
+ghost use Rattle.elf_model.specs.Prelude.{ChainResult as NoteScan, asked_name, loaded_in, looked_at, looked_by, record_cost, version_indices, walk_in};
 ghost use Rattle.elf_options.specs.Wants.{asked_of, query_of};
 
 use crate::found::version_of;

@@ -1,13 +1,10 @@
 //! The numbers of the version that is asked for by its name.
 ghost use Rattle.std.specs.Prelude.{ℕ, ◌+◌, ◌<◌, ◌≤◌, ◌∷◌, List, length};
-ghost use Rattle.elf_table.specs.Ledger.{CallDid, fault_of_result};
+ghost use Rattle.elf_table.specs.Prelude.{CallDid, StringsInBounds, fault_of_result, strings_in};
 ghost use Rattle.elf_loader.specs.Comparing.{ComparesOne, ComparesRecords};
 ghost use Rattle.elf_loader.specs.Tables.{OfTable};
-ghost use Rattle.elf_model.specs.Loader.{VersionRecordRead, Meets, compared_with};
-ghost use Rattle.elf_model.specs.Names.{pad64};
-ghost use Rattle.elf_model.specs.Versions.{VisitedRecord, VERSION_NUMBERS, max_records, number_in};
+ghost use Rattle.elf_model.specs.Prelude.{Meets, VERSION_NUMBERS, VersionRecordRead, VisitedRecord, compared_with, max_records, number_in, pad64};
 ghost use Rattle.elf_hash.specs.Symbols.{VersionRecordsInBounds};
-ghost use Rattle.elf_table.specs.Tables.{StringsInBounds, strings_in};
 ghost use Rattle.elf_note.specs.Reading.{IsVersion};
 
 use crate::version_index_set::VersionIndexSet;
@@ -52,7 +49,8 @@ fn compare_record<S: Source>(
     requires within { StringsInBounds src.old.seen.size names.now }
     requires small { number_in given.now.number < VERSION_NUMBERS }
     ensures { CallDid src.old src.new (fault_of_result result) (pad64 (length version.now + 1))
-        (λ file. (met : VisitedRecord) (others : List VersionRecordRead) → IsVersion file met given.now →
+        (λ file. (met : VisitedRecord) (others : List VersionRecordRead) →
+        IsVersion file met given.now →
         ComparesOne numbers.old numbers.new
         (compared_with file version.now (Meets (strings_in file names.now) met ∷ others))
         (compared_with file version.now others) result) }

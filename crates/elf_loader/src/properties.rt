@@ -1,9 +1,7 @@
 //! The list of properties of a note of the GNU system.
 ghost use Rattle.std.specs.Prelude.{◌≡◌, ◌+◌, ◌^◌, ◌<◌, ◌≤◌};
 ghost use Rattle.elf_table.specs.Ledger.{CallDid, fault_of_result};
-ghost use Rattle.elf_model.specs.Bytes.{slice};
-ghost use Rattle.elf_model.specs.Notes.{bytes_to_alignment};
-ghost use Rattle.elf_model.specs.Properties.{features_in};
+ghost use Rattle.elf_model.specs.Prelude.{bytes_to_alignment, features_in, slice};
 ghost use Rattle.elf_loader.specs.Features.{ReturnsValue};
 
 use crate::property::{read_head, word_in};

@@ -3,8 +3,7 @@ ghost use Rattle.std.specs.Prelude.{◌≡◌, ℕ, ◌+◌, ◌*◌};
 ghost use Rattle.elf_table.specs.Ledger.{CallDid, fault_of_result};
 ghost use Rattle.elf_loader.specs.Tables.{max_versions_of};
 ghost use Rattle.elf_loader.specs.Telling.{ReturnsVersionName, parsed_member_bytes};
-ghost use Rattle.elf_model.specs.Loader.{VersymTable as AreWordsOf, naming_of, readings, versym_at};
-ghost use Rattle.elf_model.specs.LoaderScope.{LookupTables as IsScopeOf};
+ghost use Rattle.elf_model.specs.Prelude.{LookupTables as IsScopeOf, VersymTable as AreWordsOf, naming_of, readings, versym_at};
 ghost use Rattle.elf_hash.specs.Symbols.{IsDynamicSymbols, DynamicSymbolsInBounds};
 
 use crate::version_name_record::name_of;
@@ -41,10 +40,12 @@ pub(crate) fn parsed_member_name<S: Source>(
     name: &mut NameBuf,
 ) -> Result<ResolvedVersionName, Fault>
     requires lies { DynamicSymbolsInBounds src.old.seen.size symbols.now }
-    ensures { CallDid src.old src.new (fault_of_result result) (max_versions_of symbols.now * 28 + parsed_member_bytes)
+    ensures { CallDid src.old src.new (fault_of_result result)
+        (max_versions_of symbols.now * 28 + parsed_member_bytes)
         (λ file. (told : IsScopeOf) (is : AreWordsOf) (y : ℕ) →
         IsDynamicSymbols file told.symbols symbols.now → at ≡ versym_at is y →
-        ReturnsVersionName file told is y (naming_of file number (readings file told.symbols.records))
+        ReturnsVersionName file told is y
+        (naming_of file number (readings file told.symbols.records))
         src.old src.new name.new result) }
 {
     let Some(named) = name_of(src, symbols, number)? else {

@@ -1,12 +1,9 @@
 //! The first list of properties in the notes of a file.
 ghost use Rattle.std.specs.Prelude.{◌≡◌, ◌&&◌, ◌==◌, ◌<◌, ◌+◌, ◌*◌, ℕ, List, length, nat_eq, codes, IfOk};
 ghost use Rattle.std.specs.List.{starts_with};
-ghost use Rattle.elf_model.specs.Notes.{Note, note_shown};
-ghost use Rattle.elf_model.specs.Properties.{is_property_note};
-ghost use Rattle.elf_table.specs.Ledger.{CallDid, fault_of_result};
-ghost use Rattle.elf_table.specs.Load.{HoldsProgramHeaders};
+ghost use Rattle.elf_model.specs.Prelude.{Note, is_property_note, note_shown};
+ghost use Rattle.elf_table.specs.Prelude.{CallDid, HoldsProgramHeaders, TableInBounds, fault_of_result};
 ghost use Rattle.elf_note.specs.NoteCursors.{NameIs};
-ghost use Rattle.elf_table.specs.Tables.{TableInBounds};
 ghost use Rattle.elf_loader.specs.Lists.{FindsFeatures, FindsList, FindsLists, ListInBounds, ReturnsList};
 ghost use Rattle.elf_loader.specs.Lists.{first_list};
 

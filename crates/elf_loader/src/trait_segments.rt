@@ -1,9 +1,6 @@
 //! How a file is hardened by its program headers.
 ghost use Rattle.std.specs.Prelude.{◌≡◌, ℕ, List, is_some};
-ghost use Rattle.elf_model.specs.Find.{first_that};
-ghost use Rattle.elf_model.specs.Records.{e_phnum, segment_at};
-ghost use Rattle.elf_model.specs.Traits.{has_wx_load, is_stack_executable, is_writable_code};
-ghost use Rattle.elf_model.specs.Traits.{segment_of};
+ghost use Rattle.elf_model.specs.Prelude.{e_phnum, first_that, has_wx_load, is_stack_executable, is_writable_code, segment_at, segment_of};
 ghost use Rattle.elf_record.specs.Phdr.{IsPhdr};
 ghost use Rattle.elf_table.specs.Load.{HoldsProgramHeaders};
 

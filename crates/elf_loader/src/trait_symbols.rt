@@ -1,14 +1,10 @@
 //! The marks of hardening that the symbols of a file have.
 ghost use Rattle.std.specs.Prelude.{◌≡◌, ℕ, ◌+◌, ◌-◌, ◌*◌, ◌≤◌, List, length, IfErr};
-ghost use Rattle.elf_table.specs.Faults.{IsReadFault};
-ghost use Rattle.elf_table.specs.Ledger.{CallDid, fault_of_result};
-ghost use Rattle.elf_model.specs.Loader.{DynamicSymbols as AreSymbolsOf};
-ghost use Rattle.elf_model.specs.Traits.{marks_from, no_symbol_traits};
+ghost use Rattle.elf_table.specs.Prelude.{CallDid, IsReadFault, StringsInBounds, TableInBounds, fault_of_result, strings_in};
+ghost use Rattle.elf_model.specs.Prelude.{DynamicSymbols as AreSymbolsOf, marks_from, no_symbol_traits, slice};
 ghost use Rattle.elf_note.specs.Ahead.{IsAheadOf, ReadsOnCredit, WhereAgrees};
 ghost use Rattle.elf_record.specs.Sym.{IsSym};
 ghost use Rattle.elf_hash.specs.Symbols.{IsDynamicSymbols, DynamicSymbolsInBounds};
-ghost use Rattle.elf_table.specs.Tables.{TableInBounds, StringsInBounds, strings_in};
-ghost use Rattle.elf_model.specs.Bytes.{slice};
 ghost use Rattle.elf_loader.specs.Marks.{ReturnsMarks, marks_in, symbol_traits_of, marks_with};
 
 use crate::symbol_names::NAME_CAP;
@@ -69,7 +65,8 @@ fn symbol_traits_of_rows<S: Source>(
     requires within { TableInBounds src.old.seen.size rows }
     requires names { StringsInBounds src.old.seen.size names }
     ensures { CallDid src.old src.new (fault_of_result result) (rows.count * 88)
-        (λ file. ReturnsMarks (marks_in file rows.at (strings_in file names) (symbol_traits_of before)
+        (λ file. ReturnsMarks
+        (marks_in file rows.at (strings_in file names) (symbol_traits_of before)
         rows.count) result) }
 {
     let mut ahead = ReadAhead::new();
@@ -101,7 +98,8 @@ fn with_symbol<S: Source>(
     ensures agrees { WhereAgrees src.old.seen.file ahead.old (λ file. IsAheadOf file ahead.new) }
     ensures tells { WhereAgrees src.old.seen.file ahead.old (λ file.
         row.now.bytes.now ≡ slice file row.now.at 24 →
-        ReturnsMarks (marks_with file row.now.at (strings_in file names) (symbol_traits_of marks)) result) }
+        ReturnsMarks (marks_with file row.now.at (strings_in file names) (symbol_traits_of marks))
+        result) }
 {
     let symbol = symbol_in(row);
     let index = NameIndex {

@@ -2,10 +2,7 @@
 ghost use Rattle.std.specs.Prelude.{◌≡◌, ℕ, List, Some, IfErr, IfOk};
 ghost use Rattle.elf_record.specs.Dyn.{IsDyn};
 ghost use Rattle.elf_source.specs.Source.{ReadsUpTo};
-ghost use Rattle.elf_table.specs.Faults.{IsOfRead, IsReadFault};
-ghost use Rattle.elf_table.specs.Ledger.{CallDid, fault_of_result};
-ghost use Rattle.elf_table.specs.Load.{HoldsProgramHeaders};
-ghost use Rattle.elf_table.specs.Tables.{TableInBounds, size_of};
+ghost use Rattle.elf_table.specs.Prelude.{CallDid, HoldsProgramHeaders, IsOfRead, IsReadFault, TableInBounds, fault_of_result, size_of};
 ghost use Rattle.elf_loader.specs.Entries.{AreListedValues, FindsTraitEntries, TakesValues, no_values};
 
 use elf_note::{dynamic_rows, entry_in, first_of};

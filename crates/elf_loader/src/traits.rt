@@ -1,9 +1,7 @@
 //! The traits by what was read of a file.
 ghost use Rattle.std.specs.Prelude.{◌≡◌, ℕ, List, is_some, unwrap_or, Option};
 ghost use Rattle.elf_table.specs.Load.{HoldsProgramHeaders};
-ghost use Rattle.elf_model.specs.TraitNumbers.{has_bits};
-ghost use Rattle.elf_model.specs.Traits.{binds_now, has_text_relocations, kind_of_shared, path_of};
-ghost use Rattle.elf_model.specs.Traits.{program_kind, relro_of, segment_traits, traits_with};
+ghost use Rattle.elf_model.specs.Prelude.{binds_now, has_bits, has_text_relocations, kind_of_shared, path_of, program_kind, relro_of, segment_traits, traits_with};
 ghost use Rattle.elf_loader.specs.Entries.{AreTraitEntries};
 ghost use Rattle.elf_loader.specs.Marks.{symbol_traits_of};
 

@@ -1,13 +1,11 @@
 //! Which versions fit what is asked for.
 ghost use Rattle.std.specs.Prelude.{◌≡◌, ℕ, ◌+◌, ◌≤◌, List, IfSome};
-ghost use Rattle.elf_table.specs.Ledger.{CallDid, IsRead, fault_of_result};
+ghost use Rattle.elf_table.specs.Prelude.{CallDid, IsRead, TableInBounds, fault_of_result};
 ghost use Rattle.elf_loader.specs.Answering.{ReturnsFit};
 ghost use Rattle.elf_loader.specs.NumberSets.{has_number};
 ghost use Rattle.elf_options.specs.Wants.{asked_of};
-ghost use Rattle.elf_model.specs.Bytes.{field, slice};
-ghost use Rattle.elf_model.specs.Loader.{VersymTable as AreWordsOf, fits, version_fits};
+ghost use Rattle.elf_model.specs.Prelude.{VersymTable as AreWordsOf, field, fits, slice, version_fits};
 ghost use Rattle.elf_hash.specs.Symbols.{AreVersymTable};
-ghost use Rattle.elf_table.specs.Tables.{TableInBounds};
 ghost use Rattle.std.specs.Prelude.{Option};
 
 use crate::version_index_set::VersionIndexSet;
@@ -41,7 +39,8 @@ pub(crate) fn version_fits<S: Source>(
     index: u64,
 ) -> Result<VersionMatch, Fault>
     requires within { IfSome words.now (λ words. TableInBounds src.old.seen.size words.words) }
-    ensures { CallDid src.old src.new (fault_of_result result) 2 (λ file. (told : Option AreWordsOf) →
+    ensures { CallDid src.old src.new (fault_of_result result) 2
+        (λ file. (told : Option AreWordsOf) →
         AreVersymTable told words.now → ReturnsFit file words.now index
         (version_fits file told (asked_of asked.now) (has_number numbers.now) index) result) }
 {
@@ -82,7 +81,8 @@ fn fits(asked: &VersionQuery<'_>, numbers: &VersionIndexSet, word: u16) -> bool
 /// A fault of the read, or a refusal for want of budget, at the offset.
 pub fn read_half<S: Source>(src: &mut Counted<S>, at: u64) -> Result<u16, Fault>
     requires { at + 2 ≤ src.old.seen.size }
-    ensures { CallDid src.old src.new (fault_of_result result) 2 (λ file. IsRead result (field file at 2)) }
+    ensures { CallDid src.old src.new (fault_of_result result) 2
+        (λ file. IsRead result (field file at 2)) }
 {
     let mut bytes = [0; 2];
     fill(src, at, &mut bytes)?;

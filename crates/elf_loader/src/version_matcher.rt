@@ -4,8 +4,7 @@ ghost use Rattle.elf_table.specs.Ledger.{CallDid, fault_of_result};
 ghost use Rattle.elf_loader.specs.Answering.{SaysOf, IsSymbolWithVersym, ReturnsAnswer};
 ghost use Rattle.elf_loader.specs.NumberSets.{has_number};
 ghost use Rattle.elf_options.specs.Wants.{query_of};
-ghost use Rattle.elf_model.specs.Loader.{DynamicSymbols as AreSymbolsOf, answers};
-ghost use Rattle.elf_model.specs.Names.{pad64};
+ghost use Rattle.elf_model.specs.Prelude.{DynamicSymbols as AreSymbolsOf, answers, pad64};
 ghost use Rattle.elf_hash.specs.Symbols.{IsDynamicSymbols, DynamicSymbolsInBounds};
 
 use crate::exported::is_exported;
@@ -67,7 +66,8 @@ fn answering<S: Source>(
     requires most { length wanted.now.name.now ≤ 4096 }
     requires below { index < symbols.now.table.count }
     requires lies { DynamicSymbolsInBounds src.old.seen.size symbols.now }
-    ensures { CallDid src.old src.new (fault_of_result result) (26 + pad64 (length wanted.now.name.now + 1))
+    ensures { CallDid src.old src.new (fault_of_result result)
+        (26 + pad64 (length wanted.now.name.now + 1))
         (λ file. (told : AreSymbolsOf) → IsDynamicSymbols file told symbols.now →
         ReturnsAnswer file symbols.now index
         (answers file told (query_of wanted.now) (has_number numbers.now) index) result) }

@@ -2,8 +2,7 @@
 ghost use Rattle.std.specs.Prelude.{◌≡◌, ℕ, List, Option, None, Some, IfOk, IfSome};
 ghost use Rattle.elf_loader.specs.Naming.{HasFile, IsFileIf, NamedInBounds, NamesFile, NamesRecord};
 ghost use Rattle.elf_loader.specs.Tables.{OfAnyTable, OfTable, OfTables, max_records_of, max_versions_of};
-ghost use Rattle.elf_model.specs.BoundSymbols.{file_before, file_or};
-ghost use Rattle.elf_model.specs.Versions.{VisitedRecord, max_records, names_version_index};
+ghost use Rattle.elf_model.specs.Prelude.{VisitedRecord, file_before, file_or, max_records, names_version_index};
 ghost use Rattle.elf_hash.specs.Symbols.{VersionRecordsInBounds, DynamicSymbolsInBounds};
 ghost use Rattle.elf_note.specs.Reading.{IsVersion};
 
@@ -58,7 +57,8 @@ pub(crate) fn name_in_table<S: Source>(
 
 /// The record of the needed file that the next record is a version of, behind one more record.
 fn file_of(given: &VersionRecord, before: Option<VersionRecord>) -> Option<VersionRecord>
-    ensures { (bytes : List ℕ) (met : VisitedRecord) (told : Option VisitedRecord) → IsVersion bytes met given.now →
+    ensures { (bytes : List ℕ) (met : VisitedRecord) (told : Option VisitedRecord) →
+        IsVersion bytes met given.now →
         IsFileIf bytes told before → IsFileIf bytes (file_or met told) result }
 {
     match given.kind {

@@ -1,9 +1,9 @@
 -- The checks of a file header, those of the file's length before those of its identification.
 use Rattle.std.proofs.Common.{◌≡◌, List, ℕ, length, None, Result, Ok, Err, ◌∙◌}
-use Rattle.elf_model.specs.Checks.{first_refusal, length_checks, ident_checks}
+use Rattle.elf_model.specs.Prelude.{first_refusal, ident_checks, length_checks}
 use Rattle.elf_model.specs.declared.causes.Refusal.{Refusal}
 use Rattle.elf_model.proofs.CheckSteps.{first_refusal-none}
-use Rattle.elf_record.specs.Ehdr.{IsChecked}
+use Rattle.elf_record.specs.Prelude.{IsChecked}
 use Rattle.elf_record.specs.declared.ehdr.Ehdr.{Ehdr}
 use Rattle.elf_memory.specs.Checked.{HeaderChecked}
 

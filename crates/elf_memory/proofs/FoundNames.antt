@@ -1,12 +1,11 @@
 -- The bytes before the first NUL behind an index of a string table are the name at that index.
 use Rattle.std.proofs.Common.{◌≡◌, ℕ, ◌+◌, ◌-◌, ◌<◌, List, [], ◌∷◌, ◌++◌, length, take, drop, Some, Ok, inl, refl, ap, sym, ◌∙◌, arith, length-drop, length-take}
 use Rattle.std.proofs.lemmas.List.{take_all, take_at, take-take, append_assoc}
-use Rattle.elf_model.specs.Bytes.{slice}
-use Rattle.elf_model.specs.Names.{IsNulTerminatedAt, IsNameOf, nul_in}
+use Rattle.elf_model.specs.Prelude.{IsNameOf, IsNulTerminatedAt, nul_in, slice}
 use Rattle.elf_model.proofs.NameLemmas.{inside-full, inside-below}
 use Rattle.elf_model.proofs.Nuls.{free-none, free-take, some-free, split_at_nul}
 use Rattle.elf_model.proofs.Slices.{slice-rest}
-use Rattle.elf_memory.specs.Names.{FindsName, bytes_in_range, name_size}
+use Rattle.elf_memory.specs.Prelude.{FindsName, bytes_in_range, name_size}
 use Rattle.elf_memory.specs.declared.name.ByteRange.{ByteRange}
 
 -- they are a name with its NUL behind it

@@ -1,16 +1,14 @@
 -- What a step over the notes of a file says of those that are left.
 use Rattle.std.proofs.Common.{◌≡◌, ℕ, ◌+◌, ◌-◌, ◌<◌, ◌≤◌, min, true, false, List, length, drop, ap, sym, ◌∙◌, refl, arith}
-use Rattle.elf_model.specs.Bytes.{slice}
-use Rattle.elf_model.specs.Records.{n_namesz, n_descsz}
-use Rattle.elf_model.specs.Notes.{are_zeros, first_note, first_end, bytes_to_alignment, descriptor_start, OneNote, alignment_gap, with_note}
+use Rattle.elf_model.specs.Prelude.{OneNote, alignment_gap, are_zeros, bytes_to_alignment, descriptor_start, first_end, first_note, n_descsz, n_namesz, slice, with_note}
 use Rattle.elf_model.proofs.Slices.{slice-size, slice-slice, slice-rest}
 use Rattle.elf_model.proofs.Spellings.{next-ends, next-tails, next-past, next-found}
 use Rattle.elf_model.proofs.Walks.{walk, walk-ends, walk-broken, walk-found}
-use Rattle.elf_record.specs.NoteHead.{IsNoteHead}
+use Rattle.elf_record.specs.Prelude.{IsNoteHead}
 use Rattle.elf_record.specs.declared.note_head.NoteHead.{NoteHead}
 use Rattle.elf_note.specs.NoteCursors.{notes_from, no_notes, cut_at, note_size}
 use Rattle.elf_note.proofs.Stepping.{size-parts}
-use Rattle.elf_memory.specs.NoteRows.{IsNoteAt}
+use Rattle.elf_memory.specs.Prelude.{IsNoteAt}
 use Rattle.elf_memory.specs.declared.notes.Note.{Note as Row}
 use Rattle.elf_memory.specs.declared.notes.NotePosition.{NotePosition}
 

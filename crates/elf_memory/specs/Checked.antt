@@ -1,8 +1,8 @@
 -- The checks of a file before its section headers and program headers are read.
 use Rattle.std.specs.Prelude.{ℕ, ◌≡◌, List, length, Option, None, Some, Result, Ok, Err}
-use Rattle.elf_model.specs.Checks.{first_refusal, header_checks, before_headers}
+use Rattle.elf_model.specs.Prelude.{before_headers, first_refusal, header_checks}
 use Rattle.elf_model.specs.declared.causes.Refusal.{Refusal}
-use Rattle.elf_record.specs.Ehdr.{IsEhdr}
+use Rattle.elf_record.specs.Prelude.{IsEhdr}
 use Rattle.elf_record.specs.declared.ehdr.Ehdr.{Ehdr}
 use Rattle.elf_table.specs.Load.{PassesLoadChecks}
 

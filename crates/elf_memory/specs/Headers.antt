@@ -1,10 +1,6 @@
 -- The headers of a file in memory, as C sees them.
 use Rattle.std.specs.Prelude.{ℕ, ◌≡◌, ◌+◌, ◌<◌, ◌≤◌, List, length, Option, None, Some, Result, Ok, Err}
-use Rattle.elf_model.specs.Bytes.{field, slice}
-use Rattle.elf_model.specs.Checks.{first_refusal, header_checks}
-use Rattle.elf_model.specs.Records.{e_type, e_machine, e_entry, e_phoff, e_shoff, e_flags, e_phentsize, e_phnum, e_shentsize, e_shnum, e_shstrndx, section_at, segment_at}
-use Rattle.elf_model.specs.Records.{sh_name, sh_type, sh_flags, sh_addr, sh_offset, sh_size, sh_link, sh_info, sh_addralign, sh_entsize}
-use Rattle.elf_model.specs.Records.{p_type, p_flags, p_offset, p_vaddr, p_paddr, p_filesz, p_memsz, p_align}
+use Rattle.elf_model.specs.Prelude.{e_entry, e_flags, e_machine, e_phentsize, e_phnum, e_phoff, e_shentsize, e_shnum, e_shoff, e_shstrndx, e_type, field, first_refusal, header_checks, p_align, p_filesz, p_flags, p_memsz, p_offset, p_paddr, p_type, p_vaddr, section_at, segment_at, sh_addr, sh_addralign, sh_entsize, sh_flags, sh_info, sh_link, sh_name, sh_offset, sh_size, sh_type, slice}
 use Rattle.elf_model.specs.declared.causes.Refusal.{Refusal}
 use Rattle.elf_memory.specs.Checked.{first_refused}
 use Rattle.elf_memory.specs.declared.header.Header.{Header}

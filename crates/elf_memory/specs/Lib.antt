@@ -5,3 +5,4 @@ pub mod Names
 pub mod NoteRows
 pub mod Rooms
 pub mod SectionBytes
+pub mod Prelude

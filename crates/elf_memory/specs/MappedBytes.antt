@@ -1,10 +1,8 @@
 -- Where the bytes at an address lie in a file in memory.
 use Rattle.std.specs.Prelude.{ℕ, ◌≡◌, ◌+◌, ◌≤◌, ◌⊎◌, true, false, List, length, Option, None, Some, Result, Ok, Err}
-use Rattle.elf_model.specs.Checks.{is_outside}
-use Rattle.elf_model.specs.Mapped.{mapped_at, mapped_offset}
-use Rattle.elf_model.specs.Records.{p_vaddr}
-use Rattle.elf_model.specs.declared.causes.Cause.TheVariants.{TableOutside}
+use Rattle.elf_model.specs.Prelude.{is_outside, mapped_at, mapped_offset, p_vaddr}
 use Rattle.elf_model.specs.declared.causes.Refusal.{Refusal}
+use Rattle.elf_model.specs.declared.causes.Cause.TheVariants.{TableOutside}
 use Rattle.elf_memory.specs.Checked.{first_refused}
 use Rattle.elf_memory.specs.declared.name.ByteRange.{ByteRange}
 

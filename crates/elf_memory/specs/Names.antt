@@ -1,7 +1,6 @@
 -- Where a name in a string table of a file in memory lies.
 use Rattle.std.specs.Prelude.{ℕ, ◌≡◌, ◌+◌, ◌-◌, ◌^◌, min, nat_lt, if◌then◌else◌, List, length, drop, Option, None, Some, Result, Ok, Err}
-use Rattle.elf_model.specs.Bytes.{slice}
-use Rattle.elf_model.specs.Names.{IsNameOf, nul_in, is_empty_at_zero}
+use Rattle.elf_model.specs.Prelude.{IsNameOf, is_empty_at_zero, nul_in, slice}
 use Rattle.elf_model.specs.declared.causes.Cause.{Cause}
 use Rattle.elf_model.specs.declared.causes.Cause.TheVariants.{NameOutside, NameUnended}
 use Rattle.elf_model.specs.declared.causes.Refusal.{Refusal}

@@ -1,10 +1,6 @@
 -- Notes of a file in memory, as a caller goes over them.
 use Rattle.std.specs.Prelude.{ℕ, ◌≡◌, ◌≢◌, ◌+◌, ◌<◌, ◌≤◌, ◌⊎◌, true, false, List, length, Option, None, Some, Result, Ok, Err}
-use Rattle.elf_model.specs.Bytes.{slice}
-use Rattle.elf_model.specs.Checks.{is_outside}
-use Rattle.elf_model.specs.Notes.{Note as Told, NoteScan, note_align, with_note}
-use Rattle.elf_model.specs.Numbers.{SHT_NOTE, PT_NOTE}
-use Rattle.elf_model.specs.Records.{e_shnum, e_phnum, sh_type, sh_offset, sh_size, sh_addralign, p_type, p_offset, p_filesz, p_align, section_at, segment_at}
+use Rattle.elf_model.specs.Prelude.{Note as Told, NoteScan, PT_NOTE, SHT_NOTE, e_phnum, e_shnum, is_outside, note_align, p_align, p_filesz, p_offset, p_type, section_at, segment_at, sh_addralign, sh_offset, sh_size, sh_type, slice, with_note}
 use Rattle.elf_model.specs.declared.causes.Cause.TheVariants.{NoteCut, TableOutside}
 use Rattle.elf_model.specs.declared.causes.Refusal.{Refusal}
 use Rattle.elf_note.specs.NoteCursors.{notes_from, no_notes, cut_at}

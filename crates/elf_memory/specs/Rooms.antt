@@ -1,7 +1,6 @@
 -- How much room a file's headers want.
 use Rattle.std.specs.Prelude.{ℕ, min, max, List, if◌then◌else◌}
-use Rattle.elf_model.specs.Checks.{pass, header_checks}
-use Rattle.elf_model.specs.Records.{e_phnum, e_shnum}
+use Rattle.elf_model.specs.Prelude.{e_phnum, e_shnum, header_checks, pass}
 
 -- how many slots a file wants where so many headers are permitted: one for each section header or program header, whichever
 -- are more, and at least one

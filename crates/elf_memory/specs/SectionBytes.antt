@@ -1,8 +1,6 @@
 -- The bytes of a section of a file in memory.
 use Rattle.std.specs.Prelude.{ℕ, ◌≡◌, ◌<◌, ◌≤◌, ◌⊎◌, true, false, List, Option, None, Some, Result, Ok, Err}
-use Rattle.elf_model.specs.Apply.{has_no_bytes}
-use Rattle.elf_model.specs.Checks.{first_refusal, range_checks}
-use Rattle.elf_model.specs.Records.{e_shnum, sh_offset, sh_size, section_at}
+use Rattle.elf_model.specs.Prelude.{e_shnum, first_refusal, has_no_bytes, range_checks, section_at, sh_offset, sh_size}
 use Rattle.elf_model.specs.declared.causes.Refusal.{Refusal}
 use Rattle.elf_memory.specs.Checked.{first_refused}
 use Rattle.elf_memory.specs.declared.name.ByteRange.{ByteRange}

@@ -1,8 +1,8 @@
 //! Notes, and steps over them.
 ghost use Rattle.std.specs.Prelude.{◌≡◌, ◌<◌};
-ghost use Rattle.elf_model.specs.Notes.{note_align};
-ghost use Rattle.elf_memory.specs.NoteRows.{TakesNote};
+ghost use Rattle.elf_model.specs.Prelude.{note_align};
 ghost use Rattle.elf_model.specs.declared.causes.Cause.TheVariants.{NoteCut};
+ghost use Rattle.elf_memory.specs.NoteRows.{TakesNote};
 
 use crate::bytes::chunk_at;
 use crate::name::{ByteRange, bytes_of};

@@ -1,10 +1,7 @@
 -- What is left for the members behind a member is less by what that may cost.
 use Rattle.std.proofs.Common.{◌≡◌, ℕ, ◌+◌, ◌-◌, ◌*◌, ◌/◌, ◌≤◌, if◌then◌else◌, Bool, true, false, ap, arith}
 use Rattle.std.proofs.Math.Nat.{mul-le-mul_left, mul-le-mul_right, mul-add, add-mul}
-use Rattle.elf_model.specs.ArchiveCost.{allowance, archive_ceiling, data_most, long_name_bytes}
-use Rattle.elf_model.specs.Cost.{style_ceiling, suffixes_most}
-use Rattle.elf_model.specs.Names.{name_bytes}
-use Rattle.elf_model.specs.Style.{ListingStyle}
+use Rattle.elf_model.specs.Prelude.{ListingStyle, allowance, archive_ceiling, data_most, long_name_bytes, name_bytes, style_ceiling, suffixes_most}
 use Rattle.elf_model.proofs.CostLemmas.{most_bound, style_ceiling-is}
 
 -- an empty file has no data

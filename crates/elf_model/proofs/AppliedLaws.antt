@@ -1,9 +1,6 @@
 -- How long a section is with its relocations applied.
 use Rattle.std.proofs.Common.{◌≡◌, ℕ, List, length, Option, None, Some, Result, Ok, Err, refl}
-use Rattle.elf_model.specs.Apply.{StoredBytes, target_of, held_bytes, before_entries, changes_of, patches_of, patched, applied}
-use Rattle.elf_model.specs.ApplyLaws.{AllInside, AppliedKeepsLength}
-use Rattle.elf_model.specs.Checks.{first_refusal}
-use Rattle.elf_model.specs.Records.{section_at}
+use Rattle.elf_model.specs.Prelude.{AllInside, AppliedKeepsLength, StoredBytes, applied, before_entries, changes_of, first_refusal, held_bytes, patched, patches_of, section_at, target_of}
 use Rattle.elf_model.specs.declared.causes.Refusal.{Refusal}
 use Rattle.elf_model.proofs.ChangeLaws.{changes_inside}
 use Rattle.elf_model.proofs.PatchLaws.{length_kept}

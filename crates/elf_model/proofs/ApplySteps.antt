@@ -1,12 +1,7 @@
 -- Applying stage by stage: the answer, the section's bytes, the order of the offsets and the cost.
 use Rattle.std.proofs.Common.{◌≡◌, ℕ, ◌+◌, ◌*◌, ◌==◌, inl, inr, true, false, List, [], ◌∷◌, ◌++◌, None, Some, Ok, Err, refl, ap}
 use Rattle.std.proofs.lemmas.Bool.{cases_Bool}
-use Rattle.elf_model.specs.Apply.{StoredBytes, patches_of, patched, changes_of, target_of, held_bytes, before_entries, applied}
-use Rattle.elf_model.specs.ApplyCost.{offsets_at, offsets_never_fall, cost_of_passes, cost_with, apply_cost, apply_cost_in_order, apply_cost_by_order}
-use Rattle.elf_model.specs.Checks.{first_refusal, header_checks, early_checks}
-use Rattle.elf_model.specs.Placing.{Layout}
-use Rattle.elf_model.specs.Records.{e_shnum, r_offset, r_type, section_at}
-use Rattle.elf_model.specs.Numbers.{R_X86_64_NONE}
+use Rattle.elf_model.specs.Prelude.{Layout, R_X86_64_NONE, StoredBytes, applied, apply_cost, apply_cost_by_order, apply_cost_in_order, before_entries, changes_of, cost_of_passes, cost_with, e_shnum, early_checks, first_refusal, header_checks, held_bytes, offsets_at, offsets_never_fall, patched, patches_of, r_offset, r_type, section_at, target_of}
 use Rattle.elf_model.specs.declared.causes.Refusal.{Refusal}
 
 -- the stages of the answer

@@ -1,15 +1,10 @@
 -- Where a member's data lie, and what the members of an archive cost at most.
 use Rattle.std.proofs.Common.{◌≡◌, ℕ, zero, suc, ◌+◌, ◌-◌, ◌≤◌, nat_le, nat_lt, if◌then◌else◌, Bool, true, false, List, length, Option, None, Some, Result, Ok, Err, refl, ap, arith}
 use Rattle.std.proofs.lemmas.Bool.Decides.{nat_tests}
-use Rattle.elf_model.specs.Archive.{FileRange, Member, NextMember, Ends, Broken, OneMember, MemberWalkState, archive_checks, before_members, behind, bytes_in, data_after, is_elf, lists_members, member_data, member_name, member_named, member_size, name_field, name_in_data, next_member, parsed_member_size}
-use Rattle.elf_model.specs.ArchiveCost.{allowance, archive_cost, header_cost, is_elsewhere, long_name_bytes, member_cost, members_cost}
-use Rattle.elf_model.specs.ArchiveLaws.{ArchiveCostIsWithinCeiling, DataLieInTheFile}
-use Rattle.elf_model.specs.Checks.{pass}
-use Rattle.elf_model.specs.Cost.{cost_where, listing_cost, style_ceiling}
-use Rattle.elf_model.specs.Names.{DisplayedName}
-use Rattle.elf_model.specs.Style.{ListingStyle}
+use Rattle.elf_model.specs.Prelude.{ArchiveCostIsWithinCeiling, DataLieInTheFile, DisplayedName, FileRange, ListingStyle, Member, MemberWalkState, NextMember, OneMember, allowance, archive_checks, archive_cost, before_members, behind, bytes_in, cost_where, data_after, header_cost, is_elf, is_elsewhere, listing_cost, lists_members, long_name_bytes, member_cost, member_data, member_name, member_named, member_size, members_cost, name_field, name_in_data, next_member, parsed_member_size, pass, style_ceiling}
 use Rattle.elf_model.specs.declared.causes.Cause.{Cause}
 use Rattle.elf_model.specs.declared.causes.Cause.TheVariants.{MemberCut}
+use Rattle.elf_model.specs.Archive.{Ends, Broken}
 use Rattle.elf_model.proofs.AllowanceLaws.{allowed, allowance_within, header_allowed}
 use Rattle.elf_model.proofs.CostLemmas.{cost_within}
 use Rattle.elf_model.proofs.Slices.{slice-size}

@@ -2,18 +2,10 @@
 use Rattle.std.proofs.Common.{◌≡◌, ℕ, zero, suc, ◌+◌, ◌/◌, ◌≤◌, ◌==◌, inl, inr, true, false, nat_lt, List, [], ◌∷◌, ◌++◌, length, flat_map, All, Option, None, Some, Result, Ok, Err, refl, sym, ap, ◌∙◌, arith}
 use Rattle.std.proofs.lemmas.Bool.{cases_Bool, ltb-false}
 use Rattle.std.proofs.lemmas.List.Elements.{All-nil, All-cons, All-append, All-head, All-tail}
-use Rattle.elf_model.specs.Bytes.{little}
-use Rattle.elf_model.specs.Apply.{StoredBytes, SectionChange, Put, Fails, ApplyTarget, named_value, symbol_checks, value_checks, terms_of, entry_checks, change_of, where_based, entry_changes, applies_to, relocation_entries, section_headers, section_changes, changes_of, and_patches, patches_of}
-use Rattle.elf_model.specs.ApplyLaws.{IsInside, AllInside, EntryStoresValue, ChangesInside}
-use Rattle.elf_model.specs.Checks.{refuse, first_refusal}
-use Rattle.elf_model.specs.Placing.{has_base, place_value}
-use Rattle.elf_model.specs.Records.{r_offset, r_type}
-use Rattle.elf_model.specs.Numbers.{R_X86_64_NONE}
-use Rattle.elf_model.specs.Tables.{relocation_table_checks}
-use Rattle.elf_model.specs.Values.{FormulaTerms, takes_place, kind_of, overflows, value_of, low_bytes, patch_of}
-use Rattle.elf_model.specs.declared.relocation_types.RelocationType.{RelocationType}
+use Rattle.elf_model.specs.Prelude.{AllInside, ApplyTarget, ChangesInside, EntryStoresValue, Fails, FormulaTerms, IsInside, Put, R_X86_64_NONE, SectionChange, StoredBytes, and_patches, applies_to, change_of, changes_of, entry_changes, entry_checks, first_refusal, has_base, kind_of, little, low_bytes, named_value, overflows, patch_of, patches_of, place_value, r_offset, r_type, refuse, relocation_entries, relocation_table_checks, section_changes, section_headers, symbol_checks, takes_place, terms_of, value_checks, value_of, where_based}
 use Rattle.elf_model.specs.declared.causes.Cause.TheVariants.{Overflow, PlaceOutside}
 use Rattle.elf_model.specs.declared.causes.Refusal.{Refusal}
+use Rattle.elf_model.specs.declared.relocation_types.RelocationType.{RelocationType}
 use Rattle.elf_model.proofs.CheckSteps.{first_refusal-back}
 
 pub length-little : (width n : ℕ) → length (little width n) ≡ width

@@ -1,6 +1,6 @@
 -- Changes row by row and section by section, and what they store.
 use Rattle.std.proofs.Common.{◌≡◌, ℕ, zero, suc, List, ◌∷◌, ◌++◌, length, Result, Ok, Err, refl, ap}
-use Rattle.elf_model.specs.Apply.{StoredBytes, places_from, and_patches}
+use Rattle.elf_model.specs.Prelude.{StoredBytes, and_patches, places_from}
 use Rattle.elf_model.specs.declared.causes.Refusal.{Refusal}
 
 -- as many places as entries

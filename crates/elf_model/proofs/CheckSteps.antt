@@ -2,7 +2,7 @@
 use Rattle.std.proofs.Common.{◌≡◌, Bool, true, false, List, [], ◌∷◌, ◌++◌, Option, None, Some, refl, sym, ◌∙◌, inl, inr}
 use Rattle.std.specs.Prelude.{is_none}
 use Rattle.std.proofs.lemmas.Bool.{cases_Bool}
-use Rattle.elf_model.specs.Checks.{Check, first_refusal, pass}
+use Rattle.elf_model.specs.Prelude.{Check, first_refusal, pass}
 use Rattle.elf_model.specs.declared.causes.Refusal.{Refusal}
 
 -- a refusal in the first list is the answer

@@ -5,11 +5,8 @@ use Rattle.std.specs.Str.{bytes_eq}
 use Rattle.std.proofs.lemmas.Bool.{cases_Bool}
 use Rattle.std.proofs.lemmas.Bool.Decides.{nat_tests}
 use Rattle.std.proofs.lemmas.List.Sorted.{list_any-IsPermutation}
-use Rattle.elf_model.specs.Choice.{EveryRow, NoSuffix, RowsOf, Suffix, Suffixed, is_named, is_whole, suits, wanted_text}
-use Rattle.elf_model.specs.ChoiceLaws.{CutNamesAreNone, NamesAloneAreChosen, NamesAreChosen, NamesFitEveryVersion, OrderChoosesNothing, VersionsAreChosen, has_sign, has_sign_first, has_version}
-use Rattle.elf_model.specs.Loader.{AT_SIGN, VersionQuery, NoVersion, Version, DefaultVersion, SymbolQuery, asked_after, parse_query}
-use Rattle.elf_model.specs.Names.{DisplayedName}
-use Rattle.elf_model.specs.Names.DisplayedName.{Whole, Cut}
+use Rattle.elf_model.specs.Prelude.{AT_SIGN, Cut, CutNamesAreNone, DefaultVersion, DisplayedName, EveryRow, NamesAloneAreChosen, NamesAreChosen, NamesFitEveryVersion, NoSuffix, NoVersion, OrderChoosesNothing, RowsOf, Suffix, Suffixed, SymbolQuery, Version, VersionQuery, VersionsAreChosen, asked_after, has_sign, has_sign_first, has_version, is_named, is_whole, parse_query, suits, wanted_text}
+use Rattle.elf_model.specs.Names.DisplayedName.{Whole}
 
 and-true : (b : Bool) → b && true ≡ b
 and-true true = refl

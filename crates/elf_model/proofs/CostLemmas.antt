@@ -3,26 +3,12 @@ use Rattle.std.proofs.Common.{◌≡◌, ℕ, if◌then◌else◌, Option, None,
 use Rattle.std.proofs.Math.Nat.{mul-le-mul_left, mul-le-mul_right, mul-le-mul, div-mul-le_self, mul-add}
 use Rattle.std.proofs.lemmas.Bool.{ltb-false, eqb-true}
 use Rattle.std.proofs.lemmas.Nat.{le-div}
-use Rattle.elf_model.specs.Records.{e_shnum, e_phnum, e_shstrndx, sh_type, sh_offset, sh_size, sh_link, sh_entsize, p_type, p_offset, p_filesz}
-use Rattle.elf_model.specs.Names.{name_bytes}
-use Rattle.elf_model.specs.Checks.{Check, refuse, pass, header_checks, early_checks, is_outside, is_symbol_table, range_checks_of, whole_checks_of, table_checks_of}
-use Rattle.elf_model.specs.declared.causes.Refusal.{Refusal}
-use Rattle.elf_model.specs.Listing.{has, has_tables, known_parts}
+use Rattle.elf_model.specs.Prelude.{Check, CostIsWithinCeiling, DEFINED_NAME_SIZE, DEFINITION_SIZE, HeaderTable, ListingStyle, NEED_SIZE, SHT_GNU_VERDEF, SHT_GNU_VERNEED, SuffixesAreWithinMost, TableHeaders, TableKind, after_header as asked_after, by_sections, by_segments, ceiling, cost_where, e_phnum, e_shnum, e_shstrndx, early_checks, file_sections, file_segments, first_numbers, first_typed, has, has_strings, has_symbol_table, has_tables, header_checks, header_field, is_inside, is_loadable, is_outside, is_symbol_table, kinds_cost, known_parts, links, listing_cost, name_bytes, needs_segments, p_filesz, p_offset, p_type, pass, range_checks_of, refuse, relocations, relocations_with_versions, section_dynamic, section_kinds, section_notes, sections_cost, segment_dynamic, segment_kinds, segment_notes, segments_cost, sh_entsize, sh_link, sh_offset, sh_size, sh_type, style_ceiling, suffixed_symbols, suffixes_cost, suffixes_most, sum_over, symbol_versions, symbols, table_checks_of, table_cost, table_headers, tables_cost, version_definitions, version_needs, versioned_cost, versioned_rows, viewed, walk_cost, walks_cost, whole_checks_of}
 use Rattle.elf_model.specs.declared.causes.Cause.TheVariants.{EntrySize, SizeNotWhole, TableOutside}
-use Rattle.elf_model.specs.HeaderTables.{HeaderTable, TableKind, file_sections, file_segments, first_typed, header_field}
-use Rattle.elf_model.specs.VersionCost.{is_inside, links, has_strings, has_symbol_table, versioned_rows, versioned_cost, walk_cost, walks_cost}
-use Rattle.elf_model.specs.Numbers.{SHT_GNU_VERDEF, SHT_GNU_VERNEED}
-use Rattle.elf_model.specs.Versions.{DEFINITION_SIZE, DEFINED_NAME_SIZE, NEED_SIZE}
-use Rattle.elf_model.specs.VersionRows.{version_definitions, version_needs, symbol_versions}
-use Rattle.elf_model.specs.TableKinds.{TableHeaders, symbols, relocations, section_dynamic, section_notes, segment_notes, segment_dynamic, section_kinds, segment_kinds, relocations_with_versions, suffixed_symbols, suffixes_cost, by_sections, by_segments, table_headers}
-use Rattle.elf_model.specs.Cost.{sum_over, cost_where, table_cost, kinds_cost, is_loadable, needs_segments, sections_cost, segments_cost, tables_cost, after_header as asked_after, listing_cost, ceiling, style_ceiling, suffixes_most}
-use Rattle.elf_model.specs.Style.{ListingStyle, viewed}
-use Rattle.elf_model.specs.Suffixes.{first_numbers}
+use Rattle.elf_model.specs.declared.causes.Refusal.{Refusal}
 use Rattle.elf_model.proofs.CheckSteps.{all_pass, pass-behind}
 use Rattle.elf_model.proofs.StyleLemmas.{view_length}
 use Rattle.elf_model.proofs.SumLemmas.{cost_where-le, cost_where-within, cost_where-and, sum_over-le, and-second, and-first, fewer, headers_within, one_kind, two_kinds, one_segment_kind}
-use Rattle.elf_model.specs.SuffixLaws.{SuffixesAreWithinMost}
-use Rattle.elf_model.specs.CostLaws.{CostIsWithinCeiling}
 
 -- what one table costs at most, in a file of so many bytes
 abbrev pub table_bound : ℕ → ℕ → ℕ

@@ -2,9 +2,7 @@
 use Rattle.std.proofs.Common.{◌≡◌, ◌≢◌, ℕ, suc, zero, ◌+◌, ◌<◌, ◌≤◌, ◌==◌, true, false, List, ◌⊎◌, inl, inr, refl, ap, sym, ◌∙◌, arith, zero-le, Some, None}
 use Rattle.std.proofs.lemmas.Bool.Decides.{nat_tests}
 use Rattle.std.proofs.lemmas.Bool.{cases_lt}
-use Rattle.elf_model.specs.Records.{d_tag, d_un}
-use Rattle.elf_model.specs.Numbers.{DT_NULL}
-use Rattle.elf_model.specs.Dynamic.{dynamic_count, dynamic_value, dynamic_at, IsListed, CountedIsListed, ListedIsCounted, IsFirstValue, ValueIsFirst, NoValueHasNoTag}
+use Rattle.elf_model.specs.Prelude.{CountedIsListed, DT_NULL, IsFirstValue, IsListed, ListedIsCounted, NoValueHasNoTag, ValueIsFirst, d_tag, d_un, dynamic_at, dynamic_count, dynamic_value}
 use Rattle.elf_model.proofs.SameLaws.{alike-or-other}
 
 null-or-not : (tag : ℕ) → (tag ≡ DT_NULL) ⊎ (tag ≢ DT_NULL)

@@ -1,10 +1,7 @@
 -- Lookups in a hash table of the GNU system: what is calculated is the one lookup, and it is bounded.
 use Rattle.std.proofs.Common.{◌≡◌, ℕ, zero, suc, ◌+◌, ◌-◌, ◌*◌, ◌<◌, ◌≤◌, ◌⊎◌, inl, inr, Bool, true, false, not, List, nat_lt, if◌then◌else◌, Option, None, Some, Result, Ok, Err, refl, sym, ap, ◌∙◌, arith}
 use Rattle.std.proofs.lemmas.Bool.{cases_eq, cases_lt, cases_Bool, and_parts, ltb-true}
-use Rattle.elf_model.specs.Chains.{HashTable, WalkEnd, NotThere, Untried, Answers, Last, end_of_match, ChainResult, nothing_tried}
-use Rattle.elf_model.specs.GnuHash.{gnu_first, gnu_start, gnu_symbol, gnu_tried, gnu_end, gnu_walked_at, gnu_walked_by, gnu_walk_end, gnu_looked_up, holds_none, before_chains, in_chains, is_chained, chain_word, is_chain_end, end_of_chain, hash_bits_match, EndsInChain, IsGnuLookup}
-use Rattle.elf_model.specs.GnuHashLaws.{GnuLookupAnswers, GnuLookupIsOne, IsWithinTable, GnuLookupIsBounded, IsFound, GnuFoundAnswers, IsHeld, GnuAbsentMeansNone, GnuFoundIsFirst}
-use Rattle.elf_model.specs.Hash.{walk_word, IsFirst}
+use Rattle.elf_model.specs.Prelude.{Answers, ChainResult, EndsInChain, GnuAbsentMeansNone, GnuFoundAnswers, GnuFoundIsFirst, GnuLookupAnswers, GnuLookupIsBounded, GnuLookupIsOne, HashTable, IsFirst, IsFound, IsGnuLookup, IsHeld, IsWithinTable, Last, NotThere, Untried, WalkEnd, before_chains, chain_word, end_of_chain, end_of_match, gnu_end, gnu_first, gnu_looked_up, gnu_start, gnu_symbol, gnu_tried, gnu_walk_end, gnu_walked_at, gnu_walked_by, hash_bits_match, holds_none, in_chains, is_chain_end, is_chained, nothing_tried, walk_word}
 use Rattle.elf_model.specs.declared.causes.Refusal.{Refusal}
 use Rattle.elf_model.proofs.SumLemmas.{sum_over-le}
 use Rattle.elf_model.proofs.WalkLaws.{none_found, searched_first, gives_one, not_both}

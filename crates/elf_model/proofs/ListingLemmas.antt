@@ -1,16 +1,9 @@
 -- How listings are put together.
 use Rattle.std.proofs.lemmas.Nat.{and_assoc}
 use Rattle.std.specs.Int.RustNames.{bit_and}
-use Rattle.elf_model.specs.Records.{FILE_HEADER_SIZE}
-use Rattle.elf_model.specs.Cost.{after_header, listing_cost}
-use Rattle.std.proofs.Common.{◌≡◌, ℕ, suc, zero, ◌+◌, ◌==◌, Bool, true, false, List, [], ◌∷◌, ◌++◌, Some, None, arith, refl, ap, sym, ◌∙◌, append-nil, append_assoc, add-zero, zero-add}
-use Rattle.elf_model.specs.Checks.{Check, first_refusal, header_checks, load_checks}
-use Rattle.elf_model.specs.Lines.{header_line, refusal_line}
-use Rattle.elf_model.specs.Listing.{ListingItem, Line, Fault, lines_of, fault_of, report_of, guarded, where_asked, each, has, has_tables, all_parts, known_parts, file_header_items, HEADER}
-use Rattle.elf_model.specs.Style.{ListingStyle, viewed}
-use Rattle.elf_model.specs.Report.{listing, load_items, loaded_items}
+use Rattle.elf_model.specs.Prelude.{Check, FILE_HEADER_SIZE, Fault, HEADER, HeaderAloneIsListed, HeaderFaultIsListedAlone, LastRowIsLast, Line, ListingItem, ListingStyle, ListingsAppend, LoadFaultIsListedSecond, NothingAfterTheFault, OtherBitsMeanNothing, RowsSplit, after_header, all_parts, each, fault_of, file_header_items, first_refusal, guarded, has, has_tables, header_checks, header_line, known_parts, lines_of, listing, listing_cost, load_checks, load_items, loaded_items, refusal_line, report_of, viewed, where_asked}
 use Rattle.elf_model.specs.declared.causes.Refusal.{Refusal}
-use Rattle.elf_model.specs.ListingLaws.{LastRowIsLast, RowsSplit, HeaderAloneIsListed, HeaderFaultIsListedAlone, LoadFaultIsListedSecond, NothingAfterTheFault, ListingsAppend, OtherBitsMeanNothing}
+use Rattle.std.proofs.Common.{◌≡◌, ℕ, suc, zero, ◌+◌, ◌==◌, Bool, true, false, List, [], ◌∷◌, ◌++◌, Some, None, arith, refl, ap, sym, ◌∙◌, append-nil, append_assoc, add-zero, zero-add}
 
 -- rows are put together
 pub rows_split : RowsSplit

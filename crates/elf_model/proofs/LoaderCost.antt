@@ -3,19 +3,7 @@ use Rattle.std.proofs.Common.{◌≡◌, ℕ, suc, ◌+◌, ◌*◌, ◌/◌, �
 use Rattle.std.proofs.Math.Nat.{mul-le-mul, mul-add}
 use Rattle.std.proofs.lemmas.Bool.{cases_Bool, and_parts, ltb-true, ltb-false, eqb-true}
 use Rattle.std.proofs.lemmas.Nat.{le-div}
-use Rattle.elf_model.specs.Chains.{ChainResult}
-use Rattle.elf_model.specs.Checks.{first_refusal, pass, before_headers}
-use Rattle.elf_model.specs.Cost.{cost_where, is_loadable}
-use Rattle.elf_model.specs.GnuHash.{gnu_hash}
-use Rattle.elf_model.specs.Hash.{sysv_hash, sysv_nbucket, sysv_nchain}
-use Rattle.elf_model.specs.LoaderFind.{LoaderLookup, TOLD_BYTES, counts_check, walk_in, named_by_record, found_in, looked_by, version_indices, loaded_in, loader_looked, segments_asked, record_cost, lookup_asks, loader_cost, loader_ceiling}
-use Rattle.elf_model.specs.LoaderLaws.{LoaderCostIsWithinCeiling}
-use Rattle.elf_model.specs.LoaderScope.{HashStyle, GnuTable, SysvTable, LookupTables, lookup_tables_of, dynamic_segment_index}
-use Rattle.elf_model.specs.Records.{e_shnum, e_phnum, p_offset, p_filesz, segment_at, versym}
-use Rattle.elf_model.specs.Tables.{segment_dynamic_checks}
-use Rattle.elf_model.specs.Loader.{SymbolQuery, VersionQuery, asked_name, VersymTable, versym_at, answers, is_among, VersionRecordRead, Meets, Refuses, Misses, VersionRecordTable, NumberNameSource, position_after, has_record, end_reading, meetings, readings_of, readings, compared_with, naming_of}
-use Rattle.elf_model.specs.Names.{DisplayedName, same, shown, pad64}
-use Rattle.elf_model.specs.Versions.{VisitedRecord, RecordCursorState, number_in, names_version, names_version_index, name_index, max_records, versions_in}
+use Rattle.elf_model.specs.Prelude.{ChainResult, DisplayedName, GnuTable, HashStyle, LoaderCostIsWithinCeiling, LoaderLookup, LookupTables, Meets, Misses, NumberNameSource, RecordCursorState, Refuses, SymbolQuery, SysvTable, TOLD_BYTES, VersionQuery, VersionRecordRead, VersionRecordTable, VersymTable, VisitedRecord, answers, asked_name, before_headers, compared_with, cost_where, counts_check, dynamic_segment_index, e_phnum, e_shnum, end_reading, first_refusal, found_in, gnu_hash, has_record, is_among, is_loadable, loaded_in, loader_ceiling, loader_cost, loader_looked, looked_by, lookup_asks, lookup_tables_of, max_records, meetings, name_index, named_by_record, names_version, names_version_index, naming_of, number_in, p_filesz, p_offset, pad64, pass, position_after, readings, readings_of, record_cost, same, segment_at, segment_dynamic_checks, segments_asked, shown, sysv_hash, sysv_nbucket, sysv_nchain, version_indices, versions_in, versym, versym_at, walk_in}
 use Rattle.elf_model.specs.declared.causes.Cause.{Cause}
 use Rattle.elf_model.specs.declared.causes.Refusal.{Refusal}
 use Rattle.elf_model.proofs.CostLemmas.{whole_within, loadable-within}

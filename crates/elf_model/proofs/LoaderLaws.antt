@@ -1,19 +1,10 @@
 -- A loader's lookup: a symbol that is found is one to take.
 use Rattle.std.proofs.Common.{◌≡◌, ℕ, Bool, true, false, nat_lt, List, [], ◌∷◌, Option, None, Some, Result, Ok, Err, inl, inr, refl}
 use Rattle.std.proofs.lemmas.Bool.{cases_Bool}
-use Rattle.elf_model.specs.Chains.{ChainResult}
-use Rattle.elf_model.specs.Checks.{first_refusal}
-use Rattle.elf_model.specs.GnuHash.{gnu_hash}
-use Rattle.elf_model.specs.Hash.{sysv_hash, Found, Refused}
-use Rattle.elf_model.specs.Loader.{SymbolQuery, VersionQuery, asked_name, VersymTable, versym_at, DynamicSymbols, symbol_offset, is_exported, version_fits, answers, NumberNameSource, is_among}
-use Rattle.elf_model.specs.LoaderFind.{counts_check, walk_in, named_by_record, found_in, looked_by, version_indices, loaded_in, loader_looked, TOLD_BYTES}
-use Rattle.elf_model.specs.LoaderLaws.{IsTaken, LoaderFoundIsTaken}
-use Rattle.elf_model.specs.LoaderScope.{HashStyle, GnuTable, SysvTable, LookupTables, lookup_tables_of}
-use Rattle.elf_model.specs.Names.{DisplayedName, same, shown}
-use Rattle.elf_model.specs.Records.{st_name, versym}
-use Rattle.elf_model.specs.Versions.{VisitedRecord, number_in, name_index}
+use Rattle.elf_model.specs.Prelude.{ChainResult, DisplayedName, DynamicSymbols, Found, GnuTable, HashStyle, IsTaken, LoaderFoundIsTaken, LookupTables, NumberNameSource, SymbolQuery, SysvTable, TOLD_BYTES, VersionQuery, VersymTable, VisitedRecord, answers, asked_name, counts_check, first_refusal, found_in, gnu_hash, is_among, is_exported, loaded_in, loader_looked, looked_by, lookup_tables_of, name_index, named_by_record, number_in, same, shown, st_name, symbol_offset, sysv_hash, version_fits, version_indices, versym, versym_at, walk_in}
 use Rattle.elf_model.specs.declared.causes.Cause.{Cause}
 use Rattle.elf_model.specs.declared.causes.Refusal.{Refusal}
+use Rattle.elf_model.specs.Hash.{Refused}
 use Rattle.elf_model.proofs.GnuHashLaws.{gnu_found_answers}
 use Rattle.elf_model.proofs.SysvWalkLaws.{sysv_found_answers}
 

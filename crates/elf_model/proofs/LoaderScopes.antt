@@ -4,21 +4,11 @@ use Rattle.std.proofs.Math.Nat.{div-mul-le_self}
 use Rattle.std.proofs.lemmas.Bool.{ltb-false}
 use Rattle.std.proofs.lemmas.Nat.{le-div}
 use Rattle.std.specs.Prelude.{is_none}
-use Rattle.elf_model.specs.Checks.{Check, refuse, first_refusal, unless_empty, table_checks, is_outside, header_checks, load_checks}
-use Rattle.elf_model.specs.Find.{hash_checks_from}
-use Rattle.elf_model.specs.Loader.{VersionRecordTable}
-use Rattle.elf_model.specs.LoaderScope.{HashStyle, least_size, LookupTables, hash_section, checks_of_type, words_section, version_checks, section_checks, records_of_type, section_words, records_with, section_lookup_tables, dynamic_segment_index, tagged_row, rest_checks, rest_place, rest_size, hash_row, words_row, checks_of_row, rows_checks, has_wide_kind, segment_checks, segment_strings, segment_words, records_of_tag, segment_lookup_tables, scope_by_sections, scope_in_segment, scope_in_segments, lookup_tables_by_segments, lookup_tables_of}
-use Rattle.elf_model.specs.Mapped.{mapped_at, mapped_checks}
-use Rattle.elf_model.specs.Numbers.{SHT_GNU_VERDEF, SHT_GNU_VERNEED, DT_SYMTAB, DT_STRTAB, DT_STRSZ, DT_VERDEF, DT_VERNEED}
-use Rattle.elf_model.specs.Overlaps.{overlap_checks}
-use Rattle.elf_model.specs.Records.{e_shnum, sh_offset, sh_size, sh_link, section_at, segment_at, p_offset, p_filesz, d_un}
-use Rattle.elf_model.specs.Tables.{all_checks, strings_of, segment_dynamic_checks}
-use Rattle.elf_model.specs.VersionRows.{first_of_type, version_table}
-use Rattle.elf_model.specs.Versions.{VERSYM_SIZE, record_size, max_records}
+use Rattle.elf_model.specs.Prelude.{Check, DT_STRSZ, DT_STRTAB, DT_SYMTAB, DT_VERDEF, DT_VERNEED, HashStyle, LookupTables, SHT_GNU_VERDEF, SHT_GNU_VERNEED, VERSYM_SIZE, VersionRecordTable, all_checks, checks_of_row, checks_of_type, d_un, dynamic_segment_index, e_shnum, first_of_type, first_refusal, has_wide_kind, hash_checks_from, hash_row, hash_section, header_checks, is_outside, least_size, load_checks, lookup_tables_by_segments, lookup_tables_of, mapped_at, mapped_checks, max_records, overlap_checks, p_filesz, p_offset, record_size, records_of_tag, records_of_type, records_with, refuse, rest_checks, rest_place, rest_size, rows_checks, scope_by_sections, scope_in_segment, scope_in_segments, section_at, section_checks, section_lookup_tables, section_words, segment_at, segment_checks, segment_dynamic_checks, segment_lookup_tables, segment_strings, segment_words, sh_link, sh_offset, sh_size, strings_of, table_checks, tagged_row, unless_empty, version_checks, version_table, words_row, words_section}
 use Rattle.elf_model.specs.declared.causes.Cause.TheVariants.{BadLink, HashShape, Unmapped}
+use Rattle.elf_model.specs.declared.versions.VersionKind.TheVariants.{Definition, File}
 use Rattle.elf_model.specs.declared.causes.Refusal.{Refusal}
 use Rattle.elf_model.specs.declared.versions.VersionKind.{VersionKind}
-use Rattle.elf_model.specs.declared.versions.VersionKind.TheVariants.{Definition, File}
 use Rattle.elf_model.proofs.CheckSteps.{first_refusal-back, passes_front}
 
 -- how many records some tables have at most

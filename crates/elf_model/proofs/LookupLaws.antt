@@ -1,12 +1,10 @@
 -- Lookups: what is calculated is the one lookup.
 use Rattle.std.proofs.Common.{◌≡◌, ℕ, zero, suc, ◌<◌, ◌≤◌, ◌⊎◌, inl, inr, Bool, true, false, List, [], ◌∷◌, ◌++◌, length, drop, nat_lt, ◌==◌, Option, None, Some, Result, Ok, Err, refl, sym, ap, ◌∙◌, arith}
 use Rattle.std.proofs.lemmas.Bool.{cases_eq, cases_lt, cases_Bool, and_parts, ltb-true}
-use Rattle.elf_model.specs.Hash.{nchain, lookup_word, end_at_word, end_of_name, is_index, same_symbol, LookupEnd, ChainEnd, NoIndex, Nameless, Wanted, Outcome, Found, Absent, Refused, Lookup, lookup_at, lookup_by, cycle, IsFirst, IsEndless, IsLookup, lookup_end, looked_up}
-use Rattle.elf_model.specs.HashLaws.{LookupIsBounded, LookupAnswers, LookupIsOne, CycleExactly, CycleIsEndless, ComparedWithinChains}
-use Rattle.elf_model.specs.Tables.{linked_at}
-use Rattle.elf_model.specs.Names.{same, begins, is_empty_at_zero}
-use Rattle.elf_model.specs.declared.causes.Cause.TheVariants.{NoHash, HashCycle}
+use Rattle.elf_model.specs.Prelude.{Absent, ChainEnd, ComparedWithinChains, CycleExactly, CycleIsEndless, Found, IsEndless, IsFirst, IsLookup, Lookup, LookupAnswers, LookupEnd, LookupIsBounded, LookupIsOne, Nameless, NoIndex, Outcome, Wanted, begins, cycle, end_at_word, end_of_name, is_empty_at_zero, is_index, linked_at, looked_up, lookup_at, lookup_by, lookup_end, lookup_word, nchain, same, same_symbol}
 use Rattle.elf_model.specs.declared.causes.Cause.{Cause}
+use Rattle.elf_model.specs.declared.causes.Cause.TheVariants.{HashCycle, NoHash}
+use Rattle.elf_model.specs.Hash.{Refused}
 use Rattle.elf_model.proofs.WalkLaws.{long_walk_never_ends, searched_endless, searched_first, gives_one, not_both}
 
 module _ (file : List ℕ) (at : ℕ) (wanted : List ℕ) where

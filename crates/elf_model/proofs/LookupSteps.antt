@@ -1,12 +1,7 @@
 -- A lookup step by step: the answer after each stage, and the words as they are read.
 use Rattle.std.proofs.Common.{◌≡◌, ℕ, zero, suc, ◌+◌, ◌*◌, ◌<◌, ◌≤◌, inl, inr, Bool, true, false, List, ◌++◌, length, Option, None, Some, refl, ap, arith}
 use Rattle.std.proofs.lemmas.Bool.{cases_eq}
-use Rattle.elf_model.specs.Checks.{first_refusal, header_checks, early_checks, load_checks}
-use Rattle.elf_model.specs.Find.{first_that, first_hash, hash_checks, shape_checks, looked_in, looked, find_cost}
-use Rattle.elf_model.specs.Hash.{refused_after, looked_up}
-use Rattle.elf_model.specs.HashLaws.{GoesOn}
-use Rattle.elf_model.specs.Names.{pad64}
-use Rattle.elf_model.specs.Records.{e_shnum, section_at}
+use Rattle.elf_model.specs.Prelude.{GoesOn, e_shnum, early_checks, find_cost, first_hash, first_refusal, first_that, hash_checks, header_checks, load_checks, looked, looked_in, looked_up, pad64, refused_after, section_at, shape_checks}
 use Rattle.elf_model.specs.declared.causes.Cause.TheVariants.{NoHash}
 use Rattle.elf_model.specs.declared.causes.Refusal.{Refusal}
 

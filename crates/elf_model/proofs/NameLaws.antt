@@ -1,11 +1,9 @@
 -- The laws of shown names.
 use Rattle.std.proofs.Common.{◌≡◌, ℕ, suc, ◌+◌, ◌<◌, ◌≤◌, List, [], ◌∷◌, ◌++◌, length, take, drop, Some, None, Ok, Err, ◌⊎◌, inl, inr, refl, ap, sym, ◌∙◌, arith, length-append, length-take, length-drop, zero-le}
 use Rattle.std.proofs.lemmas.List.{take_at, take-take, append_assoc, take_all}
-use Rattle.elf_model.specs.Bytes.{slice}
-use Rattle.elf_model.specs.Names.{nul_in, IsNulTerminatedAt, IsNameOf, shown}
-use Rattle.elf_model.specs.Names.DisplayedName.{Whole, Cut}
-use Rattle.elf_model.specs.NameLaws.{IsNameOutside, OneNameAtMost, ShownWholeExactly, ShownCutExactly, ShownOutsideExactly, ShownUnendedExactly, ShownCauses, PadsToPieces}
+use Rattle.elf_model.specs.Prelude.{Cut, IsNameOf, IsNameOutside, IsNulTerminatedAt, OneNameAtMost, PadsToPieces, ShownCauses, ShownCutExactly, ShownOutsideExactly, ShownUnendedExactly, ShownWholeExactly, nul_in, shown, slice}
 use Rattle.elf_model.specs.declared.causes.Cause.TheVariants.{NameOutside, NameUnended}
+use Rattle.elf_model.specs.Names.DisplayedName.{Whole}
 use Rattle.elf_model.proofs.Nuls.{free, none-free, free-none, some-free, free-append, free-take, free-within, split_at_nul}
 use Rattle.elf_model.proofs.NameLemmas.{View, is_empty, is_outside, is_whole, is_cut, is_unended, view, named-drop, named-inside, shown-empty, shown-outside}
 

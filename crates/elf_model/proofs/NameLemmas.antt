@@ -3,11 +3,9 @@ use Rattle.std.proofs.Common.{min, ◌≡◌, ℕ, suc, zero, ◌+◌, ◌-◌, 
 use Rattle.std.proofs.lemmas.List.{take-take, append_assoc, take_all}
 use Rattle.std.proofs.lemmas.Bool.Decides.{nat_tests}
 use Rattle.std.proofs.lemmas.Bool.{cases_lt}
-use Rattle.elf_model.specs.Bytes.{slice}
-use Rattle.elf_model.specs.Names.{nul_in, IsNulTerminatedAt, IsEmptyAtZero, shown, shown_of, is_empty_at_zero}
-use Rattle.elf_model.specs.Names.DisplayedName.{Whole, Cut}
-use Rattle.elf_model.specs.NameLaws.{IsNameOutside}
+use Rattle.elf_model.specs.Prelude.{Cut, IsEmptyAtZero, IsNameOutside, IsNulTerminatedAt, is_empty_at_zero, nul_in, shown, shown_of, slice}
 use Rattle.elf_model.specs.declared.causes.Cause.TheVariants.{NameOutside, NameUnended}
+use Rattle.elf_model.specs.Names.DisplayedName.{Whole}
 
 -- an index is below a table's size, in an empty table at 0, or past it
 pub data Place (table : List ℕ) (index : ℕ) : Type 0 where

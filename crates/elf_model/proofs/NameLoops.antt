@@ -2,10 +2,9 @@
 use Rattle.std.proofs.Common.{◌≡◌, ◌≢◌, ℕ, ◌+◌, ◌<◌, ◌≤◌, ◌==◌, true, false, List, ◌++◌, length, get_or, take, drop, Some, None, Ok, Err, refl, ap, sym, ◌∙◌, arith, length-append, length-take, take-append-drop, take-take}
 use Rattle.std.proofs.lemmas.List.Sums.{position_or_len_is}
 use Rattle.std.proofs.lemmas.Bool.Decides.{nat_tests}
-use Rattle.elf_model.specs.Bytes.{slice}
-use Rattle.elf_model.specs.Names.{nul_in, shown, shown_of}
-use Rattle.elf_model.specs.Names.DisplayedName.{Whole, Cut}
+use Rattle.elf_model.specs.Prelude.{Cut, nul_in, shown, shown_of, slice}
 use Rattle.elf_model.specs.declared.causes.Cause.TheVariants.{NameUnended}
+use Rattle.elf_model.specs.Names.DisplayedName.{Whole}
 use Rattle.elf_model.proofs.Nuls.{free, none-free, free-none, some-free, free-some, free-append, free-within, free-front}
 use Rattle.elf_model.proofs.NameLemmas.{shown-inside}
 use Rattle.elf_model.proofs.NameLaws.{shown_cut, shown_unended}

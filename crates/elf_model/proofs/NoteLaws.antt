@@ -2,9 +2,8 @@
 use Rattle.std.proofs.Common.{min, ◌≡◌, ℕ, suc, zero, ◌+◌, ◌<◌, ◌≤◌, List, [], ◌∷◌, ◌++◌, length, take, drop, ◌⊎◌, inl, inr, Option, Some, None, refl, ap, sym, ◌∙◌, arith, length-append, length-drop, take-append-drop, length-take-le, take-add, zero-le, add-zero, add_assoc, append-nil}
 use Rattle.std.proofs.lemmas.List.{append_assoc, drop_all}
 use Rattle.std.proofs.lemmas.Bool.{cases_lt}
-use Rattle.elf_model.specs.Bytes.{slice}
-use Rattle.elf_model.specs.Notes.{Note, IsNoteEncoding, Padded, AllPadded, EndsInZeros, EndsInSpelling, Notes, CutAt, Ends, Broken, OneNote, NoteScan, bytes_to_alignment, padded_size, first_note, first_end, next_note, walked, with_note}
-use Rattle.elf_model.specs.NoteLaws.{WalkedFits, FittingIsWalked, OneListAtMost, WalkedIsCut, CutIsWalked, FitsOrIsCut}
+use Rattle.elf_model.specs.Prelude.{AllPadded, CutAt, CutIsWalked, EndsInSpelling, EndsInZeros, FitsOrIsCut, FittingIsWalked, IsNoteEncoding, Note, NoteScan, Notes, OneListAtMost, OneNote, Padded, WalkedFits, WalkedIsCut, bytes_to_alignment, first_end, first_note, next_note, padded_size, slice, walked, with_note}
+use Rattle.elf_model.specs.Notes.{Ends, Broken}
 use Rattle.elf_model.proofs.Spellings.{NextView, ends, tails, past, found, next_view, next-ends, next-spelt, spelt-size, found-spelt}
 use Rattle.elf_model.proofs.Slices.{slice-size}
 use Rattle.elf_model.proofs.Walks.{walk, walk-ends, walk-broken, walk-found, walk-all-padded, with_notes, found-size}

@@ -2,9 +2,8 @@
 use Rattle.std.proofs.Common.{take, length-take, le_of_eq, take-take, min, ◌≡◌, ℕ, ◌+◌, ◌<◌, ◌≤◌, List, [], ◌∷◌, length, drop, ◌⊎◌, inl, inr, Option, Some, None, ap, sym, ◌∙◌, arith}
 use Rattle.std.proofs.lemmas.List.{drop_all, take_all}
 use Rattle.std.proofs.lemmas.Bool.{cases_lt}
-use Rattle.elf_model.specs.Names.{nul_in}
-use Rattle.elf_model.specs.Names.DisplayedName.{Whole, Cut}
-use Rattle.elf_model.specs.Notes.{before_nul, note_shown, Note, OneNote, NoteScan, NoteRow, bytes_to_alignment, padded_size, first_note, first_end, next_note, note_rows}
+use Rattle.elf_model.specs.Prelude.{Cut, Note, NoteRow, NoteScan, OneNote, before_nul, bytes_to_alignment, first_end, first_note, next_note, note_rows, note_shown, nul_in, padded_size}
+use Rattle.elf_model.specs.Names.DisplayedName.{Whole}
 use Rattle.elf_model.proofs.Nuls.{free, none-free, some-free, free-some}
 use Rattle.elf_model.proofs.NameLoops.{nul_in-whole, nul_in-take-some}
 use Rattle.elf_model.proofs.Spellings.{NextView, ends, tails, past, found, next_view}

@@ -4,11 +4,8 @@ use Rattle.std.proofs.lemmas.List.{take_at, drop_all}
 use Rattle.std.proofs.lemmas.List.Elements.{All-nil, All-cons}
 use Rattle.std.proofs.lemmas.Bool.{cases_lt}
 use Rattle.std.proofs.lemmas.Bool.Decides.{nat_tests}
-use Rattle.elf_model.specs.Bytes.{slice}
-use Rattle.elf_model.specs.Names.{nul_in}
-use Rattle.elf_model.specs.Names.DisplayedName.{Whole, Cut}
-use Rattle.elf_model.specs.Notes.{Note, IsNoteEncoding, OneNote, NoteScan, NoteRow, bytes_to_alignment, descriptor_start, escaped_size, padded_size, first_note, first_end, next_note, note_rows, note_align, before_nul, note_shown}
-use Rattle.elf_model.specs.NoteLaws.{IsNoteInTable, RowsStand, IsAligned, RowsAligned, BeforeNulExactly, NoteShownWholeExactly, NoteShownCutExactly}
+use Rattle.elf_model.specs.Prelude.{BeforeNulExactly, Cut, IsAligned, IsNoteEncoding, IsNoteInTable, Note, NoteRow, NoteScan, NoteShownCutExactly, NoteShownWholeExactly, OneNote, RowsAligned, RowsStand, before_nul, bytes_to_alignment, descriptor_start, escaped_size, first_end, first_note, next_note, note_align, note_rows, note_shown, nul_in, padded_size, slice}
+use Rattle.elf_model.specs.Names.DisplayedName.{Whole}
 use Rattle.elf_model.proofs.Nuls.{free, none-free, free-none, free-append, free-take, split_at_nul}
 use Rattle.elf_model.proofs.Spellings.{NextView, ends, tails, past, found, next_view, spelt-size, spelt-name, spelt-descriptor, found-spelt}
 use Rattle.elf_model.proofs.Walks.{walk, walk-ends, walk-broken, walk-found}

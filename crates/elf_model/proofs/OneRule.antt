@@ -2,14 +2,7 @@
 use Rattle.std.proofs.Common.{◌≡◌, ℕ, zero, suc, ◌+◌, ◌/◌, ◌==◌, List, [], ◌∷◌, ◌++◌, append-nil, Option, None, Some, refl, ap, sym, ◌∙◌, arith, inl, inr}
 use Rattle.std.proofs.lemmas.Bool.{cases_Bool}
 use Rattle.std.specs.Option.{option_map}
-use Rattle.elf_model.specs.Dynamic.{dynamic_at, dynamic_count, dynamic_value}
-use Rattle.elf_model.specs.Find.{first_that}
-use Rattle.elf_model.specs.Loader.{NumberNameSource, VersionRecordRead, VersionRecordTable, meetings, naming_of, readings, readings_of}
-use Rattle.elf_model.specs.LoaderLaws.{FirstEntriesAreAlike, NumbersAreNamedAlike, records_in}
-use Rattle.elf_model.specs.LoaderScope.{tagged_row}
-use Rattle.elf_model.specs.Records.{d_tag, d_un, p_filesz, p_offset}
-use Rattle.elf_model.specs.Tables.{DYNAMIC_SIZE}
-use Rattle.elf_model.specs.Versions.{VisitedRecord, named_by, names_version_index}
+use Rattle.elf_model.specs.Prelude.{DYNAMIC_SIZE, FirstEntriesAreAlike, NumberNameSource, NumbersAreNamedAlike, VersionRecordRead, VersionRecordTable, VisitedRecord, d_tag, d_un, dynamic_at, dynamic_count, dynamic_value, first_that, meetings, named_by, names_version_index, naming_of, p_filesz, p_offset, readings, readings_of, records_in, tagged_row}
 use Rattle.elf_model.proofs.VersionLaws.{named-here, named-later, named-none}
 
 -- the record by which a number is named

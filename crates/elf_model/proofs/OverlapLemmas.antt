@@ -3,15 +3,7 @@ use Rattle.std.proofs.Common.{◌≡◌, ℕ, suc, zero, ◌+◌, ◌/◌, ◌�
 use Rattle.std.proofs.Math.Nat.{div-mul-le_self}
 use Rattle.std.proofs.lemmas.Bool.{ltb-false}
 use Rattle.std.proofs.lemmas.Nat.{le-div}
-use Rattle.elf_model.specs.Checks.{Check, pass, first_refusal, header_checks, load_checks}
-use Rattle.elf_model.specs.Cost.{needs_segments}
-use Rattle.elf_model.specs.Lines.{header_line, refusal_line}
-use Rattle.elf_model.specs.Listing.{ListingItem, Line, Fault, report_of, where_asked, known_parts, HEADER}
-use Rattle.elf_model.specs.Overlaps.{takes_memory, first_page, page_behind, loads_from, overlaps_from, overlap_checks}
-use Rattle.elf_model.specs.Records.{e_phnum, p_vaddr, p_memsz, segment_at}
-use Rattle.elf_model.specs.Report.{listing, load_items, loaded_items, table_items, view_checks}
-use Rattle.elf_model.specs.Style.{ListingStyle, viewed}
-use Rattle.elf_model.specs.OverlapLaws.{NoPageIsShared, OverlapIsListedSecond, OverlapIsListedElsewhere}
+use Rattle.elf_model.specs.Prelude.{Check, Fault, HEADER, Line, ListingItem, ListingStyle, NoPageIsShared, OverlapIsListedElsewhere, OverlapIsListedSecond, e_phnum, first_page, first_refusal, header_checks, header_line, known_parts, listing, load_checks, load_items, loaded_items, loads_from, needs_segments, overlap_checks, overlaps_from, p_memsz, p_vaddr, page_behind, pass, refusal_line, report_of, segment_at, table_items, takes_memory, view_checks, viewed, where_asked}
 use Rattle.elf_model.specs.declared.causes.Cause.TheVariants.{LoadOverlap}
 use Rattle.elf_model.proofs.ListingLemmas.{guarded-fault, guarded-passes, asked-true, load_some}
 

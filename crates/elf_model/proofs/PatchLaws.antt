@@ -4,9 +4,7 @@ use Rattle.std.proofs.lemmas.Bool.{cases_lt, le-leb, lt-leb, lt-ltb, le-ltb, and
 use Rattle.std.proofs.lemmas.List.{get_or_append_left, get_or-append_right, get_or-take, get_or-drop, ext_get_or, take-append-le}
 use Rattle.std.proofs.lemmas.Slice.{drop-put_mid}
 use Rattle.std.proofs.lemmas.List.Elements.{All-head, All-tail}
-use Rattle.elf_model.specs.Apply.{StoredBytes, put, patched}
-use Rattle.elf_model.specs.ApplyLaws.{IsInside, AllInside, byte_with, byte_after, clipped, LengthKept, BytePatched, WindowPatched, FinalBelow, KeptAbove}
-use Rattle.elf_model.specs.Bytes.{slice}
+use Rattle.elf_model.specs.Prelude.{AllInside, BytePatched, FinalBelow, IsInside, KeptAbove, LengthKept, StoredBytes, WindowPatched, byte_after, byte_with, clipped, patched, put, slice}
 use Rattle.elf_model.proofs.Slices.{slice-size, get_or-slice}
 
 pub length-put : (patch : StoredBytes) (base : List ℕ) → IsInside (length base) patch → length (put patch base) ≡ length base

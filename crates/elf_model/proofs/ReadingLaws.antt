@@ -1,11 +1,7 @@
 -- What a lookup reads of the records of versions, and what comparing gives of these, by the records that a listing meets.
 use Rattle.std.proofs.Common.{◌≡◌, ℕ, zero, suc, ◌+◌, Bool, true, false, cond, List, [], ◌∷◌, ◌++◌, append-nil, length, map, filter, Option, None, Some, Result, Ok, Err, refl, sym, ap, ◌∙◌, arith, inl, inr}
 use Rattle.std.proofs.lemmas.List.Elements.{All-nil, All-cons}
-use Rattle.elf_model.specs.Checks.{first_refusal}
-use Rattle.elf_model.specs.Loader.{CompareResult, Meets, Misses, VersionRecordRead, VersionRecordTable, Refuses, compared_until, compared_with, end_reading, has_record, meetings, one_more, readings, readings_of, position_after, with_number}
-use Rattle.elf_model.specs.LoaderLaws.{ComparedNumbersAreRecords, ComparingEndsAtTheFirst, EndsReadings, IsComparable, IsRefusedAt, ReadingsAreRecords, StandsAtItsEnd, WalksStandAtRecords, WalksStandAtTheirEnd, names_wanted, numbers_under, records_in, records_read}
-use Rattle.elf_model.specs.Names.{same}
-use Rattle.elf_model.specs.Versions.{VisitedRecord, RecordCursorState, Versions, next_position, first_position, visited_at, visited_from, max_records, name_index, named_at, names_version, number_in, number_word, record_checks, versions_in}
+use Rattle.elf_model.specs.Prelude.{CompareResult, ComparedNumbersAreRecords, ComparingEndsAtTheFirst, EndsReadings, IsComparable, IsRefusedAt, Meets, Misses, ReadingsAreRecords, RecordCursorState, Refuses, StandsAtItsEnd, VersionRecordRead, VersionRecordTable, Versions, VisitedRecord, WalksStandAtRecords, WalksStandAtTheirEnd, compared_until, compared_with, end_reading, first_position, first_refusal, has_record, max_records, meetings, name_index, named_at, names_version, names_wanted, next_position, number_in, number_word, numbers_under, one_more, position_after, readings, readings_of, record_checks, records_in, records_read, same, versions_in, visited_at, visited_from, with_number}
 use Rattle.elf_model.specs.declared.causes.Cause.{Cause}
 use Rattle.elf_model.specs.declared.causes.Refusal.{Refusal}
 use Rattle.elf_model.proofs.VersionSteps.{met-ended, met-most, met-record, met-refused}

@@ -1,10 +1,7 @@
 -- Records at their own bytes.
 use Rattle.std.proofs.Common.{◌≡◌, ℕ, ◌+◌, ◌≤◌, Bool, List, ap, ◌∙◌, arith, add-zero}
-use Rattle.elf_model.specs.Bytes.{slice, field}
-use Rattle.elf_model.specs.LineFronts.{section_prefix, symbol_prefix, relocation_prefix, dynamic_prefix}
-use Rattle.elf_model.specs.Lines.{header_line, segment_line}
+use Rattle.elf_model.specs.Prelude.{FieldsOfSlices, LinesOfSlices, dynamic_prefix, field, header_line, relocation_prefix, section_prefix, segment_line, slice, symbol_prefix}
 use Rattle.elf_model.specs.declared.formats.Format.{Format}
-use Rattle.elf_model.specs.RecordLaws.{FieldsOfSlices, LinesOfSlices}
 use Rattle.elf_model.proofs.Slices.{field-slice}
 
 pub fields_of_slices : FieldsOfSlices

@@ -1,11 +1,7 @@
 -- What is left of a lookup: the lookup as it goes on from a word, by what it meets there.
 use Rattle.std.proofs.Common.{◌≡◌, ℕ, zero, suc, ◌+◌, ◌<◌, ◌≤◌, Bool, true, false, List, None, Some, Result, Ok, Err, refl, sym, ap, ◌∙◌, arith}
 use Rattle.std.proofs.lemmas.Bool.{and_parts, ltb-true}
-use Rattle.elf_model.specs.Bytes.{field}
-use Rattle.elf_model.specs.Hash.{nchain, bucket_of, chain_at, next_in_chain, lookup_word, walk_word, word_at, is_index, same_symbol, symbol_at, end_at_word, end_of_name, end_among, ChainEnd, NoIndex, Nameless, Wanted, Lookup, Found, Absent, refused_after, lookup_at, lookup_by, lookup_end, looked_up, cycle}
-use Rattle.elf_model.specs.HashLaws.{GoesOn}
-use Rattle.elf_model.specs.Records.{sh_link}
-use Rattle.elf_model.specs.Tables.{linked_at}
+use Rattle.elf_model.specs.Prelude.{Absent, ChainEnd, Found, GoesOn, Lookup, Nameless, NoIndex, Wanted, bucket_of, chain_at, cycle, end_among, end_at_word, end_of_name, field, is_index, linked_at, looked_up, lookup_at, lookup_by, lookup_end, lookup_word, nchain, next_in_chain, refused_after, same_symbol, sh_link, symbol_at, walk_word, word_at}
 use Rattle.elf_model.specs.declared.causes.Cause.{Cause}
 use Rattle.elf_model.specs.declared.causes.Cause.TheVariants.{HashIndex}
 use Rattle.elf_model.proofs.LookupLaws.{cycle_is_endless}

@@ -2,8 +2,7 @@
 use Rattle.std.proofs.Common.{◌≡◌, ◌≢◌, ℕ, suc, ◌<◌, ◌≤◌, ◌==◌, true, false, List, [], ◌∷◌, ◌++◌, length, get_or, take, drop, Ok, Err, ◌⊎◌, inl, inr, refl, ap, sym, ◌∙◌, arith, length-append, length-take, length-drop, get_or-take}
 use Rattle.std.proofs.lemmas.List.{take-append-le}
 use Rattle.std.proofs.lemmas.Bool.Decides.{nat_tests}
-use Rattle.elf_model.specs.Names.{IsEmptyAtZero, IsNameOf, same, begins}
-use Rattle.elf_model.specs.NameLaws.{IsNameOutside, Differ, SameExactly, SameNotExactly, SameOutsideExactly, SameUnendedExactly, SameCauses}
+use Rattle.elf_model.specs.Prelude.{Differ, IsEmptyAtZero, IsNameOf, IsNameOutside, SameCauses, SameExactly, SameNotExactly, SameOutsideExactly, SameUnendedExactly, begins, same}
 use Rattle.elf_model.specs.declared.causes.Cause.TheVariants.{NameOutside, NameUnended}
 use Rattle.elf_model.proofs.NameLemmas.{Place, inside, empty, outside, place_of, inside-full, inside-below, outside-full, outside-above, named-inside}
 

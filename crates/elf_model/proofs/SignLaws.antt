@@ -2,8 +2,7 @@
 use Rattle.std.proofs.Common.{◌≡◌, ℕ, zero, suc, ◌+◌, ◌-◌, ◌*◌, ◌%◌, ◌^◌, ◌<◌, ◌≤◌, inl, inr, true, false, not, nat_lt, refl, sym, ap, ◌∙◌, arith, mod-eq_of_lt, pow_pos, pow-add, pow-suc, suc-mul}
 use Rattle.std.proofs.lemmas.Bool.{cases_lt, lt-ltb, le-ltb, ltb-true, ltb-false, or_cases, or_left, or_right, not-true, not_from_false}
 use Rattle.std.proofs.lemmas.Nat.{mod-mul-add}
-use Rattle.elf_model.specs.ValueLaws.{SignedFits, sign_extended}
-use Rattle.elf_model.specs.Values.{is_signed}
+use Rattle.elf_model.specs.Prelude.{SignedFits, is_signed, sign_extended}
 
 -- For numbers below 2^64, of which `whole`, twice `half`, is a part, `rest` times less than all.
 module _ (half whole rest value : ℕ) (twice : whole ≡ half + half) (all : rest * whole + whole ≡ 2 ^ 64) where

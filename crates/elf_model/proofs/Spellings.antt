@@ -3,10 +3,9 @@ use Rattle.std.proofs.Common.{min, ◌≡◌, ℕ, ◌+◌, ◌<◌, ◌≤◌, 
 use Rattle.std.proofs.lemmas.List.{take_at, drop_at, append_assoc}
 use Rattle.std.proofs.lemmas.Bool.Decides.{nat_tests}
 use Rattle.std.proofs.lemmas.Bool.{cases_lt}
-use Rattle.elf_model.specs.Bytes.{slice, field}
+use Rattle.elf_model.specs.Prelude.{IsNoteEncoding, Note, OneNote, alignment_gap, are_zeros, bytes_to_alignment, descriptor_start, escaped_size, field, first_end, first_note, n_descsz, n_namesz, n_type, next_note, padded_size, slice}
 use Rattle.elf_model.proofs.Slices.{field-front, slice-size}
-use Rattle.elf_model.specs.Records.{n_namesz, n_descsz, n_type}
-use Rattle.elf_model.specs.Notes.{Note, IsNoteEncoding, Ends, Broken, OneNote, bytes_to_alignment, alignment_gap, descriptor_start, escaped_size, padded_size, are_zeros, first_note, first_end, next_note}
+use Rattle.elf_model.specs.Notes.{Ends, Broken}
 
 -- a slice that stands behind a front
 pub slice-behind : (x y z : List ℕ) (at size : ℕ) → length x ≡ at → length y ≡ size → slice (x ++ y ++ z) at size ≡ y

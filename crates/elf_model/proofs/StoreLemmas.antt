@@ -2,24 +2,9 @@
 use Rattle.std.proofs.Common.{◌≡◌, ℕ, suc, zero, ◌+◌, ◌*◌, ◌/◌, ◌%◌, ◌<◌, ◌≤◌, ◌==◌, ◌&&◌, ◌||◌, nat_lt, min, not, if◌then◌else◌, Bool, true, false, List, [], ◌∷◌, length, Option, None, Some, refl, ap, ap₂, ◌∙◌, arith, add-zero}
 use Rattle.std.proofs.Math.Nat.{mul-le-mul_right, mul-add}
 use Rattle.std.proofs.lemmas.Bool.{eqb-true, ltb-true}
-use Rattle.elf_model.specs.Bytes.{slice, field}
-use Rattle.elf_model.proofs.Slices.{field-slice}
-use Rattle.elf_model.specs.Records.{SECTION_HEADER_SIZE, PROGRAM_HEADER_SIZE, e_shnum, e_phnum, sh_type, sh_offset, sh_size, sh_link, sh_entsize, p_offset, p_filesz, section_at, segment_at}
-use Rattle.elf_model.specs.Names.{name_bytes}
-use Rattle.elf_model.specs.Checks.{pass, refuse, is_outside, is_symbol_table, table_checks_of, whole_checks_of, range_checks_of}
+use Rattle.elf_model.specs.Prelude.{AnyRowsAreWithinCeiling, AnySegmentsAreWithinCeiling, DEFINED_NAME_SIZE, DEFINITION_SIZE, HeaderTable, ListingStyle, NEED_SIZE, PROGRAM_HEADER_SIZE, PlacesDecideNothing, RowsCostWhatTheFileCosts, SECTION_HEADER_SIZE, SHT_GNU_VERDEF, SHT_GNU_VERNEED, SHT_GNU_VERSYM, SegmentsCostWhatTheFileCosts, TableKind, TablesCostKindByKind, ceiling, cost_where, e_phnum, e_shnum, field, file_sections, file_segments, first_numbers, first_that, first_typed, has, has_strings, header_field, held_headers, is_inside, is_outside, is_symbol_table, kind_by_kind, kinds_cost, name_bytes, p_filesz, p_offset, pass, range_checks_of, refuse, relocations, relocations_with_versions, section_at, section_dynamic, section_kinds, section_notes, segment_at, segment_dynamic, segment_kinds, segment_notes, sh_entsize, sh_link, sh_offset, sh_size, sh_type, slice, suffixed_symbols, suffixes_cost, sum_over, symbol_versions, symbols, table_checks_of, table_cost, tables_cost, version_definitions, version_needs, versioned_cost, walk_cost, walks_cost, whole_checks_of}
 use Rattle.elf_model.specs.declared.causes.Cause.TheVariants.{EntrySize, SizeNotWhole, TableOutside}
-use Rattle.elf_model.specs.Listing.{has}
-use Rattle.elf_model.specs.Find.{first_that}
-use Rattle.elf_model.specs.HeaderTables.{HeaderTable, TableKind, file_sections, file_segments, held_headers, first_typed, header_field}
-use Rattle.elf_model.specs.Numbers.{SHT_GNU_VERDEF, SHT_GNU_VERNEED, SHT_GNU_VERSYM}
-use Rattle.elf_model.specs.Style.{ListingStyle}
-use Rattle.elf_model.specs.Suffixes.{first_numbers}
-use Rattle.elf_model.specs.TableKinds.{symbols, relocations, section_dynamic, section_notes, section_kinds, segment_notes, segment_dynamic, segment_kinds, relocations_with_versions, suffixed_symbols, suffixes_cost}
-use Rattle.elf_model.specs.VersionCost.{is_inside, has_strings, versioned_cost, walk_cost, walks_cost}
-use Rattle.elf_model.specs.VersionRows.{version_definitions, version_needs, symbol_versions}
-use Rattle.elf_model.specs.Versions.{DEFINITION_SIZE, DEFINED_NAME_SIZE, NEED_SIZE}
-use Rattle.elf_model.specs.Cost.{sum_over, cost_where, table_cost, kinds_cost, tables_cost, ceiling}
-use Rattle.elf_model.specs.CostLaws.{PlacesDecideNothing, RowsCostWhatTheFileCosts, SegmentsCostWhatTheFileCosts, kind_by_kind, TablesCostKindByKind, AnyRowsAreWithinCeiling, AnySegmentsAreWithinCeiling}
+use Rattle.elf_model.proofs.Slices.{field-slice}
 use Rattle.elf_model.proofs.LookupSteps.{first_that-holds}
 use Rattle.elf_model.proofs.CostLemmas.{table_bound, most_bound, style_ceiling-is, section_kinds-le, segment_kinds-le, tables_by, headers_some}
 use Rattle.elf_model.proofs.SumLemmas.{headers_within, sum_over-le}

@@ -1,8 +1,6 @@
 -- A file whose header tells of no section headers, byte by byte.
 use Rattle.std.proofs.Common.{◌≡◌, ℕ, suc, zero, ◌+◌, ◌*◌, ◌≤◌, ◌<◌, if◌then◌else◌, Bool, true, false, List, [], ◌∷◌, length, take, drop, refl, ap, sym, ◌∙◌, arith, add-zero, zero-add, length-take, inl, inr}
-use Rattle.elf_model.specs.Bytes.{number, slice, field}
-use Rattle.elf_model.specs.Style.{ListingStyle, tells_of_sections, without_sections, without_sections_from, viewed}
-use Rattle.elf_model.specs.StyleLaws.{ViewIsAsLong, ViewIsSeenInSlices, ViewIsTheFileAfterTheHeader, ViewIsTheFileElsewhere, ViewTellsOfNone, ViewIsCheckedAlike, ViewIsItsOwnView}
+use Rattle.elf_model.specs.Prelude.{ListingStyle, ViewIsAsLong, ViewIsCheckedAlike, ViewIsItsOwnView, ViewIsSeenInSlices, ViewIsTheFileAfterTheHeader, ViewIsTheFileElsewhere, ViewTellsOfNone, field, number, slice, tells_of_sections, viewed, without_sections, without_sections_from}
 
 -- the length stays
 pub from_length : (place : ℕ) (bytes : List ℕ) → length (without_sections_from place bytes) ≡ length bytes

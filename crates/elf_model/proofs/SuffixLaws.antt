@@ -1,28 +1,12 @@
 -- The versions behind the names of symbols.
 use Rattle.std.proofs.Common.{◌≡◌, ℕ, zero, suc, ◌==◌, ◌&&◌, nat_lt, not, if◌then◌else◌, Bool, true, false, List, [], ◌∷◌, Option, None, Some, Result, Ok, Err, refl, sym, ap, ◌∙◌, append-nil}
-use Rattle.elf_model.specs.Choice.{RowFilter, NoSuffix, Suffix, Suffixed, chooses}
-use Rattle.elf_model.specs.Fields.{LinePrefix}
-use Rattle.elf_model.specs.LineFronts.{relocation_prefix, symbol_prefix}
-use Rattle.elf_model.specs.Lines.{line_named, name_member, name_text, named_line}
-use Rattle.elf_model.specs.Listing.{ListingItem, Line, each}
-use Rattle.elf_model.specs.Names.{DisplayedName, shown}
-use Rattle.elf_model.specs.Checks.{first_refusal}
-use Rattle.elf_model.specs.Numbers.{SHT_GNU_VERDEF, SHT_GNU_VERNEED}
-use Rattle.elf_model.specs.Tables.{all_checks, entry_at, entry_count, has_symbols, linked_at, strings_of}
-use Rattle.elf_model.specs.VersionRows.{symbol_versions, version_named, version_strings}
-use Rattle.elf_model.specs.Versions.{VisitedRecord, name_index, named_at, number_in}
-use Rattle.elf_model.specs.declared.causes.Cause.TheVariants.{VersionCut, VersionIndex}
-use Rattle.elf_model.specs.declared.versions.VersionKind.TheVariants.{Definition, File}
-use Rattle.elf_model.specs.Records.{e_machine, r_sym, section_at, st_name, sh_link, st_shndx, versym}
-use Rattle.elf_model.specs.Rows.{chosen_row, relocation_row, symbol_named, symbol_row}
-use Rattle.elf_model.specs.Style.{ListingStyle}
-use Rattle.elf_model.specs.SuffixLaws.{UndefinedHaveNoDefault, UnversionedEntriesArePlain, UnversionedSymbolsArePlain}
-use Rattle.elf_model.specs.Suffixes.{after_refusal, line_suffixed, version_numbers_of, or_refusal, walk_refusal, is_default as is_default_of, suffix_at, suffix_of, word_suffix, suffix_members, suffix_text, suffixed_line, relocation_row_with_version, suffixed_relocation_rows, suffixed_row, symbol_row_with_version, suffixed_symbol_rows, suffixes_refusal, symbol_suffix}
-use Rattle.elf_model.specs.TableKinds.{relocations, relocations_with_versions, suffixed_symbols, symbols}
+use Rattle.elf_model.specs.Prelude.{DisplayedName, Line, LinePrefix, ListingItem, ListingStyle, NoSuffix, RowFilter, SHT_GNU_VERDEF, SHT_GNU_VERNEED, Suffix, Suffixed, UndefinedHaveNoDefault, UnversionedEntriesArePlain, UnversionedSymbolsArePlain, VisitedRecord, after_refusal, all_checks, chooses, chosen_row, e_machine, each, entry_at, entry_count, first_refusal, has_symbols, is_default as is_default_of, line_named, line_suffixed, linked_at, name_index, name_member, name_text, named_at, named_line, number_in, or_refusal, r_sym, relocation_prefix, relocation_row, relocation_row_with_version, relocations, relocations_with_versions, section_at, sh_link, shown, st_name, st_shndx, strings_of, suffix_at, suffix_members, suffix_of, suffix_text, suffixed_line, suffixed_relocation_rows, suffixed_row, suffixed_symbol_rows, suffixed_symbols, suffixes_refusal, symbol_named, symbol_prefix, symbol_row, symbol_row_with_version, symbol_suffix, symbol_versions, symbols, version_named, version_numbers_of, version_strings, versym, walk_refusal, word_suffix}
 use Rattle.elf_model.specs.declared.causes.Cause.{Cause}
-use Rattle.elf_model.specs.declared.causes.Refusal.{Refusal}
-use Rattle.elf_model.specs.declared.formats.Format.{Format}
 use Rattle.elf_model.specs.declared.formats.Format.TheVariants.{Columns, Object}
+use Rattle.elf_model.specs.declared.versions.VersionKind.TheVariants.{Definition, File}
+use Rattle.elf_model.specs.declared.formats.Format.{Format}
+use Rattle.elf_model.specs.declared.causes.Refusal.{Refusal}
+use Rattle.elf_model.specs.declared.causes.Cause.TheVariants.{VersionCut, VersionIndex}
 
 -- a line with nothing behind its name
 pub unsuffixed_line : (front : LinePrefix) (name : DisplayedName) → suffixed_line front name NoSuffix ≡ named_line front name

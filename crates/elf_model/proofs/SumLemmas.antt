@@ -3,8 +3,7 @@ use Rattle.std.proofs.Common.{◌≡◌, ℕ, suc, zero, ◌+◌, ◌-◌, ◌*�
 use Rattle.std.proofs.Math.Nat.{mul-le-mul_left, mul-le-mul, div-mul-le_self, add-mul, mul-add}
 use Rattle.std.proofs.lemmas.Nat.{le-div}
 use Rattle.std.proofs.lemmas.Bool.Decides.{nat_tests}
-use Rattle.elf_model.specs.Cost.{sum_over, cost_where}
-use Rattle.elf_model.specs.CostLaws.{LastCostIsAdded, SumsGrow}
+use Rattle.elf_model.specs.Prelude.{LastCostIsAdded, SumsGrow, cost_where, sum_over}
 
 -- sums are put together
 pub sums_split : (amount : ℕ → ℕ) (first count more : ℕ)

@@ -1,14 +1,8 @@
 -- Walks in a hash table of the gABI for a symbol that answers: what is calculated is the one walk, and it is bounded.
 use Rattle.std.proofs.Common.{◌≡◌, ℕ, zero, suc, ◌<◌, ◌≤◌, inl, inr, Bool, true, false, List, Option, None, Some, Result, Ok, Err, refl, sym, ap, ◌∙◌, arith}
 use Rattle.std.proofs.lemmas.Bool.{cases_lt, cases_Bool, and_parts, ltb-true}
-use Rattle.elf_model.specs.Chains.{HashTable, WalkEnd, NotThere, Untried, Answers, Last, end_of_match, ChainResult}
-use Rattle.elf_model.specs.Hash.{sysv_hash, sysv_nchain, bucket_of, symbol_at, same_symbol, is_index, end_at_word, end_of_name, lookup_word, word_at, lookup_at, looked_up, LookupEnd, ChainEnd, NoIndex, Nameless, Wanted, Lookup, IsLookup, IsFirst, IsEndless}
-use Rattle.elf_model.specs.Records.{sh_offset}
-use Rattle.elf_model.specs.Tables.{linked_at}
+use Rattle.elf_model.specs.Prelude.{Answers, ChainEnd, ChainResult, GoesOn, HashTable, IsBounded, IsEndless, IsFirst, IsLookup, IsSysvWalk, Last, Lookup, LookupEnd, Nameless, NoIndex, NotThere, SysvFoundAnswers, SysvWalkAnswers, SysvWalkIsBounded, SysvWalkIsLookup, SysvWalkIsOne, Untried, WalkEnd, Wanted, bucket_of, end_at_word, end_of_match, end_of_name, fault_at, has_name, is_index, is_sysv_index, linked_at, looked_up, lookup_at, lookup_word, parse_lookup, same_symbol, section_table_of, sh_offset, symbol_at, sysv_bucket_of, sysv_cycle, sysv_end, sysv_hash, sysv_nchain, sysv_walk_end, sysv_walked, sysv_walked_at, sysv_walked_by, sysv_word, sysv_word_at, word_at}
 use Rattle.elf_model.specs.declared.causes.Cause.{Cause}
-use Rattle.elf_model.specs.HashLaws.{GoesOn, IsBounded}
-use Rattle.elf_model.specs.SysvWalk.{sysv_bucket_of, sysv_word_at, sysv_cycle, section_table_of, fault_at, has_name, parse_lookup, is_sysv_index, sysv_end, sysv_word, sysv_walked_at, sysv_walked_by, sysv_walk_end, sysv_walked, IsSysvWalk}
-use Rattle.elf_model.specs.SysvWalkLaws.{SysvWalkAnswers, SysvWalkIsOne, SysvWalkIsBounded, SysvFoundAnswers, SysvWalkIsLookup}
 use Rattle.elf_model.specs.declared.causes.Refusal.{Refusal}
 use Rattle.elf_model.proofs.LookupLaws.{lookup_answers}
 use Rattle.elf_model.proofs.WalkLaws.{long_endless, searched_endless, searched_first, gives_one, not_both}

@@ -3,8 +3,7 @@ use Rattle.std.proofs.Common.{◌≡◌, ℕ, zero, suc, ◌+◌, ◌-◌, ◌*�
 use Rattle.std.proofs.Math.Nat.{add-mod-mod, mod-add-mod}
 use Rattle.std.proofs.lemmas.Bool.{cond-true, cond-false, cases_lt, lt-ltb, le-ltb}
 use Rattle.std.proofs.lemmas.Nat.{mod-mul-add}
-use Rattle.elf_model.specs.ValueLaws.{SumWraps, DifferenceWraps, AddendIsItsBits}
-use Rattle.elf_model.specs.Values.{modulo_2_64}
+use Rattle.elf_model.specs.Prelude.{AddendIsItsBits, DifferenceWraps, SumWraps, modulo_2_64}
 
 sum_below : (s n : ℕ) → s < suc n → 2 ^ 64 - 1 - (n - s) % 2 ^ 64 ≡ (s + (2 ^ 64 - 1 - n % 2 ^ 64)) % 2 ^ 64
 sum_below s n low =

@@ -1,13 +1,6 @@
 -- The checks before the rows of version numbers are those that a cost counts by the headers.
 use Rattle.std.proofs.Common.{◌≡◌, ℕ, ◌==◌, ◌&&◌, ◌||◌, nat_lt, not, if◌then◌else◌, Bool, true, false, List, [], ◌∷◌, ◌++◌, length, refl, ap, ap₂, sym, ◌∙◌}
-use Rattle.elf_model.specs.Checks.{Check, pass, refuse, unless_empty, is_outside, is_symbol_table, table_checks, strings_checks}
-use Rattle.elf_model.specs.HeaderTables.{file_sections}
-use Rattle.elf_model.specs.Records.{e_shnum, sh_type, sh_offset, sh_size, sh_link, section_at}
-use Rattle.elf_model.specs.Tables.{symbol_table_checks}
-use Rattle.elf_model.specs.VersionCost.{has_strings, has_symbol_table}
-use Rattle.elf_model.specs.VersionLaws.{CheckedRowsAreCounted}
-use Rattle.elf_model.specs.VersionRows.{symbol_versions, symbols_checks}
-use Rattle.elf_model.specs.Versions.{VERSYM_SIZE}
+use Rattle.elf_model.specs.Prelude.{Check, CheckedRowsAreCounted, VERSYM_SIZE, e_shnum, file_sections, has_strings, has_symbol_table, is_outside, is_symbol_table, pass, refuse, section_at, sh_link, sh_offset, sh_size, sh_type, strings_checks, symbol_table_checks, symbol_versions, symbols_checks, table_checks, unless_empty}
 use Rattle.elf_model.specs.declared.causes.Cause.TheVariants.{BadLink, NotStrings, TableOutside}
 use Rattle.elf_model.specs.declared.causes.Refusal.{Refusal}
 

@@ -2,10 +2,8 @@
 use Rattle.std.proofs.Common.{◌≡◌, ℕ, zero, suc, ◌<◌, ◌≤◌, true, false, List, [], ◌∷◌, ◌++◌, length, All, Option, None, Some, refl, ap, sym, ◌∙◌, arith, inl, inr, zero-le}
 use Rattle.std.proofs.lemmas.Bool.{cases_Bool}
 use Rattle.std.proofs.lemmas.List.Elements.{All-nil, All-cons}
-use Rattle.elf_model.specs.Checks.{first_refusal}
+use Rattle.elf_model.specs.Prelude.{FirstListNamesFirst, NamedIsFirst, NumbersAreSmall, RecordCursorState, RecordsAreBounded, RecordsStand, StandsInTable, UnnamedHasNone, VERSION_NUMBERS, VisitedRecord, first_position, first_refusal, max_records, named_by, names_version_index, next_position, number_in, number_word, record_checks, versions_in, visited_at, visited_from}
 use Rattle.elf_model.specs.declared.causes.Refusal.{Refusal}
-use Rattle.elf_model.specs.Versions.{VERSION_NUMBERS, number_in, number_word, VisitedRecord, RecordCursorState, record_checks, next_position, visited_at, visited_from, versions_in, first_position, max_records, names_version_index, named_by}
-use Rattle.elf_model.specs.VersionLaws.{RecordsAreBounded, StandsInTable, RecordsStand, NamedIsFirst, UnnamedHasNone, FirstListNamesFirst, NumbersAreSmall}
 use Rattle.elf_model.proofs.VersionSteps.{met-ended, met-most, met-record, met-refused, ends-inside, number-small}
 
 -- no more records are met than may be

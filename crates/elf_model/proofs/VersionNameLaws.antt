@@ -3,25 +3,11 @@ use Rattle.std.proofs.Common.{◌≡◌, ℕ, zero, suc, ◌+◌, ◌<◌, ◌�
 use Rattle.std.proofs.lemmas.Bool.{cases_Bool}
 use Rattle.std.proofs.lemmas.List.Elements.{All-nil, All-cons, All-head, All-tail, All-append}
 use Rattle.std.specs.Result.{is_ok}
-use Rattle.elf_model.specs.Choice.{RowFilter}
-use Rattle.elf_model.specs.Checks.{Check, first_refusal}
-use Rattle.elf_model.specs.HeaderTables.{TableKind, file_sections, header_field}
-use Rattle.elf_model.specs.Listing.{ListingItem, Line, Fault, fault_of, guarded, each}
-use Rattle.elf_model.specs.Names.{DisplayedName, shown}
-use Rattle.elf_model.specs.Numbers.{SHT_GNU_VERDEF, SHT_GNU_VERNEED}
-use Rattle.elf_model.specs.Records.{e_shnum, sh_type, sh_offset, sh_size, section_at, vn_aux, vn_next}
-use Rattle.elf_model.specs.Report.{table_rows, kinds_rows}
-use Rattle.elf_model.specs.Fields.{LinePrefix}
-use Rattle.elf_model.specs.Rows.{chosen_row}
-use Rattle.elf_model.specs.Style.{ListingStyle}
-use Rattle.elf_model.specs.Tables.{all_checks, strings_of}
-use Rattle.elf_model.specs.VersionLaws.{NamesOfNumbersAreShown, records_rows}
-use Rattle.elf_model.specs.VersionRows.{version_row, visited_rows, versions_rows, end_rows, section_versions, first_of_type, first_versions, first_strings, version_named, version_strings, version_definitions, version_needs}
-use Rattle.elf_model.specs.Versions.{VisitedRecord, RecordCursorState, along, along_needs, next_position, visited_at, visited_from, versions_in, first_position, max_records, names_version_index, named_by, name_index, named_at, next_word, record_checks, version_of}
+use Rattle.elf_model.specs.Prelude.{Check, DisplayedName, Fault, Line, LinePrefix, ListingItem, ListingStyle, NamesOfNumbersAreShown, RecordCursorState, RowFilter, SHT_GNU_VERDEF, SHT_GNU_VERNEED, TableKind, VisitedRecord, all_checks, along, along_needs, chosen_row, e_shnum, each, end_rows, fault_of, file_sections, first_of_type, first_position, first_refusal, first_strings, first_versions, guarded, header_field, kinds_rows, max_records, name_index, named_at, named_by, names_version_index, next_position, next_word, record_checks, records_rows, section_at, section_versions, sh_offset, sh_size, sh_type, shown, strings_of, table_rows, version_definitions, version_named, version_needs, version_of, version_row, version_strings, versions_in, versions_rows, visited_at, visited_from, visited_rows, vn_aux, vn_next}
 use Rattle.elf_model.specs.declared.causes.Cause.{Cause}
+use Rattle.elf_model.specs.declared.versions.VersionKind.TheVariants.{Definition, File, Need}
 use Rattle.elf_model.specs.declared.causes.Refusal.{Refusal}
 use Rattle.elf_model.specs.declared.versions.VersionKind.{VersionKind}
-use Rattle.elf_model.specs.declared.versions.VersionKind.TheVariants.{Definition, File, Need}
 use Rattle.elf_model.proofs.LookupSteps.{first_that-holds}
 use Rattle.elf_model.proofs.ListingLemmas.{listings_append}
 use Rattle.elf_model.proofs.VersionLaws.{named-here, named-later, named-none}

@@ -2,18 +2,9 @@
 use Rattle.std.proofs.Common.{◌≡◌, ℕ, zero, suc, ◌+◌, ◌<◌, ◌≤◌, min, nat_lt, true, false, List, [], ◌++◌, length, length-append, Option, None, Some, Result, Ok, Err, refl, ◌∙◌, arith, inl, inr}
 use Rattle.std.proofs.lemmas.Bool.{cases_Bool}
 use Rattle.std.proofs.lemmas.Bool.Decides.{nat_tests}
-use Rattle.elf_model.specs.Choice.{RowFilter, EveryRow, RowsOf}
-use Rattle.elf_model.specs.Listing.{ListingItem, each}
-use Rattle.elf_model.specs.Names.{DisplayedName}
-use Rattle.elf_model.specs.Fields.{LinePrefix}
-use Rattle.elf_model.specs.Rows.{chosen_row, no_name, refused_row}
-use Rattle.elf_model.specs.Style.{ListingStyle}
-use Rattle.elf_model.specs.Tables.{entry_count}
-use Rattle.elf_model.specs.Versions.{VERSYM_SIZE, VisitedRecord}
-use Rattle.elf_model.specs.VersionRows.{numbered_row, symbol_version_row, symbol_version_rows, versioned_count, versioned_symbols, version_named}
+use Rattle.elf_model.specs.Prelude.{DisplayedName, EveryRow, LinePrefix, ListingItem, ListingStyle, RowFilter, RowsAreSymbols, RowsOf, VERSYM_SIZE, VisitedRecord, chosen_row, each, entry_count, no_name, numbered_row, refused_row, symbol_version_row, symbol_version_rows, version_named, versioned_count, versioned_symbols}
 use Rattle.elf_model.specs.declared.causes.Cause.{Cause}
 use Rattle.elf_model.specs.declared.causes.Cause.TheVariants.{VersionCut}
-use Rattle.elf_model.specs.VersionLaws.{RowsAreSymbols}
 
 -- where every row is shown, a row with a name is one member
 chosen-one : (choice : RowFilter) (front : LinePrefix) (at : ℕ) (name : Result DisplayedName Cause) → choice ≡ EveryRow

@@ -2,11 +2,9 @@
 use Rattle.std.proofs.Common.{[], ◌<◌, ◌==◌, not, ◌≡◌, ℕ, zero, suc, ◌+◌, ◌≤◌, nat_lt, false, List, ◌∷◌, None, Some, refl, arith, inl, inr}
 use Rattle.std.proofs.lemmas.Bool.{cases_Bool}
 use Rattle.std.proofs.lemmas.Bool.Decides.{nat_tests}
-use Rattle.elf_model.specs.Checks.{Check, refuse, first_refusal}
+use Rattle.elf_model.specs.Prelude.{Check, RecordCursorState, RecordIsRefused, RecordIsVisited, VERSION_NUMBERS, first_refusal, name_end, next_position, no_versions, number_in, number_word, record_checks, record_size, refuse, version_word, visited_at, visited_from, with_visited, word_checks}
 use Rattle.elf_model.specs.declared.causes.Cause.TheVariants.{BadVersion, VersionCut, VersionIndex}
 use Rattle.elf_model.specs.declared.causes.Refusal.{Refusal}
-use Rattle.elf_model.specs.Versions.{RecordCursorState, record_size, word_checks, record_checks, next_position, visited_at, visited_from, no_versions, with_visited, VERSION_NUMBERS, number_in, number_word, version_word, name_end}
-use Rattle.elf_model.specs.VersionLaws.{RecordIsVisited, RecordIsRefused}
 
 -- a walk that has ended meets nothing more
 pub met-ended : (file : List ℕ) (table size most : ℕ) → visited_from file table size None most ≡ no_versions None

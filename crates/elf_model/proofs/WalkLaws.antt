@@ -1,8 +1,7 @@
 -- Walks: a walk that comes to a word again never ends, and so does one that is longer than its words are many.
 use Rattle.std.proofs.Common.{◌≡◌, ℕ, zero, suc, ◌+◌, ◌-◌, ◌<◌, ◌≤◌, ◌⊎◌, inl, inr, Option, None, Some, refl, sym, ap, ◌∙◌, arith, add-suc, add-zero}
 use Rattle.std.proofs.lemmas.Bool.{cases_eq, cases_lt}
-use Rattle.elf_model.specs.Hash.{walk_word, end_among, IsFirst, IsEndless}
-use Rattle.elf_model.specs.HashLaws.{Repeats, GoesOn, IsBounded, RepeatNeverEnds, LongWalkRepeats, LongWalkNeverEnds}
+use Rattle.elf_model.specs.Prelude.{GoesOn, IsBounded, IsEndless, IsFirst, LongWalkNeverEnds, LongWalkRepeats, RepeatNeverEnds, Repeats, end_among, walk_word}
 use Rattle.elf_model.proofs.Pigeons.{two_are_the_same}
 
 -- from the same word on a walk is the same

@@ -83,3 +83,4 @@ pub mod TraitCost
 pub mod Bindings
 pub mod BindingLines
 pub mod BoundSymbols
+pub mod Prelude

@@ -6,13 +6,10 @@ use Rattle.elf_model.specs.Loader.{SymbolQuery}
 use Rattle.elf_source.specs.Source.{CountedState}
 use Rattle.elf_table.specs.declared.fault.Fault.{Fault}
 use Rattle.elf_table.specs.declared.fault.Fault.TheVariants.{Refused, Source}
-use Rattle.elf_needs.specs.Binds.{AreObjectFiles, AskedFirst, BindsAcross, asked_of_all, reached}
-use Rattle.elf_needs.specs.Kept.{LookupObjectState}
-use Rattle.elf_needs.specs.Looks.{FailsIn, FaultLeaves, SpendsBudget, SpendsAtMost}
-use Rattle.elf_needs.proofs.OpenLaws.{pays_then}
+use Rattle.elf_needs.specs.Prelude.{AreObjectFiles, AskedFirst, AsksAll, BindsAcross, FailsIn, FaultLeaves, IsLimited, LookupObjectState, OnlyLimited, SameObject, SpendsAtMost, SpendsBudget, asked_of_all, reached}
 use Rattle.elf_needs.specs.declared.bind_name.BindFault.{BindFault}
 use Rattle.elf_needs.specs.declared.bind_name.BindResult.{BindResult}
-use Rattle.elf_needs.specs.Bound.{AsksAll, IsLimited, OnlyLimited, SameObject}
+use Rattle.elf_needs.proofs.OpenLaws.{pays_then}
 
 same_none : (o : LookupObjectState) → SameObject o o
 same_none o = record { same_file = refl; same_headers = refl; grows = omega arith }

@@ -2,16 +2,12 @@
 use Rattle.std.proofs.Common.{◌≡◌, ℕ, zero, suc, ◌+◌, ◌<◌, ◌≤◌, ◌⊎◌, List, [], ◌∷◌, length, length-set, get_or, get_or-set_other, get_or-set_same, set, drop, inl, inr, Option, None, Some, Result, Ok, Err, refl, ap, subst, ◌∙◌, arith}
 use Rattle.std.proofs.lemmas.Bool.{cases_lt}
 use Rattle.std.proofs.lemmas.List.Sums.{sum_by-set}
-use Rattle.elf_model.specs.Bindings.{BoundTo, BoundToNone, DefinerLookup, StoppedIn, bound_from, bound_in, bound_or, definition_lookup}
-use Rattle.elf_model.specs.Bindings as model
-use Rattle.elf_model.specs.Loader.{SymbolQuery}
+use Rattle.elf_model.specs.Prelude.{BoundTo, BoundToNone, DefinerLookup, StoppedIn, SymbolQuery, bound_from, bound_in, bound_or, definition_lookup}
 use Rattle.elf_model.specs.declared.causes.Refusal.{Refusal}
+use Rattle.elf_model.specs.Bindings as model
 use Rattle.elf_table.specs.declared.fault.Fault.{Fault}
 use Rattle.elf_table.specs.declared.fault.Fault.TheVariants.{Refused, Source}
-use Rattle.elf_needs.specs.Definers.{ReturnsDefiner}
-use Rattle.elf_needs.specs.Binds.{AreObjectFiles, AskedOf, AskedFirst, BindsAcross, ReturnsBinding, asked_of_all}
-use Rattle.elf_needs.specs.Kept.{LookupObjectState}
-use Rattle.elf_needs.specs.Looks.{FailsIn, LooksInObject, SpendsBudget}
+use Rattle.elf_needs.specs.Prelude.{AreObjectFiles, AskedFirst, AskedOf, BindsAcross, FailsIn, LooksInObject, LookupObjectState, ReturnsBinding, ReturnsDefiner, SpendsBudget, asked_of_all}
 use Rattle.elf_needs.specs.declared.bind_name.BindResult.TheVariants.{Bound, Unbound}
 
 -- so many were looked in, and none of them answers

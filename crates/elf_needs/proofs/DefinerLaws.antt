@@ -1,37 +1,22 @@
 -- What looking for the symbol that defines a name gives, stage by stage.
 use mathlib.Core.Path.{fun_ext}
 use Rattle.std.proofs.Common.{◌≡◌, ℕ, ◌+◌, ◌*◌, ◌≤◌, ◌==◌, if◌then◌else◌, not, Bool, true, false, List, [], ◌∷◌, Option, None, Some, Result, Ok, Err, refl, sym, ap, subst, ◌∙◌, arith}
-use Rattle.elf_model.specs.Bindings.{DefinerLookup, defines, definition_cost, definer_by, definition_in, definer_walk, unwalked}
-use Rattle.elf_model.specs.Chains.{ChainResult as NoteScan}
-use Rattle.elf_model.specs.Checks.{first_refusal}
-use Rattle.elf_model.specs.Loader.{CompareResult, SymbolQuery, answers, is_among, symbol_offset}
-use Rattle.elf_model.specs.LoaderFind.{counts_check, record_cost, version_indices}
-use Rattle.elf_model.specs.LoaderScope.{LookupTables as IsScopeOf}
-use Rattle.elf_model.specs.Numbers.{SHN_UNDEF}
-use Rattle.elf_model.specs.Records.{st_shndx}
+use Rattle.elf_model.specs.Prelude.{ChainResult as NoteScan, CompareResult, DefinerLookup, LookupTables as IsScopeOf, SHN_UNDEF, SymbolQuery, answers, counts_check, definer_by, definer_walk, defines, definition_cost, definition_in, first_refusal, is_among, record_cost, st_shndx, symbol_offset, unwalked, version_indices}
 use Rattle.elf_model.specs.declared.causes.Refusal.{Refusal}
 use Rattle.elf_source.specs.Source.{CountedState}
-use Rattle.elf_table.specs.Ledger.{CallReads}
+use Rattle.elf_table.specs.Prelude.{CallReads, IsOfRead, row_at}
 use Rattle.elf_table.specs.declared.fault.Fault.{Fault}
 use Rattle.elf_table.specs.declared.fault.Fault.TheVariants.{Refused, Source}
 use Rattle.elf_table.proofs.LedgerLaws.{CallReads-then}
-use Rattle.elf_table.specs.Cursors.{row_at}
-use Rattle.elf_table.specs.Faults.{IsOfRead}
-use Rattle.elf_hash.specs.SearchedTables.{HasCounts, IsPlaceIn, ReturnsExcluded, counts_bytes, walked_in}
-use Rattle.elf_hash.specs.Trials.{TriesSymbol}
-use Rattle.elf_hash.specs.Walks.{GivesWalked, WalksChain, index_of, walk_bytes}
-use Rattle.elf_hash.specs.declared.answer.SymbolMatch.{SymbolMatch}
-use Rattle.elf_hash.specs.declared.hash_style.HashStyle.{HashStyle}
-use Rattle.elf_hash.specs.declared.hash_style.HashStyle.TheVariants.{Gnu, Sysv}
-use Rattle.elf_hash.specs.declared.table.HashTable.{HashTable}
+use Rattle.elf_hash.specs.Prelude.{GivesWalked, HasCounts, IsLookupTables, IsPlaceIn, ReturnsExcluded, TriesSymbol, WalksChain, counts_bytes, index_of, walk_bytes, walked_in}
 use Rattle.elf_hash.specs.declared.chain_result.ChainResult.{ChainResult}
-use Rattle.elf_hash.specs.LookupTablesFound.{IsLookupTables}
-use Rattle.elf_hash.specs.declared.lookup_tables.LookupTables.{LookupTables}
 use Rattle.elf_hash.specs.declared.symbols.DynamicSymbols.{DynamicSymbols}
-use Rattle.elf_loader.specs.Answering.{IsSymbolWithVersym}
-use Rattle.elf_loader.specs.Comparing.{CollectsNumbers}
-use Rattle.elf_loader.specs.Lookups.{match_bytes}
-use Rattle.elf_loader.specs.NumberSets.{has_number}
+use Rattle.elf_hash.specs.declared.hash_style.HashStyle.{HashStyle}
+use Rattle.elf_hash.specs.declared.table.HashTable.{HashTable}
+use Rattle.elf_hash.specs.declared.lookup_tables.LookupTables.{LookupTables}
+use Rattle.elf_hash.specs.declared.answer.SymbolMatch.{SymbolMatch}
+use Rattle.elf_hash.specs.declared.hash_style.HashStyle.TheVariants.{Gnu, Sysv}
+use Rattle.elf_loader.specs.Prelude.{CollectsNumbers, IsSymbolWithVersym, has_number, match_bytes}
 use Rattle.elf_needs.specs.Definers.{DefinesAfter, SaysDefines, ReturnsDefiner, definer_with, the_defined}
 
 -- A TRIAL that passes over what is undefined

@@ -2,9 +2,9 @@
 use Rattle.std.proofs.Common.{◌≡◌, ℕ, suc, ◌+◌, ◌<◌, ◌≤◌, List, [], ◌∷◌, ◌++◌, length, drop, drop-cons, get_or, Option, None, Some, refl, ap, sym, ◌∙◌, append_assoc, add-one}
 use Rattle.std.proofs.Math.ListN.{drop_of_length-le}
 use Rattle.std.specs.List.{cons_option}
-use Rattle.elf_needs.specs.Searching.{SearchPathText, NeedingObject, first_runpath, dir_paths, given_dirs, rpath_dirs, rpath_of, search_dirs, searched_paths, unless_runpath}
-use Rattle.elf_needs.specs.Steps.{dirs_in, dirs_of, needer_of, needers_of}
+use Rattle.elf_needs.specs.Prelude.{SearchPathText, dir_paths, dirs_in, dirs_of, first_runpath, given_dirs, needer_of, needers_of, rpath_dirs, rpath_of, search_dirs, searched_paths, unless_runpath}
 use Rattle.elf_needs.specs.declared.folders.SearchPathList.{SearchPathList}
+use Rattle.elf_needs.specs.Searching.{NeedingObject}
 use Rattle.elf_needs.specs.declared.needers.NeedingObject.{NeedingObject as BorrowedNeeder}
 
 pub dirs_more : (lists : List SearchPathList) (folders : SearchPathList) → dirs_in (lists ++ folders ∷ []) ≡ dirs_in lists ++ dirs_of folders ∷ []

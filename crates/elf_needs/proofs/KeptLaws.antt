@@ -2,11 +2,10 @@
 use Rattle.std.proofs.Common.{ℕ, List, None, Ok, Err, sym, subst, ◌∙◌}
 use Rattle.elf_model.specs.LoaderScope.{lookup_tables_of}
 use Rattle.elf_source.specs.Source.{CountedState}
-use Rattle.elf_table.specs.Ledger.{CallDid}
+use Rattle.elf_table.specs.Prelude.{CallDid}
 use Rattle.elf_table.specs.declared.fault.Fault.{Fault}
 use Rattle.elf_table.specs.declared.fault.Fault.TheVariants.{Refused, Source}
-use Rattle.elf_hash.specs.Finding.{FindsScope}
-use Rattle.elf_hash.specs.LookupTablesFound.{FindsLookupTables, LookupTablesInBounds}
+use Rattle.elf_hash.specs.Prelude.{FindsLookupTables, FindsScope, LookupTablesInBounds}
 use Rattle.elf_hash.specs.declared.lookup_tables.LookupTables.{LookupTables}
 use Rattle.elf_needs.specs.Kept.{IsKept, ReturnsKept}
 

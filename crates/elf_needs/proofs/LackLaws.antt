@@ -1,24 +1,17 @@
 -- Whether a file lacks a version, by what is read of its definitions.
 use Rattle.std.proofs.Common.{◌≡◌, ℕ, ◌+◌, ◌≤◌, ◌==◌, nat_lt, Bool, true, false, if◌then◌else◌, is_some, not, MatchBool, List, [], ◌∷◌, ◌++◌, length, Option, None, Some, Result, Ok, Err, refl, sym, ap, ◌∙◌, arith, mul-le-mul_right}
 use Rattle.std.proofs.lemmas.Bool.Decides.{nat_tests}
-use Rattle.elf_model.specs.BoundSymbols.{definitions_among, is_definition, is_none_of, lacks_among, lacks_version}
-use Rattle.elf_model.specs.Loader.{CompareResult, VersionRecordTable as IsTableOf, DynamicSymbols as AreSymbolsOf, Version, VersymTable as AreWordsOf, compared_with, is_among, readings}
-use Rattle.elf_model.specs.LoaderFind.{version_indices}
-use Rattle.elf_model.specs.LoaderScope.{LookupTables as IsScopeOf}
-use Rattle.elf_model.specs.Names.{pad64}
+use Rattle.elf_model.specs.Prelude.{CompareResult, DynamicSymbols as AreSymbolsOf, LookupTables as IsScopeOf, Version, VersionRecordTable as IsTableOf, VersymTable as AreWordsOf, compared_with, definitions_among, is_among, is_definition, is_none_of, lacks_among, lacks_version, pad64, readings, version_indices}
 use Rattle.elf_model.specs.declared.causes.Refusal.{Refusal}
 use Rattle.elf_table.specs.declared.fault.Fault.{Fault}
 use Rattle.elf_table.specs.declared.fault.Fault.TheVariants.{Refused, Source}
 use Rattle.elf_source.specs.Source.{CountedState}
-use Rattle.elf_loader.specs.Comparing.{CollectsNumbers, comparing_bytes}
-use Rattle.elf_loader.specs.Tables.{max_records_of, max_versions_of}
-use Rattle.elf_loader.specs.NumberSets.{has_number}
-use Rattle.elf_hash.specs.Symbols.{AreVersionRecordTables, AreVersymTable, IsDynamicSymbols, table_if_any}
-use Rattle.elf_hash.specs.declared.symbols.VersionRecordTable.{VersionRecordTable}
+use Rattle.elf_loader.specs.Prelude.{CollectsNumbers, comparing_bytes, has_number, max_records_of, max_versions_of}
+use Rattle.elf_hash.specs.Prelude.{AreVersionRecordTables, AreVersymTable, IsDynamicSymbols, table_if_any}
 use Rattle.elf_hash.specs.declared.symbols.DynamicSymbols.{DynamicSymbols}
+use Rattle.elf_hash.specs.declared.symbols.VersionRecordTable.{VersionRecordTable}
 use Rattle.elf_hash.specs.declared.symbols.VersymTable.{VersymTable}
-use Rattle.elf_needs.specs.Lacking.{definition_if, definitions_of}
-use Rattle.elf_needs.specs.Sought.{RefusesAs, ReturnsAs}
+use Rattle.elf_needs.specs.Prelude.{RefusesAs, ReturnsAs, definition_if, definitions_of}
 
 -- there is none, or one
 pub none_where : {X : Type 0} (o : Option X) (none : Bool) → is_some o ≡ not none → none ≡ true → o ≡ None

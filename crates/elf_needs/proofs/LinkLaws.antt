@@ -1,20 +1,13 @@
 -- What an entry tells of how a file is linked, and what is kept of it.
 use Rattle.std.proofs.Common.{◌≡◌, ℕ, zero, suc, ◌<◌, ◌==◌, Bool, true, false, List, [], ◌∷◌, ◌++◌, length, slice_index_or, Option, None, Some, Result, Ok, Err, refl, sym, ap, ◌∙◌, arith, length-append, append_assoc}
 use Rattle.std.proofs.lemmas.Bool.Decides.{nat_tests}
-use Rattle.elf_model.specs.Checks.{first_refusal}
-use Rattle.elf_model.specs.Links.{LinkState, NeededName, TextRoom, first_text, is_link, link_text, linked_by, linked_with, room_after}
-use Rattle.elf_model.specs.Mapped.{mapped_bytes, mapped_checks, mapped_place, strings_at}
-use Rattle.elf_model.specs.Names.{shown}
-use Rattle.elf_model.specs.Records.{d_tag, d_un}
-use Rattle.elf_model.specs.declared.causes.Cause.TheVariants.{Unmapped}
+use Rattle.elf_model.specs.Prelude.{LinkState, NeededName, TextRoom, d_tag, d_un, first_refusal, first_text, is_link, link_text, linked_by, linked_with, mapped_bytes, mapped_checks, mapped_place, room_after, shown, strings_at}
 use Rattle.elf_model.specs.declared.causes.Refusal.{Refusal}
+use Rattle.elf_model.specs.declared.causes.Cause.TheVariants.{Unmapped}
+use Rattle.elf_table.specs.Prelude.{StringTableRange, strings, strings_mapped}
 use Rattle.elf_table.specs.declared.fault.Fault.{Fault}
 use Rattle.elf_table.specs.declared.fault.Fault.TheVariants.{Refused, Source}
-use Rattle.elf_table.specs.Sections.{strings}
-use Rattle.elf_table.specs.Tables.{StringTableRange}
-use Rattle.elf_table.specs.Views.{strings_mapped}
-use Rattle.elf_needs.specs.Entries.{AreNeeds, IsNeed, IsHeldText, KeepsLinks, KeepsText, ReturnsLinks, ReturnsStrings, ReturnsText, first_index, text_by, with_index}
-use Rattle.elf_needs.specs.Held.{LinkInfoState}
+use Rattle.elf_needs.specs.Prelude.{AreNeeds, IsHeldText, IsNeed, KeepsLinks, KeepsText, LinkInfoState, ReturnsLinks, ReturnsStrings, ReturnsText, first_index, text_by, with_index}
 use Rattle.elf_needs.specs.declared.links.LinkInfo.{LinkInfo}
 use Rattle.elf_needs.specs.declared.links.NeededLibrary.{NeededLibrary}
 

@@ -1,20 +1,15 @@
 -- A loop over dynamic entries that tell how a file is linked: what it asks for, and what the entries that are left tell.
 use Rattle.std.proofs.Common.{◌≡◌, ℕ, suc, ◌+◌, ◌-◌, ◌*◌, ◌≤◌, List, [], Option, None, Result, Ok, Err, refl, sym, ap, ◌∙◌, arith, append-nil}
-use Rattle.elf_model.specs.Dynamic.{dynamic_count}
-use Rattle.elf_model.specs.Links.{LinkState, linked_from, linked_with, no_link_info}
+use Rattle.elf_model.specs.Prelude.{LinkState, dynamic_count, linked_from, linked_with, no_link_info}
 use Rattle.elf_model.specs.declared.causes.Refusal.{Refusal}
 use Rattle.elf_source.specs.Source.{CountedState, ReadsUpTo}
 use Rattle.elf_source.proofs.ReadsLaws.{ReadsUpTo-to}
 use Rattle.elf_table.proofs.LedgerLaws.{CallReads-then}
-use Rattle.elf_table.specs.Faults.{IsAt, IsOfRead}
-use Rattle.elf_table.specs.Ledger.{CallReads}
+use Rattle.elf_table.specs.Prelude.{CallReads, CursorState, IsAt, IsOfRead, TableRange, next_row, row_at, size_of, unread_bytes}
 use Rattle.elf_table.specs.declared.fault.Fault.{Fault}
 use Rattle.elf_table.specs.declared.fault.Fault.TheVariants.{Refused, Source}
 use Rattle.elf_note.specs.DynCursors.{DynCursorState, StartsEntries, entries_left}
-use Rattle.elf_table.specs.Cursors.{CursorState, next_row, row_at, unread_bytes}
-use Rattle.elf_table.specs.Tables.{TableRange, size_of}
-use Rattle.elf_needs.specs.Entries.{KeepsLinks, ReturnsLinks}
-use Rattle.elf_needs.specs.Held.{LinkInfoState}
+use Rattle.elf_needs.specs.Prelude.{KeepsLinks, LinkInfoState, ReturnsLinks}
 use Rattle.elf_needs.specs.declared.links.LinkInfo.{LinkInfo}
 
 -- a call behind reads that leave so much of what all may ask for

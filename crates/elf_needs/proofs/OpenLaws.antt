@@ -3,10 +3,7 @@ use Rattle.std.proofs.Common.{◌≡◌, ℕ, ◌+◌, ◌-◌, ◌≤◌, List,
 use Rattle.std.proofs.lemmas.List.Sums.{sum_by_push}
 use Rattle.elf_source.specs.Source.{CountedState, ReadsUpTo, SetsLimit}
 use Rattle.elf_source.proofs.LimitLaws.{within_budget}
-use Rattle.elf_needs.specs.Binds.{asked_of_all}
-use Rattle.elf_needs.specs.Kept.{LookupObjectState}
-use Rattle.elf_needs.specs.Looks.{SpendsBudget}
-use Rattle.elf_needs.specs.Opens.{AsksKept, KeepsOne, SpendsBudgetAtLeast}
+use Rattle.elf_needs.specs.Prelude.{AsksKept, KeepsOne, LookupObjectState, SpendsBudget, SpendsBudgetAtLeast, asked_of_all}
 
 pub pays_then : (l0 l1 l2 : Option ℕ) (a b c : ℕ) → SpendsBudget l0 l1 a b → SpendsBudget l1 l2 b c → SpendsBudget l0 l2 a c
 pays_then None None None a b c p q = tt

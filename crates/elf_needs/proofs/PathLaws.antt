@@ -2,8 +2,7 @@
 use Rattle.std.proofs.Common.{◌≡◌, ℕ, ◌+◌, ◌<◌, ◌≤◌, true, false, Bool, nat_lt, List, [], ◌∷◌, ◌++◌, length, length-append, Option, None, Some, refl, ap, sym, ◌∙◌, append_assoc, arith}
 use Rattle.std.proofs.lemmas.Bool.Decides.{nat_tests}
 use Rattle.std.specs.List.{cons_option}
-use Rattle.elf_needs.specs.Searching.{MOST_PATH_BYTES, after_dir, root_before, entry_path, entry_paths, dir_of_entry, if_short, path_in}
-use Rattle.elf_needs.specs.Steps.{IsMade, PutsText}
+use Rattle.elf_needs.specs.Prelude.{IsMade, MOST_PATH_BYTES, PutsText, after_dir, dir_of_entry, entry_path, entry_paths, if_short, path_in, root_before}
 
 some_same : {x y : List ℕ} → Some x ≡ Some y → x ≡ y
 some_same e = cc e

@@ -1,35 +1,19 @@
 -- How a file is linked, stage by stage: what a lookup is made in, the first segment of dynamic entries, the headers.
 use Rattle.std.proofs.Common.{◌≡◌, ℕ, ◌+◌, ◌*◌, ◌/◌, ◌≤◌, Bool, true, false, List, ◌++◌, None, Some, Result, Ok, Err, refl, sym, ap, subst, ◌∙◌, arith}
-use Rattle.elf_model.specs.Budget.{IsBudgetRefusal}
-use Rattle.elf_model.specs.Checks.{first_refusal, header_checks, load_checks}
-use Rattle.elf_model.specs.Dynamic.{dynamic_count, listed_value}
-use Rattle.elf_model.specs.Links.{LinkState, TextRoom, linked_from, linked_in, links_by_segments, links_ceiling, links_of, loaded_links, lookup_refusal, no_link_info}
-use Rattle.elf_model.specs.LoaderScope.{LookupTables as IsScopeOf, dynamic_segment_index, lookup_tables_by_segments}
-use Rattle.elf_model.specs.Numbers.{DT_STRSZ, DT_STRTAB}
-use Rattle.elf_model.specs.Records.{e_shnum, p_filesz, p_offset, segment_at}
-use Rattle.elf_model.specs.Style.{without_sections}
-use Rattle.elf_model.specs.Tables.{segment_dynamic_checks}
-use Rattle.elf_model.specs.Traits.{has_none}
+use Rattle.elf_model.specs.Prelude.{DT_STRSZ, DT_STRTAB, IsBudgetRefusal, LinkState, LookupTables as IsScopeOf, TextRoom, dynamic_count, dynamic_segment_index, e_shnum, first_refusal, has_none, header_checks, linked_from, linked_in, links_by_segments, links_ceiling, links_of, listed_value, load_checks, loaded_links, lookup_refusal, lookup_tables_by_segments, no_link_info, p_filesz, p_offset, segment_at, segment_dynamic_checks, without_sections}
 use Rattle.elf_model.specs.declared.causes.Refusal.{Refusal}
 use Rattle.elf_model.proofs.StyleLemmas.{view_tells_of_none}
 use Rattle.elf_source.specs.Source.{CountedState, MasksSectionHeaders}
 use Rattle.elf_table.proofs.FaultLaws.{charges_hidden}
-use Rattle.elf_table.specs.Ledger.{CallReads, CallDid, fault_of_result}
-use Rattle.elf_table.specs.Store.{StoreState}
+use Rattle.elf_table.specs.Prelude.{CallDid, CallReads, StoreState, TableRange, dynamic_table_at, fault_of_result, rows}
 use Rattle.elf_table.specs.declared.fault.Fault.{Fault}
 use Rattle.elf_table.specs.declared.fault.Fault.TheVariants.{Refused, Source}
-use Rattle.elf_note.specs.DynCursors.{AreStrings}
+use Rattle.elf_note.specs.Prelude.{AreStrings}
 use Rattle.elf_note.specs.declared.string_values.DynamicStrings.{DynamicStrings}
 use Rattle.elf_hash.proofs.SettleLaws.{checked_fails}
-use Rattle.elf_hash.specs.Loading.{LoadsSegments}
-use Rattle.elf_hash.specs.LookupTablesFound.{FindsLookupTables}
-use Rattle.elf_table.specs.Sections.{rows}
-use Rattle.elf_table.specs.Tables.{TableRange}
-use Rattle.elf_table.specs.Views.{dynamic_table_at}
+use Rattle.elf_hash.specs.Prelude.{FindsLookupTables, LoadsSegments}
 use Rattle.elf_needs.proofs.LoopLaws.{keeps_none}
-use Rattle.elf_needs.specs.Entries.{ReturnsLinks}
-use Rattle.elf_needs.specs.Held.{LinkInfoState}
-use Rattle.elf_needs.specs.Reading.{ReturnsLookupRefusal, linked_in_segments, lookup_passed}
+use Rattle.elf_needs.specs.Prelude.{LinkInfoState, ReturnsLinks, ReturnsLookupRefusal, linked_in_segments, lookup_passed}
 use Rattle.elf_needs.specs.declared.links.LinkInfo.{LinkInfo}
 
 -- A LOOKUP: a file without a hash table is passed over, so that a call did not stop

@@ -1,27 +1,17 @@
 -- Where the records of versions are such that the empty version is not refused, and their strings end in a NUL, none is refused.
 use Rattle.std.proofs.Common.{◌≡◌, ℕ, zero, suc, ◌+◌, ◌-◌, ◌*◌, ◌/◌, ◌<◌, ◌≤◌, mul-le-mul_right, IsTrue, ◌==◌, ◌||◌, nat_lt, Bool, true, false, List, [], ◌∷◌, ◌++◌, length, drop, Option, None, Some, Result, Ok, Err, IfSome, refl, sym, ap, subst, ◌∙◌, arith}
-use Rattle.elf_model.specs.Loader.{VersionQuery, CompareResult, Meets, Misses, VersionRecordRead, VersionRecordTable as IsTableOf, Refuses, Version, VersymTable, asked_name, compared_with, end_reading, meetings, readings, readings_of}
-use Rattle.elf_model.specs.LoaderFind.{version_indices}
-use Rattle.elf_model.specs.LoaderScope.{LookupTables as IsScopeOf}
-use Rattle.elf_model.specs.Names.{begins, is_empty_at_zero, same}
-use Rattle.elf_model.specs.Versions.{VisitedRecord, name_index, named_at, names_version}
+use Rattle.elf_model.specs.Prelude.{CompareResult, LookupTables as IsScopeOf, Meets, Misses, Refuses, Version, VersionQuery, VersionRecordRead, VersionRecordTable as IsTableOf, VersymTable, VisitedRecord, asked_name, begins, compared_with, counts_check, end_reading, first_refusal, is_empty_at_zero, meetings, name_index, named_at, names_version, pad64, readings, readings_of, record_cost, same, version_indices}
 use Rattle.elf_model.specs.declared.causes.Cause.{Cause}
 use Rattle.elf_model.specs.declared.causes.Cause.TheVariants.{NameOutside}
-use Rattle.elf_table.specs.Tables.{strings_in}
-use Rattle.std.proofs.lemmas.Bool.{eqb-false, eqb-true, ltb-true, ne_eqb}
 use Rattle.elf_model.specs.declared.causes.Refusal.{Refusal}
-use Rattle.elf_hash.specs.Symbols.{AreVersionRecordTables, IsDynamicSymbols, table_if_any}
-use Rattle.elf_hash.specs.declared.symbols.VersionRecordTable.{VersionRecordTable}
+use Rattle.elf_table.specs.Prelude.{ComparesName, strings_in}
+use Rattle.std.proofs.lemmas.Bool.{eqb-false, eqb-true, ltb-true, ne_eqb}
+use Rattle.elf_hash.specs.Prelude.{AreVersionRecordTables, IsDynamicSymbols, IsLookupTables, IsTable, table_if_any}
 use Rattle.elf_hash.specs.declared.symbols.DynamicSymbols.{DynamicSymbols}
-use Rattle.elf_model.proofs.Slices.{slice-size}
-use Rattle.elf_model.specs.Checks.{first_refusal}
-use Rattle.elf_model.specs.LoaderFind.{counts_check, record_cost}
-use Rattle.elf_model.specs.Names.{pad64}
-use Rattle.elf_table.specs.NamesRead.{ComparesName}
-use Rattle.elf_hash.specs.SearchedTables.{IsTable}
 use Rattle.elf_hash.specs.declared.table.HashTable.{HashTable}
-use Rattle.elf_hash.specs.LookupTablesFound.{IsLookupTables}
 use Rattle.elf_hash.specs.declared.lookup_tables.LookupTables.{LookupTables}
+use Rattle.elf_hash.specs.declared.symbols.VersionRecordTable.{VersionRecordTable}
+use Rattle.elf_model.proofs.Slices.{slice-size}
 use Rattle.elf_needs.specs.Ready.{EndsInNul, HasNoNul, IsReadyIf, NamesEnd, has_zero, ready_bytes, table_where}
 
 -- bytes whose last one is a NUL

@@ -1,34 +1,20 @@
 -- What a symbol asks others for, by what is read of it.
 use Rattle.std.proofs.Common.{◌≡◌, ℕ, ◌<◌, ◌≤◌, ◌%◌, ◌^◌, min, nat_lt, Bool, true, false, List, [], ◌∷◌, Option, None, Some, Result, Ok, Err, refl, sym, subst, ◌∙◌, arith}
 use Rattle.std.proofs.lemmas.Bool.Decides.{nat_tests}
-use Rattle.elf_model.specs.Bindings.{SOUGHT_BYTES, is_reference, reference_at, reference_by_index, reference_version, symbols_hashed, whole_name}
-use Rattle.elf_model.specs.BoundSymbols.{file_before, file_of_version}
-use Rattle.elf_model.specs.Bytes.{field}
-use Rattle.elf_model.specs.Checks.{first_refusal}
-use Rattle.elf_model.specs.LoaderFind.{counts_check}
-use Rattle.elf_model.specs.LoaderScope.{LookupTables as IsScopeOf}
-use Rattle.elf_model.specs.Traits.{hashed_symbol_count}
-use Rattle.elf_table.specs.Ledger.{IsRead}
-use Rattle.elf_hash.specs.SearchedTables.{HasCounts}
-use Rattle.elf_model.specs.Loader.{VersionQuery, NoVersion, Version, NumberNameSource, DynamicSymbols as AreSymbolsOf, VersymTable as AreWordsOf, naming_of, readings, symbol_offset, versym_at}
-use Rattle.elf_model.specs.Names.{shown}
-use Rattle.elf_model.specs.Names.DisplayedName.{Whole as ShownWhole, Cut as ShownCut}
-use Rattle.elf_model.specs.Records.{st_name, versym}
-use Rattle.elf_model.specs.Versions.{VisitedRecord, name_index, named_at, number_in}
-use Rattle.elf_model.specs.declared.causes.Cause.TheVariants.{TooLong, VersionCut, VersionIndex}
+use Rattle.elf_model.specs.Prelude.{Cut as ShownCut, DynamicSymbols as AreSymbolsOf, LookupTables as IsScopeOf, NoVersion, NumberNameSource, SOUGHT_BYTES, Version, VersionQuery, VersymTable as AreWordsOf, VisitedRecord, counts_check, field, file_before, file_of_version, first_refusal, hashed_symbol_count, is_reference, name_index, named_at, naming_of, number_in, readings, reference_at, reference_by_index, reference_version, shown, st_name, symbol_offset, symbols_hashed, versym, versym_at, whole_name}
 use Rattle.elf_model.specs.declared.causes.Refusal.{Refusal}
-use Rattle.elf_source.specs.Source.{CountedState}
-use Rattle.elf_record.specs.Sym.{IsSym}
-use Rattle.elf_record.specs.declared.sym.Sym.{Sym}
+use Rattle.elf_model.specs.declared.causes.Cause.TheVariants.{TooLong, VersionCut, VersionIndex}
+use Rattle.elf_table.specs.Prelude.{IsRead, Refuses as RefusesName, row_at, strings_in}
 use Rattle.elf_table.specs.declared.fault.Fault.{Fault}
-use Rattle.elf_table.specs.declared.fault.Fault.TheVariants.{Refused, Source}
-use Rattle.elf_table.specs.Cursors.{row_at}
-use Rattle.elf_table.specs.NamesRead.{Refuses as RefusesName}
-use Rattle.elf_table.specs.Tables.{strings_in}
-use Rattle.elf_hash.specs.Symbols.{AreVersymTable, IsDynamicSymbols}
+use Rattle.elf_hash.specs.Prelude.{AreVersymTable, HasCounts, IsDynamicSymbols}
 use Rattle.elf_hash.specs.declared.symbols.DynamicSymbols.{DynamicSymbols}
 use Rattle.elf_hash.specs.declared.symbols.VersymTable.{VersymTable}
-use Rattle.elf_loader.specs.Naming.{NamesBefore}
+use Rattle.elf_model.specs.Names.DisplayedName.{Whole as ShownWhole}
+use Rattle.elf_source.specs.Source.{CountedState}
+use Rattle.elf_record.specs.Prelude.{IsSym}
+use Rattle.elf_record.specs.declared.sym.Sym.{Sym}
+use Rattle.elf_table.specs.declared.fault.Fault.TheVariants.{Refused, Source}
+use Rattle.elf_loader.specs.Prelude.{NamesBefore}
 use Rattle.elf_loader.specs.declared.version_name_record.VersionNameRecord.{VersionNameRecord}
 use Rattle.elf_needs.specs.Sought.{RefusesAs, ReturnsSought, ReturnsWhole, asked_if}
 

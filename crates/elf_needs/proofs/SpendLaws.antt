@@ -1,25 +1,18 @@
 -- What a lookup costs between the call that sets a limit and the call that takes it away.
 use Rattle.std.proofs.Common.{◌≡◌, ℕ, ◌+◌, ◌-◌, ◌≤◌, List, Option, None, Some, Result, Ok, Err, IfOk, IfSome, option_map, refl, sym, ap, subst, ◌∙◌, arith}
-use Rattle.elf_model.specs.Loader.{SymbolQuery}
-use Rattle.elf_model.specs.Bindings.{definition_in, definition_lookup}
-use Rattle.elf_model.specs.LoaderScope.{LookupTables as IsScopeOf, lookup_tables_of}
+use Rattle.elf_model.specs.Prelude.{LookupTables as IsScopeOf, SymbolQuery, definition_in, definition_lookup, lookup_tables_of}
 use Rattle.elf_source.specs.Source.{CountedState, SetsLimit, ExceedsBudget, SourceState, counted}
 use Rattle.elf_source.proofs.LimitLaws.{within_budget}
-use Rattle.elf_table.specs.Faults.{IsReadFault}
-use Rattle.elf_table.specs.Ledger.{CallReads, CallDid, fault_of_result}
+use Rattle.elf_table.specs.Prelude.{CallDid, CallReads, IsReadFault, fault_of_result}
 use Rattle.elf_table.specs.declared.fault.Fault.{Fault}
 use Rattle.elf_table.specs.declared.fault.Fault.TheVariants.{Refused, Source}
 use Rattle.elf_table.proofs.LedgerLaws.{CallReads-more}
 use Rattle.elf_loader.specs.Lookups.{lookup_bytes}
-use Rattle.elf_hash.specs.LookupTablesFound.{IsLookupTables, LookupTablesInBounds}
-use Rattle.elf_hash.specs.declared.lookup_tables.LookupTables.{LookupTables}
-use Rattle.elf_needs.specs.Definers.{DefinesAfter}
+use Rattle.elf_hash.specs.Prelude.{IsLookupTables, LookupTablesInBounds, place_of_table}
 use Rattle.elf_hash.specs.declared.table.HashTable.{HashTable}
+use Rattle.elf_hash.specs.declared.lookup_tables.LookupTables.{LookupTables}
+use Rattle.elf_needs.specs.Prelude.{DefinesAfter, DefinesIn, FaultLeaves, IsKept, IsReadyIf, IsReadyIn, LooksInObject, OverLeft, Prepares, ReturnsReady, SpendsAtMost, SpendsBudget, kept_cost, ready_bytes}
 use Rattle.std.specs.Result.{result_unwrap_or}
-use Rattle.elf_needs.specs.Ready.{IsReadyIf, ReturnsReady, ready_bytes}
-use Rattle.elf_hash.specs.SearchedTables.{place_of_table}
-use Rattle.elf_needs.specs.Kept.{IsKept, IsReadyIn}
-use Rattle.elf_needs.specs.Looks.{FaultLeaves, LooksInObject, DefinesIn, OverLeft, SpendsBudget, Prepares, SpendsAtMost, kept_cost}
 
 -- what is left after it
 pays_is : (left left_new : Option ℕ) (a d : ℕ) → left_new ≡ option_map (λ bytes. bytes - (d - a)) left → a ≤ d → IfSome left (λ bytes. d ≤ a + bytes) → SpendsBudget left left_new a d

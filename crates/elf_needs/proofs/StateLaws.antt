@@ -1,23 +1,16 @@
 -- What binds a symbol, by the lookup over the objects and the object of its version's file.
 use Rattle.std.proofs.Common.{◌≡◌, ℕ, ◌<◌, ◌≤◌, nat_lt, Bool, true, false, List, [], length, get_or, Option, None, Some, Result, Ok, Err, refl, sym, ◌∙◌, arith}
 use Rattle.std.proofs.lemmas.Bool.Decides.{nat_tests}
-use Rattle.elf_model.specs.BindingLines.{reference_name, unbound_state}
-use Rattle.elf_model.specs.Bindings.{BoundTo, BoundToNone, bound_in, is_weak, reference_at, whole_name}
-use Rattle.elf_model.specs.BoundSymbols.{BoundObjects, Told, bound_item, file_lacks, file_of_version, missing_version_requested, lacks_version, object_lacks, place_of, state_by, state_in}
-use Rattle.elf_model.specs.Loader.{VersionQuery, DynamicSymbols, SymbolQuery, asked_name, symbol_offset}
-use Rattle.elf_model.specs.LoaderScope.{LookupTables, lookup_tables_of}
-use Rattle.elf_model.specs.Versions.{VisitedRecord, name_index, named_at}
-use Rattle.elf_model.specs.declared.causes.Refusal.{Refusal}
+use Rattle.elf_model.specs.Prelude.{BoundObjects, BoundTo, BoundToNone, DynamicSymbols, LookupTables, SymbolQuery, Told, VersionQuery, VisitedRecord, asked_name, bound_in, bound_item, file_lacks, file_of_version, is_weak, lacks_version, lookup_tables_of, missing_version_requested, name_index, named_at, object_lacks, place_of, reference_at, reference_name, state_by, state_in, symbol_offset, unbound_state, whole_name}
 use Rattle.elf_model.specs.declared.states.BindingState.{BindingState}
+use Rattle.elf_model.specs.declared.causes.Refusal.{Refusal}
 use Rattle.elf_model.specs.declared.states.BindingState.TheVariants as state
 use Rattle.elf_table.specs.declared.fault.Fault.{Fault}
 use Rattle.elf_table.specs.declared.fault.Fault.TheVariants.{Refused, Source}
-use Rattle.elf_needs.specs.Binds.{ReturnsBinding}
-use Rattle.elf_needs.specs.Sought.{IsReportedAlone, RefusesAs, ReturnsAs, ReturnsSought, ReturnsWhole, asked_if}
+use Rattle.elf_needs.specs.Prelude.{IsReportedAlone, RefusesAs, ReturnsAs, ReturnsBinding, ReturnsItem, ReturnsSought, ReturnsWhole, asked_if}
 use Rattle.elf_needs.specs.declared.bind_name.BindFault.{BindFault}
 use Rattle.elf_loader.specs.Naming.{IsFileIf}
 use Rattle.elf_note.specs.declared.record.VersionRecord.{VersionRecord}
-use Rattle.elf_needs.specs.Bound.{ReturnsItem}
 
 pub wanted_is : (wanted : SymbolQuery) (name : List ℕ) (asked : VersionQuery) → wanted.name ≡ name → wanted.asked ≡ asked → wanted ≡ record { name = name; asked = asked }
 wanted_is wanted name asked n a = rw (← n, ← a) refl

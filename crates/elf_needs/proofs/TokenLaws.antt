@@ -2,8 +2,7 @@
 use Rattle.std.proofs.Common.{◌≡◌, ℕ, zero, suc, ◌+◌, ◌<◌, ◌≤◌, ◌==◌, true, false, List, [], ◌∷◌, ◌++◌, length, length-append, drop, drop-cons, drop-drop, get_or, Option, None, Some, option_map, refl, ap, sym, ◌∙◌, append_assoc, add-one, arith}
 use Rattle.std.proofs.lemmas.Bool.Decides.{nat_tests}
 use Rattle.std.proofs.Math.ListN.{drop_of_length-le}
-use Rattle.elf_needs.specs.Searching.{DOLLAR, MOST_PATH_BYTES, Token, expanded, token_in}
-use Rattle.elf_needs.specs.Steps.{PutsText}
+use Rattle.elf_needs.specs.Prelude.{DOLLAR, MOST_PATH_BYTES, PutsText, Token, expanded, token_in}
 
 -- what was put so far, with what is left, comes to what is wanted
 abbrev pub IsWalkAlive : (old now : List ℕ) (found rest : Option (List ℕ)) → Type 0

@@ -1,33 +1,21 @@
 -- The lines of one item after another.
 use Rattle.std.proofs.Common.{◌≡◌, ℕ, zero, suc, ◌+◌, ◌-◌, ◌<◌, ◌≤◌, ◌||◌, ◌⊎◌, min, length, drop, get_or, arith, Bool, true, false, List, [], ◌∷◌, ◌++◌, inl, inr, Option, None, Some, Result, Ok, Err, refl, sym, ap, subst, ◌∙◌, append_assoc, append-nil}
 use Rattle.elf_model.proofs.BudgetLaws.{is_budget_fault}
-use Rattle.elf_model.specs.BindingLines.{binding_line, is_unbound}
-use Rattle.elf_model.specs.Bindings.{symbols_hashed}
-use Rattle.elf_model.specs.BoundSymbols.{BoundItem, BoundObjects, Faulty, Told, any_unbound, before_items, bound_item, bound_text, counted_items, is_failed, item_line, items_from, object_items, objects_items}
-use Rattle.elf_model.specs.Budget.{IsBudgetRefusal}
-use Rattle.elf_model.specs.Checks.{first_refusal}
-use Rattle.elf_model.specs.Lines.{refusal_line}
-use Rattle.elf_model.specs.Loader.{DynamicSymbols}
-use Rattle.elf_model.specs.LoaderFind.{counts_check}
-use Rattle.elf_model.specs.LoaderScope.{LookupTables as IsScopeOf, lookup_tables_of}
-use Rattle.elf_model.specs.Traits.{hashed_symbol_count}
-use Rattle.elf_needs.specs.Binds.{AreObjectFiles}
-use Rattle.elf_needs.specs.Kept.{LookupObjectState}
-use Rattle.elf_needs.specs.Sought.{CountsHashed, RefusesAs}
-use Rattle.elf_model.specs.declared.causes.Refusal.{Refusal}
-use Rattle.elf_model.specs.declared.formats.Format.{Format}
+use Rattle.elf_model.specs.Prelude.{BoundItem, BoundObjects, DynamicSymbols, Faulty, IsBudgetRefusal, LookupTables as IsScopeOf, Told, any_unbound, before_items, binding_line, bound_item, bound_text, counted_items, counts_check, first_refusal, hashed_symbol_count, is_failed, is_unbound, item_line, items_from, lookup_tables_of, object_items, objects_items, refusal_line, symbols_hashed}
 use Rattle.elf_model.specs.declared.states.BindingState.{BindingState}
-use Rattle.elf_source.specs.Output.{IsOutFault, SinkTakes, SinkTakesPrefix, OutState}
-use Rattle.elf_source.proofs.PutsLaws.{SinkTakes-nothing, SinkTakes-then, SinkTakesPrefix-more, SinkTakesPrefix-then}
-use Rattle.elf_source.specs.declared.faults.OutFault.{OutFault}
-use Rattle.elf_table.specs.declared.fault.Fault.{Fault}
-use Rattle.elf_table.specs.declared.fault.Fault.TheVariants.{Refused, Source}
-use Rattle.elf_needs.specs.Bound.{failing_of, IsCutText, IsLimited, LeadsItems, OnlyLimited, ReturnsFault, ReturnsItem, WritesSymbol, WritesLines, WritesSoFar}
-use Rattle.elf_needs.proofs.AskLaws.{file_here}
-use Rattle.elf_needs.specs.declared.search_scope.WriteEnd.{WriteEnd}
+use Rattle.elf_model.specs.declared.formats.Format.{Format}
+use Rattle.elf_model.specs.declared.causes.Refusal.{Refusal}
+use Rattle.elf_needs.specs.Prelude.{AreObjectFiles, CountsHashed, IsCutText, IsLimited, LeadsItems, LookupObjectState, OnlyLimited, RefusesAs, ReturnsFault, ReturnsItem, WritesLines, WritesSoFar, WritesSymbol, failing_of}
 use Rattle.elf_needs.specs.declared.search_scope.WriteEnd.TheVariants.{Cut, Ended, Whole}
 use Rattle.elf_needs.specs.declared.walk.NeedsFault.{NeedsFault}
 use Rattle.elf_needs.specs.declared.walk.NeedsFault.TheVariants.{Out, Read}
+use Rattle.elf_needs.specs.declared.search_scope.WriteEnd.{WriteEnd}
+use Rattle.elf_source.specs.Prelude.{IsOutFault, OutState, SinkTakes, SinkTakesPrefix}
+use Rattle.elf_source.specs.declared.faults.OutFault.{OutFault}
+use Rattle.elf_source.proofs.PutsLaws.{SinkTakes-nothing, SinkTakes-then, SinkTakesPrefix-more, SinkTakesPrefix-then}
+use Rattle.elf_table.specs.declared.fault.Fault.{Fault}
+use Rattle.elf_table.specs.declared.fault.Fault.TheVariants.{Refused, Source}
+use Rattle.elf_needs.proofs.AskLaws.{file_here}
 
 some_is : (a b : Bool) → ◌≡◌ {A = Option Bool} (Some a) (Some b) → a ≡ b
 some_is a b e = cc

@@ -1,9 +1,7 @@
 -- What a lookup over several files did.
 use Rattle.std.specs.Prelude.{ℕ, suc, ◌≡◌, ◌+◌, ◌<◌, ◌≤◌, List, [], ◌∷◌, length, get_or, Option, Some, Result, Ok, Err, IfErr}
 use Rattle.std.specs.List.{sum_by}
-use Rattle.elf_model.specs.Budget.{IsBudgetRefusal}
-use Rattle.elf_model.specs.Loader.{SymbolQuery}
-use Rattle.elf_model.specs.Bindings.{BoundTo, BoundToNone, StoppedIn, bound_in}
+use Rattle.elf_model.specs.Prelude.{BoundTo, BoundToNone, IsBudgetRefusal, StoppedIn, SymbolQuery, bound_in}
 use Rattle.elf_model.specs.Bindings as model
 use Rattle.elf_table.specs.declared.fault.Fault.TheVariants.{Refused, Source}
 use Rattle.elf_loader.specs.Lookups.{lookup_bytes}

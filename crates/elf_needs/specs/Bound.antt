@@ -1,14 +1,9 @@
 -- What binding the symbols of a program's objects did, over files that are kept open.
 use Rattle.std.specs.Prelude.{ℕ, ◌≡◌, ◌<◌, ◌≤◌, ◌⊎◌, Bool, true, false, List, [], ◌++◌, length, get_or, Option, None, Some, Result, Ok, Err}
-use Rattle.elf_model.specs.Bindings.{is_weak}
-use Rattle.elf_model.specs.BoundSymbols.{BoundItem, BoundObjects, Faulty, Told, any_unbound, before_items, bound_text, file_of_version}
-use Rattle.elf_model.specs.Budget.{IsBudgetRefusal}
-use Rattle.elf_model.specs.Lines.{refusal_line}
-use Rattle.elf_model.specs.Loader.{symbol_offset}
-use Rattle.elf_model.specs.LoaderScope.{LookupTables as IsScopeOf, lookup_tables_of}
-use Rattle.elf_model.specs.declared.causes.Refusal.{Refusal}
-use Rattle.elf_model.specs.declared.formats.Format.{Format}
+use Rattle.elf_model.specs.Prelude.{BoundItem, BoundObjects, Faulty, IsBudgetRefusal, LookupTables as IsScopeOf, Told, any_unbound, before_items, bound_text, file_of_version, is_weak, lookup_tables_of, refusal_line, symbol_offset}
 use Rattle.elf_model.specs.declared.states.BindingState.{BindingState}
+use Rattle.elf_model.specs.declared.formats.Format.{Format}
+use Rattle.elf_model.specs.declared.causes.Refusal.{Refusal}
 use Rattle.elf_source.specs.Output.{IsOutFault, SinkTakes, SinkTakesPrefix, OutState}
 use Rattle.elf_table.specs.declared.fault.Fault.{Fault}
 use Rattle.elf_table.specs.declared.fault.Fault.TheVariants.{Refused, Source}

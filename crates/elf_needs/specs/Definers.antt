@@ -1,20 +1,15 @@
 -- What looking for the symbol of a file that defines a name did.
 use Rattle.std.specs.Prelude.{ℕ, ◌≡◌, ◌+◌, ◌≤◌, ◌==◌, if◌then◌else◌, Bool, List, Option, None, Some, Result, Ok, Err}
-use Rattle.elf_model.specs.Bindings.{DefinerLookup, defines, definition_cost, definer_by, definer_walk, unwalked}
-use Rattle.elf_model.specs.Budget.{IsBudgetRefusal}
-use Rattle.elf_model.specs.Loader.{CompareResult, DynamicSymbols as AreSymbolsOf, SymbolQuery, is_among}
-use Rattle.elf_model.specs.LoaderScope.{LookupTables as IsScopeOf}
+use Rattle.elf_model.specs.Prelude.{CompareResult, DefinerLookup, DynamicSymbols as AreSymbolsOf, IsBudgetRefusal, LookupTables as IsScopeOf, SHN_UNDEF, SymbolQuery, definer_by, definer_walk, defines, definition_cost, is_among, unwalked}
 use Rattle.elf_model.specs.declared.causes.Refusal.{Refusal}
-use Rattle.elf_model.specs.Numbers.{SHN_UNDEF}
 use Rattle.elf_source.specs.Source.{CountedState}
+use Rattle.elf_hash.specs.Prelude.{IsDynamicSymbols, IsLookupTables}
+use Rattle.elf_hash.specs.declared.symbols.DynamicSymbols.{DynamicSymbols}
+use Rattle.elf_hash.specs.declared.lookup_tables.LookupTables.{LookupTables}
 use Rattle.elf_hash.specs.declared.answer.SymbolMatch.{SymbolMatch}
-use Rattle.elf_table.specs.Ledger.{CallReads, CallDid, fault_of_result}
+use Rattle.elf_table.specs.Prelude.{CallDid, CallReads, fault_of_result}
 use Rattle.elf_table.specs.declared.fault.Fault.{Fault}
 use Rattle.elf_table.specs.declared.fault.Fault.TheVariants.{Refused, Source}
-use Rattle.elf_hash.specs.LookupTablesFound.{IsLookupTables}
-use Rattle.elf_hash.specs.Symbols.{IsDynamicSymbols}
-use Rattle.elf_hash.specs.declared.lookup_tables.LookupTables.{LookupTables}
-use Rattle.elf_hash.specs.declared.symbols.DynamicSymbols.{DynamicSymbols}
 
 -- it is the trial of the symbols of a file: of each it says whether it defines what is wanted
 pub record SaysDefines (file : List ℕ) (symbols : DynamicSymbols) (wanted : SymbolQuery) (is_wanted : ℕ → Bool) (says : ℕ → Result Bool Refusal) : Type 0 where

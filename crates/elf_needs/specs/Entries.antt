@@ -1,16 +1,13 @@
 -- What dynamic entries tell of how a file is linked, and what is kept of it.
 use Rattle.std.specs.Prelude.{ℕ, ◌≡◌, ◌<◌, ◌==◌, Bool, true, false, List, [], ◌∷◌, ◌++◌, length, slice_index_or, Option, None, Some, Result, Ok, Err}
-use Rattle.elf_model.specs.Budget.{IsBudgetRefusal}
-use Rattle.elf_model.specs.Links.{LinkState, NeededName, TextRoom, has_room}
-use Rattle.elf_model.specs.Names.{DisplayedName}
-use Rattle.elf_model.specs.Names.DisplayedName.{Whole, Cut}
-use Rattle.elf_model.specs.Numbers.{DT_RPATH, DT_RUNPATH, DT_SONAME}
+use Rattle.elf_model.specs.Prelude.{Cut, DT_RPATH, DT_RUNPATH, DT_SONAME, DisplayedName, IsBudgetRefusal, LinkState, NeededName, TextRoom, has_room}
 use Rattle.elf_model.specs.declared.causes.Cause.{Cause}
-use Rattle.elf_model.specs.declared.causes.Cause.TheVariants.{TooLong}
 use Rattle.elf_model.specs.declared.causes.Refusal.{Refusal}
+use Rattle.elf_model.specs.declared.causes.Cause.TheVariants.{TooLong}
+use Rattle.elf_model.specs.Names.DisplayedName.{Whole}
+use Rattle.elf_table.specs.Prelude.{StringTableRange, strings_in}
 use Rattle.elf_table.specs.declared.fault.Fault.{Fault}
 use Rattle.elf_table.specs.declared.fault.Fault.TheVariants.{Refused, Source}
-use Rattle.elf_table.specs.Tables.{StringTableRange, strings_in}
 use Rattle.elf_needs.specs.Held.{LinkInfoState, with_text}
 use Rattle.elf_needs.specs.declared.links.LinkInfo.{LinkInfo}
 use Rattle.elf_needs.specs.declared.links.NeededLibrary.{NeededLibrary}

@@ -1,17 +1,14 @@
 -- What is kept of a file in which names are looked up.
 use Rattle.std.specs.Prelude.{ℕ, ◌≡◌, List, Option, None, Some, Result, Ok, Err, IfSome}
-use Rattle.elf_model.specs.Budget.{IsBudgetRefusal}
-use Rattle.elf_model.specs.LoaderScope.{LookupTables as IsScopeOf, lookup_tables_of}
+use Rattle.elf_model.specs.Prelude.{IsBudgetRefusal, LookupTables as IsScopeOf, lookup_tables_of}
 use Rattle.elf_source.specs.Source.{CountedState, SourceState}
-use Rattle.elf_table.specs.Ledger.{CallReads}
+use Rattle.elf_table.specs.Prelude.{CallReads}
 use Rattle.elf_table.specs.declared.fault.Fault.{Fault}
 use Rattle.elf_table.specs.declared.fault.Fault.TheVariants.{Refused, Source}
-use Rattle.elf_hash.specs.SearchedTables.{place_of_table}
+use Rattle.elf_hash.specs.Prelude.{IsLookupTables, LookupTablesInBounds, place_of_table, scope_cost}
 use Rattle.elf_hash.specs.declared.table.HashTable.{HashTable}
-use Rattle.elf_needs.specs.Ready.{IsReadyIf}
-use Rattle.elf_hash.specs.Finding.{scope_cost}
-use Rattle.elf_hash.specs.LookupTablesFound.{IsLookupTables, LookupTablesInBounds}
 use Rattle.elf_hash.specs.declared.lookup_tables.LookupTables.{LookupTables}
+use Rattle.elf_needs.specs.Ready.{IsReadyIf}
 
 -- its source, and how many headers were permitted where what a lookup is made in was found
 pub record LookupObjectState : Type 0 where

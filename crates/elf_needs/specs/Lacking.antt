@@ -1,8 +1,8 @@
 -- The tables of a file that define versions.
 use Rattle.std.specs.Prelude.{◌≡◌, if◌then◌else◌, Option, None, Some}
 use Rattle.elf_model.specs.BoundSymbols.{is_definition}
-use Rattle.elf_hash.specs.declared.symbols.VersionRecordTable.{VersionRecordTable}
 use Rattle.elf_hash.specs.declared.symbols.DynamicSymbols.{DynamicSymbols}
+use Rattle.elf_hash.specs.declared.symbols.VersionRecordTable.{VersionRecordTable}
 
 -- a table, if there is one and it is of definitions
 abbrev pub definition_if : Option VersionRecordTable → Option VersionRecordTable

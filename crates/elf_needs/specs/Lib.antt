@@ -18,3 +18,4 @@ pub mod Bound
 pub mod Budget
 pub mod Called
 pub mod ObjectLines
+pub mod Prelude

@@ -1,10 +1,8 @@
 -- What a lookup in one file of several did, where what may be asked for is shared.
 use Rattle.std.specs.Prelude.{ℕ, ◌≡◌, ◌+◌, ◌<◌, ◌≤◌, List, Option, None, Some, Result, IfSome}
-use Rattle.elf_model.specs.Budget.{IsBudgetRefusal}
-use Rattle.elf_model.specs.Loader.{SymbolQuery}
-use Rattle.elf_model.specs.Bindings.{definition_cost, definition_lookup}
+use Rattle.elf_model.specs.Prelude.{IsBudgetRefusal, SymbolQuery, definition_cost, definition_lookup}
 use Rattle.elf_source.specs.Source.{CountedState, IsSourceFault, KeepsSource, SameView, counted}
-use Rattle.elf_table.specs.Ledger.{fault_of_result}
+use Rattle.elf_table.specs.Prelude.{fault_of_result}
 use Rattle.elf_table.specs.declared.fault.Fault.{Fault}
 use Rattle.elf_table.specs.declared.fault.Fault.TheVariants.{Refused, Source}
 use Rattle.elf_loader.specs.Lookups.{lookup_bytes}

@@ -1,12 +1,9 @@
 -- The lines of the objects that a program needs.
 use Rattle.std.specs.Prelude.{ℕ, [], ◌∷◌, List, codes, Option, None, Some}
-use Rattle.elf_model.specs.Checking.{fault_fields}
-use Rattle.elf_model.specs.Fields.{Field, Fields, LinePrefix, closed_line, front}
-use Rattle.elf_model.specs.Fields.Field.{Decimal, Hexadecimal, NameOrDecimal, ArgSpec}
-use Rattle.elf_model.specs.Lines.{named_line}
-use Rattle.elf_model.specs.Names.DisplayedName.{Whole}
-use Rattle.elf_model.specs.declared.formats.Format.{Format}
+use Rattle.elf_model.specs.Prelude.{ArgSpec, Decimal, Field, Fields, Hexadecimal, LinePrefix, NameOrDecimal, closed_line, fault_fields, front, named_line}
 use Rattle.elf_model.specs.declared.states.FileStatus.{FileStatus}
+use Rattle.elf_model.specs.declared.formats.Format.{Format}
+use Rattle.elf_model.specs.Names.DisplayedName.{Whole}
 use Rattle.elf_model.specs.declared.states.FileStatus.TheVariants as file
 use Rattle.elf_needs.specs.declared.states.ObjectState.{ObjectState}
 use Rattle.elf_needs.specs.declared.states.ObjectState.TheVariants as state

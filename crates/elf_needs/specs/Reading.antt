@@ -1,12 +1,6 @@
 -- How a file is linked whose program headers are loaded, stage by stage.
 use Rattle.std.specs.Prelude.{ℕ, ◌≡◌, ◌/◌, true, false, List, Option, None, Some, Result, Ok, Err}
-use Rattle.elf_model.specs.Budget.{IsBudgetRefusal}
-use Rattle.elf_model.specs.Checks.{first_refusal}
-use Rattle.elf_model.specs.Links.{LinkState, TextRoom, linked_in, no_link_info}
-use Rattle.elf_model.specs.LoaderScope.{dynamic_segment_index}
-use Rattle.elf_model.specs.Records.{p_filesz, p_offset, segment_at}
-use Rattle.elf_model.specs.Tables.{segment_dynamic_checks}
-use Rattle.elf_model.specs.Traits.{has_none}
+use Rattle.elf_model.specs.Prelude.{IsBudgetRefusal, LinkState, TextRoom, dynamic_segment_index, first_refusal, has_none, linked_in, no_link_info, p_filesz, p_offset, segment_at, segment_dynamic_checks}
 use Rattle.elf_model.specs.declared.causes.Refusal.{Refusal}
 use Rattle.elf_table.specs.declared.fault.Fault.{Fault}
 use Rattle.elf_table.specs.declared.fault.Fault.TheVariants.{Refused, Source}

@@ -1,16 +1,12 @@
 -- What the lookups in one file have in common: the counts of its hash table, and that no record of versions is refused.
 use Rattle.std.specs.Prelude.{ℕ, ◌≡◌, ◌+◌, ◌*◌, ◌/◌, ◌<◌, ◌==◌, ◌&&◌, if◌then◌else◌, Bool, true, false, List, [], ◌∷◌, length, Option, None, Some, Result, Ok, Err, IfSome}
 use Rattle.std.specs.List.{list_any}
-use Rattle.elf_model.specs.Checks.{first_refusal}
-use Rattle.elf_model.specs.Loader.{VersionQuery, Version, asked_name}
-use Rattle.elf_model.specs.LoaderFind.{counts_check, record_cost, version_indices}
-use Rattle.elf_model.specs.LoaderScope.{LookupTables as IsScopeOf}
-use Rattle.elf_model.specs.Names.{same}
+use Rattle.elf_model.specs.Prelude.{LookupTables as IsScopeOf, Version, VersionQuery, asked_name, counts_check, first_refusal, record_cost, same, version_indices}
+use Rattle.elf_table.specs.Prelude.{strings_in}
 use Rattle.elf_table.specs.declared.fault.Fault.{Fault}
-use Rattle.elf_table.specs.Tables.{strings_in}
-use Rattle.elf_hash.specs.declared.symbols.VersionRecordTable.{VersionRecordTable}
-use Rattle.elf_hash.specs.SearchedTables.{IsTable}
+use Rattle.elf_hash.specs.Prelude.{IsTable}
 use Rattle.elf_hash.specs.declared.table.HashTable.{HashTable}
+use Rattle.elf_hash.specs.declared.symbols.VersionRecordTable.{VersionRecordTable}
 
 -- whether bytes have a NUL
 abbrev pub has_zero : List ℕ → Bool

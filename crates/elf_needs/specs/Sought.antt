@@ -1,15 +1,8 @@
 -- What a symbol of a file asks others for, as it is read.
 use Rattle.std.specs.Prelude.{ℕ, ◌≡◌, ◌+◌, ◌*◌, ◌/◌, ◌<◌, Bool, true, false, List, Option, None, Some, Result, Ok, Err, IfOk, IfSome}
-use Rattle.elf_model.specs.Bindings.{SOUGHT_BYTES, is_weak, reference_at, symbols_hashed, whole_name}
-use Rattle.elf_model.specs.BoundSymbols.{file_of_version, lacks_version}
-use Rattle.elf_model.specs.Budget.{IsBudgetRefusal}
-use Rattle.elf_model.specs.Loader.{VersionQuery, NoVersion, Version, SymbolQuery, symbol_offset}
-use Rattle.elf_model.specs.LoaderFind.{record_cost}
-use Rattle.elf_model.specs.LoaderScope.{LookupTables as IsScopeOf, lookup_tables_of}
-use Rattle.elf_model.specs.Names.{name_bytes}
-use Rattle.elf_model.specs.Versions.{VisitedRecord}
+use Rattle.elf_model.specs.Prelude.{IsBudgetRefusal, LookupTables as IsScopeOf, NoVersion, SOUGHT_BYTES, SymbolQuery, Version, VersionQuery, VisitedRecord, file_of_version, is_weak, lacks_version, lookup_tables_of, name_bytes, record_cost, reference_at, symbol_offset, symbols_hashed, whole_name}
 use Rattle.elf_model.specs.declared.causes.Refusal.{Refusal}
-use Rattle.elf_table.specs.Ledger.{fault_of_result}
+use Rattle.elf_table.specs.Prelude.{fault_of_result}
 use Rattle.elf_table.specs.declared.fault.Fault.{Fault}
 use Rattle.elf_table.specs.declared.fault.Fault.TheVariants.{Refused, Source}
 use Rattle.elf_loader.specs.Naming.{IsFileIf}

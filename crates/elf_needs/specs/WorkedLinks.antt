@@ -1,8 +1,6 @@
 -- How files are linked that are written out.
 use Rattle.std.specs.Prelude.{ℕ, ◌≡◌, List, [], ◌∷◌, ◌++◌, codes, None, Some, Ok, Err}
-use Rattle.elf_model.specs.FixturesSegments.{library_without_sections, loaded, needed_with}
-use Rattle.elf_model.specs.FixturesTables.{tagged}
-use Rattle.elf_model.specs.Links.{links_of}
+use Rattle.elf_model.specs.Prelude.{library_without_sections, links_of, loaded, needed_with, tagged}
 use Rattle.elf_model.specs.declared.causes.Cause.TheVariants.{NameOutside, TooLong, Unmapped}
 
 -- a file that four dynamic entries are of, at 0xb0, and 11 bytes of strings at the address 0x4000f0

@@ -1,10 +1,9 @@
 //! The lines of the symbols that the objects of a program ask others for.
 ghost use Rattle.std.specs.Prelude.{◌≡◌, ◌≤◌, length};
 ghost use Rattle.arrayvec.specs.ArrayVec.{array_vec_len};
-ghost use Rattle.elf_model.specs.Fields.{with_fields};
+ghost use Rattle.elf_model.specs.Prelude.{binding_front, binding_line, binding_state_name, definer_fields, with_fields};
 ghost use Rattle.elf_source.specs.Output.{OutPuts};
 ghost use Rattle.elf_format.specs.Fronts.{front_of};
-ghost use Rattle.elf_model.specs.BindingLines.{binding_front, binding_line, binding_state_name, definer_fields};
 
 use elf_format::{
     Columns, Json, LineBuf, LinePrefix, Render, begin_named, put_decimal, put_name_or_decimal,
@@ -85,7 +84,8 @@ pub fn show_binding<W: Sink>(
     format: Format,
     out: &mut Out<W>,
 ) -> Result<(), OutFault>
-    ensures puts { OutPuts out.old out.new result (binding_line format object symbol state name.now) }
+    ensures puts { OutPuts out.old out.new result
+        (binding_line format object symbol state name.now) }
 {
     let mut front = LinePrefix::new();
     match format {

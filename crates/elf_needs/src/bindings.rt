@@ -1,8 +1,7 @@
 //! From where the symbols come that the objects of a program ask others for.
 ghost use Rattle.std.specs.Prelude.{◌≡◌, ◌<◌, ℕ, [], List, Ok, get_or, length};
 ghost use Rattle.elf_needs.specs.Binds.{AreObjectFiles};
-ghost use Rattle.elf_model.specs.BoundSymbols.{before_items, bound_item, bound_items, object_items};
-ghost use Rattle.elf_model.specs.LoaderScope.{LookupTables as IsScopeOf, lookup_tables_of};
+ghost use Rattle.elf_model.specs.Prelude.{LookupTables as IsScopeOf, before_items, bound_item, bound_items, lookup_tables_of, object_items};
 ghost use Rattle.elf_needs.specs.Bound.{AsksAll, IsLimited, ReturnsFault, WritesSymbol, WritesBindings, WritesLines, bound_among, bound_of, status_after};
 
 use crate::binding_rows::show_binding;
@@ -72,7 +71,8 @@ fn bind_all<S: Source, W: Sink>(
     out: &mut Out<W>,
 ) -> Result<WriteEnd, NeedsFault>
     ensures asks { AsksAll objects.old objects.new left.old left.new }
-    ensures known { (headers : ℕ) (files : List (List ℕ)) → AreObjectFiles headers objects.old files →
+    ensures known { (headers : ℕ) (files : List (List ℕ)) →
+        AreObjectFiles headers objects.old files →
         WritesLines among.now.format (bound_items (bound_among headers files among.now))
         (IsLimited left.old) out.old out.new result }
 {
@@ -102,7 +102,8 @@ fn bind_object<S: Source, W: Sink>(
 ) -> Result<WriteEnd, NeedsFault>
     requires { place < length objects.old }
     ensures asks { AsksAll objects.old objects.new left.old left.new }
-    ensures known { (headers : ℕ) (files : List (List ℕ)) → AreObjectFiles headers objects.old files →
+    ensures known { (headers : ℕ) (files : List (List ℕ)) →
+        AreObjectFiles headers objects.old files →
         WritesLines among.now.format (object_items (bound_among headers files among.now) place
         (get_or files place [])) (IsLimited left.old) out.old out.new result }
 {
@@ -139,7 +140,8 @@ fn bind_symbol<S: Source, W: Sink>(
     ensures asks { AsksAll objects.old objects.new left.old left.new }
     ensures known { (headers : ℕ) (files : List (List ℕ)) (told : IsScopeOf) →
         AreObjectFiles headers objects.old files →
-        lookup_tables_of (get_or files at.place []) headers ≡ Ok told → at.symbol < told.table.symbols →
+        lookup_tables_of (get_or files at.place []) headers ≡ Ok told →
+        at.symbol < told.table.symbols →
         WritesSymbol among.now.format (bound_item (bound_among headers files among.now) at.place
         (get_or files at.place []) told.symbols at.symbol) (IsLimited left.old) out.old out.new
         result }

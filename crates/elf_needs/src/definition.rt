@@ -2,15 +2,9 @@
 ghost use Rattle.std.specs.Prelude.{◌≡◌, ℕ, ◌+◌, ◌*◌, ◌/◌, ◌≤◌, length, IfSome};
 ghost use Rattle.elf_needs.specs.Definers.{DefinesOn, SaysDefines, definer_with, the_defined};
 ghost use Rattle.elf_needs.specs.Ready.{HasNoNul, IsReadyTable, IsReadyIf};
-ghost use Rattle.elf_hash.specs.SearchedTables.{IsTable, place_of_table};
-ghost use Rattle.elf_hash.specs.Walks.{index_of, walk_bytes};
-ghost use Rattle.elf_loader.specs.Answering.{IsSymbolWithVersym};
-ghost use Rattle.elf_loader.specs.Lookups.{MayLookOn, lookup_bytes, match_bytes};
-ghost use Rattle.elf_loader.specs.NumberSets.{has_number};
-ghost use Rattle.elf_model.specs.Bindings.{definer_by, definition_in, definer_walk};
-ghost use Rattle.elf_model.specs.LoaderFind.{record_cost, version_indices};
-ghost use Rattle.elf_model.specs.Names.{pad64};
-ghost use Rattle.elf_hash.specs.Symbols.{DynamicSymbolsInBounds};
+ghost use Rattle.elf_hash.specs.Prelude.{DynamicSymbolsInBounds, IsTable, index_of, place_of_table, walk_bytes};
+ghost use Rattle.elf_loader.specs.Prelude.{IsSymbolWithVersym, MayLookOn, has_number, lookup_bytes, match_bytes};
+ghost use Rattle.elf_model.specs.Prelude.{definer_by, definer_walk, definition_in, pad64, record_cost, version_indices};
 ghost use Rattle.elf_options.specs.Wants.{query_of};
 
 use crate::ready::has_nul;

@@ -1,15 +1,8 @@
 //! The dynamic entries that tell how a file is linked.
 ghost use Rattle.std.specs.Prelude.{◌≡◌, ◌+◌, ◌*◌, ◌==◌, ℕ, List, None, Some, IfErr, IfOk, if◌then◌else◌};
-ghost use Rattle.elf_table.specs.Faults.{IsOfCheck};
-ghost use Rattle.elf_table.specs.Ledger.{CallDid, fault_of_result};
-ghost use Rattle.elf_table.specs.Load.{HoldsProgramHeaders};
-ghost use Rattle.elf_model.specs.Dynamic.{dynamic_count};
-ghost use Rattle.elf_model.specs.Links.{is_link, linked_from, linked_with, no_link_info};
-ghost use Rattle.elf_model.specs.Links.{LinkState};
-ghost use Rattle.elf_model.specs.Mapped.{strings_at};
-ghost use Rattle.elf_model.specs.Records.{d_tag};
+ghost use Rattle.elf_table.specs.Prelude.{CallDid, HoldsProgramHeaders, IsOfCheck, StringsInBounds, TableInBounds, fault_of_result, size_of};
+ghost use Rattle.elf_model.specs.Prelude.{LinkState, d_tag, dynamic_count, is_link, linked_from, linked_with, no_link_info, strings_at};
 ghost use Rattle.elf_record.specs.Dyn.{IsDyn};
-ghost use Rattle.elf_table.specs.Tables.{TableInBounds, StringsInBounds, size_of};
 ghost use Rattle.elf_needs.specs.Entries.{KeepsLinks, ReturnsLinks, ReturnsStrings, with_index};
 ghost use Rattle.elf_needs.specs.Held.{LinkInfoState};
 
@@ -46,7 +39,8 @@ pub(crate) fn list_link_info<S: Source>(
     requires within { TableInBounds src.old.seen.size table }
     requires size { strings.now.view.now.loaded.size ≡ src.old.seen.size }
     ensures { CallDid src.old src.new (fault_of_result result) (size_of table + table.count * 4160)
-        (λ file. HoldsProgramHeaders file strings.now.view.now.loaded strings.now.view.now.store.now →
+        (λ file. HoldsProgramHeaders file strings.now.view.now.loaded
+        strings.now.view.now.store.now →
         ReturnsLinks (linked_from file strings.now.told.address strings.now.told.size table.at
         (record { links = no_link_info; room = store.old.held.room })
         (dynamic_count file table.at table.count)) store.old store.new result) }
@@ -86,7 +80,8 @@ fn with_entry<S: Source>(
 ) -> Result<LinkInfo, Fault>
     requires { strings.now.view.now.loaded.size ≡ src.old.seen.size }
     ensures { CallDid src.old src.new (fault_of_result result) 4160
-        (λ file. HoldsProgramHeaders file strings.now.view.now.loaded strings.now.view.now.store.now →
+        (λ file. HoldsProgramHeaders file strings.now.view.now.loaded
+        strings.now.view.now.store.now →
         IsDyn file at entry.now → (before : LinkInfoState) (state : LinkState) →
         KeepsLinks before store.old links state →
         ReturnsLinks (linked_with file strings.now.told.address strings.now.told.size at state)
@@ -130,7 +125,8 @@ fn mapped_strings(strings: &DynamicTexts<'_, '_>, at: u64) -> Result<Names, Faul
     ensures within { IfOk result (StringsInBounds strings.now.view.now.loaded.size) }
     ensures refusal { IfErr result IsOfCheck }
     ensures tells { (file : List ℕ) →
-        HoldsProgramHeaders file strings.now.view.now.loaded strings.now.view.now.store.now → ReturnsStrings file
+        HoldsProgramHeaders file strings.now.view.now.loaded strings.now.view.now.store.now →
+        ReturnsStrings file
         (strings_at file at strings.now.told.address strings.now.told.size) result }
 {
     let Some(address) = strings.told.address else {

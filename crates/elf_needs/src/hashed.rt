@@ -3,8 +3,7 @@ ghost use Rattle.std.specs.Prelude.{◌≡◌, ◌+◌, ◌≤◌, List};
 ghost use Rattle.elf_needs.specs.Sought.{ReturnsAs};
 ghost use Rattle.elf_table.specs.Ledger.{CallDid, fault_of_result};
 ghost use Rattle.elf_hash.specs.LookupTablesFound.{IsLookupTables};
-ghost use Rattle.elf_model.specs.Bindings.{symbols_hashed};
-ghost use Rattle.elf_model.specs.LoaderScope.{LookupTables as IsScopeOf};
+ghost use Rattle.elf_model.specs.Prelude.{LookupTables as IsScopeOf, symbols_hashed};
 
 use elf_hash::{LookupTables, counts};
 use elf_source::{Counted, Source};

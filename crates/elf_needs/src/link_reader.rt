@@ -1,10 +1,7 @@
 //! What one file needs.
 ghost use Rattle.std.specs.Prelude.{◌≡◌, ◌<◌, ◌^◌, ◌+◌, ◌*◌, ◌/◌, ℕ, List};
-ghost use Rattle.elf_table.specs.Ledger.{CallDid, fault_of_result};
-ghost use Rattle.elf_table.specs.Load.{HoldsProgramHeaders};
-ghost use Rattle.elf_model.specs.Links.{links_by_segments, links_ceiling, links_of};
-ghost use Rattle.elf_model.specs.Links.{loaded_links, lookup_refusal};
-ghost use Rattle.elf_model.specs.Records.{e_shnum};
+ghost use Rattle.elf_table.specs.Prelude.{CallDid, HoldsProgramHeaders, fault_of_result};
+ghost use Rattle.elf_model.specs.Prelude.{e_shnum, links_by_segments, links_ceiling, links_of, loaded_links, lookup_refusal};
 ghost use Rattle.elf_source.specs.Source.{ReadsUpTo};
 ghost use Rattle.elf_needs.specs.Entries.{ReturnsLinks};
 ghost use Rattle.elf_needs.specs.Reading.{ReturnsLookupRefusal, linked_in_segments, lookup_passed};

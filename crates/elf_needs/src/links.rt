@@ -1,11 +1,9 @@
 //! What a file needs, and where that is kept.
 ghost use Rattle.std.specs.Prelude.{◌≡◌, ◌<◌, ◌++◌, ◌∷◌, [], ◌&&◌, ℕ, List, IfOk, IfSome, IsNone, is_some, nat_lt, length, slice_get, slice_index_or, if◌then◌else◌};
-ghost use Rattle.elf_table.specs.Ledger.{CallDid, fault_of_result};
-ghost use Rattle.elf_model.specs.Links.{LINK_TEXT_BYTES};
-ghost use Rattle.elf_model.specs.Names.{shown};
+ghost use Rattle.elf_table.specs.Prelude.{CallDid, StringsInBounds, fault_of_result, strings_in};
+ghost use Rattle.elf_model.specs.Prelude.{LINK_TEXT_BYTES, shown};
 ghost use Rattle.elf_needs.specs.Held.{with_text};
 ghost use Rattle.elf_needs.specs.Entries.{ReturnsText, text_by};
-ghost use Rattle.elf_table.specs.Tables.{StringsInBounds, strings_in};
 
 use crate::texts::StringArena;
 use elf_record::Cause;

@@ -3,11 +3,8 @@ ghost use Rattle.std.specs.Prelude.{◌≡◌, ◌≤◌, length, MatchBool};
 ghost use Rattle.elf_needs.specs.Lacking.{HasNoTable, definition_if, definitions_of};
 ghost use Rattle.elf_needs.specs.Sought.{ReturnsAs};
 ghost use Rattle.elf_table.specs.Ledger.{CallDid, fault_of_result};
-ghost use Rattle.elf_loader.specs.Comparing.{comparing_bytes};
-ghost use Rattle.elf_loader.specs.Tables.{max_versions_of};
-ghost use Rattle.elf_model.specs.BoundSymbols.{lacks_version};
-ghost use Rattle.elf_model.specs.Loader.{Version};
-ghost use Rattle.elf_model.specs.LoaderScope.{LookupTables as IsScopeOf};
+ghost use Rattle.elf_loader.specs.Prelude.{comparing_bytes, max_versions_of};
+ghost use Rattle.elf_model.specs.Prelude.{LookupTables as IsScopeOf, Version, lacks_version};
 ghost use Rattle.elf_hash.specs.Symbols.{IsDynamicSymbols, DynamicSymbolsInBounds};
 
 use elf_hash::{DynamicSymbols, VersionRecordTable};

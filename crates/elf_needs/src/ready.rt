@@ -1,11 +1,9 @@
 //! What the lookups in a file have in common, read once.
 ghost use Rattle.std.specs.Prelude.{◌≡◌, ⊤, IfOk, IfSome, IsTrue, MatchBool};
 ghost use Rattle.elf_needs.specs.Ready.{HasNoNul, NamesEnd, ReturnsReady, ready_bytes, table_where};
-ghost use Rattle.elf_hash.specs.SearchedTables.{place_of_table};
+ghost use Rattle.elf_hash.specs.Prelude.{IsLookupTables, LookupTablesInBounds, VersionRecordsInBounds, place_of_table};
 ghost use Rattle.elf_table.specs.Ledger.{CallDid, fault_of_result};
 ghost use Rattle.elf_model.specs.LoaderScope.{LookupTables as IsScopeOf};
-ghost use Rattle.elf_hash.specs.LookupTablesFound.{IsLookupTables, LookupTablesInBounds};
-ghost use Rattle.elf_hash.specs.Symbols.{VersionRecordsInBounds};
 ghost use Rattle.elf_options.specs.Wants.{asked_of};
 
 use elf_hash::{HashTable, LookupTables, VersionRecordTable, counts};
@@ -25,7 +23,8 @@ pub(crate) fn ready_table<S: Source>(
 ) -> Result<Option<HashTable>, Fault>
     requires { LookupTablesInBounds src.old.seen.size scope.now }
     ensures did { CallDid src.old src.new (fault_of_result result) (ready_bytes src.old.seen.size)
-        (λ file. (told : IsScopeOf) → IsLookupTables file told scope.now → ReturnsReady file told result) }
+        (λ file. (told : IsScopeOf) → IsLookupTables file told scope.now →
+        ReturnsReady file told result) }
     ensures place { IfOk result (λ ready.
         IfSome ready (λ table. place_of_table table ≡ scope.now.hash)) }
 {

@@ -1,17 +1,11 @@
 //! What a symbol of a file asks others for.
 ghost use Rattle.std.specs.Prelude.{◌≡◌, ℕ, ◌+◌, ◌*◌, ◌<◌, ◌∷◌, [], List, None, Some, IfOk};
 ghost use Rattle.elf_needs.specs.Sought.{SeeksOf, ReturnsAsked, ReturnsSought, ReturnsVersionIf, ReturnsWhole};
-ghost use Rattle.elf_table.specs.Ledger.{CallDid, fault_of_result};
-ghost use Rattle.elf_loader.specs.Naming.{IsFileIf};
-ghost use Rattle.elf_loader.specs.Tables.{max_versions_of};
-ghost use Rattle.elf_model.specs.Bindings.{SOUGHT_BYTES, is_reference, is_weak, reference_at, reference_by_index, reference_version, whole_name};
-ghost use Rattle.elf_model.specs.BoundSymbols.{file_before, file_of_version};
-ghost use Rattle.elf_model.specs.Loader.{DynamicSymbols as AreSymbolsOf, is_among, readings, symbol_offset};
-ghost use Rattle.elf_model.specs.Names.{name_bytes};
-ghost use Rattle.elf_model.specs.Numbers.{STB_GLOBAL, STB_WEAK, STB_GNU_UNIQUE};
+ghost use Rattle.elf_table.specs.Prelude.{CallDid, StringsInBounds, fault_of_result, strings_in};
+ghost use Rattle.elf_loader.specs.Prelude.{IsFileIf, max_versions_of};
+ghost use Rattle.elf_model.specs.Prelude.{DynamicSymbols as AreSymbolsOf, SOUGHT_BYTES, STB_GLOBAL, STB_GNU_UNIQUE, STB_WEAK, file_before, file_of_version, is_among, is_reference, is_weak, name_bytes, readings, reference_at, reference_by_index, reference_version, symbol_offset, whole_name};
 ghost use Rattle.elf_record.specs.Sym.{IsSym};
 ghost use Rattle.elf_hash.specs.Symbols.{IsDynamicSymbols, DynamicSymbolsInBounds};
-ghost use Rattle.elf_table.specs.Tables.{StringsInBounds, strings_in};
 
 use elf_hash::DynamicSymbols;
 use elf_loader::{name_of, read_half};
@@ -75,7 +69,8 @@ pub(crate) fn reference_symbol<S: Source>(
         ReturnsSought (reference_at file told index) (is_weak file (symbol_offset told index))
         name.new version.new result) }
     ensures file { (bytes : List ℕ) → src.old.seen.file ≡ Some bytes → (told : AreSymbolsOf) →
-        IsDynamicSymbols bytes told symbols.now → SeeksOf bytes (file_of_version bytes told index) result }
+        IsDynamicSymbols bytes told symbols.now →
+        SeeksOf bytes (file_of_version bytes told index) result }
 {
     let symbol = symbols.table.symbol(src, index)?;
     if !is_reference(&symbol) {
@@ -110,7 +105,8 @@ pub(crate) fn reference_of<S: Source>(
         ReturnsSought (reference_at file told index) (is_weak file (symbol_offset told index))
         name.new version.new result) }
     ensures file { (bytes : List ℕ) → src.old.seen.file ≡ Some bytes → (told : AreSymbolsOf) →
-        IsDynamicSymbols bytes told symbols.now → SeeksOf bytes (file_of_version bytes told index) result }
+        IsDynamicSymbols bytes told symbols.now →
+        SeeksOf bytes (file_of_version bytes told index) result }
 {
     if index >= symbols.table.len() {
         return Ok(None);

@@ -3,8 +3,7 @@ ghost use Rattle.std.specs.Prelude.{◌≡◌};
 ghost use Rattle.arrayvec.specs.ArrayVec.{array_vec_len};
 ghost use Rattle.elf_needs.specs.Sought.{asked_if};
 ghost use Rattle.elf_loader.specs.Lookups.{AreShort};
-ghost use Rattle.elf_model.specs.BindingLines.{reference_name};
-ghost use Rattle.elf_model.specs.Loader.{asked_name};
+ghost use Rattle.elf_model.specs.Prelude.{asked_name, reference_name};
 ghost use Rattle.elf_options.specs.Wants.{query_of};
 
 use arrayvec::ArrayVec;

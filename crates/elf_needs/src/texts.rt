@@ -1,8 +1,7 @@
 //! Texts in memory that is taken once.
 ghost use Rattle.std.specs.Prelude.{◌≡◌, ◌<◌, ◌++◌, ◌∷◌, [], ℕ, List, IfOk, IfSome, IsNone, is_some, nat_lt, ◌&&◌, length, slice_index_or};
-ghost use Rattle.elf_model.specs.Links.{has_room};
+ghost use Rattle.elf_model.specs.Prelude.{has_room, slice};
 ghost use Rattle.elf_needs.specs.Held.{with_text};
-ghost use Rattle.elf_model.specs.Bytes.{slice};
 
 use std::alloc::{AllocError, Global};
 use std::marker::Model;

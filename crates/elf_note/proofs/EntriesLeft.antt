@@ -1,14 +1,10 @@
 -- What is left of the dynamic entries of a table after a step.
 use Rattle.std.proofs.lemmas.Bool.Decides.{nat_tests}
 use Rattle.std.proofs.Common.{◌≡◌, ◌≢◌, ◌==◌, ℕ, suc, ◌+◌, ◌*◌, Bool, true, false, List, Option, None, Some, Ok, inr, refl, ap, sym, ◌∙◌, arith}
-use Rattle.elf_model.specs.Bytes.{slice, field}
-use Rattle.elf_model.specs.Dynamic.{dynamic_count, dynamic_value}
-use Rattle.elf_model.specs.Numbers.{DT_NULL}
-use Rattle.elf_model.specs.Records.{d_tag, d_un}
+use Rattle.elf_model.specs.Prelude.{DT_NULL, d_tag, d_un, dynamic_count, dynamic_value, field, slice}
 use Rattle.elf_model.proofs.DynamicLaws.{count-zero, count-null, count-more, value-none, value-here, value-more}
 use Rattle.elf_model.proofs.Slices.{field-slice}
-use Rattle.elf_table.specs.Cursors.{CursorState, GivesRow, Advances, next_row}
-use Rattle.elf_table.specs.Tables.{TableRange}
+use Rattle.elf_table.specs.Prelude.{Advances, CursorState, GivesRow, TableRange, next_row}
 use Rattle.elf_note.specs.DynCursors.{DynCursorState, AdvancesEntries, GivesEntry, EndsEntries, entries_left, first_value, value_here}
 
 is-same : (x y : ℕ) → (x == y) ≡ true → x ≡ y

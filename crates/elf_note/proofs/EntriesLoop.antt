@@ -3,8 +3,7 @@ use Rattle.std.proofs.Common.{◌≡◌, ℕ, suc, ◌+◌, ◌≤◌, List, Non
 use Rattle.elf_model.specs.Bytes.{slice}
 use Rattle.elf_source.specs.Source.{CountedState, ReadsUpTo}
 use Rattle.elf_source.proofs.ReadsLaws.{ReadsUpTo-none, ReadsUpTo-then, ReadsUpTo-to}
-use Rattle.elf_table.specs.Cursors.{HoldsRows, next_row, unread_bytes}
-use Rattle.elf_table.specs.Tables.{TableRange, size_of}
+use Rattle.elf_table.specs.Prelude.{HoldsRows, TableRange, next_row, size_of, unread_bytes}
 use Rattle.elf_note.specs.DynCursors.{DynCursorState, GivesEntry, StartsEntries, entries_left}
 use Rattle.elf_note.proofs.EntriesLeft.{next-place}
 

@@ -2,8 +2,7 @@
 use Rattle.std.proofs.Common.{◌≡◌, ℕ, ◌+◌, ◌≤◌, List, take, IfSome, IfErr, OnOk, Result, Ok, Err, sym, ap, ◌∙◌, arith}
 use Rattle.elf_model.specs.Bytes.{slice}
 use Rattle.elf_model.proofs.Slices.{slice-slice}
-use Rattle.elf_table.specs.Faults.{IsAt}
-use Rattle.elf_table.specs.Ledger.{fault_of_result}
+use Rattle.elf_table.specs.Prelude.{IsAt, fault_of_result}
 use Rattle.elf_table.specs.declared.fault.Fault.{Fault}
 use Rattle.elf_table.specs.declared.fault.Fault.TheVariants.{Refused, Source}
 use Rattle.elf_note.specs.Reading.{GivesBytes}

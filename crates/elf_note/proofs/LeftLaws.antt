@@ -1,16 +1,15 @@
 -- What is left of a walk after a step.
 use Rattle.std.proofs.Common.{◌≡◌, ℕ, zero, suc, ◌+◌, ◌-◌, ◌*◌, ◌<◌, ◌≤◌, nat_lt, Bool, true, false, if◌then◌else◌, List, ◌⊎◌, inl, inr, Option, Some, Err, option_map, refl, arith}
 use Rattle.std.proofs.lemmas.Bool.Decides.{nat_tests}
-use Rattle.elf_model.specs.Checks.{first_refusal}
-use Rattle.elf_model.specs.Versions.{RecordCursorState, Versions, visited_at, visited_from, no_versions, record_checks, record_size, with_visited}
-use Rattle.elf_model.specs.declared.causes.Cause.TheVariants.{VersionCut}
+use Rattle.elf_model.specs.Prelude.{RecordCursorState, Versions, first_refusal, no_versions, record_checks, record_size, visited_at, visited_from, with_visited}
 use Rattle.elf_model.specs.declared.causes.Refusal.{Refusal}
+use Rattle.elf_model.specs.declared.causes.Cause.TheVariants.{VersionCut}
 use Rattle.elf_model.proofs.VersionSteps.{met-most, met-record, met-refused}
 use Rattle.elf_table.specs.declared.fault.Fault.{Fault}
 use Rattle.elf_table.specs.declared.fault.Fault.TheVariants.{Refused, Source}
-use Rattle.elf_note.specs.Reading.{BufferedTable, IsStep, ReadsRecord, ReturnsMet, record_position_of, unheld}
-use Rattle.elf_note.specs.declared.record_reader.VersionRecordStep.{VersionRecordStep}
+use Rattle.elf_note.specs.Prelude.{BufferedTable, IsStep, ReadsRecord, ReturnsMet, record_position_of, unheld}
 use Rattle.elf_note.specs.declared.record_position.RecordPosition.{RecordPosition}
+use Rattle.elf_note.specs.declared.record_reader.VersionRecordStep.{VersionRecordStep}
 
 -- a record that is not in the table
 past : (file : List ℕ) (table size : ℕ) (stand : RecordCursorState) → size < stand.place + record_size stand.kind

@@ -6,9 +6,9 @@ use Rattle.std.proofs.lemmas.List.{get_or-replicate, get_or-set_other, get_or-se
 use Rattle.std.proofs.Math.ListN.{set}
 use Rattle.elf_model.specs.Versions.{VisitedRecord, named_at, named_by, names_version_index, names_version, number_in, number_word}
 use Rattle.elf_model.proofs.VersionLaws.{first_list_names_first, named-here, named-later, named-none}
-use Rattle.elf_note.specs.NumberNames.{GivesName, NameFits, IsNameOfRecord, IsPlaceOfRecord, NamesNumbers, name_at}
+use Rattle.elf_note.specs.Prelude.{GivesName, IsNameOfRecord, IsPlaceOfRecord, NameFits, NamesNumbers, name_at}
+use Rattle.elf_note.specs.declared.version_names.VersionNameRef.TheVariants.{Defined, Needed, Nowhere}
 use Rattle.elf_note.specs.declared.version_names.VersionNameRef.{VersionNameRef}
-use Rattle.elf_note.specs.declared.version_names.VersionNameRef.TheVariants.{Nowhere, Defined, Needed}
 
 -- where none of some records names a number, the others behind them do or do not
 behind-none :

@@ -1,10 +1,8 @@
 -- A note's name as it is shown, by what a search of its front found.
 use Rattle.std.proofs.Common.{◌≡◌, ℕ, ◌+◌, ◌<◌, ◌≤◌, min, Bool, true, false, List, length, take, drop, Some, None, Ok, ◌⊎◌, inl, inr, ap, sym, ◌∙◌, refl, arith, length-take, take-take}
 use Rattle.std.proofs.lemmas.List.{take_all}
-use Rattle.elf_model.specs.Bytes.{slice}
-use Rattle.elf_model.specs.Names.{nul_in}
-use Rattle.elf_model.specs.Names.DisplayedName.{Whole, Cut}
-use Rattle.elf_model.specs.Notes.{Note, note_shown}
+use Rattle.elf_model.specs.Prelude.{Cut, Note, note_shown, nul_in, slice}
+use Rattle.elf_model.specs.Names.DisplayedName.{Whole}
 use Rattle.elf_model.proofs.NoteLoops.{note-shown-found, note-shown-all, note-shown-over}
 use Rattle.elf_model.proofs.Nuls.{some-free}
 use Rattle.elf_table.specs.NamesRead.{Searched}

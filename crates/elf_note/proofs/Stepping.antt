@@ -2,18 +2,15 @@
 use Rattle.std.proofs.Common.{◌≡◌, ℕ, ◌+◌, ◌-◌, ◌<◌, ◌≤◌, min, true, false, List, length, take, drop, Some, Ok, ◌⊎◌, inl, inr, ap, sym, ◌∙◌, refl, arith, length-take, take-take}
 use Rattle.std.proofs.lemmas.Bool.{cases_lt}
 use Rattle.std.proofs.lemmas.List.{take_all}
-use Rattle.elf_model.specs.Bytes.{slice, field}
-use Rattle.elf_model.specs.Records.{n_namesz, n_descsz, n_type}
-use Rattle.elf_model.specs.Notes.{Note, are_zeros, first_note, first_end, bytes_to_alignment, descriptor_start, OneNote, note_shown, with_note}
+use Rattle.elf_model.specs.Prelude.{Note, OneNote, are_zeros, bytes_to_alignment, descriptor_start, field, first_end, first_note, n_descsz, n_namesz, n_type, note_shown, slice, with_note}
 use Rattle.elf_model.proofs.Slices.{slice-size, slice-slice, slice-rest, field-slice}
 use Rattle.elf_model.proofs.Spellings.{next-ends, next-tails, next-past, next-found}
 use Rattle.elf_model.proofs.Walks.{walk, walk-ends, walk-broken, walk-found}
-use Rattle.elf_record.specs.NoteHead.{IsNoteHead}
+use Rattle.elf_record.specs.Prelude.{IsNoteHead}
 use Rattle.elf_record.specs.declared.note_head.NoteHead.{NoteHead}
-use Rattle.elf_table.specs.declared.names.NameEnd.{NameEnd}
-use Rattle.elf_table.specs.Windows.{WindowState, bytes_left, range_end}
-use Rattle.elf_table.specs.Faults.{IsOfRead}
+use Rattle.elf_table.specs.Prelude.{IsOfRead, WindowState, bytes_left, range_end}
 use Rattle.elf_table.specs.declared.fault.Fault.{Fault}
+use Rattle.elf_table.specs.declared.names.NameEnd.{NameEnd}
 use Rattle.elf_table.specs.declared.fault.Fault.TheVariants.{Refused, Source}
 use Rattle.elf_note.specs.NoteCursors.{rest, notes_left, no_notes, cut_at, NameIs, ReturnsNote, note_cut, note_size}
 

@@ -3,11 +3,10 @@ use Rattle.std.proofs.Common.{◌≡◌, ℕ, ◌*◌, ◌≤◌, Bool, true, fa
 use Rattle.std.proofs.Math.Nat.{mul-le-mul_right}
 use Rattle.elf_model.specs.Versions.{VisitedRecord, Versions, no_versions, with_visited}
 use Rattle.elf_source.specs.Source.{CountedState}
-use Rattle.elf_table.specs.Ledger.{CallDid, fault_of_result}
+use Rattle.elf_table.specs.Prelude.{CallDid, fault_of_result}
 use Rattle.elf_table.specs.declared.fault.Fault.{Fault}
 use Rattle.elf_table.specs.declared.fault.Fault.TheVariants.{Refused, Source}
-use Rattle.elf_note.specs.NumberNames.{NamesNumbers, ReadsNumberNames}
-use Rattle.elf_note.specs.Reading.{BufferedTable, KeepsWalk, ReturnsVersion, VersionCursorState, unheld, unread, why_stopped_now}
+use Rattle.elf_note.specs.Prelude.{BufferedTable, KeepsWalk, NamesNumbers, ReadsNumberNames, ReturnsVersion, VersionCursorState, unheld, unread, why_stopped_now}
 use Rattle.elf_note.specs.declared.version_names.VersionNameRef.{VersionNameRef}
 
 -- what may still be asked for grows with the records that are left

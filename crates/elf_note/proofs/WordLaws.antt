@@ -1,16 +1,13 @@
 -- Words that are those of a record of a file.
 use Rattle.std.proofs.Common.{◌≡◌, ℕ, ◌+◌, ◌^◌, ◌<◌, ◌≤◌, nat_lt, Bool, true, false, if◌then◌else◌, List, Option, None, Some, IfSome, Err, ◌⊎◌, inl, inr, refl, ap, ◌∙◌, arith}
 use Rattle.std.proofs.lemmas.Bool.Decides.{nat_tests}
-use Rattle.elf_model.specs.Bytes.{field}
-use Rattle.elf_model.specs.Checks.{first_refusal}
-use Rattle.elf_model.specs.Versions.{RecordCursorState, record_size, record_checks, visited_at, word_checks, name_distance, name_end, name_index}
-use Rattle.elf_model.specs.declared.versions.VersionKind.{VersionKind}
+use Rattle.elf_model.specs.Prelude.{RecordCursorState, field, first_refusal, name_distance, name_end, name_index, record_checks, record_size, visited_at, word_checks}
 use Rattle.elf_model.specs.declared.versions.VersionKind.TheVariants.{Definition, File, Need}
-use Rattle.elf_table.specs.Faults.{IsOfRead}
+use Rattle.elf_model.specs.declared.versions.VersionKind.{VersionKind}
+use Rattle.elf_table.specs.Prelude.{IsOfRead}
 use Rattle.elf_table.specs.declared.fault.Fault.{Fault}
 use Rattle.elf_table.specs.declared.fault.Fault.TheVariants.{Refused, Source}
-use Rattle.elf_note.specs.Words.{HoldsName, HoldsWords, aux_word, checks_of, distance_of_name, end_of_named_record}
-use Rattle.elf_note.specs.Reading.{IsPositionInTable, BufferedTable, ReadsRecord, bytes_each, index_bytes, record_position_of, unheld}
+use Rattle.elf_note.specs.Prelude.{BufferedTable, HoldsName, HoldsWords, IsPositionInTable, ReadsRecord, aux_word, bytes_each, checks_of, distance_of_name, end_of_named_record, index_bytes, record_position_of, unheld}
 use Rattle.elf_note.specs.declared.record_position.RecordPosition.{RecordPosition}
 use Rattle.elf_note.specs.declared.record_fields.VersionRecordFields.{VersionRecordFields}
 pub use Rattle.elf_table.proofs.Absent.{none-of}

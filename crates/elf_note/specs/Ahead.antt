@@ -2,7 +2,7 @@
 use Rattle.std.specs.Prelude.{ℕ, ◌≡◌, ◌+◌, ◌-◌, ◌≤◌, List, [], length, Option, Some, Result, IfErr}
 use Rattle.elf_model.specs.Bytes.{slice}
 use Rattle.elf_source.specs.Source.{CountedState, ReadsUpTo}
-use Rattle.elf_table.specs.Faults.{IsAt, IsReadFault}
+use Rattle.elf_table.specs.Prelude.{IsAt, IsReadFault}
 use Rattle.elf_table.specs.declared.fault.Fault.{Fault}
 
 -- some bytes from an offset on

@@ -1,12 +1,8 @@
 -- What a cursor over dynamic entries gives, entry by entry.
 use Rattle.std.specs.Prelude.{ℕ, suc, ◌≡◌, ◌==◌, ◌+◌, ◌≤◌, Bool, true, false, if◌then◌else◌, List, [], ◌⊎◌, Option, None, Some, Result, Ok, Err}
-use Rattle.elf_model.specs.Dynamic.{dynamic_count, listed_value}
-use Rattle.elf_model.specs.Numbers.{DT_NULL, DT_STRSZ, DT_STRTAB}
-use Rattle.elf_model.specs.Records.{d_tag, d_un}
-use Rattle.elf_source.specs.Onward.{ReadsOnward}
-use Rattle.elf_source.specs.Source.{SourceState, CountedState}
-use Rattle.elf_table.specs.Cursors.{CursorState, HoldsRows, FailsRows, GivesRow, ShowsRow, asked_to, next_row, unread_bytes}
-use Rattle.elf_table.specs.Tables.{TableRange, size_of}
+use Rattle.elf_model.specs.Prelude.{DT_NULL, DT_STRSZ, DT_STRTAB, d_tag, d_un, dynamic_count, listed_value}
+use Rattle.elf_source.specs.Prelude.{CountedState, ReadsOnward, SourceState}
+use Rattle.elf_table.specs.Prelude.{CursorState, FailsRows, GivesRow, HoldsRows, ShowsRow, TableRange, asked_to, next_row, size_of, unread_bytes}
 use Rattle.elf_table.specs.declared.fault.Fault.{Fault}
 use Rattle.elf_table.specs.declared.row.Row.{Row}
 use Rattle.elf_note.specs.declared.string_values.DynamicStrings.{DynamicStrings}

@@ -5,3 +5,4 @@ pub mod Steps
 pub mod Words
 pub mod Reading
 pub mod NumberNames
+pub mod Prelude

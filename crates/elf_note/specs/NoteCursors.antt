@@ -1,20 +1,14 @@
 -- What a cursor over notes gives, note by note.
 use Rattle.std.specs.Prelude.{ℕ, ◌≡◌, ◌+◌, ◌^◌, ◌<◌, ◌≤◌, min, suc, Bool, true, false, List, [], length, take, ◌⊎◌, Option, None, Some, Result, Ok, Err}
-use Rattle.elf_model.specs.Bytes.{slice}
-use Rattle.elf_model.specs.Lines.{SHOWN_DESCRIPTOR}
-use Rattle.elf_model.specs.Names.{DisplayedName}
-use Rattle.elf_model.specs.Names.DisplayedName.{Whole as ShownWhole, Cut as ShownCut}
-use Rattle.elf_model.specs.Notes.{Note, NoteScan, walk_from, with_note, descriptor_start, bytes_to_alignment, note_align, note_shown}
+use Rattle.elf_model.specs.Prelude.{Cut as ShownCut, DisplayedName, Note, NoteScan, SHOWN_DESCRIPTOR, bytes_to_alignment, descriptor_start, note_align, note_shown, slice, walk_from, with_note}
 use Rattle.elf_model.specs.declared.causes.Cause.TheVariants.{NoteCut}
-use Rattle.elf_source.specs.Onward.{ReadsOnward}
-use Rattle.elf_source.specs.Source.{SourceState, CountedState}
-use Rattle.elf_table.specs.Faults.{IsOfRead}
-use Rattle.elf_table.specs.Tables.{TableRange}
-use Rattle.elf_table.specs.Windows.{WindowState, HoldsBytes, StillHolds, MovesOn, bytes_left, frontier, range_end}
+use Rattle.elf_model.specs.Names.DisplayedName.{Whole as ShownWhole}
+use Rattle.elf_source.specs.Prelude.{CountedState, ReadsOnward, SourceState}
+use Rattle.elf_table.specs.Prelude.{HoldsBytes, IsOfRead, MovesOn, StillHolds, TableRange, WindowState, bytes_left, frontier, range_end}
+use Rattle.elf_table.specs.declared.names.NameEnd.TheVariants.{Cut, Whole}
 use Rattle.elf_table.specs.declared.fault.Fault.{Fault}
-use Rattle.elf_table.specs.declared.fault.Fault.TheVariants.{Refused}
 use Rattle.elf_table.specs.declared.names.NameEnd.{NameEnd}
-use Rattle.elf_table.specs.declared.names.NameEnd.TheVariants.{Whole, Cut}
+use Rattle.elf_table.specs.declared.fault.Fault.TheVariants.{Refused}
 use Rattle.elf_note.specs.declared.note.FoundNote.{FoundNote}
 use Rattle.elf_note.specs.declared.note_row.NoteRow.{NoteRow}
 

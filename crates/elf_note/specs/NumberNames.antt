@@ -1,7 +1,6 @@
 -- The names of the numbers of versions, found in one walk.
 use Rattle.std.specs.Prelude.{ℕ, ◌≡◌, ◌<◌, Bool, true, false, List, ◌++◌, length, slice_index_or, Option, None, Some, Result, Ok, Err}
-use Rattle.elf_model.specs.Budget.{IsBudgetRefusal}
-use Rattle.elf_model.specs.Versions.{VERSION_NUMBERS, VisitedRecord, Versions, name_index, named_at, named_by}
+use Rattle.elf_model.specs.Prelude.{IsBudgetRefusal, VERSION_NUMBERS, Versions, VisitedRecord, name_index, named_at, named_by}
 use Rattle.elf_model.specs.declared.versions.VersionKind.TheVariants.{Definition, Need}
 use Rattle.elf_table.specs.declared.fault.Fault.{Fault}
 use Rattle.elf_table.specs.declared.fault.Fault.TheVariants.{Refused, Source}

@@ -1,23 +1,17 @@
 -- What a cursor over symbol versions gives, record by record.
 use Rattle.std.specs.Prelude.{ℕ, ◌≡◌, ◌+◌, ◌*◌, ◌^◌, IfOk, IfSome, MatchOption, ◌<◌, ◌≤◌, if◌then◌else◌, Bool, true, List, Option, None, Some, Result, Ok, Err, option_map}
-use Rattle.elf_model.specs.Budget.{IsBudgetRefusal}
-use Rattle.elf_model.specs.Bytes.{slice}
-use Rattle.elf_model.specs.Records.{vn_next}
-use Rattle.elf_model.specs.Versions.{DEFINITION_SIZE, DEFINED_NAME_SIZE, NEED_SIZE, VERSION_NUMBERS, VisitedRecord, RecordCursorState, Versions, number_in, number_word, flags_word, hash_word, named_at, name_index, no_versions, with_visited, visited_from, visited_at, record_checks, next_position, first_position, max_records, record_size}
-use Rattle.elf_model.specs.declared.versions.VersionKind.{VersionKind}
+use Rattle.elf_model.specs.Prelude.{DEFINED_NAME_SIZE, DEFINITION_SIZE, IsBudgetRefusal, NEED_SIZE, RecordCursorState, VERSION_NUMBERS, Versions, VisitedRecord, first_position, first_refusal, flags_word, hash_word, max_records, name_index, named_at, next_position, no_versions, number_in, number_word, record_checks, record_size, slice, visited_at, visited_from, vn_next, with_visited}
 use Rattle.elf_model.specs.declared.versions.VersionKind.TheVariants.{Definition, File, Need}
-use Rattle.elf_table.specs.Faults.{IsOfRead}
+use Rattle.elf_model.specs.declared.versions.VersionKind.{VersionKind}
+use Rattle.elf_table.specs.Prelude.{CallDid, IsOfRead, TableInBounds, TableRange, fault_of_result}
 use Rattle.elf_table.specs.declared.fault.Fault.{Fault}
 use Rattle.elf_table.specs.declared.fault.Fault.TheVariants.{Refused, Source}
-use Rattle.elf_table.specs.Tables.{TableRange, TableInBounds}
 use Rattle.elf_source.specs.Source.{CountedState}
-use Rattle.elf_table.specs.Ledger.{CallDid, fault_of_result}
 use Rattle.elf_note.specs.Words.{HoldsWords}
 use Rattle.elf_note.specs.declared.record_fields.VersionRecordFields.{VersionRecordFields}
 use Rattle.elf_note.specs.declared.record.VersionRecord.{VersionRecord}
 use Rattle.elf_note.specs.declared.record_position.RecordPosition.{RecordPosition}
 use Rattle.elf_note.specs.declared.record_reader.VersionRecordStep.{VersionRecordStep}
-use Rattle.elf_model.specs.Checks.{first_refusal}
 
 -- a table whose bytes are held, all of them, or are read piece by piece
 pub record BufferedTable : Type 0 where

@@ -1,7 +1,7 @@
 -- What a step of a cursor reads.
 use Rattle.std.specs.Prelude.{ℕ, ◌≡◌, Option, None, Some, Result, Err, IfErr}
 use Rattle.elf_source.specs.Source.{CountedState, ReadsUpTo}
-use Rattle.elf_table.specs.Faults.{IsReadFault}
+use Rattle.elf_table.specs.Prelude.{IsReadFault}
 use Rattle.elf_table.specs.declared.fault.Fault.{Fault}
 
 -- WHAT A STEP READ, fault or not: it asked for at most n bytes, and the first fault says what is so; a cursor that had failed

@@ -1,11 +1,9 @@
 -- The words of a record of symbol versions, and its checks.
 use Rattle.std.specs.Prelude.{ℕ, ◌≡◌, ◌+◌, ◌<◌, ◌≤◌, ◌==◌, nat_lt, not, List, [], ◌∷◌}
-use Rattle.elf_model.specs.Checks.{Check, refuse}
-use Rattle.elf_model.specs.Records.{vd_aux, vn_aux, vn_file, vna_name}
-use Rattle.elf_model.specs.Versions.{DEFINED_NAME_SIZE, NEED_SIZE, VERSION_NUMBERS, VisitedRecord, number_in, version_word, number_word, flags_word, hash_word, next_word}
+use Rattle.elf_model.specs.Prelude.{Check, DEFINED_NAME_SIZE, NEED_SIZE, VERSION_NUMBERS, VisitedRecord, flags_word, hash_word, next_word, number_in, number_word, refuse, vd_aux, version_word, vn_aux, vn_file, vna_name}
 use Rattle.elf_model.specs.declared.causes.Cause.TheVariants.{BadVersion, VersionCut, VersionIndex}
-use Rattle.elf_model.specs.declared.versions.VersionKind.{VersionKind}
 use Rattle.elf_model.specs.declared.versions.VersionKind.TheVariants.{Definition, File, Need}
+use Rattle.elf_model.specs.declared.versions.VersionKind.{VersionKind}
 use Rattle.elf_note.specs.declared.record_position.RecordPosition.{RecordPosition}
 use Rattle.elf_note.specs.declared.record_fields.VersionRecordFields.{VersionRecordFields}
 

@@ -1,11 +1,8 @@
 //! A cursor over the dynamic entries of a table.
 ghost use Rattle.std.specs.Prelude.{◌≡◌, ◌==◌, ℕ, ◌<◌, List, length};
-ghost use Rattle.elf_model.specs.Bytes.{slice};
-ghost use Rattle.elf_model.specs.Numbers.{DT_NULL};
-ghost use Rattle.elf_model.specs.Records.{d_tag};
+ghost use Rattle.elf_model.specs.Prelude.{DT_NULL, d_tag, slice};
 ghost use Rattle.elf_record.specs.Dyn.{IsDyn};
-ghost use Rattle.elf_table.specs.Cursors.{ShowsRow, unread_bytes};
-ghost use Rattle.elf_table.specs.Tables.{TableInBounds};
+ghost use Rattle.elf_table.specs.Prelude.{ShowsRow, TableInBounds, unread_bytes};
 ghost use Rattle.elf_note.specs.DynCursors.{AdvancesEntries, KeepsEntries, StartsEntries};
 ghost use Rattle.elf_note.specs.Steps.{StepReads};
 
@@ -87,8 +84,7 @@ impl DynCursor {
     ghost use mathlib.Core.Option.{none};
     ghost use denote.Follow.{follows_so};
     ghost use Rattle.std.specs.Borrow.{sem};
-    ghost use Rattle.elf_table.specs.Cursors.{unread_bytes};
-    ghost use Rattle.elf_table.specs.Tables.{TableInBounds};
+    ghost use Rattle.elf_table.specs.Prelude.{TableInBounds, unread_bytes};
     ghost use Rattle.elf_note.specs.DynCursors.{KeepsEntries, StepsEntries};
     ghost use Rattle.elf_note.specs.Steps.{StepReads};
     ghost use Rattle.elf_note.specs.contracts.dyn_cursor.DynCursor.{the_row};

@@ -1,12 +1,10 @@
 //! The next note of a window.
 ghost use Rattle.std.specs.Prelude.{◌≡◌, ℕ, ◌+◌, ◌-◌, ◌^◌, ◌<◌, ◌≤◌, List, length, min};
 ghost use Rattle.std.specs.Prelude.{Some, IfErr, OnOk, IfOk};
-ghost use Rattle.elf_model.specs.Bytes.{slice};
-ghost use Rattle.elf_model.specs.Notes.{bytes_to_alignment};
-ghost use Rattle.elf_table.specs.Windows.{HoldsBytes, RangeWithin, bytes_left};
+ghost use Rattle.elf_model.specs.Prelude.{bytes_to_alignment, slice};
+ghost use Rattle.elf_table.specs.Prelude.{HasLeft, HoldsBytes, RangeWithin, ReadsThrough, ReadsThroughWindow, bytes_left};
 ghost use Rattle.elf_note.specs.NoteCursors.{PassesNote, StopsNote, TakesNoteBytes, ReturnsNote, notes_left};
 ghost use Rattle.elf_note.specs.NoteCursors.{note_cut};
-ghost use Rattle.elf_table.specs.WindowCalls.{HasLeft, ReadsThrough, ReadsThroughWindow};
 
 use crate::note_names::read_name;
 use crate::sizes::{alignment_gap, padding};

@@ -26,7 +26,7 @@ pub struct NoteCursor {
 
 impl Model for NoteCursor {
     ghost use Rattle.std.specs.Prelude.{◌≡◌, ◌+◌, ◌^◌, ◌<◌, ◌≤◌, take};
-    ghost use Rattle.elf_table.specs.Windows.{range_end};
+    ghost use Rattle.elf_table.specs.Prelude.{TableInBounds, range_end};
     ghost use Rattle.elf_note.specs.NoteCursors.{NoteCursorState};
 
     ghost Value = { NoteCursorState };
@@ -129,7 +129,6 @@ impl NoteCursor {
     ghost use mathlib.Core.Option.{none};
     ghost use denote.Follow.{follows_so};
     ghost use Rattle.std.specs.Borrow.{sem};
-    ghost use Rattle.elf_table.specs.Tables.{TableInBounds};
     ghost use Rattle.elf_note.specs.NoteCursors.{KeepsNotes, StepsNote};
     ghost use Rattle.elf_note.specs.Steps.{StepReads};
     ghost use Rattle.elf_note.specs.contracts.note_cursor.NoteCursor.{the_row};

@@ -1,10 +1,8 @@
 //! The names of notes.
 ghost use Rattle.std.specs.Prelude.{◌≡◌, ℕ, ◌+◌, ◌<◌, List, length, Some, OnOk, IfOk};
-ghost use Rattle.elf_model.specs.Bytes.{slice};
-ghost use Rattle.elf_model.specs.Notes.{Note, note_shown};
-ghost use Rattle.elf_table.specs.Windows.{HoldsBytes};
+ghost use Rattle.elf_model.specs.Prelude.{Note, note_shown, slice};
+ghost use Rattle.elf_table.specs.Prelude.{HasLeft, HoldsBytes, ReadsThrough};
 ghost use Rattle.elf_note.specs.NoteCursors.{NameIs};
-ghost use Rattle.elf_table.specs.WindowCalls.{HasLeft, ReadsThrough};
 
 use elf_source::{Counted, Source};
 use elf_table::{Fault, NameBuf, NameEnd, NameLimit, WINDOW_BYTES, Window, search_name};

@@ -1,13 +1,9 @@
 //! Names and symbols that rows refer to, read ahead.
 ghost use Rattle.std.specs.Prelude.{◌≡◌, ℕ, ◌+◌, ◌-◌, ◌*◌, ◌^◌, ◌<◌, ◌≤◌, [], length, min};
 ghost use Rattle.std.specs.Prelude.{IfErr, IfOk};
-ghost use Rattle.elf_model.specs.Bytes.{slice};
-ghost use Rattle.elf_model.specs.Names.{shown, name_bytes};
+ghost use Rattle.elf_model.specs.Prelude.{name_bytes, shown, slice};
 ghost use Rattle.elf_record.specs.Sym.{IsSym};
-ghost use Rattle.elf_table.specs.Cursors.{row_at};
-ghost use Rattle.elf_table.specs.Faults.{IsOfRead};
-ghost use Rattle.elf_table.specs.NamesRead.{NameRead, Searched};
-ghost use Rattle.elf_table.specs.Tables.{TableInBounds, StringsInBounds, strings_in};
+ghost use Rattle.elf_table.specs.Prelude.{IsOfRead, NameRead, Searched, StringsInBounds, TableInBounds, row_at, strings_in};
 ghost use Rattle.elf_note.specs.Ahead.{LosesAt, ReadsAhead, WhereAgrees};
 
 use crate::name_index::NameIndex;

@@ -1,8 +1,6 @@
 //! What a record of symbol versions holds, whatever its kind.
 ghost use Rattle.std.specs.Prelude.{◌≡◌, ℕ, List};
-ghost use Rattle.elf_record.specs.Verdef.{IsVerdef};
-ghost use Rattle.elf_record.specs.Vernaux.{IsVernaux};
-ghost use Rattle.elf_record.specs.Verneed.{IsVerneed};
+ghost use Rattle.elf_record.specs.Prelude.{IsVerdef, IsVernaux, IsVerneed};
 ghost use Rattle.elf_model.specs.declared.versions.VersionKind.TheVariants.{Definition, File, Need};
 ghost use Rattle.elf_note.specs.Words.{HoldsWords};
 

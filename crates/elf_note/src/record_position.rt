@@ -1,8 +1,6 @@
 //! Where a walk over symbol versions stands, and where a record leads it.
 ghost use Rattle.std.specs.Prelude.{◌≡◌, ℕ, ◌+◌, ◌^◌, ◌<◌, ◌≤◌, List, Some, IfSome, MatchOption, option_map};
-ghost use Rattle.elf_model.specs.Budget.{IsBudgetRefusal};
-ghost use Rattle.elf_model.specs.Checks.{first_refusal};
-ghost use Rattle.elf_model.specs.Versions.{record_size, along, first_position, visited_at, number_in};
+ghost use Rattle.elf_model.specs.Prelude.{IsBudgetRefusal, along, first_position, first_refusal, number_in, record_size, visited_at};
 ghost use Rattle.elf_model.specs.declared.versions.VersionKind.TheVariants.{Need};
 ghost use Rattle.elf_note.specs.Reading.{IsPositionInTable, KnowsAhead, KnowsFiles, LeadsTo, bytes_each, record_position_of};
 ghost use Rattle.elf_note.specs.Words.{HoldsWords, PassesWords, checks_of, distance_of_name, end_of_named_record};

@@ -36,7 +36,8 @@ pub(crate) fn read_record<S: Source>(
     requires owner { stand.now.owner ≤ held.now.table.count }
     ensures did { DidHeld src.old src.new held.now result (bytes_each stand.now.kind)
         (λ file. KnowsFiles file held.now.table.at stand.now →
-        ReadsRecord file held.now.table.at held.now.table.count (record_position_of stand.now) result) }
+        ReadsRecord file held.now.table.at held.now.table.count (record_position_of stand.now)
+        result) }
     ensures fits { IfOk result (StepFits held.now.table.count (bytes_each stand.now.kind)) }
 {
     let table = held.table();
@@ -60,7 +61,8 @@ fn read_words<S: Source>(
 ) -> Result<VersionRecordFields, Fault>
     requires { HasUpTo src.old.seen.size held.now (stand.now.place + record_size stand.now.kind) }
     ensures did { DidHeld src.old src.new held.now result (record_size stand.now.kind)
-        (λ file. WordsRead file (visited_at held.now.table.at (record_position_of stand.now)) result) }
+        (λ file. WordsRead file (visited_at held.now.table.at (record_position_of stand.now))
+        result) }
 {
     match stand.kind {
         VersionKind::Definition => {
@@ -92,8 +94,10 @@ fn read_name<S: Source>(
     requires { HasUpTo src.old.seen.size held.now
         (stand.now.place + end_of_named_record stand.now.kind words.now.aux) }
     ensures did { DidHeld src.old src.new held.now result (index_bytes stand.now.kind)
-        (λ file. HoldsWords file (visited_at held.now.table.at (record_position_of stand.now)) words.now →
-        IsRead result (name_index file (visited_at held.now.table.at (record_position_of stand.now)))) }
+        (λ file. HoldsWords file (visited_at held.now.table.at (record_position_of stand.now))
+        words.now →
+        IsRead result
+        (name_index file (visited_at held.now.table.at (record_position_of stand.now)))) }
 {
     match stand.kind {
         VersionKind::Definition => {

@@ -1,11 +1,8 @@
 //! Where dynamic entries say that their string table is.
 ghost use Rattle.std.specs.Prelude.{◌≡◌, ℕ, List, Option, IfErr, IfOk};
-ghost use Rattle.elf_model.specs.Numbers.{DT_STRSZ, DT_STRTAB};
-ghost use Rattle.elf_model.specs.Records.{d_tag, d_un};
+ghost use Rattle.elf_model.specs.Prelude.{DT_STRSZ, DT_STRTAB, d_tag, d_un};
 ghost use Rattle.elf_record.specs.Dyn.{IsDyn};
-ghost use Rattle.elf_table.specs.Faults.{IsOfRead};
-ghost use Rattle.elf_table.specs.Ledger.{CallDid, fault_of_result};
-ghost use Rattle.elf_table.specs.Tables.{TableInBounds, size_of};
+ghost use Rattle.elf_table.specs.Prelude.{CallDid, IsOfRead, TableInBounds, fault_of_result, size_of};
 ghost use Rattle.elf_note.specs.DynCursors.{AreStrings, first_value, value_here};
 
 use crate::dyn_cursor::{dynamic_rows, entry_in};

@@ -1,9 +1,7 @@
 //! The bytes of a table of symbol versions.
 ghost use Rattle.std.specs.Prelude.{◌≡◌, ℕ, ◌+◌, ◌^◌, ◌≤◌, ◌<◌, List, length, false, IfOk, MatchResult, None};
 ghost use Rattle.elf_model.specs.Bytes.{slice};
-ghost use Rattle.elf_table.specs.Faults.{IsOfRead};
-ghost use Rattle.elf_table.specs.Ledger.{CallDid, fault_of_result};
-ghost use Rattle.elf_table.specs.Tables.{TableInBounds};
+ghost use Rattle.elf_table.specs.Prelude.{CallDid, IsOfRead, TableInBounds, fault_of_result};
 ghost use Rattle.elf_note.specs.Reading.{DidHeld, GivesBytes, HasUpTo, IsHeldOf, unheld};
 
 use elf_source::{Counted, Source};

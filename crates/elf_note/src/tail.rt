@@ -1,9 +1,8 @@
 //! The end of a table of notes.
 ghost use Rattle.std.specs.Prelude.{◌≡◌, ℕ, ◌≤◌, List, Some, OnOk, IfOk};
 ghost use Rattle.elf_model.specs.Notes.{are_zeros};
-ghost use Rattle.elf_table.specs.Windows.{HoldsBytes, RangeWithin, bytes_left};
+ghost use Rattle.elf_table.specs.Prelude.{HoldsBytes, RangeWithin, ReadsThrough, bytes_left};
 ghost use Rattle.elf_note.specs.NoteCursors.{rest};
-ghost use Rattle.elf_table.specs.WindowCalls.{ReadsThrough};
 
 use elf_source::{Counted, Source};
 use elf_table::{Fault, WINDOW_BYTES, Window};

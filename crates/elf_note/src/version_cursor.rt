@@ -1,10 +1,8 @@
 //! A cursor over the records of symbol versions.
 ghost use Rattle.std.specs.Prelude.{◌≡◌, ℕ, ◌+◌, ◌-◌, ◌*◌, ◌^◌, ◌<◌, ◌≤◌, List, false, Some, None, Err, IfOk, IfErr, IfSome};
-ghost use Rattle.elf_table.specs.Faults.{IsOfRead};
-ghost use Rattle.elf_table.specs.Ledger.{CallDid, fault_of_result};
+ghost use Rattle.elf_table.specs.Prelude.{CallDid, IsOfRead, TableInBounds, fault_of_result};
 ghost use Rattle.elf_table.specs.declared.fault.Fault.{Fault};
-ghost use Rattle.elf_table.specs.Tables.{TableInBounds};
-ghost use Rattle.elf_model.specs.Versions.{max_records};
+ghost use Rattle.elf_model.specs.Prelude.{max_records};
 ghost use Rattle.elf_model.specs.declared.versions.VersionKind.TheVariants.{Need};
 ghost use Rattle.elf_note.specs.Reading.{IsPositionInTable, IsCursorOf, KeepsWalk, LeavesVisited, LeavesWalk, MeetsIn};
 ghost use Rattle.elf_note.specs.Reading.{StartsVersions, StepsIn, bytes_each, unread, why_stopped_now};
@@ -180,7 +178,8 @@ impl VersionCursor {
         requires within { TableInBounds src.old.seen.size self.old.held.table }
         requires stands { self.old.standing ≡ Some stand.now }
         requires going { self.old.failed ≡ None }
-        ensures did { CallDid src.old src.new (fault_of_result result) (unread self.old - unread self.new)
+        ensures did { CallDid src.old src.new (fault_of_result result)
+            (unread self.old - unread self.new)
             (λ file. IsCursorOf file self.old → MeetsIn file self.old self.new result) }
         ensures keeps { KeepsWalk self.old self.new }
         ensures leaves { LeavesVisited self.old self.new result }

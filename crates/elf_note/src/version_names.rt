@@ -1,7 +1,6 @@
 //! The names of the numbers of versions.
 ghost use Rattle.std.specs.Prelude.{◌≡◌, ℕ, ◌<◌, List, [], ◌∷◌, ◌++◌, None, length, slice_set};
-ghost use Rattle.elf_table.specs.Ledger.{CallDid, fault_of_result};
-ghost use Rattle.elf_table.specs.Tables.{TableInBounds};
+ghost use Rattle.elf_table.specs.Prelude.{CallDid, TableInBounds, fault_of_result};
 ghost use Rattle.elf_model.specs.Versions.{VisitedRecord, VERSION_NUMBERS, named_by, names_version, number_in};
 ghost use Rattle.elf_note.specs.NumberNames.{GivesName, IsNameOfRecord, NameFits, NamesNumbers, ReadsNumberNames, name_at};
 ghost use Rattle.elf_note.specs.Reading.{IsCursorOf, IsVersion, unread, versions_left};

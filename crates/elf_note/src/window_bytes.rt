@@ -1,8 +1,7 @@
 //! Bytes that are taken out of a window.
 ghost use Rattle.std.specs.Prelude.{◌≡◌, ℕ, ◌+◌, ◌≤◌, List, length, Some, OnOk};
 ghost use Rattle.elf_model.specs.Bytes.{slice};
-ghost use Rattle.elf_table.specs.Windows.{HoldsBytes};
-ghost use Rattle.elf_table.specs.WindowCalls.{HasLeft, ReadsThrough};
+ghost use Rattle.elf_table.specs.Prelude.{HasLeft, HoldsBytes, ReadsThrough};
 
 use elf_source::{Counted, Source};
 use elf_table::{Fault, WINDOW_BYTES, Window};

@@ -2,9 +2,10 @@
 use Rattle.std.proofs.Common.{◌≡◌, ℕ, Bool, suc, ◌<◌, List, [], ◌∷◌, ◌++◌, All, cond, true, nat_lt, length, slice_index_or, refl, ap, sym, subst, ◌∙◌, append_assoc, arith}
 use Rattle.std.proofs.lemmas.Bool.Decides.{nat_tests}
 use Rattle.std.proofs.lemmas.List.Elements.{All-cons}
-use Rattle.elf_options.specs.NameLists.{IsNoNames, IsRowName, line_names}
+use Rattle.elf_options.specs.Prelude.{IsNoNames, IsRowName, line_names}
+use Rattle.elf_options.specs.declared.names_fault.NamesFault.TheVariants.{BadName, Memory, Read, TooLarge}
 use Rattle.elf_options.specs.declared.names_fault.NamesFault.{NamesFault}
-use Rattle.elf_options.specs.declared.names_fault.NamesFault.TheVariants.{Read, TooLarge, BadName, NoNames, Memory}
+use Rattle.elf_options.specs.declared.names_fault.NamesFault.TheVariants.{NoNames}
 
 module _ (versions : Bool) where
   all_first : (name : List ℕ) (names : List (List ℕ)) → All (IsRowName versions) (name ∷ names) → All (IsRowName versions) (name ∷ [])

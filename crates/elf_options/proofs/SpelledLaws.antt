@@ -6,17 +6,17 @@ use Rattle.std.specs.List.{list_any}
 use Rattle.std.proofs.lemmas.Bool.Decides.{nat_tests}
 use Rattle.std.proofs.lemmas.Slice.Eq.{bytes_eq-Decides}
 use Rattle.std.proofs.lemmas.Str.Pattern.{IsSplitOnceResult, split_parts}
-use Rattle.elf_model.specs.TraitWords.{Required, column_name, column_word, either_word, lacking_text, segments_word, file_kind_name, relro_text, relro_word, stack_word, pages_word, text_word, cet_word, canary_word, fortify_word, path_word}
+use Rattle.elf_model.specs.Prelude.{Required, canary_word, cet_word, column_name, column_word, either_word, file_kind_name, fortify_word, lacking_text, pages_word, path_word, relro_text, relro_word, segments_word, stack_word, text_word}
+use Rattle.elf_model.specs.declared.traits.Hardening.{Hardening}
 use Rattle.elf_model.specs.declared.traits.ProgramKind.{ProgramKind}
-use Rattle.elf_model.specs.declared.traits.ProgramKind.TheVariants as kind
 use Rattle.elf_model.specs.declared.traits.Relro.{Relro}
-use Rattle.elf_model.specs.declared.traits.Relro.TheVariants as relro
 use Rattle.elf_model.specs.declared.traits.SearchPath.{SearchPath}
-use Rattle.elf_model.specs.declared.traits.SearchPath.TheVariants as path
 use Rattle.elf_model.specs.declared.traits.SegmentTraits.{SegmentTraits}
 use Rattle.elf_model.specs.declared.traits.TraitColumn.{TraitColumn}
+use Rattle.elf_model.specs.declared.traits.ProgramKind.TheVariants as kind
+use Rattle.elf_model.specs.declared.traits.Relro.TheVariants as relro
+use Rattle.elf_model.specs.declared.traits.SearchPath.TheVariants as path
 use Rattle.elf_model.specs.declared.traits.TraitColumn.TheVariants as column
-use Rattle.elf_model.specs.declared.traits.Hardening.{Hardening}
 use Rattle.elf_options.specs.Spelled.{column_named, column_words, split_at_sign, parsed_trait_word, word_in, word_of_parts, word_under}
 
 -- THE FIRST SIGN parts a text

@@ -1,7 +1,6 @@
 -- Which rows are shown, by texts that are borrowed.
 use Rattle.std.specs.Prelude.{if◌then◌else◌, map}
-use Rattle.elf_model.specs.Choice.{RowFilter as IsChoice, EveryRow, RowsOf, Suffix, Suffixed, wanted_text}
-use Rattle.elf_model.specs.ShownNames.{shown_as}
+use Rattle.elf_model.specs.Prelude.{EveryRow, RowFilter as IsChoice, RowsOf, Suffix, Suffixed, shown_as, wanted_text}
 use Rattle.elf_options.specs.Names.{texts_of}
 use Rattle.elf_options.specs.declared.row_filter.RowFilter.{RowFilter}
 use Rattle.elf_options.specs.declared.row_filter.VersionSuffix.{VersionSuffix}

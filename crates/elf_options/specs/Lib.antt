@@ -7,3 +7,4 @@ pub mod Spelled
 pub mod NameLists
 pub mod NamedRows
 pub mod Permitted
+pub mod Prelude

@@ -2,8 +2,7 @@
 use Rattle.std.specs.Prelude.{ℕ, Bool, true, ◌≡◌, ◌≤◌, ◌<◌, ◌+◌, ◌==◌, ⊤, nat_lt, List, [], ◌++◌, length, filter, All, Option, None, Some, Result, Ok, Err}
 use Rattle.std.specs.Borrow.{Bor}
 use Rattle.std.specs.List.{slice_split}
-use Rattle.elf_model.specs.Loader.{is_complete, parse_query}
-use Rattle.elf_model.specs.NameLaws.{IsWanted}
+use Rattle.elf_model.specs.Prelude.{IsWanted, is_complete, parse_query}
 use Rattle.elf_options.specs.declared.names_fault.NamesFault.{NamesFault}
 use Rattle.elf_options.specs.declared.names_fault.NamesFault.TheVariants.{Read, TooLarge, BadName, NoNames, Memory}
 

@@ -1,7 +1,6 @@
 -- How rows are shown where those of some names are.
 use Rattle.std.specs.Prelude.{ℕ, Bool, List, map, max, min, if◌then◌else◌}
-use Rattle.elf_model.specs.Choice.{RowsOf, most_bytes, wanted_text}
-use Rattle.elf_model.specs.Style.{ListingStyle}
+use Rattle.elf_model.specs.Prelude.{ListingStyle, RowsOf, most_bytes, wanted_text}
 
 -- how many bytes of a name are looked at at least: so that a version can be told, no fewer than are shown
 abbrev pub least_cap : (versions : Bool) → ℕ → ℕ

@@ -1,10 +1,10 @@
 -- The words that are required, as texts spell them.
 use Rattle.std.specs.Prelude.{ℕ, ◌≡◌, ◌==◌, bytes_eq, if◌then◌else◌, true, false, List, [], ◌∷◌, codes, Option, None, Some, option_map}
 use Rattle.std.specs.List.{list_any}
-use Rattle.elf_model.specs.TraitWords.{Required, column_word, lacking_text}
+use Rattle.elf_model.specs.Prelude.{Required, column_word, lacking_text}
+use Rattle.elf_model.specs.declared.traits.Hardening.{Hardening}
 use Rattle.elf_model.specs.declared.traits.TraitColumn.{TraitColumn}
 use Rattle.elf_model.specs.declared.traits.TraitColumn.TheVariants as column
-use Rattle.elf_model.specs.declared.traits.Hardening.{Hardening}
 
 -- what stands before and behind the first of the bytes that is this sign
 unfoldable pub split_at_sign : ℕ → List ℕ → Option (List ℕ × List ℕ)

@@ -36,9 +36,7 @@ pub struct VersionSuffix<'a> {
 
 impl<'a> RowFilter<'a> {
     ghost use Rattle.std.specs.Prelude.{◌≡◌, map};
-    ghost use Rattle.elf_model.specs.Choice.{EveryRow, NoSuffix, RowsOf, chooses, wanted_text};
-    ghost use Rattle.elf_model.specs.ChoiceLaws.{has_version};
-    ghost use Rattle.elf_model.specs.ShownNames.{shown_as};
+    ghost use Rattle.elf_model.specs.Prelude.{EveryRow, NoSuffix, RowsOf, chooses, has_version, shown_as, wanted_text};
     ghost use Rattle.elf_options.specs.Chosen.{after_of, choice_of};
     ghost use Rattle.elf_options.specs.Names.{texts_of};
 

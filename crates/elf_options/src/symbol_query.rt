@@ -1,7 +1,6 @@
 //! What is looked up.
 ghost use Rattle.std.specs.Prelude.{◌≡◌, ◌==◌, ◌<◌, length, position, None, Some, IfSome, false, option_map};
-ghost use Rattle.elf_model.specs.ChoiceLaws.{has_sign, has_sign_first};
-ghost use Rattle.elf_model.specs.Loader.{AT_SIGN, asked_after, asked_name, is_complete, parse_query};
+ghost use Rattle.elf_model.specs.Prelude.{AT_SIGN, asked_after, asked_name, has_sign, has_sign_first, is_complete, parse_query};
 ghost use Rattle.elf_options.specs.Wants.{asked_of, query_of};
 
 /// What stands between a name and its version.

@@ -1,10 +1,9 @@
 -- A file header in its own bytes is the one in the file.
 use Rattle.std.proofs.Common.{◌≡◌, ℕ, List, Ok, Err, Result, arith}
-use Rattle.elf_model.specs.Bytes.{slice}
-use Rattle.elf_model.specs.Checks.{ident_checks}
+use Rattle.elf_model.specs.Prelude.{ident_checks, slice}
 use Rattle.elf_model.specs.declared.causes.Refusal.{Refusal}
 use Rattle.elf_model.proofs.Slices.{field-slice}
-use Rattle.elf_record.specs.Ehdr.{IsEhdr, IsChecked, ehdr_parts}
+use Rattle.elf_record.specs.Prelude.{IsChecked, IsEhdr, ehdr_parts}
 use Rattle.elf_record.specs.declared.ehdr.Ehdr.{Ehdr}
 use Rattle.elf_record.proofs.PartLaws.{parts_in_file}
 

@@ -1,26 +1,17 @@
 -- A record in its own bytes is the one in the file.
 use Rattle.std.proofs.Common.{◌≡◌, ℕ, ◌+◌, ◌≤◌, List, ap, ◌∙◌, arith}
-use Rattle.elf_model.specs.Bytes.{field, slice}
-use Rattle.elf_model.specs.Records.{twos_complement}
+use Rattle.elf_model.specs.Prelude.{field, slice, twos_complement}
 use Rattle.elf_model.proofs.Slices.{field-slice}
-use Rattle.elf_record.specs.Shdr.{IsShdr, shdr_parts}
-use Rattle.elf_record.specs.declared.shdr.Shdr.{Shdr}
-use Rattle.elf_record.specs.Phdr.{IsPhdr, phdr_parts}
-use Rattle.elf_record.specs.declared.phdr.Phdr.{Phdr}
-use Rattle.elf_record.specs.Sym.{IsSym, sym_parts}
-use Rattle.elf_record.specs.declared.sym.Sym.{Sym}
-use Rattle.elf_record.specs.Rela.{IsRela}
-use Rattle.elf_record.specs.declared.rela.Rela.{Rela}
-use Rattle.elf_record.specs.Dyn.{IsDyn}
+use Rattle.elf_record.specs.Prelude.{IsDyn, IsNoteHead, IsPhdr, IsRela, IsShdr, IsSym, IsVerdef, IsVernaux, IsVerneed, note_head_parts, phdr_parts, shdr_parts, sym_parts, verdef_parts, vernaux_parts, verneed_parts}
 use Rattle.elf_record.specs.declared.dyn_entry.Dyn.{Dyn}
-use Rattle.elf_record.specs.NoteHead.{IsNoteHead, note_head_parts}
 use Rattle.elf_record.specs.declared.note_head.NoteHead.{NoteHead}
-use Rattle.elf_record.specs.Verdef.{IsVerdef, verdef_parts}
+use Rattle.elf_record.specs.declared.phdr.Phdr.{Phdr}
+use Rattle.elf_record.specs.declared.rela.Rela.{Rela}
+use Rattle.elf_record.specs.declared.shdr.Shdr.{Shdr}
+use Rattle.elf_record.specs.declared.sym.Sym.{Sym}
 use Rattle.elf_record.specs.declared.verdef.Verdef.{Verdef}
-use Rattle.elf_record.specs.Verneed.{IsVerneed, verneed_parts}
-use Rattle.elf_record.specs.declared.verneed.Verneed.{Verneed}
-use Rattle.elf_record.specs.Vernaux.{IsVernaux, vernaux_parts}
 use Rattle.elf_record.specs.declared.vernaux.Vernaux.{Vernaux}
+use Rattle.elf_record.specs.declared.verneed.Verneed.{Verneed}
 use Rattle.elf_record.proofs.PartLaws.{parts_in_file}
 
 pub shdr_in_file : (file : List ℕ) (at : ℕ) (bytes : List ℕ) (r : Shdr) → bytes ≡ slice file at 64 → IsShdr bytes 0 r → IsShdr file at r

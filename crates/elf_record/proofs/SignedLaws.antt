@@ -4,13 +4,10 @@ use Rattle.std.proofs.Math.Nat.{pow-succ'}
 use Rattle.std.proofs.lemmas.List.{length-take-le}
 use Rattle.std.proofs.lemmas.Int.{of_z-to_z}
 use Rattle.std.specs.Int.{cast_unsigned, w64}
-use Rattle.elf_model.specs.Bytes.{number, field, slice, IsBytes}
-use Rattle.elf_model.specs.Records.{twos_complement}
-use Rattle.elf_record.specs.Parts.{FieldsAreAt}
-use Rattle.elf_record.specs.Rela.{IsRela, rela_parts}
-use Rattle.elf_record.specs.declared.rela.Rela.{Rela}
-use Rattle.elf_record.specs.Dyn.{IsDyn, dyn_parts}
+use Rattle.elf_model.specs.Prelude.{IsBytes, field, number, slice, twos_complement}
+use Rattle.elf_record.specs.Prelude.{FieldsAreAt, IsDyn, IsRela, dyn_parts, rela_parts}
 use Rattle.elf_record.specs.declared.dyn_entry.Dyn.{Dyn}
+use Rattle.elf_record.specs.declared.rela.Rela.{Rela}
 use Rattle.elf_record.proofs.PartLaws.{IsBytes-slice}
 
 -- the number of some bytes has room in so many

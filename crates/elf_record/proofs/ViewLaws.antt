@@ -1,9 +1,8 @@
 -- The file header of a file that is viewed without its section headers.
 use Rattle.std.proofs.Common.{◌≡◌, ℕ, ◌+◌, ◌≤◌, ◌⊎◌, inl, inr, List, ap, sym, ◌∙◌, arith}
-use Rattle.elf_model.specs.Bytes.{number, field}
-use Rattle.elf_model.specs.Style.{without_sections}
+use Rattle.elf_model.specs.Prelude.{field, number, without_sections}
 use Rattle.elf_model.proofs.StyleLemmas.{view_elsewhere, view_tells_of_none}
-use Rattle.elf_record.specs.Ehdr.{IsEhdr}
+use Rattle.elf_record.specs.Prelude.{IsEhdr}
 use Rattle.elf_record.specs.declared.ehdr.Ehdr.{Ehdr}
 
 -- a field elsewhere

@@ -1,8 +1,7 @@
 -- The dynamic entry as a record of fields.
 use Rattle.std.specs.Prelude.{ℕ, ◌≡◌, ◌+◌, ◌^◌, ◌<◌, List, [], ◌∷◌}
 use Rattle.std.specs.Int.{cast_unsigned, w64}
-use Rattle.elf_model.specs.Bytes.{field}
-use Rattle.elf_model.specs.Records.{twos_complement}
+use Rattle.elf_model.specs.Prelude.{field, twos_complement}
 use Rattle.elf_record.specs.Parts.{RecordField, Number}
 use Rattle.elf_record.specs.declared.dyn_entry.Dyn.{Dyn}
 

@@ -1,7 +1,6 @@
 -- The file header as a record of fields.
 use Rattle.std.specs.Prelude.{ℕ, ◌≡◌, ◌+◌, List, [], ◌∷◌, None, Some, Result, MatchResult}
-use Rattle.elf_model.specs.Bytes.{field, slice}
-use Rattle.elf_model.specs.Checks.{first_refusal, ident_checks}
+use Rattle.elf_model.specs.Prelude.{field, first_refusal, ident_checks, slice}
 use Rattle.elf_model.specs.declared.causes.Refusal.{Refusal}
 use Rattle.elf_record.specs.Parts.{RecordField, Number, Raw}
 use Rattle.elf_record.specs.declared.ehdr.Ehdr.{Ehdr}

@@ -9,3 +9,4 @@ pub mod Sym
 pub mod Verdef
 pub mod Verneed
 pub mod Vernaux
+pub mod Prelude

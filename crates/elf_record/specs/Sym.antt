@@ -1,7 +1,6 @@
 -- The symbol as a record of fields.
 use Rattle.std.specs.Prelude.{ℕ, ◌≡◌, ◌+◌, ◌<◌, ◌≤◌, ◌≢◌, List, [], ◌∷◌}
-use Rattle.elf_model.specs.Bytes.{field}
-use Rattle.elf_model.specs.Numbers.{SHN_UNDEF, SHN_LORESERVE, SHN_ABS, SHN_COMMON}
+use Rattle.elf_model.specs.Prelude.{SHN_ABS, SHN_COMMON, SHN_LORESERVE, SHN_UNDEF, field}
 use Rattle.elf_record.specs.Parts.{RecordField, Number}
 use Rattle.elf_record.specs.declared.sym.Sym.{Sym}
 use Rattle.elf_record.specs.declared.sym.SymbolSection.{SymbolSection}

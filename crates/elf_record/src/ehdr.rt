@@ -67,8 +67,7 @@ impl Ehdr {
     ghost use Rattle.elf_record.specs.Ehdr.{IsEhdr, IsChecked, ehdr_parts};
     ghost use Rattle.elf_record.specs.Parts.{AllFit, joined, spelling};
     ghost use Rattle.arrayvec.specs.ArrayVec.{array_vec_len};
-    ghost use Rattle.elf_model.specs.Bytes.{IsBytes, slice};
-    ghost use Rattle.elf_model.specs.Style.{without_sections};
+    ghost use Rattle.elf_model.specs.Prelude.{IsBytes, slice, without_sections};
 
     /// Reads the fields from the record's bytes. No field is checked.
     pub fn decode(bytes: &[u8; 64]) -> Ehdr

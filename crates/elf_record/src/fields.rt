@@ -1,7 +1,6 @@
 //! Little-endian numbers at a place in some bytes.
 ghost use Rattle.std.specs.Prelude.{◌≡◌, ◌+◌, ◌^◌, ◌<◌, ◌≤◌, ◌++◌, length};
-ghost use Rattle.elf_model.specs.Bytes.{field, slice, little};
-ghost use Rattle.elf_model.specs.Records.{twos_complement};
+ghost use Rattle.elf_model.specs.Prelude.{field, little, slice, twos_complement};
 ghost use Rattle.std.specs.Int.{cast_unsigned, w64};
 ghost use Rattle.arrayvec.specs.ArrayVec.{array_vec_len};
 

@@ -20,8 +20,7 @@ impl Rela {
     ghost use Rattle.elf_record.specs.Rela.{IsRela, rela_parts};
     ghost use Rattle.elf_record.specs.Parts.{AllFit, joined, spelling};
     ghost use Rattle.arrayvec.specs.ArrayVec.{array_vec_len};
-    ghost use Rattle.elf_model.specs.Bytes.{IsBytes, slice};
-    ghost use Rattle.elf_model.specs.Records.{twos_complement};
+    ghost use Rattle.elf_model.specs.Prelude.{IsBytes, slice, twos_complement};
     ghost use Rattle.std.specs.Int.{cast_unsigned, w64};
 
     /// Reads the fields from the record's bytes. No field is checked.

@@ -1,30 +1,18 @@
 -- Applying to a section of a loaded file, stage by stage.
 use Rattle.std.proofs.Common.{◌≡◌, ℕ, true, List, [], ◌∷◌, ◌++◌, length, flat_map, None, Some, Result, Ok, Err, refl, sym, ap, ◌∙◌, subst, arith}
-use Rattle.elf_model.specs.Apply.{StoredBytes, SectionChange, Put, Fails, apply_checks, held_bytes, patches_of, and_patches, changes_of, section_changes, places_from, patched, target_of, before_entries, applied}
-use Rattle.elf_model.specs.ApplyLaws.{AllInside}
-use Rattle.elf_model.specs.Budget.{IsBudgetRefusal}
-use Rattle.elf_model.specs.Bytes.{slice}
-use Rattle.elf_model.specs.Checks.{first_refusal, header_checks, load_checks}
-use Rattle.elf_model.proofs.CheckSteps.{first_refusal-none, first_refusal-some}
-use Rattle.elf_model.specs.Placing.{Layout}
-use Rattle.elf_model.specs.Records.{e_shnum, section_at}
+use Rattle.elf_model.specs.Prelude.{AllInside, Fails, IsBudgetRefusal, Layout, Put, SectionChange, StoredBytes, and_patches, applied, apply_checks, before_entries, changes_of, e_shnum, first_refusal, header_checks, held_bytes, load_checks, patched, patches_of, places_from, section_at, section_changes, slice, target_of}
 use Rattle.elf_model.specs.declared.causes.Refusal.{Refusal}
+use Rattle.elf_model.proofs.CheckSteps.{first_refusal-none, first_refusal-some}
 use Rattle.elf_model.proofs.ApplySteps.{applied-refused, applied-fault, applied-patched}
 use Rattle.elf_model.proofs.ChangeLaws.{changes_inside}
 use Rattle.elf_source.specs.Output.{OutState}
-use Rattle.elf_table.specs.Faults.{HeaderRead}
-use Rattle.elf_table.specs.Load.{HoldsSectionHeaders, LoadedAs}
-use Rattle.elf_table.specs.Store.{StoreState}
+use Rattle.elf_table.specs.Prelude.{HeaderRead, HoldsSectionHeaders, LoadedAs, StoreState, stop_of}
 use Rattle.elf_table.specs.declared.fault.Fault.{Fault}
+use Rattle.elf_table.specs.declared.run_fault.RunFault.{RunFault}
 use Rattle.elf_table.specs.declared.fault.Fault.TheVariants.{Refused as Refuses}
-use Rattle.elf_reloc.specs.Applied.{HeldIs, Applies, IsApplyTarget, WritesOrWants}
-use Rattle.elf_reloc.specs.Entries.{target_as}
-use Rattle.elf_reloc.specs.Passes.{ChecksEntries, folded, rising}
-use Rattle.elf_reloc.specs.Walk.{changes_all, changes_from, sections_of}
-use Rattle.elf_table.specs.Stops.{stop_of}
+use Rattle.elf_reloc.specs.Prelude.{Applies, ChecksEntries, HeldIs, IsApplyTarget, WritesOrWants, changes_all, changes_from, folded, rising, sections_of, target_as}
 use Rattle.elf_reloc.specs.declared.apply_section.Applied.{Applied}
 use Rattle.elf_reloc.specs.declared.entry.ApplyTarget.{ApplyTarget as TargetCode}
-use Rattle.elf_table.specs.declared.run_fault.RunFault.{RunFault}
 use Rattle.elf_reloc.proofs.WindowSteps.{front_none}
 
 -- what a pass says of the patches

@@ -2,17 +2,13 @@
 use Rattle.std.proofs.Common.{◌≡◌, ℕ, ◌+◌, ◌-◌, ◌*◌, ◌≤◌, Bool, true, false, min, Result, Ok, Err, arith}
 use Rattle.std.specs.Prelude.{IfErr, List}
 use Rattle.std.proofs.Math.Nat.{mul-le-mul_right}
-use Rattle.elf_model.specs.ApplyCost.{apply_cost, apply_cost_in_order, apply_cost_by_order, cost_with, offsets_never_fall, window_passes}
-use Rattle.elf_model.specs.Placing.{Layout}
-use Rattle.elf_source.specs.Output.{OutState}
-use Rattle.elf_source.specs.Source.{CountedState, ReadsUpTo}
+use Rattle.elf_model.specs.Prelude.{Layout, apply_cost, apply_cost_by_order, apply_cost_in_order, cost_with, offsets_never_fall, window_passes}
+use Rattle.elf_source.specs.Prelude.{CountedState, OutState, ReadsUpTo}
 use Rattle.elf_source.proofs.ReadsLaws.{IsSourceFault-then, KeepsSource-then}
-use Rattle.elf_table.specs.Faults.{IsOfCheck, IsReadFault}
+use Rattle.elf_table.specs.Prelude.{IsOfCheck, IsReadFault, stop_of}
 use Rattle.elf_table.specs.declared.fault.Fault.{Fault}
-use Rattle.elf_reloc.specs.Applied.{ApplySays, ReadsWithin, BudgetTooSmall, write_passes}
-use Rattle.elf_reloc.specs.Windows.{windows}
-use Rattle.elf_table.specs.Stops.{stop_of}
 use Rattle.elf_table.specs.declared.run_fault.RunFault.{RunFault}
+use Rattle.elf_reloc.specs.Prelude.{ApplySays, BudgetTooSmall, ReadsWithin, windows, write_passes}
 
 -- what was asked for
 pub spends_reads : {a b : CountedState} {n : ℕ} (k : ℕ) → ReadsUpTo a b n → b.asked ≤ a.asked + k → ReadsWithin a b k

@@ -2,27 +2,16 @@
 use Rattle.std.proofs.Common.{◌≡◌, ℕ, zero, suc, ◌+◌, ◌-◌, ◌*◌, ◌/◌, ◌<◌, ◌≤◌, true, false, List, ◌++◌, length, flat_map, None, Some, refl, sym, ap, ◌∙◌, arith, length-append}
 use Rattle.std.proofs.Math.Nat.{mul-le-mul_left, mul-le-mul_right, mul_assoc}
 use Rattle.std.proofs.lemmas.Bool.Decides.{nat_tests}
-use Rattle.elf_model.specs.Apply.{applies_to, places_from}
-use Rattle.elf_model.specs.ApplyCost.{entries_in as file_entries_in, entries_for, layout_names_cost, apply_cost, apply_cost_in_order, apply_cost_by_order, offsets_never_fall, cost_with, window_passes}
-use Rattle.elf_model.specs.Bytes.{slice}
-use Rattle.elf_model.specs.Checks.{first_refusal, table_checks_of, header_checks, early_checks, load_checks, section_name_checks}
-use Rattle.elf_model.specs.Cost.{sum_over}
-use Rattle.elf_model.specs.Placing.{Layout}
-use Rattle.elf_model.specs.Records.{e_shnum, sh_size, section_at}
-use Rattle.elf_model.specs.Tables.{entry_count}
+use Rattle.elf_model.specs.Prelude.{Layout, applies_to, apply_cost, apply_cost_by_order, apply_cost_in_order, cost_with, e_shnum, early_checks, entries_for, entries_in as file_entries_in, entry_count, first_refusal, header_checks, layout_names_cost, load_checks, offsets_never_fall, places_from, section_at, section_name_checks, sh_size, slice, sum_over, table_checks_of, window_passes}
 use Rattle.elf_model.proofs.ApplySteps.{cost_with-passed}
 use Rattle.elf_model.proofs.ChangeSteps.{length-places_from}
 use Rattle.elf_model.proofs.CheckSteps.{first_refusal-none, first_refusal-some}
 use Rattle.elf_model.proofs.SumLemmas.{sum_over-le}
 use Rattle.elf_model.proofs.Slices.{field-slice}
-use Rattle.elf_record.specs.Ehdr.{IsEhdr}
+use Rattle.elf_record.specs.Prelude.{IsEhdr}
 use Rattle.elf_record.specs.declared.ehdr.Ehdr.{Ehdr}
-use Rattle.elf_table.specs.Load.{HoldsSectionHeaders, load_cost}
-use Rattle.elf_table.specs.Store.{row}
-use Rattle.elf_reloc.specs.Applied.{IsApplyTarget, passes_cost}
-use Rattle.elf_reloc.specs.Entries.{beside_entry_cost}
-use Rattle.elf_reloc.specs.Walk.{entry_count_in, entries_from, sections_of, walk_all}
-use Rattle.elf_reloc.specs.Windows.{windows}
+use Rattle.elf_table.specs.Prelude.{HoldsSectionHeaders, load_cost, row}
+use Rattle.elf_reloc.specs.Prelude.{IsApplyTarget, beside_entry_cost, entries_from, entry_count_in, passes_cost, sections_of, walk_all, windows}
 use Rattle.elf_reloc.specs.declared.entry.ApplyTarget.{ApplyTarget}
 use Rattle.elf_table.proofs.LoadLaws.{early_is}
 

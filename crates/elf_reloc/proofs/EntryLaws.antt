@@ -1,15 +1,10 @@
 -- Which section of entries a refusal points into.
 use Rattle.std.proofs.Common.{◌≡◌, ℕ, ◌-◌, ◌*◌, ◌/◌, ◌<◌, ◌&&◌, true, false, List, None, refl, arith}
 use Rattle.std.proofs.lemmas.Bool.Decides.{nat_tests}
-use Rattle.elf_model.specs.Apply.{applies_to}
-use Rattle.elf_model.specs.Checks.{first_refusal}
-use Rattle.elf_model.specs.Explain.{has_entry, relocates_at}
-use Rattle.elf_model.specs.Records.{sh_offset}
-use Rattle.elf_model.specs.Tables.{RELA_SIZE, entry_count, relocation_table_checks}
+use Rattle.elf_model.specs.Prelude.{RELA_SIZE, applies_to, entry_count, first_refusal, has_entry, relocates_at, relocation_table_checks, sh_offset}
+use Rattle.elf_table.specs.Prelude.{RefusedBy, TableRange}
 use Rattle.elf_table.specs.declared.fault.Fault.{Fault}
 use Rattle.elf_table.specs.declared.fault.Fault.TheVariants.{Refused, Source}
-use Rattle.elf_table.specs.Relocations.{RefusedBy}
-use Rattle.elf_table.specs.Tables.{TableRange}
 use Rattle.elf_reloc.specs.Explained.{has_row}
 
 -- an entry of the table is one of the section

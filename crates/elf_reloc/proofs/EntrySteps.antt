@@ -1,16 +1,13 @@
 -- What an entry gives.
 use Rattle.std.proofs.Common.{◌≡◌, ℕ, ◌+◌, nat_lt, false, List, Some, Ok, Err, arith}
-use Rattle.elf_model.specs.Apply.{ApplyTarget, Fails, change_of, entry_checks, named_value}
-use Rattle.elf_model.specs.Placing.{Layout, system_value, section_symbol_value, symbol_value, plt_entry_value, entry_value, base_value, unnamed_value}
-use Rattle.elf_model.specs.Records.{r_offset, r_sym}
-use Rattle.elf_model.specs.declared.relocation_types.RelocationBase.{RelocationBase}
-use Rattle.elf_model.specs.declared.relocation_types.RelocationBase.TheVariants.{Symbol, Linkage, Table, Thread}
-use Rattle.elf_model.specs.declared.relocation_types.RelocationType.{RelocationType}
+use Rattle.elf_model.specs.Prelude.{ApplyTarget, Fails, Layout, base_value, change_of, entry_checks, entry_value, named_value, plt_entry_value, r_offset, r_sym, section_symbol_value, symbol_value, system_value, unnamed_value}
+use Rattle.elf_model.specs.declared.relocation_types.RelocationBase.TheVariants.{Linkage, Symbol, Table, Thread}
 use Rattle.elf_model.specs.declared.causes.Refusal.{Refusal}
+use Rattle.elf_model.specs.declared.relocation_types.RelocationBase.{RelocationBase}
+use Rattle.elf_model.specs.declared.relocation_types.RelocationType.{RelocationType}
 use Rattle.elf_table.specs.declared.fault.Fault.{Fault}
 use Rattle.elf_table.specs.declared.fault.Fault.TheVariants.{Refused, Source}
-use Rattle.elf_reloc.specs.Costs.{ValueOrRefusal}
-use Rattle.elf_reloc.specs.Entries.{Does, term_of}
+use Rattle.elf_reloc.specs.Prelude.{Does, ValueOrRefusal, term_of}
 
 -- a value that is there for one entry is there for each that names the symbol
 module _ (rela rela' v : ℕ) where

@@ -1,28 +1,18 @@
 -- What is explained, by the steps that lead to it.
 use Rattle.std.proofs.Common.{◌≡◌, ◌≢◌, ℕ, zero, suc, Bool, true, false, List, Option, None, Some, Result, Ok, Err, refl, sym, ap, ◌∙◌, arith}
 use Rattle.std.proofs.lemmas.Bool.Decides.{nat_tests}
-use Rattle.elf_model.specs.Budget.{IsBudgetRefusal}
-use Rattle.elf_model.specs.Checks.{first_refusal, header_checks, load_checks}
-use Rattle.elf_model.specs.Explain.{MissingEntry, explained, lack_of, lack_with, missing, missing_of, name_wanted, refused_in, resolved_symbol_name, wanted}
-use Rattle.elf_model.specs.Names.{DisplayedName}
-use Rattle.elf_model.specs.Placing.{Layout}
-use Rattle.elf_model.specs.Records.{section_at}
-use Rattle.elf_model.specs.Tables.{linked_at, strings_of}
+use Rattle.elf_model.specs.Prelude.{DisplayedName, IsBudgetRefusal, Layout, MissingEntry, explained, first_refusal, header_checks, lack_of, lack_with, linked_at, load_checks, missing, missing_of, name_wanted, refused_in, resolved_symbol_name, section_at, strings_of, wanted}
 use Rattle.elf_model.specs.declared.causes.Cause.{Cause}
-use Rattle.elf_model.specs.declared.causes.Cause.TheVariants.{Unplaced, Undefined, Unsupported}
-use Rattle.elf_model.specs.declared.causes.Refusal.{Refusal}
 use Rattle.elf_model.specs.declared.missing.MissingAddress.{MissingAddress}
+use Rattle.elf_model.specs.declared.causes.Refusal.{Refusal}
 use Rattle.elf_model.specs.declared.relocation_types.RelocationType.{RelocationType}
+use Rattle.elf_model.specs.declared.causes.Cause.TheVariants.{Undefined, Unplaced, Unsupported}
 use Rattle.elf_model.proofs.CheckSteps.{first_refusal-none, first_refusal-some}
-use Rattle.elf_table.specs.Faults.{HeaderRead, IsOfRead}
-use Rattle.elf_table.specs.Load.{LoadedAs}
-use Rattle.elf_table.specs.Store.{StoreState}
+use Rattle.elf_table.specs.Prelude.{HeaderRead, IsOfRead, LoadedAs, StoreState, StringTableRange, shown_by, strings_in}
 use Rattle.elf_table.specs.declared.fault.Fault.{Fault}
-use Rattle.elf_table.specs.declared.fault.Fault.TheVariants.{Refused, Source}
-use Rattle.elf_table.specs.Tables.{StringTableRange, strings_in}
 use Rattle.elf_table.specs.declared.names.NameEnd.{NameEnd}
-use Rattle.elf_table.specs.NamesRead.{shown_by}
-use Rattle.elf_reloc.specs.Explained.{Explains, ExplainsLoaded, Lacks, ReturnsSymbolName, may_be_missing}
+use Rattle.elf_table.specs.declared.fault.Fault.TheVariants.{Refused, Source}
+use Rattle.elf_reloc.specs.Prelude.{Explains, ExplainsLoaded, Lacks, ReturnsSymbolName, may_be_missing}
 use Rattle.elf_reloc.specs.declared.missing_item.MissingItem.{MissingItem}
 use Rattle.elf_reloc.proofs.NamingLaws.{unnamed}
 

@@ -1,10 +1,6 @@
 -- The checks of a request to apply, behind those of the file and of the section's index and flags.
 use Rattle.std.proofs.Common.{◌≡◌, ℕ, ◌==◌, ◌||◌, nat_lt, not, true, false, List, [], None, Some, refl}
-use Rattle.elf_model.specs.Apply.{apply_checks, has_no_bytes, held_bytes, is_compressed}
-use Rattle.elf_model.specs.Bytes.{slice}
-use Rattle.elf_model.specs.Checks.{first_refusal, is_section_outside}
-use Rattle.elf_model.specs.Numbers.{ET_REL, EM_X86_64}
-use Rattle.elf_model.specs.Records.{e_machine, e_shnum, e_type, section_at, sh_offset, sh_size}
+use Rattle.elf_model.specs.Prelude.{EM_X86_64, ET_REL, apply_checks, e_machine, e_shnum, e_type, first_refusal, has_no_bytes, held_bytes, is_compressed, is_section_outside, section_at, sh_offset, sh_size, slice}
 use Rattle.elf_model.specs.declared.causes.Cause.TheVariants.{TableOutside}
 
 module _

@@ -4,24 +4,18 @@ use Rattle.std.proofs.lemmas.List.{take_all, drop-take, drop-drop, take-append-d
 use Rattle.std.proofs.lemmas.List.Elements.{All-nil, All-cons, All-head, All-tail}
 use Rattle.std.proofs.lemmas.Slice.{take-put_mid}
 use borrow.Rule.Slice.PartMut.{mid_of, put_mid}
-use Rattle.elf_model.specs.Apply.{StoredBytes, SectionChange, Put, Fails, put, patched, patches_of}
-use Rattle.elf_model.specs.ApplyLaws.{IsInside, AllInside, clipped}
-use Rattle.elf_model.specs.Bytes.{slice}
+use Rattle.elf_model.specs.Prelude.{AllInside, Fails, IsInside, Put, SectionChange, StoredBytes, clipped, patched, patches_of, put, slice}
 use Rattle.elf_model.specs.declared.causes.Refusal.{Refusal}
 use Rattle.elf_model.proofs.PatchLaws.{window_put, length_kept, final_below, kept_above}
-use Rattle.elf_source.specs.Output.{OutState, SinkTakes, SinkTakesPrefix}
+use Rattle.elf_source.specs.Prelude.{CountedState, OutState, SinkTakes, SinkTakesPrefix}
 use Rattle.elf_source.proofs.PutsLaws.{SinkTakes-nothing, SinkTakes-then, SinkTakesPrefix-then, SinkTakesPrefix-more, SinkTakesPrefix-all}
-use Rattle.elf_source.specs.Source.{CountedState}
-use Rattle.elf_table.specs.Faults.{IsUnlimitedReadFault}
+use Rattle.elf_table.specs.Prelude.{IsUnlimitedReadFault, stop_of}
 use Rattle.elf_table.specs.declared.fault.Fault.{Fault}
+use Rattle.elf_table.specs.declared.run_fault.RunFault.{RunFault}
 use Rattle.elf_table.specs.declared.fault.Fault.TheVariants.{Refused as Refuses, Source as Unread}
-use Rattle.elf_reloc.specs.InOrder.{PendingState, IsPartlyWritten, OffsetsAscend, UnderWay}
-use Rattle.elf_reloc.specs.Walk.{FindsEntry, changes_left}
-use Rattle.elf_reloc.specs.Windows.{WritesBytes, UnreadSays}
-use Rattle.elf_table.specs.Stops.{stop_of}
+use Rattle.elf_reloc.specs.Prelude.{FindsEntry, IsPartlyWritten, OffsetsAscend, PendingState, UnderWay, UnreadSays, WritesBytes, changes_left}
 use Rattle.elf_reloc.specs.declared.entry.ApplyTarget.{ApplyTarget as TargetCode}
 use Rattle.elf_reloc.specs.declared.walk.RelocationWalk.{RelocationWalk}
-use Rattle.elf_table.specs.declared.run_fault.RunFault.{RunFault}
 use Rattle.elf_reloc.proofs.WindowSteps.{and_is, window_more, window_stopped, take_more}
 use Rattle.elf_model.proofs.Slices.{slice-size, slice-slice, slice-rest}
 

@@ -1,20 +1,14 @@
 -- What an entry lacks, step by step.
 use Rattle.std.proofs.Common.{◌≡◌, ◌≢◌, ℕ, ◌/◌, ◌%◌, ◌^◌, ◌==◌, Bool, true, false, List, Option, None, Some, Result, Ok, Err, refl, sym, ap, ◌∙◌, arith}
 use Rattle.std.proofs.lemmas.Bool.Decides.{nat_tests}
-use Rattle.elf_model.specs.Apply.{symbol_checks}
-use Rattle.elf_model.specs.Checks.{first_refusal}
-use Rattle.elf_model.specs.Explain.{missing, missing_of, wanted}
-use Rattle.elf_model.specs.Placing.{Layout}
-use Rattle.elf_model.specs.Records.{r_sym, r_type}
-use Rattle.elf_model.specs.Values.{kind_of}
+use Rattle.elf_model.specs.Prelude.{Layout, first_refusal, kind_of, linked_at, missing, missing_of, r_sym, r_type, strings_of, symbol_checks, wanted}
+use Rattle.elf_model.specs.declared.missing.LayoutAddress.{LayoutAddress}
+use Rattle.elf_model.specs.declared.missing.MissingAddress.{MissingAddress}
 use Rattle.elf_model.specs.declared.causes.Refusal.{Refusal}
 use Rattle.elf_model.specs.declared.relocation_types.RelocationType.{RelocationType}
-use Rattle.elf_model.specs.Tables.{linked_at, strings_of}
-use Rattle.elf_model.specs.declared.missing.MissingAddress.{MissingAddress}
-use Rattle.elf_model.specs.declared.missing.LayoutAddress.{LayoutAddress}
 use Rattle.elf_table.specs.Tables.{StringTableRange, strings_in}
 use Rattle.elf_record.specs.declared.rela.Rela.{Rela}
-use Rattle.elf_reloc.specs.Explained.{EntryRead, NamesEntrySymbol, LackOf, Lacks}
+use Rattle.elf_reloc.specs.Prelude.{EntryRead, LackOf, Lacks, NamesEntrySymbol}
 use Rattle.elf_reloc.specs.declared.missing_item.MissingItem.{MissingItem}
 use Rattle.elf_reloc.specs.declared.missing_item.RelocationSymbol.{RelocationSymbol}
 

@@ -2,10 +2,7 @@
 use Rattle.std.proofs.Common.{◌≡◌, ℕ, ◌+◌, ◌-◌, ◌<◌, ◌≤◌, min, List, [], ◌∷◌, length, drop, Ok, Err, None, refl, sym, ap, ◌∙◌, inl, inr, arith, length-take}
 use Rattle.std.proofs.lemmas.Bool.{cases_lt}
 use Rattle.std.proofs.lemmas.List.{take_all}
-use Rattle.elf_model.specs.ApplyCost.{longest, lookup_cost}
-use Rattle.elf_model.specs.Bytes.{slice}
-use Rattle.elf_model.specs.Names.{same}
-use Rattle.elf_model.specs.Placing.{Searched, address_named}
+use Rattle.elf_model.specs.Prelude.{Searched, address_named, longest, lookup_cost, same, slice}
 use Rattle.elf_model.specs.declared.causes.Cause.TheVariants.{NameOutside}
 use Rattle.std.proofs.lemmas.Bool.Decides.{nat_tests}
 use Rattle.elf_source.specs.Source.{CountedState, ReadsUpTo}

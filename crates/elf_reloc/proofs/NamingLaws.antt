@@ -1,18 +1,15 @@
 -- What is told of a symbol's name.
 use Rattle.std.proofs.Common.{◌≡◌, ◌≢◌, ℕ, List, [], Some, Option, None, Result, Ok, Err, refl, arith}
-use Rattle.elf_model.specs.Explain.{ITEM_NAME_SIZE, resolved_symbol_name}
-use Rattle.elf_model.specs.Names.{DisplayedName, shown}
-use Rattle.elf_model.specs.Names.DisplayedName.{Whole as ShownWhole}
+use Rattle.elf_model.specs.Prelude.{DisplayedName, ITEM_NAME_SIZE, resolved_symbol_name, shown}
 use Rattle.elf_model.specs.declared.causes.Cause.{Cause}
+use Rattle.elf_model.specs.Names.DisplayedName.{Whole as ShownWhole}
 use Rattle.elf_source.specs.Source.{CountedState, ReadsUpTo}
-use Rattle.elf_table.specs.Faults.{IsReadFault}
-use Rattle.elf_table.specs.Ledger.{CallDid, fault_of_result}
+use Rattle.elf_table.specs.Prelude.{CallDid, IsReadFault, NameRead, Refuses, fault_of_result, shown_by}
+use Rattle.elf_table.specs.declared.names.NameEnd.TheVariants.{Cut, Whole}
 use Rattle.elf_table.specs.declared.fault.Fault.{Fault}
+use Rattle.elf_table.specs.declared.names.NameEnd.{NameEnd}
 use Rattle.elf_table.specs.declared.fault.Fault.TheVariants.{Refused, Source}
 use Rattle.elf_table.proofs.LedgerLaws.{CallDid-of}
-use Rattle.elf_table.specs.NamesRead.{NameRead, Refuses, shown_by}
-use Rattle.elf_table.specs.declared.names.NameEnd.{NameEnd}
-use Rattle.elf_table.specs.declared.names.NameEnd.TheVariants.{Whole, Cut}
 use Rattle.elf_reloc.specs.Explained.{ReturnsSymbolName, WithoutName}
 
 -- there is no name where st_name is 0, else the one that is shown

@@ -1,14 +1,10 @@
 -- How many entries a section of relocation entries has, and the rows that a cursor over it gives.
 use Rattle.std.proofs.Common.{◌≡◌, ℕ, ◌+◌, ◌*◌, ◌/◌, Bool, true, List, Option, None, Some, Ok, arith}
 use Rattle.std.proofs.lemmas.Bool.Decides.{nat_tests}
-use Rattle.elf_model.specs.Checks.{first_refusal, table_checks_of}
-use Rattle.elf_model.specs.Records.{sh_size}
+use Rattle.elf_model.specs.Prelude.{first_refusal, sh_size, slice, table_checks_of}
 use Rattle.elf_model.specs.declared.causes.Refusal.{Refusal}
-use Rattle.elf_model.specs.Bytes.{slice}
-use Rattle.elf_table.specs.Cursors.{CursorState, GivesRow, HoldsRows, Advances, ShowsRow}
+use Rattle.elf_table.specs.Prelude.{Advances, CursorState, GivesRow, HoldsRows, ShowsRow, TableRange, table_of}
 use Rattle.elf_table.specs.declared.row.Row.{Row}
-use Rattle.elf_table.specs.Tables.{TableRange}
-use Rattle.elf_table.specs.Sections.{table_of}
 
 -- how many entries a table has that was answered
 abbrev counted_by : Option Refusal → ℕ → ℕ

@@ -5,13 +5,10 @@ use Rattle.std.proofs.lemmas.Bool.{cases_lt}
 use Rattle.std.proofs.lemmas.List.{take_all, nil_from_length}
 use Rattle.std.proofs.lemmas.List.{drop-drop, take-append-drop}
 use borrow.Rule.Slice.PartMut.{put_mid}
-use Rattle.elf_model.specs.Apply.{StoredBytes, SectionChange, Put, Fails, put}
-use Rattle.elf_model.specs.ApplyLaws.{clipped}
+use Rattle.elf_model.specs.Prelude.{Fails, Put, SectionChange, StoredBytes, clipped, put}
 use Rattle.elf_model.specs.declared.causes.Refusal.{Refusal}
 use Rattle.elf_table.specs.declared.fault.Fault.{Fault}
-use Rattle.elf_reloc.specs.Costs.{ValueOrRefusal}
-use Rattle.elf_reloc.specs.Passes.{folded, Folds, ChecksEntries}
-use Rattle.elf_reloc.specs.Walk.{changes_left, FindsEntry}
+use Rattle.elf_reloc.specs.Prelude.{ChecksEntries, FindsEntry, Folds, ValueOrRefusal, changes_left, folded}
 use Rattle.elf_reloc.specs.declared.entry.ApplyTarget.{ApplyTarget as TargetCode}
 use Rattle.elf_reloc.specs.declared.walk.RelocationWalk.{RelocationWalk}
 

@@ -3,7 +3,7 @@ use Rattle.std.proofs.Common.{◌≡◌, ℕ, ◌+◌, ◌≤◌, None, Result, 
 use Rattle.std.specs.Prelude.{IfErr}
 use Rattle.elf_source.specs.Source.{CountedState, ReadsUpTo}
 use Rattle.elf_source.proofs.ReadsLaws.{IsSourceFault-then}
-use Rattle.elf_table.specs.Faults.{IsReadFault, IsOfCheck, IsUnlimitedReadFault}
+use Rattle.elf_table.specs.Prelude.{IsOfCheck, IsReadFault, IsUnlimitedReadFault}
 use Rattle.elf_table.specs.declared.fault.Fault.{Fault}
 
 -- without a limit nothing is refused for want of budget

@@ -2,21 +2,12 @@
 use Rattle.std.proofs.Common.{◌≡◌, ℕ, ◌==◌, ◌&&◌, nat_le, Bool, true, false, inl, inr, List, [], ◌∷◌, ◌++◌, length, map, flat_map, Option, None, Some, Ok, refl, sym, ap, ◌∙◌, arith}
 use Rattle.std.proofs.lemmas.Bool.{cases_Bool}
 use Rattle.std.proofs.lemmas.Bool.Decides.{nat_tests}
-use Rattle.elf_model.specs.Apply.{StoredBytes, ApplyTarget, SectionChange, Put, Fails, applies_to, change_of, entry_changes, section_changes, changes_of, relocation_entries, places_from, and_patches, patches_of, patched, target_of, applied}
-use Rattle.elf_model.specs.ApplyCost.{entries_in, entries_for, offsets_at, never_fall_from, offsets_never_fall}
-use Rattle.elf_model.specs.Checks.{first_refusal, table_checks}
-use Rattle.elf_model.specs.Records.{sh_size}
-use Rattle.elf_model.specs.Tables.{RELA_SIZE, relocation_table_checks}
+use Rattle.elf_model.specs.Prelude.{AllInside, ApplyTarget, Fails, Put, RELA_SIZE, SectionChange, StoredBytes, and_patches, applied, applies_to, change_of, changes_of, entries_for, entries_in, entry_changes, first_refusal, never_fall_from, offsets_at, offsets_never_fall, patched, patches_of, places_from, relocation_entries, relocation_table_checks, section_changes, sh_size, slice, table_checks, target_of}
 use Rattle.elf_model.specs.declared.causes.Refusal.{Refusal}
 use Rattle.elf_model.proofs.ApplySteps.{offsets_at-append}
 use Rattle.elf_model.proofs.CheckSteps.{first_refusal-some}
-use Rattle.elf_reloc.specs.InOrder.{OffsetsAscend}
-use Rattle.elf_reloc.specs.Passes.{folded, rising}
-use Rattle.elf_reloc.specs.Applied.{HasSection, IsApplyTarget}
-use Rattle.elf_reloc.specs.Walk.{changes_all}
+use Rattle.elf_reloc.specs.Prelude.{HasSection, IsApplyTarget, OffsetsAscend, changes_all, folded, rising}
 use Rattle.elf_reloc.specs.declared.entry.ApplyTarget.{ApplyTarget as TargetCode}
-use Rattle.elf_model.specs.ApplyLaws.{AllInside}
-use Rattle.elf_model.specs.Bytes.{slice}
 use Rattle.elf_source.specs.Source.{CountedState}
 use Rattle.elf_model.proofs.Slices.{slice-size}
 use Rattle.elf_reloc.proofs.ApplySteps.{all_inside, and_ok, changes_same, folded_ok, text_is}

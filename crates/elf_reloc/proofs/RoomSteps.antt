@@ -6,15 +6,11 @@ use Rattle.std.proofs.Math.Nat.{mul-le-mul_left}
 use Rattle.std.proofs.lemmas.Bool.{cases_lt}
 use Rattle.std.proofs.lemmas.Bool.Decides.{leb_tells}
 use Rattle.elf_model.specs.ApplyCost.{layout_names_cost}
-use Rattle.elf_source.specs.Output.{OutState}
-use Rattle.elf_source.specs.Source.{SourceState, CountedState, SetsLimit, ReadsUpTo, left}
-use Rattle.elf_table.specs.Load.{IsOpen, LoadedFile}
-use Rattle.elf_table.specs.Store.{StoreState}
-use Rattle.elf_reloc.specs.Applied.{ApplySays, OverBudget, RoomFor, ReadsWithin, WritesOrWants, write_passes}
-use Rattle.elf_reloc.specs.Walk.{entries_from, walk_all}
-use Rattle.elf_reloc.specs.Windows.{ApplyFaultSays, NotForBudget, WritesBytes, windows}
-use Rattle.elf_reloc.specs.declared.entry.ApplyTarget.{ApplyTarget}
+use Rattle.elf_source.specs.Prelude.{CountedState, OutState, ReadsUpTo, SetsLimit, SourceState, left}
+use Rattle.elf_table.specs.Prelude.{IsOpen, LoadedFile, StoreState}
 use Rattle.elf_table.specs.declared.run_fault.RunFault.{RunFault}
+use Rattle.elf_reloc.specs.Prelude.{ApplyFaultSays, ApplySays, NotForBudget, OverBudget, ReadsWithin, RoomFor, WritesBytes, WritesOrWants, entries_from, walk_all, windows, write_passes}
+use Rattle.elf_reloc.specs.declared.entry.ApplyTarget.{ApplyTarget}
 
 -- what a pass asks for, by the number of entries and what each of them asks for
 walk_by : (target : ApplyTarget) (entries each : ℕ) → entries ≡ entries_from target 0 → each ≡ 48 + layout_names_cost target.layout.now → entries * each ≡ walk_all target

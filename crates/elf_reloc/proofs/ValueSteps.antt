@@ -3,11 +3,9 @@ use Rattle.std.proofs.Common.{SFits, ◌≡◌, ◌≢◌, ◌==◌, not, ℕ, �
 use Rattle.std.proofs.Math.Facts.{to_z-of_z}
 use Rattle.std.proofs.lemmas.Bool.{ne_eqb}
 use Rattle.std.specs.Int.{cast_signed, cast_unsigned, w64}
-use Rattle.elf_model.specs.Bytes.{little}
-use Rattle.elf_model.specs.Numbers.{R_X86_64_NONE}
-use Rattle.elf_model.specs.Values.{FormulaTerms, kind_of, fits_in_range, patch_of, value_of, base_address, value}
+use Rattle.elf_model.specs.Prelude.{FormulaTerms, R_X86_64_NONE, base_address, fits_in_range, kind_of, little, patch_of, value, value_of}
 use Rattle.elf_model.specs.declared.causes.Cause.{Cause}
-use Rattle.elf_model.specs.declared.causes.Cause.TheVariants.{Unsupported, Overflow}
+use Rattle.elf_model.specs.declared.causes.Cause.TheVariants.{Overflow, Unsupported}
 use Rattle.elf_model.specs.declared.relocation_types.RelocationType.{RelocationType}
 use Rattle.elf_reloc.specs.Types.{terms}
 

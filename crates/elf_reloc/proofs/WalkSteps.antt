@@ -1,26 +1,16 @@
 -- The walk over entries, step by step.
 use Rattle.std.proofs.Common.{◌≡◌, ℕ, suc, ◌+◌, ◌-◌, ◌*◌, ◌<◌, ◌≤◌, true, false, List, [], ◌∷◌, ◌++◌, Option, None, Some, Result, Ok, Err, refl, sym, ap, ◌∙◌, subst, arith, append_assoc}
-use Rattle.elf_model.specs.Apply.{ApplyTarget, SectionChange, Put, Fails, applies_to, section_changes, entry_changes, places_from}
-use Rattle.elf_model.specs.Checks.{first_refusal}
-use Rattle.elf_model.specs.Cost.{sum_over}
-use Rattle.elf_model.specs.Records.{sh_offset, section_at}
-use Rattle.elf_model.specs.Tables.{entry_at, entry_count, relocation_table_checks}
+use Rattle.elf_model.specs.Prelude.{ApplyTarget, Fails, Put, SectionChange, applies_to, entry_at, entry_changes, entry_count, first_refusal, places_from, relocation_table_checks, section_at, section_changes, sh_offset, sum_over}
 use Rattle.elf_model.specs.declared.causes.Refusal.{Refusal}
-use Rattle.elf_table.specs.Cursors.{CursorState, GivesRow, unread_bytes}
-use Rattle.elf_table.specs.Store.{row}
-use Rattle.elf_table.specs.Relocations.{Relocates}
-use Rattle.elf_table.specs.Sections.{table_of}
-use Rattle.elf_table.specs.Tables.{TableRange, TableInBounds}
+use Rattle.elf_table.specs.Prelude.{CursorState, GivesRow, Relocates, TableInBounds, TableRange, row, section_place, table_of, unread_bytes}
+use Rattle.elf_table.specs.declared.fault.Fault.{Fault}
 use Rattle.elf_reloc.proofs.Opened.{entries_counted}
 use Rattle.elf_source.specs.Source.{CountedState, ReadsUpTo}
 use Rattle.elf_source.proofs.ReadsLaws.{ReadsUpTo-none, ReadsUpTo-then, ReadsUpTo-to}
-use Rattle.elf_table.specs.Load.{section_place}
-use Rattle.elf_table.specs.declared.fault.Fault.{Fault}
 use Rattle.elf_table.specs.declared.fault.Fault.TheVariants.{Refused, Source}
-use Rattle.elf_reloc.specs.Entries.{target_as, patch_as, beside_entry_cost, Changes, Refers}
-use Rattle.elf_reloc.specs.Walk.{AsksOf, IsWalkAlive, changes_from, rows_changes, changes_left, changes_all, entry_count_in, entries_from, sections_of, steps_left, walk_left, walk_all, StepsWalk, FindsEntry, ReadsEntries}
-use Rattle.elf_reloc.specs.declared.entry.PlacedPatch.{PlacedPatch}
+use Rattle.elf_reloc.specs.Prelude.{AsksOf, Changes, FindsEntry, IsWalkAlive, ReadsEntries, Refers, StepsWalk, beside_entry_cost, changes_all, changes_from, changes_left, entries_from, entry_count_in, patch_as, rows_changes, sections_of, steps_left, target_as, walk_all, walk_left}
 use Rattle.elf_reloc.specs.declared.entry.ApplyTarget.{ApplyTarget as TargetCode}
+use Rattle.elf_reloc.specs.declared.entry.PlacedPatch.{PlacedPatch}
 use Rattle.elf_reloc.specs.declared.walk.RelocationWalk.{RelocationWalk}
 use Rattle.elf_reloc.specs.declared.walk.WalkStep.{WalkStep}
 

@@ -4,22 +4,18 @@ use Rattle.std.proofs.lemmas.Result.{err_from_is_err_and}
 use Rattle.std.proofs.lemmas.List.{take_all, take-append-drop, length-replicate}
 use Rattle.std.proofs.Math.Nat.{mul-le-mul_right}
 use Rattle.std.proofs.Math.Seq.{take-add}
-use Rattle.elf_model.specs.Apply.{StoredBytes, SectionChange, Put, Fails, put, patched, patches_of, and_patches}
-use Rattle.elf_model.specs.ApplyLaws.{AllInside, clipped}
-use Rattle.elf_model.specs.Bytes.{slice}
+use Rattle.elf_model.specs.Prelude.{AllInside, Fails, Put, SectionChange, StoredBytes, and_patches, clipped, patched, patches_of, put, slice}
 use Rattle.elf_model.specs.declared.causes.Refusal.{Refusal}
 use Rattle.elf_model.proofs.PatchLaws.{window_patched, length_kept}
-use Rattle.elf_source.specs.Output.{OutState, SinkTakes, SinkTakesPrefix}
+use Rattle.elf_source.specs.Prelude.{CountedState, OutState, ReadsUpTo, SinkTakes, SinkTakesPrefix}
 use Rattle.elf_source.proofs.PutsLaws.{SinkTakes-nothing, SinkTakes-then, SinkTakesPrefix-then, SinkTakesPrefix-more}
-use Rattle.elf_source.specs.Source.{CountedState, ReadsUpTo}
 use Rattle.elf_source.proofs.ReadsLaws.{IsSourceFault-then}
+use Rattle.elf_table.specs.Prelude.{IsUnlimitedReadFault, stop_of}
 use Rattle.elf_table.specs.declared.fault.Fault.{Fault}
-use Rattle.elf_reloc.specs.Passes.{folded, storing, Folds}
-use Rattle.elf_reloc.specs.Windows.{WritesBytes, ApplyFaultSays, NotForBudget, windows}
-use Rattle.elf_table.specs.Stops.{stop_of}
-use Rattle.elf_table.specs.Faults.{IsUnlimitedReadFault}
+use Rattle.elf_table.specs.declared.run_fault.RunFault.TheVariants.{Out}
 use Rattle.elf_table.specs.declared.run_fault.RunFault.{RunFault}
-use Rattle.elf_table.specs.declared.run_fault.RunFault.TheVariants.{Refused, Source, Out}
+use Rattle.elf_reloc.specs.Prelude.{ApplyFaultSays, Folds, NotForBudget, WritesBytes, folded, storing, windows}
+use Rattle.elf_table.specs.declared.run_fault.RunFault.TheVariants.{Refused, Source}
 use Rattle.elf_model.proofs.Slices.{slice-size, slice-slice}
 
 -- a pass in a window is the patches' parts, stored one after another

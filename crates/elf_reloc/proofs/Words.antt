@@ -1,8 +1,5 @@
 -- The definitions that functions calculate, opened for their checks.
-use Rattle.elf_model.specs.Apply.{apply_checks, held_bytes, entry_changes, change_of, entry_checks, named_value}
-use Rattle.elf_model.specs.Placing.{system_value, entry_value, symbol_value, plt_entry_value, base_value, place_value}
-use Rattle.elf_model.specs.Values.{patch_of, whole}
-use Rattle.elf_model.specs.ApplyCost.{layout_names_cost}
+use Rattle.elf_model.specs.Prelude.{apply_checks, base_value, change_of, entry_changes, entry_checks, entry_value, held_bytes, layout_names_cost, named_value, patch_of, place_value, plt_entry_value, symbol_value, system_value, whole}
 use Rattle.elf_layout.specs.Layouts.{names_for}
 use Rattle.elf_reloc.specs.Entries.{term_of, taken_place}
 

@@ -1,24 +1,16 @@
 -- The section with its relocations applied.
 use Rattle.std.specs.Prelude.{ℕ, ◌≡◌, ◌+◌, ◌-◌, ◌*◌, ◌^◌, ◌/◌, ◌<◌, ◌≤◌, min, Bool, true, false, MatchBool, List, [], length, None, Some, Result, Ok, Err, IfErr}
-use Rattle.elf_model.specs.Apply.{applied, apply_checks, before_entries, held_bytes}
-use Rattle.elf_model.specs.ApplyCost.{apply_cost_by_order, entries_for, layout_names_cost, offsets_never_fall}
-use Rattle.elf_model.specs.Budget.{IsBudgetRefusal}
-use Rattle.elf_model.specs.Bytes.{slice}
-use Rattle.elf_model.specs.Checks.{first_refusal, header_checks}
-use Rattle.elf_model.specs.Placing.{Layout}
-use Rattle.elf_model.specs.Records.{e_shnum, section_at}
+use Rattle.elf_model.specs.Prelude.{IsBudgetRefusal, Layout, applied, apply_checks, apply_cost_by_order, before_entries, e_shnum, entries_for, first_refusal, header_checks, held_bytes, layout_names_cost, offsets_never_fall, section_at, slice}
 use Rattle.elf_model.specs.declared.causes.Refusal.{Refusal}
-use Rattle.elf_source.specs.Growth.{OutGrows}
-use Rattle.elf_source.specs.Output.{OutState, SinkTakes, SinkTakesPrefix, IsOutFault}
-use Rattle.elf_source.specs.Source.{CountedState, IsSourceFault, KeepsSource}
-use Rattle.elf_table.specs.Load.{IsOpen, LoadedFile}
-use Rattle.elf_table.specs.Store.{StoreState}
+use Rattle.elf_source.specs.Prelude.{CountedState, IsOutFault, IsSourceFault, KeepsSource, OutGrows, OutState, SinkTakes, SinkTakesPrefix}
+use Rattle.elf_table.specs.Prelude.{IsOpen, LoadedFile, StoreState}
 use Rattle.elf_table.specs.declared.fault.Fault.{Fault}
+use Rattle.elf_table.specs.declared.run_fault.RunFault.TheVariants.{Out}
+use Rattle.elf_table.specs.declared.run_fault.RunFault.{RunFault}
 use Rattle.elf_table.specs.declared.fault.Fault.TheVariants.{Refused as Refuses, Source as Unread}
 use Rattle.elf_reloc.specs.declared.apply_section.Applied.{Applied}
 use Rattle.elf_reloc.specs.declared.entry.ApplyTarget.{ApplyTarget}
-use Rattle.elf_table.specs.declared.run_fault.RunFault.{RunFault}
-use Rattle.elf_table.specs.declared.run_fault.RunFault.TheVariants.{Refused, Source, Out}
+use Rattle.elf_table.specs.declared.run_fault.RunFault.TheVariants.{Refused, Source}
 use Rattle.elf_reloc.specs.InOrder.{OffsetsAscend}
 use Rattle.elf_reloc.specs.Walk.{walk_all}
 use Rattle.elf_reloc.specs.Windows.{OfPatches, WroteBytes, windows}

@@ -1,16 +1,13 @@
 -- What a lookup by name answers, and what it costs.
 use Rattle.std.specs.Prelude.{ℕ, ◌≡◌, List, Option, Result, Ok, Err, IfErr}
-use Rattle.elf_model.specs.Budget.{IsBudgetRefusal}
-use Rattle.elf_model.specs.Placing.{address_named}
+use Rattle.elf_model.specs.Prelude.{IsBudgetRefusal, address_named}
 use Rattle.elf_model.specs.declared.causes.Cause.{Cause}
 use Rattle.elf_model.specs.declared.causes.Refusal.{Refusal}
 use Rattle.elf_record.specs.Sym.{IsSym}
 use Rattle.elf_source.specs.Source.{CountedState}
-use Rattle.elf_table.specs.Faults.{IsOfCheck}
-use Rattle.elf_table.specs.Ledger.{CallDid, fault_of_result}
+use Rattle.elf_table.specs.Prelude.{CallDid, IsOfCheck, fault_of_result, strings_in}
 use Rattle.elf_table.specs.declared.fault.Fault.{Fault}
 use Rattle.elf_table.specs.declared.fault.Fault.TheVariants.{Refused, Source}
-use Rattle.elf_table.specs.Tables.{strings_in}
 use Rattle.elf_reloc.specs.declared.lookup.SymbolEntry.{SymbolEntry}
 
 -- an answer, or a refusal at an offset for the cause, unless it is for want of budget

@@ -1,22 +1,15 @@
 -- What a relocation entry stores, as the code has it, in the words of the definitions.
 use Rattle.std.specs.Prelude.{ℕ, ◌≡◌, ◌+◌, ◌≤◌, IfSome, true, false, List, [], ◌∷◌, length, Option, None, Some, Result, Ok, Err}
-use Rattle.elf_model.specs.Budget.{IsBudgetRefusal}
-use Rattle.elf_model.specs.Apply.{ApplyTarget, StoredBytes, SectionChange, Put, Fails, named_value, symbol_checks}
-use Rattle.elf_model.specs.ApplyCost.{layout_names_cost}
-use Rattle.elf_model.specs.Checks.{first_refusal}
-use Rattle.elf_model.specs.Placing.{place_value}
-use Rattle.elf_model.specs.Records.{r_sym}
-use Rattle.elf_model.specs.Values.{takes_place}
+use Rattle.elf_model.specs.Prelude.{ApplyTarget, Fails, IsBudgetRefusal, Put, SectionChange, StoredBytes, first_refusal, layout_names_cost, named_value, place_value, r_sym, symbol_checks, takes_place}
 use Rattle.elf_model.specs.declared.causes.Cause.{Cause}
+use Rattle.elf_model.specs.declared.relocation_types.Formula.{Formula}
 use Rattle.elf_model.specs.declared.causes.Refusal.{Refusal}
 use Rattle.elf_model.specs.declared.relocation_types.RelocationBase.{RelocationBase}
-use Rattle.elf_model.specs.declared.relocation_types.Formula.{Formula}
 use Rattle.elf_reloc.specs.Types.{patched_bytes}
 use Rattle.elf_source.specs.Source.{CountedState}
-use Rattle.elf_table.specs.Ledger.{CallReads}
+use Rattle.elf_table.specs.Prelude.{CallReads, RefersTo}
 use Rattle.elf_table.specs.declared.fault.Fault.{Fault}
 use Rattle.elf_table.specs.declared.fault.Fault.TheVariants.{Refused, Source}
-use Rattle.elf_table.specs.Relocations.{RefersTo}
 use Rattle.elf_reloc.specs.declared.entry.PlacedPatch.{PlacedPatch}
 use Rattle.elf_reloc.specs.declared.entry.RelocationSymbols.{RelocationSymbols}
 use Rattle.elf_reloc.specs.declared.entry.CachedAddress.{CachedAddress}

@@ -1,28 +1,17 @@
 -- What a layout lacks where a section was refused, as the code answers it, and what that asks for.
 use Rattle.std.specs.Prelude.{ℕ, ◌≡◌, ◌≢◌, ◌+◌, ◌*◌, ◌/◌, ◌-◌, ◌≤◌, ◌==◌, ◌&&◌, nat_lt, Bool, true, false, List, ◌++◌, Option, None, Some, Result, Ok, Err, IfSome}
-use Rattle.elf_model.specs.Apply.{symbol_checks}
-use Rattle.elf_model.specs.Budget.{IsBudgetRefusal}
-use Rattle.elf_model.specs.Checks.{first_refusal, header_checks, load_checks}
-use Rattle.elf_model.specs.Explain.{MissingEntry, missing_of, refused_in, relocates_at}
-use Rattle.elf_model.specs.Hash.{symbol_at}
-use Rattle.elf_model.specs.Names.{DisplayedName, pad64}
-use Rattle.elf_model.specs.Records.{r_sym, section_at, st_name, st_shndx, st_type}
-use Rattle.elf_model.specs.Tables.{linked_at, strings_of}
+use Rattle.elf_model.specs.Prelude.{DisplayedName, IsBudgetRefusal, MissingEntry, first_refusal, header_checks, linked_at, load_checks, missing_of, pad64, r_sym, refused_in, relocates_at, section_at, st_name, st_shndx, st_type, strings_of, symbol_at, symbol_checks}
 use Rattle.elf_model.specs.declared.causes.Cause.{Cause}
-use Rattle.elf_model.specs.declared.causes.Cause.TheVariants.{Unplaced, Undefined, Unsupported}
-use Rattle.elf_model.specs.declared.causes.Refusal.{Refusal}
-use Rattle.elf_model.specs.declared.missing.MissingAddress.{MissingAddress}
 use Rattle.elf_model.specs.declared.missing.LayoutAddress.{LayoutAddress}
-use Rattle.elf_record.specs.Rela.{IsRela}
+use Rattle.elf_model.specs.declared.missing.MissingAddress.{MissingAddress}
+use Rattle.elf_model.specs.declared.causes.Refusal.{Refusal}
+use Rattle.elf_model.specs.declared.causes.Cause.TheVariants.{Undefined, Unplaced, Unsupported}
+use Rattle.elf_record.specs.Prelude.{IsRela}
 use Rattle.elf_record.specs.declared.rela.Rela.{Rela}
-use Rattle.elf_table.specs.Faults.{IsOfRead}
+use Rattle.elf_table.specs.Prelude.{IsOfRead, RefersTo, StringTableRange, SymbolTableInBounds, TableRange, row_at, shown_by, strings_in}
 use Rattle.elf_table.specs.declared.fault.Fault.{Fault}
-use Rattle.elf_table.specs.declared.fault.Fault.TheVariants.{Refused, Source}
-use Rattle.elf_table.specs.Cursors.{row_at}
-use Rattle.elf_table.specs.Relocations.{RefersTo}
-use Rattle.elf_table.specs.Tables.{TableRange, StringTableRange, SymbolTableInBounds, strings_in}
 use Rattle.elf_table.specs.declared.names.NameEnd.{NameEnd}
-use Rattle.elf_table.specs.NamesRead.{shown_by}
+use Rattle.elf_table.specs.declared.fault.Fault.TheVariants.{Refused, Source}
 use Rattle.elf_reloc.specs.declared.missing_item.MissingItem.{MissingItem}
 use Rattle.elf_reloc.specs.declared.missing_item.RelocationSymbol.{RelocationSymbol}
 

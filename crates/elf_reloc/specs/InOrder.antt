@@ -1,10 +1,7 @@
 -- One pass over entries whose offsets never fall: what is held, and how far the section has come.
 use Rattle.std.specs.Prelude.{ℕ, ◌≡◌, ◌+◌, ◌^◌, ◌<◌, ◌≤◌, List, [], ◌∷◌, length, take, drop, None, Some, Ok}
-use Rattle.elf_model.specs.Apply.{StoredBytes, SectionChange, patches_of, patched}
-use Rattle.elf_model.specs.ApplyLaws.{AllInside}
-use Rattle.elf_model.specs.Bytes.{slice}
-use Rattle.elf_source.specs.Output.{OutState, SinkTakes}
-use Rattle.elf_source.specs.Source.{CountedState}
+use Rattle.elf_model.specs.Prelude.{AllInside, SectionChange, StoredBytes, patched, patches_of, slice}
+use Rattle.elf_source.specs.Prelude.{CountedState, OutState, SinkTakes}
 
 -- bytes of the section from an offset on, which were read and are not written yet
 pub record PendingState : Type 0 where

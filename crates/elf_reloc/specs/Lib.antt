@@ -7,3 +7,4 @@ pub mod Passes
 pub mod Walk
 pub mod Windows
 pub mod Explained
+pub mod Prelude

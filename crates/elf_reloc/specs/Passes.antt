@@ -1,11 +1,9 @@
 -- What the passes over the entries calculate of the list of changes.
 use Rattle.std.specs.Prelude.{ℕ, ◌≡◌, ◌+◌, ◌^◌, ◌<◌, ◌≤◌, ◌&&◌, nat_le, Bool, List, [], ◌∷◌, Result, Ok, Err}
-use Rattle.elf_model.specs.Apply.{StoredBytes, SectionChange, Put, Fails, put}
-use Rattle.elf_model.specs.ApplyLaws.{clipped}
-use Rattle.elf_model.specs.Budget.{IsBudgetRefusal}
+use Rattle.elf_model.specs.Prelude.{Fails, IsBudgetRefusal, Put, SectionChange, StoredBytes, clipped, put}
 use Rattle.elf_model.specs.declared.causes.Refusal.{Refusal}
 use Rattle.elf_source.specs.Source.{CountedState}
-use Rattle.elf_table.specs.Load.{IsOpen}
+use Rattle.elf_table.specs.Prelude.{IsOpen}
 use Rattle.elf_table.specs.declared.fault.Fault.{Fault}
 use Rattle.elf_table.specs.declared.fault.Fault.TheVariants.{Refused, Source}
 use Rattle.elf_reloc.specs.declared.entry.ApplyTarget.{ApplyTarget}

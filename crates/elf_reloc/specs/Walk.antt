@@ -1,17 +1,8 @@
 -- The walk over the relocation entries for a section: what is left of it, and what a step of it does.
 use Rattle.std.specs.Prelude.{ℕ, ◌≡◌, ◌+◌, ◌-◌, ◌*◌, ◌^◌, ◌<◌, ◌≤◌, true, false, List, [], ◌∷◌, ◌++◌, flat_map, Option, None, Some, Result, Ok, Err, IfOk, IfErr, IfSome}
-use Rattle.elf_model.specs.Apply.{SectionChange, Put, Fails, applies_to, entry_changes, places_from, section_changes}
-use Rattle.elf_model.specs.Budget.{IsBudgetRefusal}
-use Rattle.elf_model.specs.Checks.{first_refusal, table_checks_of}
-use Rattle.elf_model.specs.Cost.{sum_over}
-use Rattle.elf_model.specs.Records.{sh_offset, section_at}
-use Rattle.elf_model.specs.Tables.{RELA_SIZE, entry_at, entry_count}
+use Rattle.elf_model.specs.Prelude.{Fails, IsBudgetRefusal, Put, RELA_SIZE, SectionChange, applies_to, entry_at, entry_changes, entry_count, first_refusal, places_from, section_at, section_changes, sh_offset, sum_over, table_checks_of}
 use Rattle.elf_source.specs.Source.{CountedState, ReadsUpTo}
-use Rattle.elf_table.specs.Cursors.{HoldsRows, unread_bytes, unless_failed}
-use Rattle.elf_table.specs.Faults.{IsReadFault}
-use Rattle.elf_table.specs.Load.{IsOpen, section_place}
-use Rattle.elf_table.specs.Store.{row}
-use Rattle.elf_table.specs.Tables.{TableInBounds, SymbolTableInBounds}
+use Rattle.elf_table.specs.Prelude.{HoldsRows, IsOpen, IsReadFault, SymbolTableInBounds, TableInBounds, row, section_place, unless_failed, unread_bytes}
 use Rattle.elf_table.specs.declared.fault.Fault.{Fault}
 use Rattle.elf_table.specs.declared.fault.Fault.TheVariants.{Refused, Source}
 use Rattle.elf_reloc.specs.Entries.{target_as, patch_as, beside_entry_cost, IsPlacedInside, Refers}

@@ -1,20 +1,16 @@
 -- What a call that writes a section with its relocations applied did.
 use Rattle.std.specs.Prelude.{ℕ, ◌≡◌, ◌+◌, ◌-◌, ◌^◌, ◌/◌, ◌<◌, ◌≤◌, min, List, None, Result, Ok, Err, IfErr}
-use Rattle.elf_model.specs.Apply.{StoredBytes, patches_of, patched}
-use Rattle.elf_model.specs.ApplyLaws.{AllInside}
-use Rattle.elf_model.specs.Budget.{IsBudgetRefusal}
-use Rattle.elf_model.specs.Bytes.{slice}
+use Rattle.elf_model.specs.Prelude.{AllInside, IsBudgetRefusal, StoredBytes, patched, patches_of, slice}
 use Rattle.elf_model.specs.declared.causes.Refusal.{Refusal}
-use Rattle.elf_source.specs.Growth.{OutGrows}
-use Rattle.elf_source.specs.Source.{CountedState, IsSourceFault, ReadsUpTo}
-use Rattle.elf_source.specs.Output.{OutState, SinkTakes, SinkTakesPrefix, IsOutFault}
-use Rattle.elf_table.specs.Load.{IsOpen}
+use Rattle.elf_source.specs.Prelude.{CountedState, IsOutFault, IsSourceFault, OutGrows, OutState, ReadsUpTo, SinkTakes, SinkTakesPrefix}
+use Rattle.elf_table.specs.Prelude.{IsOpen}
 use Rattle.elf_table.specs.declared.fault.Fault.{Fault}
+use Rattle.elf_table.specs.declared.run_fault.RunFault.TheVariants.{Out}
+use Rattle.elf_table.specs.declared.run_fault.RunFault.{RunFault}
 use Rattle.elf_table.specs.declared.fault.Fault.TheVariants.{Refused as Refuses, Source as Unread}
 use Rattle.elf_reloc.specs.Walk.{changes_all}
 use Rattle.elf_reloc.specs.declared.entry.ApplyTarget.{ApplyTarget}
-use Rattle.elf_table.specs.declared.run_fault.RunFault.{RunFault}
-use Rattle.elf_table.specs.declared.run_fault.RunFault.TheVariants.{Refused, Source, Out}
+use Rattle.elf_table.specs.declared.run_fault.RunFault.TheVariants.{Refused, Source}
 
 -- how many windows a section has
 abbrev pub windows : ℕ → ℕ

@@ -1,12 +1,10 @@
 //! Relocations applied to a section.
 ghost use Rattle.std.specs.Prelude.{◌≡◌, ◌+◌, ◌*◌, ◌≤◌, ◌==◌, ◌||◌, nat_lt, not, true, ℕ};
 ghost use Rattle.std.specs.Prelude.{List, length, None, Some, IfOk, IfErr};
-ghost use Rattle.elf_model.specs.Apply.{applied, has_no_bytes, is_compressed};
-ghost use Rattle.elf_model.specs.ApplyCost.{apply_cost_by_order, entries_for};
+ghost use Rattle.elf_model.specs.Prelude.{applied, apply_cost_by_order, entries_for, has_no_bytes, is_compressed};
 ghost use Rattle.elf_record.specs.Shdr.{IsShdr};
 ghost use Rattle.elf_source.specs.Growth.{OutGrows};
-ghost use Rattle.elf_table.specs.Faults.{IsOfCheck};
-ghost use Rattle.elf_table.specs.Load.{HoldsSectionHeaders};
+ghost use Rattle.elf_table.specs.Prelude.{HoldsSectionHeaders, IsOfCheck};
 ghost use Rattle.elf_reloc.specs.Applied.{Applies, AppliesFile, AppliesLoaded, AppliesTarget};
 ghost use Rattle.elf_reloc.specs.Applied.{ApplySays, HasSection, HeldIs, MayApply, RoomFor};
 ghost use Rattle.elf_reloc.specs.Applied.{ReadsWithin, BudgetTooSmall, WritesWithin, WroteMost};

@@ -18,7 +18,8 @@ pub(crate) fn entries_at(
     rela: u64,
 ) -> Option<LinkedSymbolTable>
     ensures within { IfSome result (EntryWithin file.now.loaded.size rela) }
-    ensures found { (bytes : List ℕ) → HoldsSectionHeaders bytes file.now.loaded file.now.store.now →
+    ensures found { (bytes : List ℕ) →
+        HoldsSectionHeaders bytes file.now.loaded file.now.store.now →
         FoundEntries bytes section rela result }
 {
     for index in 0..file.sections() {

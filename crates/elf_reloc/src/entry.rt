@@ -1,15 +1,10 @@
 //! What a relocation entry stores.
 ghost use Rattle.std.specs.Prelude.{◌≡◌, ◌+◌, ℕ, List, Some, IfOk, IfSome, nat_lt};
-ghost use Rattle.elf_model.specs.Apply.{change_of, entry_changes, where_based};
-ghost use Rattle.elf_model.specs.Placing.{unnamed_value};
-ghost use Rattle.elf_model.specs.Records.{r_offset, r_sym};
-ghost use Rattle.elf_model.specs.Values.{kind_of};
+ghost use Rattle.elf_model.specs.Prelude.{change_of, entry_changes, kind_of, r_offset, r_sym, unnamed_value, where_based};
 ghost use Rattle.elf_model.specs.declared.causes.Cause.TheVariants.{Unplaced};
 ghost use Rattle.elf_reloc.specs.Types.{IsSized, IsWidth};
 ghost use Rattle.elf_record.specs.Rela.{IsRela};
-ghost use Rattle.elf_table.specs.Ledger.{CallDid, fault_of_result};
-ghost use Rattle.elf_table.specs.Relocations.{RefersTo};
-ghost use Rattle.elf_table.specs.Tables.{SymbolTableInBounds};
+ghost use Rattle.elf_table.specs.Prelude.{CallDid, RefersTo, SymbolTableInBounds, fault_of_result};
 ghost use Rattle.elf_reloc.specs.Costs.{AnswersUnread, ValueOrRefusal};
 ghost use Rattle.elf_reloc.specs.Entries.{Changes, DidFor, Does, IsPlacedInside};
 ghost use Rattle.elf_reloc.specs.Entries.{beside_entry_cost, taken_place, target_as, term_of};

@@ -1,8 +1,7 @@
 //! The call that explains a refusal.
 ghost use Rattle.std.specs.Prelude.{◌≡◌, ℕ, List, false};
 ghost use Rattle.elf_model.specs.Explain.{explained};
-ghost use Rattle.elf_table.specs.Ledger.{CallDid, fault_of_result};
-ghost use Rattle.elf_table.specs.Load.{HoldsSectionHeaders};
+ghost use Rattle.elf_table.specs.Prelude.{CallDid, HoldsSectionHeaders, fault_of_result};
 ghost use Rattle.elf_reloc.specs.Explained.{Explains, ExplainsLoaded, entry_bytes};
 ghost use Rattle.elf_reloc.specs.Explained.{explain_bytes, may_be_missing};
 

@@ -1,12 +1,9 @@
 //! The section with its relocations applied, in one pass over entries whose offsets never fall.
 ghost use Rattle.std.specs.Prelude.{◌≡◌, ◌+◌, ◌-◌, ◌^◌, ◌<◌, ◌≤◌, ℕ, List, None, Some, []};
 ghost use Rattle.std.specs.Prelude.{IfErr, OnOk, length, take, drop};
-ghost use Rattle.elf_model.specs.Apply.{put};
-ghost use Rattle.elf_model.specs.ApplyLaws.{clipped};
-ghost use Rattle.elf_model.specs.Bytes.{slice};
+ghost use Rattle.elf_model.specs.Prelude.{clipped, put, slice};
 ghost use Rattle.elf_reloc.specs.Types.{patched_bytes};
-ghost use Rattle.elf_source.specs.Output.{OutPuts};
-ghost use Rattle.elf_source.specs.Source.{ReadsUpTo};
+ghost use Rattle.elf_source.specs.Prelude.{OutPuts, ReadsUpTo};
 ghost use Rattle.elf_reloc.specs.Entries.{patch_as};
 ghost use Rattle.elf_reloc.specs.InOrder.{HoldsOn, IsHeldFrom, MayRead, IsPartlyWritten, OfHeld};
 ghost use Rattle.elf_reloc.specs.InOrder.{OffsetsAscend, end_of};

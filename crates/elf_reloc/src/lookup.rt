@@ -1,15 +1,9 @@
 //! The address of a symbol in a layout.
 ghost use Rattle.std.specs.Prelude.{◌≡◌, ◌+◌, ◌-◌, ◌<◌, ◌≤◌, min, ℕ, List, length};
 ghost use Rattle.std.specs.Prelude.{IfErr};
-ghost use Rattle.elf_model.specs.ApplyCost.{layout_names_cost, longest, lookup_cost};
-ghost use Rattle.elf_model.specs.Placing.{Searched, address_named, base_value, entry_value};
-ghost use Rattle.elf_model.specs.Placing.{is_system_specific, plt_entry_value, section_symbol_value};
-ghost use Rattle.elf_model.specs.Placing.{named_or, placed_at, symbol_value, system_value};
-ghost use Rattle.elf_model.specs.Placing.{undefined_value};
-ghost use Rattle.elf_model.specs.Records.{st_name};
+ghost use Rattle.elf_model.specs.Prelude.{Searched, address_named, base_value, entry_value, is_system_specific, layout_names_cost, longest, lookup_cost, named_or, placed_at, plt_entry_value, section_symbol_value, st_name, symbol_value, system_value, undefined_value};
 ghost use Rattle.elf_record.specs.Sym.{IsSym};
-ghost use Rattle.elf_table.specs.Faults.{IsOfCheck};
-ghost use Rattle.elf_table.specs.Tables.{StringsInBounds};
+ghost use Rattle.elf_table.specs.Prelude.{IsOfCheck, StringsInBounds};
 ghost use Rattle.elf_layout.specs.Layouts.{items_cost, names_for};
 ghost use Rattle.elf_reloc.specs.Costs.{AnswersUnread, FindsAddress, GivesValue, ValueOrRefusal};
 

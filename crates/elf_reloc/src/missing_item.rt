@@ -1,11 +1,7 @@
 //! What an entry lacks in a layout.
 ghost use Rattle.std.specs.Prelude.{◌≡◌, ◌+◌, ◌≤◌, ℕ, List, IfOk, IfSome};
-ghost use Rattle.elf_model.specs.Explain.{missing_for_type, missing, name_wanted, missing_place};
-ghost use Rattle.elf_model.specs.Explain.{missing_ifunc_entry, wanted};
-ghost use Rattle.elf_model.specs.Records.{r_sym};
-ghost use Rattle.elf_table.specs.Ledger.{CallDid, fault_of_result};
-ghost use Rattle.elf_table.specs.Relocations.{RefersTo};
-ghost use Rattle.elf_table.specs.Tables.{StringsInBounds, SymbolTableInBounds};
+ghost use Rattle.elf_model.specs.Prelude.{missing, missing_for_type, missing_ifunc_entry, missing_place, name_wanted, r_sym, wanted};
+ghost use Rattle.elf_table.specs.Prelude.{CallDid, RefersTo, StringsInBounds, SymbolTableInBounds, fault_of_result};
 ghost use Rattle.elf_reloc.specs.Explained.{EntryRead, EntryWithin, LackOf, LacksRead};
 ghost use Rattle.elf_reloc.specs.Explained.{EntrySymbolRead};
 
@@ -74,7 +70,8 @@ pub(crate) fn lacking_at<S: Source>(
 /// A fault of the read, or a refusal for want of budget, at that offset.
 fn read_entry<S: Source>(src: &mut Counted<S>, at: u64) -> Result<Rela, Fault>
     requires { at + 24 ≤ src.old.seen.size }
-    ensures { CallDid src.old src.new (fault_of_result result) 24 (λ file. EntryRead file at result) }
+    ensures { CallDid src.old src.new (fault_of_result result) 24
+        (λ file. EntryRead file at result) }
 {
     let mut bytes = [0; 24];
     fill(src, at, &mut bytes)?;

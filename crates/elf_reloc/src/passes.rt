@@ -1,10 +1,8 @@
 //! The passes over the relocation entries for a section.
 ghost use Rattle.std.specs.Prelude.{◌≡◌, ◌+◌, ◌<◌, ◌^◌, ◌&&◌, nat_le, ℕ, List, IfOk};
 ghost use Rattle.std.specs.Prelude.{length, true};
-ghost use Rattle.elf_model.specs.Apply.{put};
-ghost use Rattle.elf_model.specs.ApplyLaws.{clipped};
-ghost use Rattle.elf_table.specs.Ledger.{CallDid, fault_of_result};
-ghost use Rattle.elf_table.specs.Load.{IsOpen};
+ghost use Rattle.elf_model.specs.Prelude.{clipped, put};
+ghost use Rattle.elf_table.specs.Prelude.{CallDid, IsOpen, fault_of_result};
 ghost use Rattle.elf_reloc.specs.Entries.{patch_as};
 ghost use Rattle.elf_reloc.specs.Passes.{ChecksEntries, Folds, MayPatch, folded, rising, storing};
 ghost use Rattle.elf_reloc.specs.Walk.{changes_all, entries_from, walk_all};

@@ -1,9 +1,7 @@
 //! The name of the symbol that an entry names.
 ghost use Rattle.std.specs.Prelude.{◌≡◌, ℕ, List, [], IfErr};
-ghost use Rattle.elf_model.specs.Explain.{resolved_symbol_name};
-ghost use Rattle.elf_model.specs.Names.{pad64};
-ghost use Rattle.elf_table.specs.Ledger.{CallDid, fault_of_result};
-ghost use Rattle.elf_table.specs.Tables.{StringsInBounds, strings_in};
+ghost use Rattle.elf_model.specs.Prelude.{pad64, resolved_symbol_name};
+ghost use Rattle.elf_table.specs.Prelude.{CallDid, StringsInBounds, fault_of_result, strings_in};
 ghost use Rattle.elf_reloc.specs.Explained.{ReturnsSymbolName, WithoutName};
 
 use crate::missing_item::MissingItem;

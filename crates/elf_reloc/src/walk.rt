@@ -1,7 +1,6 @@
 //! The walk over the relocation entries for a section.
 ghost use Rattle.std.specs.Prelude.{◌≡◌, ◌≤◌, ℕ, List, length, IfErr, IfOk};
-ghost use Rattle.elf_table.specs.Faults.{IsOfCheck};
-ghost use Rattle.elf_table.specs.Load.{HoldsSectionHeaders};
+ghost use Rattle.elf_table.specs.Prelude.{HoldsSectionHeaders, IsOfCheck};
 ghost use Rattle.elf_reloc.specs.Walk.{BeginsWalk, FindsEntry, FoundGives, IsWalkAlive, MayWalk};
 ghost use Rattle.elf_reloc.specs.Walk.{ReadsEntries, StepGives, StepsWalk, StepsRelocationWalk, WentOn};
 ghost use Rattle.elf_reloc.specs.Walk.{walk_left};

@@ -1,24 +1,17 @@
 -- What a listing's report is as the answer of a run.
 use Rattle.std.proofs.Common.{◌≡◌, ℕ, ◌+◌, ◌≤◌, List, ◌++◌, Option, None, Some, Result, Ok, Err, ap, sym, ◌∙◌, inl, inr, refl}
 use Rattle.std.specs.Prelude.{IfErr}
-use Rattle.elf_model.specs.Answer.{Answer, status_of, show_answer_by}
-use Rattle.elf_model.specs.Budget.{IsBudgetRefusal, IsBudgeted, IsReport}
-use Rattle.elf_model.specs.Cost.{listing_cost}
-use Rattle.elf_model.specs.Listing.{ListingItem, end_text, lines_of, report_of}
-use Rattle.elf_model.specs.Report.{listing}
-use Rattle.elf_model.specs.Style.{ListingStyle}
-use Rattle.elf_options.specs.Permitted.{style_of}
+use Rattle.elf_model.specs.Prelude.{Answer, IsBudgetRefusal, IsBudgeted, IsReport, ListingItem, ListingStyle, end_text, lines_of, listing, listing_cost, report_of, show_answer_by, status_of}
 use Rattle.elf_model.specs.declared.formats.Format.{Format}
 use Rattle.elf_model.specs.declared.causes.Refusal.{Refusal}
-use Rattle.elf_source.specs.Growth.{OutGrows}
-use Rattle.elf_source.specs.Source.{CountedState}
-use Rattle.elf_source.specs.Output.{OutState}
+use Rattle.elf_options.specs.Prelude.{style_of}
 use Rattle.elf_options.specs.declared.caps.Caps.{Caps}
+use Rattle.elf_source.specs.Prelude.{CountedState, OutGrows, OutState}
+use Rattle.elf_table.specs.declared.run_fault.RunFault.TheVariants.{Out}
 use Rattle.elf_table.specs.declared.run_fault.RunFault.{RunFault}
-use Rattle.elf_table.specs.declared.run_fault.RunFault.TheVariants.{Refused, Source, Out}
+use Rattle.elf_table.specs.declared.run_fault.RunFault.TheVariants.{Refused, Source}
 use Rattle.elf_listing.specs.Reports.{WroteReport, AsksWithin, FaultSays, KeepsSourceUnlimited, WroteText}
-use Rattle.elf_requests.specs.Answers.{EndsInRefusal, WholeOrUsedUp, WroteAnswer}
-use Rattle.elf_requests.specs.Requests.{RunsShow}
+use Rattle.elf_requests.specs.Prelude.{EndsInRefusal, RunsShow, WholeOrUsedUp, WroteAnswer}
 
 abbrev answer_of : List ℕ → Option Refusal → Answer
 answer_of text fault = record { text = text; status = status_of fault }

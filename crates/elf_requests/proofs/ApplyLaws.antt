@@ -5,13 +5,12 @@ use Rattle.std.specs.Borrow.{Bor}
 use Rattle.clap.specs.Walk.{Row, Text, first_of, one_of}
 use Rattle.elf_options.specs.declared.caps.Limits.{Limits}
 use Rattle.elf_model.specs.Placing.{Layout, no_items}
-use Rattle.elf_cli.specs.Options.{AreLimitOptions, HasNumber, is_option_set}
-use Rattle.elf_requests.specs.Asked.{AsksNothing, ResolvesTo, HasFault, IsApplying, IsFileNamed, IsTask, item_words}
-use Rattle.elf_requests.specs.Layouts.{LaysWords}
-use Rattle.elf_requests.specs.declared.requests.Request.{Request}
+use Rattle.elf_cli.specs.Prelude.{AreLimitOptions, HasNumber, is_option_set}
 use Rattle.elf_cli.specs.declared.faults.RequestFault.{RequestFault}
+use Rattle.elf_requests.specs.Prelude.{AsksNothing, HasFault, IsApplying, IsFileNamed, IsTask, LaysWords, ResolvesTo, item_words}
+use Rattle.elf_requests.specs.declared.requests.Task.TheVariants.{Apply, Find, Place, Resolve, Show}
+use Rattle.elf_requests.specs.declared.requests.Request.{Request}
 use Rattle.elf_requests.specs.declared.requests.Task.{Task}
-use Rattle.elf_requests.specs.declared.requests.Task.TheVariants.{Show, Find, Resolve, Apply, Place}
 use Rattle.elf_requests.proofs.OnceLaws.{laid}
 
 -- words of which one is refused

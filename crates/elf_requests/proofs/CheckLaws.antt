@@ -5,21 +5,14 @@ use Rattle.std.specs.Borrow.{Bor}
 use Rattle.std.specs.List.{list_any}
 use Rattle.std.proofs.lemmas.Slice.Eq.{bytes_eq-Decides}
 use Rattle.clap.specs.Walk.{Row, Text, first_of}
-use Rattle.elf_requests.specs.Archives.{IsArchiving}
-use Rattle.elf_requests.specs.Asked.{AsksBy, AsksNothing, HasFault, IsTask}
-use Rattle.elf_requests.specs.AskedTraits.{IsTraitsAsked, LacksWord}
-use Rattle.elf_cli.specs.Listings.{NoneAsked}
-use Rattle.elf_cli.specs.RowNames.{has_name_option}
-use Rattle.elf_requests.specs.AskedNames.{AreBadNames, ChoosesBadly, IsChoosing, takes_names}
-use Rattle.elf_requests.specs.AskedNeeds.{IsNeedsAsked}
-use Rattle.elf_requests.specs.Lists.{IsListAsked}
-use Rattle.elf_requests.specs.Checks.{HasAnyFault, IsAsked, IsChecking, NothingAsked}
+use Rattle.elf_requests.specs.Prelude.{AreBadNames, AsksBy, AsksNothing, ChoosesBadly, HasAnyFault, HasFault, IsArchiving, IsAsked, IsChecking, IsChoosing, IsListAsked, IsNeedsAsked, IsTask, IsTraitsAsked, LacksWord, NothingAsked, takes_names}
+use Rattle.elf_requests.specs.declared.requests.Task.TheVariants.{Apply, Find, Place, Resolve, Show}
+use Rattle.elf_requests.specs.declared.checks.ParsedCommand.TheVariants.{Archive, Check, Chosen, File, Laid, List as Listings, Needs, Traits, Version}
 use Rattle.elf_requests.specs.declared.checks.ParsedCommand.{ParsedCommand}
-use Rattle.elf_requests.specs.declared.checks.ParsedCommand.TheVariants.{File, Laid, Chosen, Check, List as Listings, Traits, Needs, Archive, Version}
 use Rattle.elf_requests.specs.declared.requests.Request.{Request}
-use Rattle.elf_cli.specs.declared.faults.RequestFault.{RequestFault}
 use Rattle.elf_requests.specs.declared.requests.Task.{Task}
-use Rattle.elf_requests.specs.declared.requests.Task.TheVariants.{Show, Find, Resolve, Apply, Place}
+use Rattle.elf_cli.specs.Prelude.{NoneAsked, has_name_option}
+use Rattle.elf_cli.specs.declared.faults.RequestFault.{RequestFault}
 
 -- two texts that are not the same, by the test
 apart : (text other : Text) → bytes_eq text other ≡ false → text ≡ other → ⊥

@@ -2,11 +2,10 @@
 use Rattle.std.proofs.Common.{List, refl, inl, inr}
 use Rattle.clap.specs.Walk.{Row, Text}
 use Rattle.std.specs.Prelude.{Option, Err}
-use Rattle.elf_cli.specs.Faults.{IsUnasked}
-use Rattle.elf_requests.specs.Answered.{IsRefusal}
-use Rattle.elf_requests.specs.Checks.{ParsesTo, NothingAsked}
+use Rattle.elf_cli.specs.Prelude.{IsUnasked}
+use Rattle.elf_cli.specs.declared.faults.RequestFault.TheVariants.{BadItem, BadName, BadTrait, LayoutFull, LayoutRepeat, Memory, NamesFull, Words}
 use Rattle.elf_cli.specs.declared.faults.RequestFault.{RequestFault}
-use Rattle.elf_cli.specs.declared.faults.RequestFault.TheVariants.{Memory, BadName, BadItem, BadTrait, LayoutFull, LayoutRepeat, NamesFull, Words}
+use Rattle.elf_requests.specs.Prelude.{IsRefusal, NothingAsked, ParsesTo}
 
 -- words that ask for nothing
 pub unasked_told : (matches : Option (Text × List Row)) (fault : RequestFault) → IsUnasked fault → NothingAsked matches → IsRefusal matches fault

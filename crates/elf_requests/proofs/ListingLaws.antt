@@ -3,13 +3,12 @@ use Rattle.std.proofs.Common.{◌≢◌, List, Option, Some, codes, inl, inr}
 use Rattle.std.specs.Borrow.{Bor}
 use Rattle.clap.specs.Walk.{Row, Text}
 use Rattle.elf_options.specs.declared.caps.Limits.{Limits}
-use Rattle.elf_cli.specs.Listings.{IsListing}
-use Rattle.elf_cli.specs.Options.{AreLimitOptions}
+use Rattle.elf_cli.specs.Prelude.{AreLimitOptions, IsListing}
 use Rattle.elf_cli.specs.declared.listings.ListingRequest.{ListingRequest}
-use Rattle.elf_requests.specs.Asked.{AsksNothing, HasFault, IsTask}
 use Rattle.elf_cli.specs.declared.faults.RequestFault.{RequestFault}
+use Rattle.elf_requests.specs.Prelude.{AsksNothing, HasFault, IsTask}
+use Rattle.elf_requests.specs.declared.requests.Task.TheVariants.{Apply, Find, Place, Resolve, Show}
 use Rattle.elf_requests.specs.declared.requests.Task.{Task}
-use Rattle.elf_requests.specs.declared.requests.Task.TheVariants.{Show, Find, Resolve, Apply, Place}
 
 module _ (command : Text) (rows : List Row) (not_apply : command ≢ codes "apply") (not_find : command ≢ codes "find") where
   no_task : ((listing : ListingRequest) → IsListing command rows listing → ⊥) → (file : Option (Bor Text)) (limits : Limits) (task : Task)

@@ -3,35 +3,22 @@ use Rattle.std.proofs.Common.{◌≡◌, ℕ, suc, ◌^◌, ◌≤◌, ◌==◌,
 use Rattle.std.proofs.lemmas.Bool.{cases_Bool}
 use Rattle.std.proofs.lemmas.List.{length-drop, length-take}
 use Rattle.std.specs.Prelude.{IfErr, IfSome}
+use Rattle.elf_model.specs.Prelude.{AT_SIGN, Answer, FoundVersion, IsAnswered, SymbolQuery, asked_after, asked_name, find_answer, found_version_line, loader_answer_for, loader_looked, looked, named_line, parse_query, symbol_version_prefix}
 use Rattle.elf_model.specs.declared.formats.Format.{Format}
-use Rattle.elf_model.specs.Answer.{Answer}
-use Rattle.elf_model.specs.Find.{looked}
-use Rattle.elf_model.specs.FindApplyAnswer.{IsAnswered, find_answer}
-use Rattle.elf_model.specs.Lines.{named_line}
-use Rattle.elf_model.specs.Loader.{AT_SIGN, SymbolQuery, asked_after, asked_name, parse_query}
-use Rattle.elf_model.specs.LoaderAnswer.{found_version_line, loader_answer_for}
-use Rattle.elf_model.specs.LoaderFind.{FoundVersion, loader_looked}
-use Rattle.elf_model.specs.VersionRows.{symbol_version_prefix}
-use Rattle.elf_source.specs.Growth.{OutGrows}
-use Rattle.elf_source.specs.Output.{OutPuts, SinkTakes, OutState}
+use Rattle.elf_source.specs.Prelude.{CountedState, OutGrows, OutPuts, OutState, SetsLimit, SinkTakes, SourceState}
 use Rattle.elf_source.specs.declared.faults.OutFault.{OutFault}
 use Rattle.elf_source.proofs.PutsLaws.{SinkTakes-then, SinkTakesPrefix-then}
-use Rattle.elf_source.specs.Source.{CountedState, SetsLimit, SourceState}
 use Rattle.elf_source.proofs.LimitLaws.{within_budget}
-use Rattle.elf_table.specs.Ledger.{CallReads}
-use Rattle.elf_table.specs.Stops.{stop_of}
+use Rattle.elf_table.specs.Prelude.{CallReads, stop_of}
 use Rattle.elf_table.specs.declared.fault.Fault.{Fault}
-use Rattle.elf_table.specs.declared.fault.Fault.TheVariants.{Refused as Refuses, Source as Unread}
 use Rattle.elf_table.specs.declared.run_fault.RunFault.{RunFault}
+use Rattle.elf_table.specs.declared.fault.Fault.TheVariants.{Refused as Refuses, Source as Unread}
 use Rattle.elf_hash.specs.Lookups.{GivesLookup}
-use Rattle.elf_listing.specs.Reports.{ReturnsStop}
-use Rattle.elf_listing.specs.Shows.{IsOfOutput}
+use Rattle.elf_listing.specs.Prelude.{IsOfOutput, ReturnsStop}
 use Rattle.elf_listing.proofs.AskLaws.{told_says}
 use Rattle.elf_listing.proofs.ShowLaws.{StopSays-fault}
 use Rattle.elf_loader.specs.Lookups.{AreShort, ReturnsLookup}
-use Rattle.elf_requests.specs.Answers.{Answers, WholeOrUsedUp, WroteAnswer}
-use Rattle.elf_requests.specs.Lookups.{resolved_answer}
-use Rattle.elf_requests.specs.Requests.{AsksUpTo, Runs}
+use Rattle.elf_requests.specs.Prelude.{Answers, AsksUpTo, Runs, WholeOrUsedUp, WroteAnswer, resolved_answer}
 use Rattle.elf_requests.proofs.TaskLaws.{RefusesAs, answered_stop, answered_whole, lookup_stops, lookup_used, output_alone, runs}
 
 -- what a lookup gives of a file, within what it costs

@@ -1,16 +1,15 @@
 -- Words give one layout, or have one fault.
 use Rattle.std.proofs.Common.{◌≡◌, ℕ, List, [], ◌∷◌, ◌++◌, Ok, Err, ap, sym, subst, ◌∙◌, arith, inl, inr}
 use Rattle.clap.specs.Walk.{Text}
-use Rattle.elf_layout.specs.Layouts.{HasKey, LacksKey, Pushes}
-use Rattle.elf_layout.specs.declared.layout.Item.{Item}
-use Rattle.elf_layout.specs.declared.layout.Item.TheVariants.{Section, Define, Entry, Table, Thread}
+use Rattle.elf_layout.specs.Prelude.{HasKey, LacksKey, ParsesItem, Pushes}
+use Rattle.elf_layout.specs.declared.layout.Item.TheVariants.{Define, Entry, Section, Table, Thread}
 use Rattle.elf_layout.specs.declared.layout.LayoutFault.TheVariants.{Full, Repeat}
+use Rattle.elf_layout.specs.declared.layout.Item.{Item}
 use Rattle.elf_model.specs.Placing.{Layout}
-use Rattle.elf_layout.specs.Spelled.{ParsesItem}
 use Rattle.elf_layout.proofs.ItemLaws.{SameItem, one_item}
 use Rattle.elf_requests.specs.Layouts.{LaysWords, RefusesItem}
+use Rattle.elf_cli.specs.declared.faults.RequestFault.TheVariants.{BadItem, BadName, BadTrait, LayoutFull, LayoutRepeat, Memory, NamesFull, Words as Told}
 use Rattle.elf_cli.specs.declared.faults.RequestFault.{RequestFault}
-use Rattle.elf_cli.specs.declared.faults.RequestFault.TheVariants.{Memory, BadName, BadItem, BadTrait, LayoutFull, LayoutRepeat, NamesFull, Words as Told}
 
 lacks_none : {K : Type 0} (items : List (K × ℕ)) (key other : K) → key ≡ other → LacksKey items key → HasKey items other → ⊥
 lacks_none items key other same lacks (k, x, within, here, has) = lacks k x within (ap (λ i. i.0) here ∙ has ∙ sym same)

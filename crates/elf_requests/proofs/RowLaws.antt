@@ -2,12 +2,11 @@
 use Rattle.std.proofs.Common.{◌≡◌, ◌∙◌, ◌<◌, Bool, true, false, List, [], ◌∷◌, Option, None, Some, arith, codes, is_some, length, refl, sym, inl, inr, unwrap_or}
 use Rattle.std.specs.Prelude.{◌||◌}
 use Rattle.clap.specs.Walk.{Row, Text, all_of}
-use Rattle.elf_cli.specs.Options.{has_versions_option}
-use Rattle.elf_cli.specs.RowNames.{AreChosenParts, has_name_option, name_words}
-use Rattle.elf_record.specs.declared.parts.Parts.{Parts}
-use Rattle.elf_requests.specs.AskedNames.{AreBadNames, AreNamesIf, AreRows, AreTexts, HasBadText}
-use Rattle.elf_requests.specs.declared.checks.NameArgs.{NameArgs}
+use Rattle.elf_cli.specs.Prelude.{AreChosenParts, has_name_option, has_versions_option, name_words}
 use Rattle.elf_cli.specs.declared.faults.RequestFault.{RequestFault}
+use Rattle.elf_record.specs.declared.parts.Parts.{Parts}
+use Rattle.elf_requests.specs.Prelude.{AreBadNames, AreNamesIf, AreRows, AreTexts, HasBadText}
+use Rattle.elf_requests.specs.declared.checks.NameArgs.{NameArgs}
 
 -- words that are names are not bad
 not_bad : (versions : Bool) (words : List Text) → AreTexts versions words → HasBadText versions words → ⊥

@@ -1,34 +1,25 @@
 -- What a task did that is no listing, between the call that sets its limit and the one that takes it away.
 use Rattle.std.proofs.Common.{◌≡◌, ◌⊎◌, ℕ, ◌+◌, ◌^◌, ◌<◌, ◌≤◌, List, [], ◌++◌, Option, None, Some, Result, Ok, Err, ap, sym, ◌∙◌, inl, inr, refl, subst, arith}
 use Rattle.std.specs.Prelude.{IfErr, IfSome}
-use Rattle.elf_model.specs.declared.formats.Format.{Format}
-use Rattle.elf_model.specs.declared.formats.Format.TheVariants.{Columns}
-use Rattle.elf_model.specs.Answer.{Answer}
-use Rattle.elf_model.specs.Apply.{applied}
-use Rattle.elf_model.specs.Budget.{IsBudgetRefusal}
-use Rattle.elf_model.specs.FindApplyAnswer.{IsAnswered, apply_answer, applied_status, applied_text}
-use Rattle.elf_model.specs.Lines.{refusal_line}
-use Rattle.elf_model.specs.Placing.{Layout}
+use Rattle.elf_model.specs.Prelude.{Answer, IsAnswered, IsBudgetRefusal, Layout, applied, applied_status, applied_text, apply_answer, refusal_line}
 use Rattle.elf_model.specs.declared.causes.Cause.TheVariants.{Budget}
+use Rattle.elf_model.specs.declared.formats.Format.TheVariants.{Columns}
+use Rattle.elf_model.specs.declared.formats.Format.{Format}
 use Rattle.elf_model.specs.declared.causes.Refusal.{Refusal}
 use Rattle.elf_model.proofs.BudgetLaws.{is_budget_fault}
-use Rattle.elf_source.specs.Growth.{OutGrows}
-use Rattle.elf_source.specs.Source.{CountedState, KeepsSource, SetsLimit, counted}
-use Rattle.elf_source.specs.Output.{OutState, SinkTakes, SinkTakesPrefix}
+use Rattle.elf_source.specs.Prelude.{CountedState, KeepsSource, OutGrows, OutState, SetsLimit, SinkTakes, SinkTakesPrefix, counted}
 use Rattle.elf_source.proofs.LimitLaws.{budget_below, late_budget}
 use Rattle.elf_source.proofs.PutsLaws.{SinkTakes-nothing, SinkTakesPrefix-all, SinkTakesPrefix-more, SinkTakesPrefix-then}
-use Rattle.elf_table.specs.Faults.{IsReadFault}
-use Rattle.elf_table.specs.Stops.{stop_of}
+use Rattle.elf_table.specs.Prelude.{IsReadFault, stop_of}
 use Rattle.elf_table.specs.declared.fault.Fault.{Fault}
-use Rattle.elf_table.specs.declared.fault.Fault.TheVariants.{Refused as Refuses, Source as Unread}
+use Rattle.elf_table.specs.declared.run_fault.RunFault.TheVariants.{Out}
 use Rattle.elf_table.specs.declared.run_fault.RunFault.{RunFault}
-use Rattle.elf_table.specs.declared.run_fault.RunFault.TheVariants.{Refused, Source, Out}
-use Rattle.elf_reloc.specs.Applied.{Applies, ApplySays, BudgetTooSmall, text_of}
+use Rattle.elf_table.specs.declared.fault.Fault.TheVariants.{Refused as Refuses, Source as Unread}
+use Rattle.elf_table.specs.declared.run_fault.RunFault.TheVariants.{Refused, Source}
+use Rattle.elf_reloc.specs.Prelude.{Applies, ApplySays, BudgetTooSmall, text_of}
 use Rattle.elf_reloc.specs.declared.apply_section.Applied.{Applied}
-use Rattle.elf_listing.specs.Reports.{FaultSays, ReturnsStop}
-use Rattle.elf_listing.specs.Shows.{IsOfOutput}
-use Rattle.elf_requests.specs.Answers.{Answers, WholeOrUsedUp, WroteAnswer}
-use Rattle.elf_requests.specs.Requests.{AsksUpTo, Runs}
+use Rattle.elf_listing.specs.Prelude.{FaultSays, IsOfOutput, ReturnsStop}
+use Rattle.elf_requests.specs.Prelude.{Answers, AsksUpTo, Runs, WholeOrUsedUp, WroteAnswer}
 
 -- a text and a front of the next
 pub front_then : {a b c : OutState} (xs ys : List ℕ) → SinkTakes a b xs → SinkTakesPrefix b c ys → SinkTakesPrefix a c (xs ++ ys)

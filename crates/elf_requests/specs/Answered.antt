@@ -4,11 +4,11 @@ use Rattle.clap.specs.Walk.{Row, Text}
 use Rattle.clap.specs.Values.{kind_of}
 use Rattle.clap.specs.declared.error.Error.{Error}
 use Rattle.clap.specs.declared.error.kind.ErrorKind.TheVariants as kind
-use Rattle.elf_cli.specs.Reading.{AreRead, AreRefused}
+use Rattle.elf_cli.specs.Prelude.{AreRead, AreRefused}
+use Rattle.elf_cli.specs.declared.faults.RequestFault.TheVariants.{Memory, Words}
+use Rattle.elf_cli.specs.declared.faults.RequestFault.{RequestFault}
 use Rattle.elf_requests.specs.Checks.{HasAnyFault, IsAsked, NothingAsked}
 use Rattle.elf_requests.specs.declared.checks.ParsedCommand.{ParsedCommand}
-use Rattle.elf_cli.specs.declared.faults.RequestFault.{RequestFault}
-use Rattle.elf_cli.specs.declared.faults.RequestFault.TheVariants.{Memory, Words}
 
 -- WHAT IS ASKED FOR: the command line takes the words, and what it makes of them is what is asked for
 abbrev pub WordsAsk : List Text → ParsedCommand → Type 0

@@ -1,14 +1,12 @@
 -- What a run answers.
 use Rattle.std.specs.Prelude.{ℕ, ◌≡◌, ◌<◌, ◌+◌, ⊤, List, ◌++◌, Option, Some, Result, Ok, Err}
-use Rattle.elf_model.specs.Answer.{Answer}
-use Rattle.elf_model.specs.Budget.{IsBudgetRefusal}
-use Rattle.elf_model.specs.Lines.{refusal_line}
-use Rattle.elf_model.specs.declared.causes.Refusal.{Refusal}
+use Rattle.elf_model.specs.Prelude.{Answer, IsBudgetRefusal, refusal_line}
 use Rattle.elf_model.specs.declared.formats.Format.{Format}
-use Rattle.elf_source.specs.Source.{CountedState}
-use Rattle.elf_source.specs.Output.{OutState, SinkTakes, SinkTakesPrefix}
+use Rattle.elf_model.specs.declared.causes.Refusal.{Refusal}
+use Rattle.elf_source.specs.Prelude.{CountedState, OutState, SinkTakes, SinkTakesPrefix}
+use Rattle.elf_table.specs.declared.run_fault.RunFault.TheVariants.{Out}
 use Rattle.elf_table.specs.declared.run_fault.RunFault.{RunFault}
-use Rattle.elf_table.specs.declared.run_fault.RunFault.TheVariants.{Refused, Source, Out}
+use Rattle.elf_table.specs.declared.run_fault.RunFault.TheVariants.{Refused, Source}
 
 -- a text ends in the line of a refusal
 abbrev pub EndsInRefusal : Refusal → List ℕ → Type 0

@@ -2,8 +2,7 @@
 use Rattle.std.specs.Prelude.{Bool, bytes_eq, ◌≡◌, List, codes, Option, None, Some}
 use Rattle.std.specs.List.{list_any}
 use Rattle.clap.specs.Walk.{Row, Text, first_of}
-use Rattle.elf_model.specs.Listing.{all_parts}
-use Rattle.elf_model.specs.Text.{name_of as name_in_table}
+use Rattle.elf_model.specs.Prelude.{all_parts, name_of as name_in_table}
 use Rattle.elf_record.specs.declared.parts.Parts.{Parts}
 use Rattle.elf_cli.specs.Options.{AreLimitOptions, IsStyle, has_gnu_option, member_part_names}
 use Rattle.elf_requests.specs.AskedNames.{AreRows}

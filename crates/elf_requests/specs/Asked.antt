@@ -2,17 +2,13 @@
 use Rattle.std.specs.Prelude.{Bool, true, false, ◌≡◌, ◌⊎◌, ◌<◌, ◌≤◌, ◌^◌, ℕ, length, unwrap_or, Result, Ok, Err, List, [], codes, Option, None, Some}
 use Rattle.std.specs.Borrow.{Bor}
 use Rattle.clap.specs.Walk.{Row, Text, all_of, first_of, one_of}
-use Rattle.elf_model.specs.Loader.{is_complete, parse_query}
+use Rattle.elf_model.specs.Prelude.{IsWanted, Layout, is_complete, no_items, parse_query}
 use Rattle.elf_model.specs.declared.formats.Format.{Format}
-use Rattle.elf_model.specs.NameLaws.{IsWanted}
-use Rattle.elf_model.specs.Placing.{Layout, no_items}
-use Rattle.elf_cli.specs.Listings.{IsOfFile}
-use Rattle.elf_cli.specs.Options.{AreLimitOptions, AreParts, HasNumber, IsStyle, asked_format, has_gnu_option, is_option_set, gnu_option_is_missing}
-use Rattle.elf_cli.specs.RowNames.{has_name_option}
+use Rattle.elf_cli.specs.Prelude.{AreLimitOptions, AreParts, HasNumber, IsOfFile, IsStyle, asked_format, gnu_option_is_missing, has_gnu_option, has_name_option, is_option_set}
+use Rattle.elf_cli.specs.declared.faults.RequestFault.TheVariants.{BadName}
+use Rattle.elf_cli.specs.declared.faults.RequestFault.{RequestFault}
 use Rattle.elf_requests.specs.Layouts.{LaysWords}
 use Rattle.elf_requests.specs.declared.requests.Request.{Request}
-use Rattle.elf_cli.specs.declared.faults.RequestFault.{RequestFault}
-use Rattle.elf_cli.specs.declared.faults.RequestFault.TheVariants.{BadName}
 use Rattle.elf_requests.specs.declared.requests.Task.{Task}
 use Rattle.elf_requests.specs.declared.requests.LookupSymbol.{LookupSymbol}
 use Rattle.elf_requests.specs.declared.requests.Task.TheVariants.{Show, Find, Resolve, Apply, Place}

@@ -2,14 +2,13 @@
 use Rattle.std.specs.Prelude.{◌≡◌, ◌⊎◌, ◌≤◌, ◌<◌, ⊤, Bool, true, false, bytes_eq, length, List, [], ◌∷◌, codes, Option, None, Some, option_map}
 use Rattle.std.specs.List.{list_any}
 use Rattle.clap.specs.Walk.{Row, Text, first_of, texts}
-use Rattle.elf_cli.specs.Options.{AreLimitOptions, IsStyle, has_versions_option}
-use Rattle.elf_cli.specs.RowNames.{AreChosenParts, has_name_option, name_words}
+use Rattle.elf_cli.specs.Prelude.{AreChosenParts, AreLimitOptions, IsStyle, has_name_option, has_versions_option, name_words}
+use Rattle.elf_cli.specs.declared.faults.RequestFault.TheVariants.{BadName, Memory, NamesFull}
+use Rattle.elf_cli.specs.declared.faults.RequestFault.{RequestFault}
 use Rattle.elf_record.specs.declared.parts.Parts.{Parts}
 use Rattle.elf_requests.specs.Asked.{IsFileNamed, IsText}
 use Rattle.elf_requests.specs.declared.checks.FilteredRequest.{FilteredRequest}
 use Rattle.elf_requests.specs.declared.checks.NameArgs.{NameArgs}
-use Rattle.elf_cli.specs.declared.faults.RequestFault.{RequestFault}
-use Rattle.elf_cli.specs.declared.faults.RequestFault.TheVariants.{BadName, Memory, NamesFull}
 
 -- each is a name: a text of 1 to 4,096 bytes without NUL; and where a name may have a version, neither is empty
 abbrev pub AreTexts : (versions : Bool) → List Text → Type 0

@@ -2,15 +2,14 @@
 use Rattle.std.specs.Prelude.{ℕ, ◌==◌, ◌≡◌, ◌⊎◌, true, false, not, is_some, List, [], ◌∷◌, codes, map, Option, None, Some}
 use Rattle.std.specs.List.{list_any}
 use Rattle.clap.specs.Walk.{Row, Text, first_of}
-use Rattle.elf_cli.specs.Options.{AreLimitOptions, asked_format}
+use Rattle.elf_cli.specs.Prelude.{AreLimitOptions, asked_format}
+use Rattle.elf_cli.specs.declared.faults.RequestFault.TheVariants.{BadTrait, Memory}
+use Rattle.elf_cli.specs.declared.faults.RequestFault.{RequestFault}
 use Rattle.elf_model.specs.TraitWords.{Required}
-use Rattle.elf_options.specs.Required.{required_words}
-use Rattle.elf_options.specs.Spelled.{parsed_trait_word}
+use Rattle.elf_options.specs.Prelude.{parsed_trait_word, required_words}
 use Rattle.elf_options.specs.declared.required.RequiredTrait.{RequiredTrait}
 use Rattle.elf_requests.specs.Files.{AreFiles}
 use Rattle.elf_requests.specs.declared.checks.TraitsRequest.{TraitsRequest}
-use Rattle.elf_cli.specs.declared.faults.RequestFault.{RequestFault}
-use Rattle.elf_cli.specs.declared.faults.RequestFault.TheVariants.{BadTrait, Memory}
 
 -- a byte more at the front of the first of some pieces
 abbrev pub onto_first : ℕ → List Text → List Text

@@ -1,8 +1,9 @@
 -- What the words of a command line ask for, of one file, of many or of an archive; and the version of the program.
 use Rattle.std.specs.Prelude.{⊤, ◌≡◌, ◌⊎◌, List, Result, Ok, Err, codes, Option, None, Some}
 use Rattle.clap.specs.Walk.{Row, Text, first_of}
-use Rattle.elf_cli.specs.Listings.{AskedBy, AsksVersion}
-use Rattle.elf_cli.specs.Options.{AreLimitOptions, AreParts, IsStyle, is_option_set}
+use Rattle.elf_cli.specs.Prelude.{AreLimitOptions, AreParts, AskedBy, AsksVersion, IsStyle, is_option_set}
+use Rattle.elf_cli.specs.declared.faults.RequestFault.TheVariants.{BadTrait, Memory}
+use Rattle.elf_cli.specs.declared.faults.RequestFault.{RequestFault}
 use Rattle.elf_requests.specs.Asked.{AsksBy, HasFault}
 use Rattle.elf_requests.specs.AskedNames.{ChoosesBadly, IsChoosing}
 use Rattle.elf_requests.specs.AskedNeeds.{IsNeedsAsked}
@@ -13,8 +14,6 @@ use Rattle.elf_requests.specs.declared.checks.ParsedCommand.{ParsedCommand}
 use Rattle.elf_requests.specs.declared.checks.ParsedCommand.TheVariants.{File, Laid, Chosen, Check, List as Listings, Traits, Needs, Archive, Version}
 use Rattle.elf_requests.specs.Archives.{IsArchiving}
 use Rattle.elf_requests.specs.declared.checks.CheckRequest.{CheckRequest}
-use Rattle.elf_cli.specs.declared.faults.RequestFault.{RequestFault}
-use Rattle.elf_cli.specs.declared.faults.RequestFault.TheVariants.{BadTrait, Memory}
 
 -- a check of the files that stand among the values
 pub record IsChecking (command : Text) (rows : List Row) (asked : CheckRequest) : Type 0 where

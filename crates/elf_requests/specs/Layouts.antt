@@ -1,13 +1,12 @@
 -- The layouts that words give.
 use Rattle.std.specs.Prelude.{◌≡◌, ◌⊎◌, List, [], ◌∷◌, Result, Ok, Err}
 use Rattle.clap.specs.Walk.{Text}
-use Rattle.elf_layout.specs.Layouts.{Pushes}
-use Rattle.elf_layout.specs.declared.layout.Item.{Item}
+use Rattle.elf_layout.specs.Prelude.{ParsesItem, Pushes}
 use Rattle.elf_layout.specs.declared.layout.LayoutFault.TheVariants.{Full, Repeat}
+use Rattle.elf_layout.specs.declared.layout.Item.{Item}
 use Rattle.elf_model.specs.Placing.{Layout}
-use Rattle.elf_layout.specs.Spelled.{ParsesItem}
-use Rattle.elf_cli.specs.declared.faults.RequestFault.{RequestFault}
 use Rattle.elf_cli.specs.declared.faults.RequestFault.TheVariants.{BadItem, LayoutFull, LayoutRepeat}
+use Rattle.elf_cli.specs.declared.faults.RequestFault.{RequestFault}
 
 -- a word spells an item, which is put behind those of its sort
 abbrev pub PutsItem : Text → Layout → Layout → Type 0

@@ -12,3 +12,4 @@ pub mod Answers
 pub mod Lookups
 pub mod Requests
 pub mod ArchiveAnswers
+pub mod Prelude

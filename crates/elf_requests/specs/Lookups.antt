@@ -1,10 +1,6 @@
 -- What is written of a lookup.
 use Rattle.std.specs.Prelude.{ℕ, List}
-use Rattle.elf_model.specs.Answer.{Answer}
-use Rattle.elf_model.specs.FindApplyAnswer.{lookup_text, lookup_status}
-use Rattle.elf_model.specs.Hash.{Lookup}
-use Rattle.elf_model.specs.LoaderAnswer.{loader_text}
-use Rattle.elf_model.specs.LoaderFind.{LoaderLookup}
+use Rattle.elf_model.specs.Prelude.{Answer, LoaderLookup, Lookup, loader_text, lookup_status, lookup_text}
 use Rattle.elf_model.specs.declared.formats.Format.{Format}
 
 -- the text and the status of what a lookup gives

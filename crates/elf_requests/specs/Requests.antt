@@ -1,21 +1,10 @@
 -- What a request does: what it gives of a file, what it costs, and what it asks for.
 use Rattle.std.specs.Prelude.{ℕ, ◌≡◌, ◌≤◌, ◌+◌, ⊤, Bool, List, length, Option, Some, Result, IfErr, IfSome}
-use Rattle.elf_model.specs.Answer.{IsShown, show_answer_by}
-use Rattle.elf_model.specs.ApplyCost.{apply_cost_by_order}
-use Rattle.elf_model.specs.Cost.{listing_cost}
-use Rattle.elf_model.specs.Find.{find_cost}
-use Rattle.elf_model.specs.FindApplyAnswer.{IsAnswered, apply_answer, find_answer}
-use Rattle.elf_model.specs.Loader.{parse_query}
-use Rattle.elf_model.specs.LoaderAnswer.{loader_answer}
-use Rattle.elf_model.specs.LoaderFind.{loader_ceiling, loader_cost}
-use Rattle.elf_model.specs.Placing.{Layout}
-use Rattle.elf_model.specs.Style.{looked_at}
-use Rattle.elf_model.specs.declared.formats.Format.{Format}
+use Rattle.elf_model.specs.Prelude.{IsAnswered, IsShown, Layout, apply_answer, apply_cost_by_order, find_answer, find_cost, listing_cost, loader_answer, loader_ceiling, loader_cost, looked_at, parse_query, show_answer_by}
 use Rattle.elf_model.specs.declared.formats.Format.TheVariants.{Columns}
-use Rattle.elf_source.specs.Growth.{OutGrows}
-use Rattle.elf_source.specs.Source.{CountedState}
-use Rattle.elf_source.specs.Output.{OutState}
-use Rattle.elf_options.specs.Permitted.{style_of}
+use Rattle.elf_model.specs.declared.formats.Format.{Format}
+use Rattle.elf_source.specs.Prelude.{CountedState, OutGrows, OutState}
+use Rattle.elf_options.specs.Prelude.{style_of}
 use Rattle.elf_options.specs.declared.caps.Caps.{Caps}
 use Rattle.elf_options.specs.declared.caps.Limits.{Limits}
 use Rattle.elf_table.specs.declared.run_fault.RunFault.{RunFault}

@@ -2,8 +2,7 @@
 ghost use Rattle.std.specs.Prelude.{◌≡◌, IfSome, Ok, Option, Some, None, codes};
 ghost use Rattle.clap.specs.Walk.{rows_of};
 ghost use Rattle.clap.specs.Words.{found_of};
-ghost use Rattle.elf_cli.specs.Listings.{NoneAsked};
-ghost use Rattle.elf_cli.specs.Options.{AreParts};
+ghost use Rattle.elf_cli.specs.Prelude.{AreParts, NoneAsked};
 ghost use Rattle.elf_record.specs.declared.parts.Parts.{Parts};
 ghost use Rattle.elf_requests.specs.AskedNames.{AreNamesIf, AreRows};
 ghost use Rattle.elf_requests.specs.Checks.{ParsesTo};

@@ -2,8 +2,7 @@
 ghost use Rattle.std.specs.Prelude.{◌≡◌, ◌≤◌, IfErr, IfOk, length, true, false};
 ghost use Rattle.clap.specs.Walk.{rows_of, texts};
 ghost use Rattle.clap.specs.Words.{found_of};
-ghost use Rattle.elf_cli.specs.Options.{has_versions_option};
-ghost use Rattle.elf_cli.specs.RowNames.{has_name_option, name_words};
+ghost use Rattle.elf_cli.specs.Prelude.{has_name_option, has_versions_option, name_words};
 ghost use Rattle.elf_requests.specs.AskedNames.{AreBadNames, AreBadWords, AreNamesAsked, AreNamesIf, AreTexts};
 ghost use Rattle.elf_requests.specs.Asked.{IsText};
 ghost use Rattle.elf_requests.specs.AskedNames.{HasBadText, IsNameFault};

@@ -1,7 +1,6 @@
 //! What can be asked for.
 ghost use Rattle.std.specs.Prelude.{◌≡◌, ◌≤◌, length, true};
-ghost use Rattle.elf_model.specs.Loader.{is_complete, parse_query};
-ghost use Rattle.elf_model.specs.NameLaws.{IsWanted};
+ghost use Rattle.elf_model.specs.Prelude.{IsWanted, is_complete, parse_query};
 
 use elf_layout::{Addresses, Layout};
 use elf_model::Format;

@@ -2,8 +2,7 @@
 ghost use Rattle.std.specs.Prelude.{◌≡◌, IfSome, None, Ok, Some, codes, false};
 ghost use Rattle.clap.specs.Walk.{rows_of};
 ghost use Rattle.clap.specs.Words.{found_of};
-ghost use Rattle.elf_cli.specs.Options.{AreLimitOptions, IsStyle};
-ghost use Rattle.elf_cli.specs.RowNames.{AreChosenParts, has_name_option};
+ghost use Rattle.elf_cli.specs.Prelude.{AreChosenParts, AreLimitOptions, IsStyle, has_name_option};
 ghost use Rattle.elf_cli.specs.declared.listings.ListingRequest.{ListingRequest};
 ghost use Rattle.elf_requests.specs.Asked.{IsFileNamed};
 ghost use Rattle.elf_requests.specs.AskedNames.{AreNamesAsked};

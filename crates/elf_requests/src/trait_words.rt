@@ -3,8 +3,7 @@ ghost use Rattle.std.specs.Prelude.{◌≡◌, ◌⊎◌, ◌++◌, ◌∷◌, [
 ghost use Rattle.std.specs.Prelude.{codes, map};
 ghost use Rattle.clap.specs.Walk.{first_of, rows_of};
 ghost use Rattle.clap.specs.Words.{found_of};
-ghost use Rattle.elf_options.specs.Required.{required_words};
-ghost use Rattle.elf_options.specs.Spelled.{parsed_trait_word};
+ghost use Rattle.elf_options.specs.Prelude.{parsed_trait_word, required_words};
 ghost use Rattle.elf_requests.specs.AskedTraits.{AreRequired, IsWordFault};
 ghost use Rattle.elf_requests.specs.Checks.{ParsesTo};
 ghost use Rattle.elf_requests.specs.Files.{AreFiles};

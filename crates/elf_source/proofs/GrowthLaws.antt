@@ -1,7 +1,6 @@
 -- How calls that write follow one another.
 use Rattle.std.proofs.Common.{ℕ, List, [], ◌++◌, Result, Ok, Err}
-use Rattle.elf_source.specs.Growth.{OutGrows}
-use Rattle.elf_source.specs.Output.{OutState, SinkTakesPrefix, OutPuts}
+use Rattle.elf_source.specs.Prelude.{OutGrows, OutPuts, OutState, SinkTakesPrefix}
 use Rattle.elf_source.specs.declared.faults.OutFault.{OutFault}
 use Rattle.elf_source.proofs.PutsLaws.{SinkTakes-nothing, SinkTakes-then}
 

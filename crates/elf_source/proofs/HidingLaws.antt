@@ -5,9 +5,9 @@ use Rattle.std.proofs.lemmas.List.{take_more_set, drop_more, drop-set-lt}
 use Rattle.elf_model.specs.Style.{tells_of_sections, without_sections, without_sections_from}
 use Rattle.elf_model.proofs.StyleLemmas.{view_in_slices, view_is_its_own}
 use Rattle.std.specs.Prelude.{option_map}
-use Rattle.elf_source.specs.Source.{CountedState, IsSourceFault, MasksSectionHeaders, IsHonest, KeepsSource, ExceedsBudget, ReadsUpTo, SourceState, file_by, seen_by}
-use Rattle.elf_source.specs.declared.faults.SourceFault.{SourceFault}
+use Rattle.elf_source.specs.Prelude.{CountedState, ExceedsBudget, IsHonest, IsSourceFault, KeepsSource, MasksSectionHeaders, ReadsUpTo, SourceState, file_by, seen_by}
 use Rattle.elf_source.specs.declared.faults.SourceFault.TheVariants.{Device, Ended}
+use Rattle.elf_source.specs.declared.faults.SourceFault.{SourceFault}
 
 -- one byte more
 pub one_more : (at i x : ℕ) (bytes all : List ℕ) → i < length bytes

@@ -4,9 +4,9 @@ use Rattle.std.specs.Io.KnownBytes.{Appends, append_known}
 use Rattle.std.proofs.Math.Seq.{take-append_seam}
 use Rattle.std.proofs.KnownBytes.{Appends-nil}
 use Rattle.std.proofs.lemmas.List.{length-append}
-use Rattle.elf_source.specs.Output.{FailsOutput, EndsLine, KeepsDeferred, SinkTakes, SinkTakesPrefix, OutState, before_text}
-use Rattle.elf_source.specs.declared.faults.OutFault.{OutFault}
+use Rattle.elf_source.specs.Prelude.{EndsLine, FailsOutput, KeepsDeferred, OutState, SinkTakes, SinkTakesPrefix, before_text}
 use Rattle.elf_source.specs.declared.holding_sink.DeferredLine.{DeferredLine}
+use Rattle.elf_source.specs.declared.faults.OutFault.{OutFault}
 use Rattle.elf_source.proofs.PutsLaws.{SinkTakes-then}
 
 -- two lists that end in as many bytes begin alike

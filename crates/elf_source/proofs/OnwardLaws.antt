@@ -1,7 +1,6 @@
 -- Reads one behind the other, and then more of them.
 use Rattle.std.proofs.Common.{◌≡◌, ℕ, ◌+◌, ◌≤◌, List, [], ◌∷◌, ◌++◌, refl, subst, arith}
-use Rattle.elf_source.specs.Source.{SourceState}
-use Rattle.elf_source.specs.Onward.{AreMade, AreOnward, ReadsOnward}
+use Rattle.elf_source.specs.Prelude.{AreMade, AreOnward, ReadsOnward, SourceState}
 
 -- nothing was read
 pub onward_none : (one_read : SourceState → ℕ → ℕ → SourceState → Type 0) (old new : SourceState) (low high : ℕ) → new ≡ old → low ≤ high → ReadsOnward one_read old new low high

@@ -3,8 +3,7 @@ use Rattle.std.proofs.Common.{◌≡◌, ℕ, ◌+◌, ◌-◌, ◌≤◌, List,
 use Rattle.std.proofs.lemmas.List.{drop-take}
 use Rattle.std.proofs.Math.Seq.{take-length}
 use Rattle.std.specs.Prelude.{OnOk}
-use Rattle.elf_source.specs.Source.{SourceState}
-use Rattle.elf_source.specs.Ranges.{IsWholeRange, RangeOf, file_within, seen_range}
+use Rattle.elf_source.specs.Prelude.{IsWholeRange, RangeOf, SourceState, file_within, seen_range}
 
 -- a slice of a slice
 slice_within : (bytes : List ℕ) (start size at n : ℕ) → at + n ≤ size → take n (drop at (take size (drop start bytes))) ≡ take n (drop (start + at) bytes)

@@ -1,8 +1,8 @@
 -- What reads one after another come to.
 use Rattle.std.proofs.Common.{ℕ, ◌+◌, ◌≤◌, ◌∙◌, sym, refl, arith}
-use Rattle.elf_source.specs.Source.{SourceState, KeepsSource, IsSourceFault, CountedState, ReadsUpTo, ExceedsBudget}
-use Rattle.elf_source.specs.declared.faults.SourceFault.{SourceFault}
+use Rattle.elf_source.specs.Prelude.{CountedState, ExceedsBudget, IsSourceFault, KeepsSource, ReadsUpTo, SourceState}
 use Rattle.elf_source.specs.declared.faults.SourceFault.TheVariants.{Device, Ended}
+use Rattle.elf_source.specs.declared.faults.SourceFault.{SourceFault}
 
 pub KeepsSource-then : {a b c : SourceState} → KeepsSource a b → KeepsSource b c → KeepsSource a c
 KeepsSource-then p q = record { same_size = q.same_size ∙ p.same_size; no_fewer = omega arith; same_file = q.same_file ∙ p.same_file; same_whole = q.same_whole ∙ p.same_whole }

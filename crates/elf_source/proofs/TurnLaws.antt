@@ -3,10 +3,9 @@ use Rattle.std.proofs.Common.{◌≡◌, ℕ, ◌+◌, ◌-◌, ◌≤◌, ◌<�
 use Rattle.std.proofs.Math.Seq.{take-add, take-append-add, take-length}
 use Rattle.std.proofs.lemmas.List.{drop-drop, take-append-le}
 use Rattle.elf_source.proofs.OnwardLaws.{made_then}
-use Rattle.elf_source.specs.Reader.{AreRests, Turns, TurnsWithin}
-use Rattle.elf_source.specs.Source.{SourceState, IsHonest, IsSourceFault}
-use Rattle.elf_source.specs.declared.faults.SourceFault.{SourceFault}
+use Rattle.elf_source.specs.Prelude.{AreRests, IsHonest, IsSourceFault, SourceState, Turns, TurnsWithin}
 use Rattle.elf_source.specs.declared.faults.SourceFault.TheVariants.{Device, Ended}
+use Rattle.elf_source.specs.declared.faults.SourceFault.{SourceFault}
 use borrow.Rule.Slice.PartMut.{put_mid, post_of, mid_of, same_len_mid}
 
 -- the first bytes of a buffer, and some of those that a turn put behind them

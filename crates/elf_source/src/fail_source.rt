@@ -55,7 +55,8 @@ impl<S: Source> Source for FailSource<S> {
         requires { at + length out.old ≤ self.old.source.size }
         ensures slice { (file : List ℕ) → self.old.source.file ≡ Some file → OnOk result
             (out.new ≡ take (length out.old) (drop at file)) }
-        ensures faults { IfErr result (IsSourceFault (seen_failing self.old) (seen_failing self.new)) }
+        ensures faults { IfErr result
+            (IsSourceFault (seen_failing self.old) (seen_failing self.new)) }
         ensures keeps { KeepsSource (seen_failing self.old) (seen_failing self.new) }
         ensures fails { self.old.due ≡ Some 0 → (result ≡ Err SourceFault.Device)
             × (self.new.source ≡ self.old.source) × (self.new.due ≡ None) }

@@ -65,7 +65,8 @@ impl<'a> Source for TurnSource<'a> {
         ensures turns { (self.new.next ≡ self.old.other) × (self.new.other ≡ self.old.next) }
         ensures slice { (file : List ℕ) → (seen_turning self.old).file ≡ Some file → OnOk result
             (out.new ≡ take (length out.old) (drop at file)) }
-        ensures faults { IfErr result (IsSourceFault (seen_turning self.old) (seen_turning self.new)) }
+        ensures faults { IfErr result
+            (IsSourceFault (seen_turning self.old) (seen_turning self.new)) }
         ensures keeps { KeepsSource (seen_turning self.old) (seen_turning self.new) }
         ensures once { seen_turning self.new ≡ seen_turning self.old }
     {

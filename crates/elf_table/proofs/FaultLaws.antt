@@ -3,8 +3,7 @@ use Rattle.std.proofs.Common.{ℕ, true, Option, None, Some, sym, ap, ◌∙◌,
 use Rattle.elf_model.specs.declared.causes.Refusal.{Refusal}
 use Rattle.elf_source.specs.Source.{CountedState, MasksSectionHeaders}
 use Rattle.elf_source.proofs.HidingLaws.{IsSourceFault-hidden, ExceedsBudget-hidden, ReadsUpTo-hidden}
-use Rattle.elf_table.specs.Faults.{IsAt, IsOfRead, IsReadFault}
-use Rattle.elf_table.specs.Ledger.{CallReads}
+use Rattle.elf_table.specs.Prelude.{CallReads, IsAt, IsOfRead, IsReadFault}
 use Rattle.elf_table.specs.declared.fault.Fault.{Fault}
 use Rattle.elf_table.specs.declared.fault.Fault.TheVariants.{Refused, Source}
 

@@ -1,21 +1,13 @@
 -- What the checks of a section that is a hash table say, one by one, and what its symbols are.
 use Rattle.std.proofs.Common.{◌≡◌, ℕ, ◌+◌, ◌*◌, ◌==◌, ◌||◌, not, Bool, true, false, List, ◌++◌, length, None, Some, Ok, Err, refl, sym, ap, ◌∙◌}
-use Rattle.elf_model.specs.Checks.{first_refusal}
-use Rattle.elf_model.specs.Find.{has_64_bit_words, hash_checks_from}
-use Rattle.elf_model.specs.Records.{sh_link, section_at}
-use Rattle.elf_model.specs.Tables.{has_symbols, linked_at, symbol_table_checks}
+use Rattle.elf_model.specs.Prelude.{first_refusal, has_64_bit_words, has_symbols, hash_checks_from, linked_at, section_at, sh_link, symbol_table_checks}
 use Rattle.elf_model.specs.declared.causes.Refusal.{Refusal}
 use Rattle.elf_model.proofs.CheckSteps.{first_refusal-none, first_refusal-some}
-use Rattle.elf_record.specs.Shdr.{IsShdr}
+use Rattle.elf_record.specs.Prelude.{IsShdr}
 use Rattle.elf_record.specs.declared.shdr.Shdr.{Shdr}
-use Rattle.elf_table.specs.Load.{HoldsSectionHeaders, LoadedFile, section_place}
-use Rattle.elf_table.specs.Store.{StoreState}
+use Rattle.elf_table.specs.Prelude.{AreHashed, ChecksThenValue, HoldsSectionHeaders, LoadedFile, RefusedBy, StoreState, StringTableRange, TableRange, front_checks, section_place, symbols_at}
 use Rattle.elf_table.specs.declared.fault.Fault.{Fault}
 use Rattle.elf_table.specs.declared.fault.Fault.TheVariants.{Refused, Source}
-use Rattle.elf_table.specs.HashSections.{AreHashed, ChecksThenValue, front_checks}
-use Rattle.elf_table.specs.Relocations.{RefusedBy}
-use Rattle.elf_table.specs.Sections.{symbols_at}
-use Rattle.elf_table.specs.Tables.{TableRange, StringTableRange}
 use Rattle.elf_table.proofs.RelocationLaws.{symbols-fail, symbols-pass}
 
 not_not : (b : Bool) → not (not b) ≡ b

@@ -2,10 +2,9 @@
 use Rattle.std.proofs.Common.{◌≡◌, ℕ, ◌+◌, ◌<◌, ◌≤◌, List, length, Option, None, Some, IfSome, subst, ◌∙◌, arith}
 use Rattle.elf_source.specs.Source.{CountedState, ReadsUpTo}
 use Rattle.elf_source.proofs.ReadsLaws.{ReadsUpTo-none, ReadsUpTo-then, ReadsUpTo-to, IsSourceFault-then, ExceedsBudget-then}
-use Rattle.elf_table.specs.Faults.{IsOfCheck, IsReadFault}
+use Rattle.elf_table.specs.Prelude.{CallDid, CallReads, IsOfCheck, IsReadFault}
 use Rattle.elf_table.specs.declared.fault.Fault.{Fault}
 use Rattle.elf_table.specs.declared.fault.Fault.TheVariants.{Refused, Source}
-use Rattle.elf_table.specs.Ledger.{CallReads, CallDid}
 
 -- nothing was read
 pub CallReads-none : (c : CountedState) → CallReads c c None 0

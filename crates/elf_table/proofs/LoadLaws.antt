@@ -2,21 +2,15 @@
 use Rattle.std.proofs.Common.{◌≡◌, ℕ, ◌+◌, ◌*◌, ◌≤◌, List, [], ◌∷◌, length, Option, None, Some, Result, Ok, Err, inl, inr, refl, sym, ap, subst, ◌∙◌, arith, rules}
 use Rattle.std.specs.Prelude.{is_none}
 use Rattle.std.proofs.lemmas.Bool.{cases_Bool}
-use Rattle.elf_model.specs.Budget.{IsBudgetRefusal}
-use Rattle.elf_model.specs.Bytes.{slice}
-use Rattle.elf_model.specs.Checks.{Check, first_refusal, length_checks, ident_checks, early_checks, load_checks, section_name_checks}
-use Rattle.elf_model.specs.Cost.{cost_where}
+use Rattle.elf_model.specs.Prelude.{Check, IsBudgetRefusal, cost_where, early_checks, first_refusal, ident_checks, length_checks, load_checks, section_name_checks, slice}
 use Rattle.elf_model.specs.declared.causes.Refusal.{Refusal}
 use Rattle.elf_model.proofs.CheckSteps.{first_refusal-none}
 use Rattle.elf_model.proofs.SumLemmas.{cost_where-le}
-use Rattle.elf_record.specs.Ehdr.{IsEhdr}
+use Rattle.elf_record.specs.Prelude.{IsEhdr}
 use Rattle.elf_record.specs.declared.ehdr.Ehdr.{Ehdr}
-use Rattle.elf_source.specs.Source.{CountedState, ReadsUpTo, SourceState}
-use Rattle.elf_source.specs.Onward.{ReadsOnward}
+use Rattle.elf_source.specs.Prelude.{CountedState, ReadsOnward, ReadsUpTo, SourceState}
 use Rattle.elf_source.proofs.OnwardLaws.{onward_none, onward_one}
-use Rattle.elf_table.specs.Faults.{FillsOnce, IsOfRead, IsReadFault}
-use Rattle.elf_table.specs.Load.{HoldsSectionHeaders, LoadedAs, LoadedFile, early_of, file_header_cost, load_cost}
-use Rattle.elf_table.specs.Store.{AreRowSlices, HoldsSections, StoreState}
+use Rattle.elf_table.specs.Prelude.{AreRowSlices, FillsOnce, HoldsSectionHeaders, HoldsSections, IsOfRead, IsReadFault, LoadedAs, LoadedFile, StoreState, early_of, file_header_cost, load_cost}
 use Rattle.elf_table.specs.declared.fault.Fault.{Fault}
 use Rattle.elf_table.specs.declared.fault.Fault.TheVariants.{Refused, Source}
 

@@ -1,7 +1,6 @@
 -- The first of a file's program headers that holds some bytes.
 use Rattle.std.proofs.Common.{◌≡◌, ℕ, ◌+◌, ◌-◌, suc, ◌<◌, ◌≤◌, true, false, List, None, Some, refl, add-one, arith}
-use Rattle.elf_model.specs.Records.{segment_at}
-use Rattle.elf_model.specs.Mapped.{is_mapped_by, mapped_from}
+use Rattle.elf_model.specs.Prelude.{is_mapped_by, mapped_from, segment_at}
 
 module _ (file : List ℕ) (v z first count : ℕ) where
   -- the first of those that are left holds the bytes

@@ -1,8 +1,7 @@
 -- A loaded file and its source after reads.
 use Rattle.std.proofs.Common.{ℕ, ◌∙◌, sym}
 use Rattle.elf_source.specs.Source.{CountedState, ReadsUpTo}
-use Rattle.elf_table.specs.Load.{LoadedFile, IsOpen}
-use Rattle.elf_table.specs.Store.{StoreState}
+use Rattle.elf_table.specs.Prelude.{IsOpen, LoadedFile, StoreState}
 
 -- a loaded file stays that of a source that is read
 pub still_open : {a b : CountedState} {n : ℕ} (loaded : LoadedFile) (store : StoreState) → ReadsUpTo a b n → IsOpen a loaded store → IsOpen b loaded store

@@ -1,8 +1,6 @@
 -- LOAD segments that lie over each other, from one program header on.
 use Rattle.std.proofs.Common.{◌≡◌, ℕ, ◌+◌, ◌-◌, suc, ◌<◌, ◌≤◌, ◌&&◌, nat_lt, Bool, true, false, if◌then◌else◌, List, Option, None, Some, refl, add-one, arith}
-use Rattle.elf_model.specs.Checks.{first_refusal}
-use Rattle.elf_model.specs.Overlaps.{takes_memory, first_page, page_behind, loads_from, overlaps_from, overlap_checks}
-use Rattle.elf_model.specs.Records.{e_phnum, segment_at}
+use Rattle.elf_model.specs.Prelude.{e_phnum, first_page, first_refusal, loads_from, overlap_checks, overlaps_from, page_behind, segment_at, takes_memory}
 use Rattle.elf_model.specs.declared.causes.Cause.TheVariants.{LoadOverlap}
 use Rattle.elf_model.specs.declared.causes.Refusal.{Refusal}
 

@@ -1,15 +1,11 @@
 -- What the checks of symbols leave, and those of relocation entries.
 use Rattle.std.proofs.Common.{◌≡◌, ℕ, ◌/◌, ◌%◌, ◌<◌, ◌==◌, not, Bool, true, false, inl, inr, if◌then◌else◌, List, [], ◌∷◌, ◌++◌, length, Option, None, Some, Result, Ok, Err, refl, sym, ap, ◌∙◌, subst, arith}
 use Rattle.std.proofs.lemmas.Bool.{cases_Bool, eqb-true, lt-ltb}
-use Rattle.elf_model.specs.Checks.{Check, refuse, first_refusal, unless_empty, whole_checks_of, table_checks, strings_checks, is_symbol_table}
-use Rattle.elf_model.specs.Records.{sh_offset, sh_size, sh_link, sh_entsize, section_at, e_shnum}
-use Rattle.elf_model.specs.Tables.{linked_at, has_symbols, symbol_table_checks, linked_table_checks}
-use Rattle.elf_model.specs.declared.causes.Refusal.{Refusal}
+use Rattle.elf_model.specs.Prelude.{Check, e_shnum, first_refusal, has_symbols, is_symbol_table, linked_at, linked_table_checks, refuse, section_at, sh_entsize, sh_link, sh_offset, sh_size, strings_checks, symbol_table_checks, table_checks, unless_empty, whole_checks_of}
 use Rattle.elf_model.specs.declared.causes.Cause.TheVariants.{EntrySize}
+use Rattle.elf_model.specs.declared.causes.Refusal.{Refusal}
 use Rattle.elf_model.proofs.CheckSteps.{first_refusal-some, first_refusal-none, first_refusal-back}
-use Rattle.elf_table.specs.Tables.{TableRange, StringTableRange}
-use Rattle.elf_table.specs.Sections.{answered, checked, rows, strings, names_at, table_at, table_of, string_table_at, symbols_at}
-use Rattle.elf_table.specs.Relocations.{RefusedBy, AreSymbols, RefersTo, Links, AreRelocations}
+use Rattle.elf_table.specs.Prelude.{AreRelocations, AreSymbols, Links, RefersTo, RefusedBy, StringTableRange, TableRange, answered, checked, names_at, rows, string_table_at, strings, symbols_at, table_at, table_of}
 use Rattle.elf_table.specs.declared.fault.Fault.{Fault}
 use Rattle.elf_table.specs.declared.fault.Fault.TheVariants.{Refused, Source}
 

@@ -4,7 +4,7 @@ use Rattle.std.specs.Prelude.{slice_index_or}
 use Rattle.std.proofs.Math.Nat.{mul-le-mul_left}
 use Rattle.elf_model.specs.Bytes.{slice}
 use Rattle.elf_model.proofs.Slices.{slice-slice}
-use Rattle.elf_table.specs.Store.{AreRowSlices, rows_from}
+use Rattle.elf_table.specs.Prelude.{AreRowSlices, rows_from}
 use Rattle.elf_table.specs.declared.fault.Fault.{Fault}
 
 -- the row of an index

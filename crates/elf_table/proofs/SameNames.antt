@@ -1,8 +1,6 @@
 -- What the answers of a comparison say of a name in a file's string table.
 use Rattle.std.proofs.Common.{◌≡◌, ℕ, zero, suc, ◌+◌, ◌-◌, ◌<◌, ◌≤◌, ◌⊎◌, inl, inr, true, false, min, List, [], ◌∷◌, ◌++◌, length, get_or, drop, Ok, Err, refl, ap, sym, ◌∙◌, arith, length-take, length-drop, length-append, get_or-take}
-use Rattle.elf_model.specs.Bytes.{slice}
-use Rattle.elf_model.specs.NameLaws.{Differ}
-use Rattle.elf_model.specs.Names.{begins, same}
+use Rattle.elf_model.specs.Prelude.{Differ, begins, same, slice}
 use Rattle.elf_model.specs.declared.causes.Cause.TheVariants.{NameOutside, NameUnended}
 use Rattle.elf_model.proofs.Slices.{slice-size}
 use Rattle.elf_model.proofs.SameLaws.{Compared, is_alike, is_other, is_short, compared, same-empty, same-outside, same-inside, same_not}

@@ -4,13 +4,9 @@ use Rattle.std.proofs.Math.Nat.{mul-le-mul_right}
 use Rattle.std.proofs.lemmas.Bool.{cases_lt}
 use Rattle.std.proofs.lemmas.Grind.{common_steps}
 use Rattle.elf_model.specs.Bytes.{slice}
-use Rattle.elf_source.specs.Onward.{ReadsOnward}
-use Rattle.elf_source.specs.Source.{SourceState}
+use Rattle.elf_source.specs.Prelude.{ReadsOnward, SourceState}
 use Rattle.elf_source.proofs.OnwardLaws.{onward_more, onward_none, onward_then}
-use Rattle.elf_table.specs.Tables.{TableRange, size_of}
-use Rattle.elf_table.specs.Cursors.{CursorState, GivesRow, IsAtRow, page_of, row_at}
-use Rattle.elf_table.specs.Faults.{IsAt}
-use Rattle.elf_table.specs.Windows.{WindowState, HoldsBytes, StillHolds, HoldsCount, frontier, bytes_left, range_end}
+use Rattle.elf_table.specs.Prelude.{CursorState, GivesRow, HoldsBytes, HoldsCount, IsAt, IsAtRow, StillHolds, TableRange, WindowState, bytes_left, frontier, page_of, range_end, row_at, size_of}
 use Rattle.elf_table.specs.declared.fault.Fault.{Fault}
 use Rattle.elf_table.proofs.Paging.{Agrees-skip, held-front}
 

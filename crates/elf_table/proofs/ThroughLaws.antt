@@ -3,11 +3,9 @@ use Rattle.std.proofs.Common.{ℕ, ◌+◌, ◌-◌, ◌≤◌, Some, Result, Ok
 use Rattle.elf_source.specs.Source.{SourceState, CountedState, ReadsUpTo}
 use Rattle.elf_source.proofs.ReadsLaws.{ReadsUpTo-none, ReadsUpTo-then, ReadsUpTo-to}
 use Rattle.elf_source.proofs.OnwardLaws.{onward_none, onward_then, onward_more}
-use Rattle.elf_table.specs.Faults.{IsReadFault}
+use Rattle.elf_table.specs.Prelude.{IsReadFault, ReadsThroughWindow, Skips, WindowState, frontier}
 use Rattle.elf_table.specs.declared.fault.Fault.{Fault}
 use Rattle.elf_table.proofs.LedgerLaws.{CallReads-then}
-use Rattle.elf_table.specs.Windows.{WindowState, frontier}
-use Rattle.elf_table.specs.WindowCalls.{Skips, ReadsThroughWindow}
 
 says_after : {Y : Type 0} {a b c : CountedState} (result : Result Y Fault) (n m k : ℕ) → n + m ≤ k → ReadsUpTo a b n → ReadsUpTo b c m → IfErr result (IsReadFault b c m)
     → IfErr result (IsReadFault a c k)

@@ -1,23 +1,14 @@
 -- What the checks of versions of symbols leave.
 use Rattle.std.proofs.Common.{◌≡◌, ℕ, ◌<◌, ◌/◌, ◌==◌, ◌&&◌, ◌||◌, not, Bool, true, false, inl, inr, List, [], ◌∷◌, ◌++◌, None, Some, Result, Ok, Err, IfOk, refl, sym, ap, ◌∙◌, arith}
 use Rattle.std.proofs.lemmas.Bool.{cases_Bool, lt-ltb, ne_eqb}
-use Rattle.elf_model.specs.Checks.{Check, first_refusal, is_outside, pass, refuse, table_checks, table_checks_of}
-use Rattle.elf_model.specs.HeaderTables.{held_headers}
-use Rattle.elf_model.specs.Numbers.{SHT_STRTAB}
-use Rattle.elf_model.specs.Records.{sh_link, sh_offset, sh_size, sh_type}
-use Rattle.elf_model.specs.Tables.{all_checks, has_symbols, linked_at}
-use Rattle.elf_model.specs.VersionCost.{has_strings, links}
-use Rattle.elf_model.specs.VersionRows.{symbol_versions, symbols_checks}
+use Rattle.elf_model.specs.Prelude.{Check, SHT_STRTAB, all_checks, first_refusal, has_strings, has_symbols, held_headers, is_outside, linked_at, links, pass, refuse, sh_link, sh_offset, sh_size, sh_type, symbol_versions, symbols_checks, table_checks, table_checks_of}
 use Rattle.elf_model.specs.declared.causes.Cause.TheVariants.{BadLink, NotStrings, TableOutside}
 use Rattle.elf_model.proofs.CheckSteps.{first_refusal-none, first_refusal-some}
 use Rattle.elf_model.proofs.StoreLemmas.{places_decide_nothing}
 use Rattle.std.specs.Prelude.{is_none}
+use Rattle.elf_table.specs.Prelude.{AreVersioned, RefusedBy, StringTableRange, TableRange, checked, rows, string_table_of, strings, symbols_at, table_at, table_of}
 use Rattle.elf_table.specs.declared.fault.Fault.{Fault}
 use Rattle.elf_table.specs.declared.fault.Fault.TheVariants.{Refused, Source}
-use Rattle.elf_table.specs.Relocations.{RefusedBy}
-use Rattle.elf_table.specs.Sections.{checked, rows, string_table_of, strings, symbols_at, table_at, table_of}
-use Rattle.elf_table.specs.Tables.{TableRange, StringTableRange}
-use Rattle.elf_table.specs.Versions.{AreVersioned}
 use Rattle.elf_table.proofs.RelocationLaws.{passed_first, symbols-fail, symbols-pass, table-fails}
 
 -- a section that is answered as a string table is one

@@ -1,9 +1,7 @@
 -- A store that was loaded with a file's program headers holds them.
 use Rattle.std.proofs.Common.{◌≡◌, ℕ, ◌+◌, ◌*◌, if◌then◌else◌, List, Result, Ok, Err, is_ok, OnOk, sym, ◌∙◌, ap, arith}
-use Rattle.elf_model.specs.Bytes.{slice}
-use Rattle.elf_model.specs.Checks.{first_refusal, load_checks}
-use Rattle.elf_table.specs.Load.{LoadedFile, HoldsSectionHeaders, HoldsProgramHeaders}
-use Rattle.elf_table.specs.Store.{StoreState, AreRowSlices}
+use Rattle.elf_model.specs.Prelude.{first_refusal, load_checks, slice}
+use Rattle.elf_table.specs.Prelude.{AreRowSlices, HoldsProgramHeaders, HoldsSectionHeaders, LoadedFile, StoreState}
 use Rattle.elf_table.specs.declared.fault.Fault.{Fault}
 
 -- a file that was loaded without sections, and then its program headers, where they were read

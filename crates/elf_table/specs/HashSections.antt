@@ -1,8 +1,6 @@
 -- What a section that is a hash table refers to, once its checks pass.
 use Rattle.std.specs.Prelude.{ℕ, ◌≡◌, ◌+◌, ◌^◌, ◌<◌, ◌≤◌, ◌||◌, nat_lt, not, Bool, true, List, [], ◌∷◌, None, Result, Ok, Err}
-use Rattle.elf_model.specs.Checks.{Check, refuse, first_refusal, is_outside}
-use Rattle.elf_model.specs.Records.{sh_link, sh_offset, sh_size}
-use Rattle.elf_model.specs.Tables.{linked_at}
+use Rattle.elf_model.specs.Prelude.{Check, first_refusal, is_outside, linked_at, refuse, sh_link, sh_offset, sh_size}
 use Rattle.elf_model.specs.declared.causes.Cause.TheVariants.{BadLink, HashShape, TableOutside}
 use Rattle.elf_record.specs.declared.shdr.Shdr.{Shdr}
 use Rattle.elf_table.specs.Relocations.{AreSymbols, RefusedBy}

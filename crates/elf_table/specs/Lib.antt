@@ -14,3 +14,4 @@ pub mod Versions
 pub mod Views
 pub mod WindowCalls
 pub mod Windows
+pub mod Prelude

@@ -1,9 +1,7 @@
 -- The load of a file's section headers.
 use Rattle.std.specs.Prelude.{ℕ, ◌≡◌, ◌+◌, ◌*◌, ◌^◌, ◌<◌, ◌≤◌, List, length, is_none, None, Some, Result, Ok, Err}
-use Rattle.elf_model.specs.Budget.{IsBudgetRefusal}
-use Rattle.elf_model.specs.Checks.{Check, HeaderCounts, first_refusal, early_checks_of, length_checks, load_checks}
-use Rattle.elf_model.specs.Cost.{cost_where}
-use Rattle.elf_record.specs.Ehdr.{IsEhdr}
+use Rattle.elf_model.specs.Prelude.{Check, HeaderCounts, IsBudgetRefusal, cost_where, early_checks_of, first_refusal, length_checks, load_checks}
+use Rattle.elf_record.specs.Prelude.{IsEhdr}
 use Rattle.elf_record.specs.declared.ehdr.Ehdr.{Ehdr}
 use Rattle.elf_source.specs.Source.{CountedState}
 use Rattle.elf_table.specs.Store.{StoreState, HoldsSections, HoldsSegments}

@@ -1,8 +1,6 @@
 -- What a section of relocation entries answers: its rows, and the symbols that they refer to.
 use Rattle.std.specs.Prelude.{ℕ, ◌≡◌, ◌<◌, true, false, List, Option, None, Some, Result, Ok, Err}
-use Rattle.elf_model.specs.Checks.{Check, first_refusal}
-use Rattle.elf_model.specs.Records.{sh_offset, sh_size}
-use Rattle.elf_model.specs.Tables.{SYMBOL_SIZE, RELA_SIZE, linked_at, entry_count, has_symbols, linked_table_checks, relocation_table_checks}
+use Rattle.elf_model.specs.Prelude.{Check, RELA_SIZE, SYMBOL_SIZE, entry_count, first_refusal, has_symbols, linked_at, linked_table_checks, relocation_table_checks, sh_offset, sh_size}
 use Rattle.elf_table.specs.Tables.{TableRange, StringTableRange}
 use Rattle.elf_table.specs.Sections.{strings, names_at}
 use Rattle.elf_table.specs.declared.fault.Fault.{Fault}

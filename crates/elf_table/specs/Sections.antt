@@ -1,10 +1,8 @@
 -- What the sections of a loaded file answer for: tables, string tables, symbols with their names.
 use Rattle.std.specs.Prelude.{ℕ, ◌/◌, ◌==◌, true, false, not, List, [], ◌∷◌, ◌++◌, length, Option, None, Some, Result, Ok, Err}
-use Rattle.elf_model.specs.Checks.{Check, refuse, first_refusal, is_outside, unless_empty, whole_checks_of, table_checks, table_checks_of, strings_checks, has_section_names}
-use Rattle.elf_model.specs.Records.{sh_type, sh_offset, sh_size, sh_link, e_shstrndx, section_at}
-use Rattle.elf_model.specs.Numbers.{SHT_STRTAB}
-use Rattle.elf_model.specs.declared.causes.Refusal.{Refusal}
+use Rattle.elf_model.specs.Prelude.{Check, SHT_STRTAB, e_shstrndx, first_refusal, has_section_names, is_outside, refuse, section_at, sh_link, sh_offset, sh_size, sh_type, strings_checks, table_checks, table_checks_of, unless_empty, whole_checks_of}
 use Rattle.elf_model.specs.declared.causes.Cause.TheVariants.{NotStrings, TableOutside}
+use Rattle.elf_model.specs.declared.causes.Refusal.{Refusal}
 use Rattle.elf_table.specs.Tables.{TableRange, StringTableRange}
 use Rattle.elf_table.specs.declared.fault.Fault.{Fault}
 use Rattle.elf_table.specs.declared.fault.Fault.TheVariants.{Refused}

@@ -1,7 +1,6 @@
 -- The store of headers, and what it holds of a file.
 use Rattle.std.specs.Prelude.{ℕ, zero, suc, ◌≡◌, ◌+◌, ◌*◌, ◌<◌, List, [], ◌∷◌, slice_index_or}
-use Rattle.elf_model.specs.Bytes.{slice}
-use Rattle.elf_model.specs.Records.{section_at, segment_at}
+use Rattle.elf_model.specs.Prelude.{section_at, segment_at, slice}
 
 -- how many slots a store has, how many section headers are loaded, and the bytes of each of those; the same of the program
 -- headers

@@ -1,12 +1,6 @@
 -- What the section headers in a store tell of names and of symbol versions.
 use Rattle.std.specs.Prelude.{ℕ, ◌≡◌, ◌<◌, ◌^◌, ◌/◌, ◌==◌, ◌||◌, ◌&&◌, Bool, true, false, List, None, Result, Ok, Err}
-use Rattle.elf_model.specs.Checks.{first_refusal, is_symbol_table}
-use Rattle.elf_model.specs.HeaderTables.{HeaderTable, header_field, held_headers}
-use Rattle.elf_model.specs.Records.{sh_offset, sh_size, sh_link}
-use Rattle.elf_model.specs.Tables.{SYMBOL_SIZE, all_checks, entry_count}
-use Rattle.elf_model.specs.VersionCost.{has_strings, has_symbol_table, links}
-use Rattle.elf_model.specs.VersionRows.{symbol_versions, versioned_symbols}
-use Rattle.elf_model.specs.Versions.{VERSYM_SIZE}
+use Rattle.elf_model.specs.Prelude.{HeaderTable, SYMBOL_SIZE, VERSYM_SIZE, all_checks, entry_count, first_refusal, has_strings, has_symbol_table, header_field, held_headers, is_symbol_table, links, sh_link, sh_offset, sh_size, symbol_versions, versioned_symbols}
 use Rattle.elf_table.specs.Store.{row}
 use Rattle.elf_table.specs.declared.fault.Fault.{Fault}
 use Rattle.elf_table.specs.Relocations.{RefusedBy}

@@ -1,9 +1,6 @@
 -- What a loaded file in the segment view tells of its segments.
 use Rattle.std.specs.Prelude.{ℕ, ◌≡◌, ◌+◌, ◌-◌, ◌*◌, ◌≤◌, ◌==◌, List, [], ◌∷◌, length, Option, None, Some, Result, Ok, Err}
-use Rattle.elf_model.specs.Checks.{Check, refuse, first_refusal, is_outside}
-use Rattle.elf_model.specs.Find.{first_that}
-use Rattle.elf_model.specs.Records.{e_phnum, p_type, p_offset, p_vaddr, p_filesz, segment_at}
-use Rattle.elf_model.specs.Mapped.{mapped_at, mapped_checks, mapped_place}
+use Rattle.elf_model.specs.Prelude.{Check, e_phnum, first_refusal, first_that, is_outside, mapped_at, mapped_checks, mapped_place, p_filesz, p_offset, p_type, p_vaddr, refuse, segment_at}
 use Rattle.elf_model.specs.declared.causes.Cause.TheVariants.{TableOutside, Unmapped}
 use Rattle.elf_record.specs.declared.ehdr.Ehdr.{Ehdr}
 use Rattle.elf_table.specs.Load.{HoldsProgramHeaders}

@@ -1,7 +1,6 @@
 -- What calls through a window want and do.
 use Rattle.std.specs.Prelude.{ℕ, ◌≡◌, ◌+◌, ◌≤◌, List, drop, Result, IfErr}
-use Rattle.elf_source.specs.Onward.{ReadsOnward}
-use Rattle.elf_source.specs.Source.{SourceState, CountedState, ReadsUpTo}
+use Rattle.elf_source.specs.Prelude.{CountedState, ReadsOnward, ReadsUpTo, SourceState}
 use Rattle.elf_table.specs.Faults.{IsOfRead, IsReadFault}
 use Rattle.elf_table.specs.declared.fault.Fault.{Fault}
 use Rattle.elf_table.specs.Windows.{WindowState, HoldsBytes, StillHolds, RangeWithin, MovesOn, bytes_left, frontier, range_end}

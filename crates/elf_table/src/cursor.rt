@@ -1,7 +1,6 @@
 //! A cursor over the rows of a table.
 ghost use Rattle.std.specs.Prelude.{◌≡◌, ℕ, ◌+◌, ◌<◌, ◌≤◌, List, [], None, Some, Err, IfErr};
-ghost use Rattle.elf_source.specs.Onward.{ReadsOnward};
-ghost use Rattle.elf_source.specs.Source.{ReadsUpTo};
+ghost use Rattle.elf_source.specs.Prelude.{ReadsOnward, ReadsUpTo};
 ghost use Rattle.elf_table.specs.Cursors.{Advances, ShowsRow, asked_to, unread_bytes};
 ghost use Rattle.elf_table.specs.declared.fault.Fault.{Fault};
 ghost use Rattle.elf_table.specs.Faults.{IsReadFault};
@@ -128,8 +127,7 @@ impl Cursor {
     ghost use mathlib.Core.Option.{none};
     ghost use denote.Follow.{follows_so};
     ghost use Rattle.std.specs.Borrow.{sem};
-    ghost use Rattle.elf_source.specs.Onward.{ReadsOnward};
-    ghost use Rattle.elf_source.specs.Source.{ReadsUpTo};
+    ghost use Rattle.elf_source.specs.Prelude.{ReadsOnward, ReadsUpTo};
     ghost use Rattle.elf_table.specs.Cursors.{Steps, asked_to, unread_bytes};
     ghost use Rattle.elf_table.specs.Faults.{IsReadFault};
     ghost use Rattle.elf_table.specs.Tables.{TableInBounds};

@@ -1,6 +1,6 @@
 //! The file header, read and checked.
 ghost use Rattle.std.specs.Prelude.{◌≡◌, ℕ, List, Some, Err, IfErr};
-ghost use Rattle.elf_model.specs.Checks.{first_refusal, length_checks};
+ghost use Rattle.elf_model.specs.Prelude.{first_refusal, length_checks};
 ghost use Rattle.elf_model.specs.declared.causes.Refusal.{Refusal as Refuses};
 ghost use Rattle.elf_source.specs.Source.{ReadsUpTo};
 ghost use Rattle.elf_table.specs.Faults.{IsReadFault, HeaderRead};

@@ -1,9 +1,7 @@
 //! The sections of one type, and the checks of one that is a hash table.
 ghost use Rattle.std.specs.Prelude.{◌≡◌, ◌<◌, ℕ, List};
 ghost use Rattle.std.specs.Prelude.{IfOk, IfErr, MatchOption};
-ghost use Rattle.elf_model.specs.Checks.{first_refusal};
-ghost use Rattle.elf_model.specs.Find.{has_64_bit_words, hash_checks_from};
-ghost use Rattle.elf_model.specs.Records.{section_at};
+ghost use Rattle.elf_model.specs.Prelude.{first_refusal, has_64_bit_words, hash_checks_from, section_at};
 ghost use Rattle.elf_record.specs.Shdr.{IsShdr};
 ghost use Rattle.elf_table.specs.Faults.{IsOfCheck};
 ghost use Rattle.elf_table.specs.Load.{HoldsSectionHeaders};
@@ -36,7 +34,8 @@ impl SectionView<'_> {
     /// at the linked section.
     pub fn hashed(&self, section: u16, least: u64) -> Result<(u16, (Table, Names)), Fault>
         requires { section < self.now.store.now.loaded }
-        ensures held { (bytes : List ℕ) → HoldsSectionHeaders bytes self.now.loaded self.now.store.now →
+        ensures held { (bytes : List ℕ) →
+            HoldsSectionHeaders bytes self.now.loaded self.now.store.now →
             ChecksThenValue (hash_checks_from least bytes (section_at bytes section))
             (AreHashed bytes (section_at bytes section)) result }
         ensures within { IfOk result (λ found. SymbolTableInBounds self.now.loaded.size found.1) }
@@ -96,7 +95,8 @@ fn refused_front(
 // Whether a section is a hash table whose words have 8 bytes: a HASH section of a file of Alpha, whose
 // entry size says so.
 fn holds_wide_words(file: &SectionView<'_>, header: &Shdr) -> bool
-    ensures { (bytes : List ℕ) (at : ℕ) → HoldsSectionHeaders bytes file.now.loaded file.now.store.now →
+    ensures { (bytes : List ℕ) (at : ℕ) →
+        HoldsSectionHeaders bytes file.now.loaded file.now.store.now →
         IsShdr bytes at header.now → result ≡ has_64_bit_words bytes at }
 {
     let machine = file.loaded.header().e_machine;

@@ -1,8 +1,7 @@
 //! The search for the NUL that ends a name.
 ghost use Rattle.std.specs.Prelude.{◌≡◌, ℕ, ◌+◌, ◌<◌, ◌≤◌, List, [], length};
 ghost use Rattle.std.specs.Prelude.{Some, IfSome, OnOk};
-ghost use Rattle.elf_model.specs.Bytes.{slice};
-ghost use Rattle.elf_model.specs.Names.{nul_in};
+ghost use Rattle.elf_model.specs.Prelude.{nul_in, slice};
 ghost use Rattle.elf_table.specs.NamesRead.{Searched};
 ghost use Rattle.elf_table.specs.WindowCalls.{HasLeft, ReadsThrough};
 ghost use Rattle.elf_table.specs.Windows.{HoldsBytes};

@@ -1,8 +1,7 @@
 //! Names in a string table.
 ghost use Rattle.std.specs.Prelude.{◌≡◌, ◌≢◌, ℕ, ◌+◌, ◌-◌, ◌^◌, ◌<◌, ◌≤◌, List, length};
 ghost use Rattle.std.specs.Prelude.{slice_index, Some, IfErr, MatchBool};
-ghost use Rattle.elf_model.specs.Bytes.{slice};
-ghost use Rattle.elf_model.specs.Names.{shown, same, pad64, name_bytes};
+ghost use Rattle.elf_model.specs.Prelude.{name_bytes, pad64, same, shown, slice};
 ghost use Rattle.elf_source.specs.Source.{ReadsUpTo};
 ghost use Rattle.elf_table.specs.Faults.{IsOfRead, IsReadFault};
 ghost use Rattle.elf_table.specs.Ledger.{CallDid, fault_of_result};

@@ -23,7 +23,8 @@ impl ExecutionView<'_> {
     /// # Errors
     /// `LoadOverlap` at the program header of the first that does not.
     pub fn check_overlaps(&self) -> Result<(), Fault>
-        ensures held { (file : List ℕ) → HoldsProgramHeaders file self.now.loaded self.now.store.now →
+        ensures held { (file : List ℕ) →
+            HoldsProgramHeaders file self.now.loaded self.now.store.now →
             ChecksDecide (overlap_checks file) result }
         ensures refusal { IfErr result IsOfCheck }
     {

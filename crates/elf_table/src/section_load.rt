@@ -1,8 +1,7 @@
 //! The load of a file's section headers.
 ghost use Rattle.std.specs.Prelude.{◌≡◌, ℕ, ◌+◌, ◌*◌, ◌≤◌, List, length};
 ghost use Rattle.std.specs.Prelude.{None, Some, Err, IfErr, IfSome, MatchOption};
-ghost use Rattle.elf_model.specs.Budget.{IsBudgetRefusal};
-ghost use Rattle.elf_model.specs.Checks.{first_refusal, section_name_checks};
+ghost use Rattle.elf_model.specs.Prelude.{IsBudgetRefusal, first_refusal, section_name_checks};
 ghost use Rattle.elf_model.specs.declared.causes.Refusal.{Refusal as Refuses};
 ghost use Rattle.elf_record.specs.Ehdr.{IsEhdr};
 ghost use Rattle.elf_source.specs.Source.{ReadsUpTo};
@@ -39,7 +38,8 @@ pub fn load<S: Source>(
     ensures segments { store.new.segments ≡ 0 }
     // At most the section headers are asked for, and nothing where the file header refuses the
     // file.
-    ensures reads { ReadsUpTo src.old src.new (load_cost header.now src.old.seen.size store.old.slots) }
+    ensures reads { ReadsUpTo src.old src.new
+        (load_cost header.now src.old.seen.size store.old.slots) }
     ensures says { IfErr result
         (IsReadFault src.old src.new (load_cost header.now src.old.seen.size store.old.slots)) }
     ensures early { (refusal : Refuses) →
@@ -67,7 +67,8 @@ pub fn load<S: Source>(
 /// as the store has slots.
 fn refused_unread(store: &HeaderStore, header: &Ehdr, size: u64) -> Option<Refusal>
     ensures refusal { result ≡ first_refusal (early_of header.now size store.now.slots) }
-    ensures passes { MatchOption result (PassesLoadChecks size store.now.slots header.now) (λ _. Unit {0}) }
+    ensures passes { MatchOption result (PassesLoadChecks size store.now.slots header.now)
+        (λ _. Unit {0}) }
     ensures permitted { store.now.slots ≤ 65279 }
 {
     let headers = store.slots();

@@ -1,7 +1,6 @@
 //! The checks of a loaded file's sections.
 ghost use Rattle.std.specs.Prelude.{◌≡◌, ℕ, ◌<◌, ◌≤◌, ◌^◌, ◌==◌, ◌&&◌, ◌||◌, not, List, true, None, Ok, IfOk, IfErr, IfSome, IsTrue, MatchResult};
-ghost use Rattle.elf_model.specs.Records.{section_at};
-ghost use Rattle.elf_model.specs.Numbers.{SHT_GNU_VERSYM as VERSYM};
+ghost use Rattle.elf_model.specs.Prelude.{SHT_GNU_VERSYM as VERSYM, file_sections, first_numbers, first_typed, has_strings, has_symbols, section_at, sh_link};
 ghost use Rattle.elf_record.specs.Shdr.{IsShdr};
 ghost use Rattle.elf_table.specs.Load.{HoldsSectionHeaders, PassesLoadChecks, section_place};
 ghost use Rattle.elf_table.specs.Faults.{IsOfCheck};
@@ -10,11 +9,6 @@ ghost use Rattle.elf_table.specs.Sections.{byte_rows, table_at, string_table_at,
 ghost use Rattle.elf_table.specs.Sections.{symbols_at};
 ghost use Rattle.elf_table.specs.Relocations.{Links, Relocates};
 ghost use Rattle.elf_table.specs.Versions.{CountsVersions, LinksToSymbols, Versioned, has_names, sections_in};
-ghost use Rattle.elf_model.specs.HeaderTables.{file_sections, first_typed};
-ghost use Rattle.elf_model.specs.Records.{sh_link};
-ghost use Rattle.elf_model.specs.Suffixes.{first_numbers};
-ghost use Rattle.elf_model.specs.Tables.{has_symbols};
-ghost use Rattle.elf_model.specs.VersionCost.{has_strings};
 ghost use Rattle.elf_table.specs.Store.{row};
 ghost use Rattle.elf_table.specs.Tables.{TableInBounds, Spans, StringsInBounds, SymbolTableInBounds, size_of};
 
@@ -43,7 +37,8 @@ impl SectionView<'_> {
     pub fn section(&self, section: u16) -> Shdr
         requires { section < self.now.store.now.loaded }
         ensures fields { IsShdr (row self.now.store.now section) 0 result }
-        ensures stands { (file : List ℕ) → HoldsSectionHeaders file self.now.loaded self.now.store.now →
+        ensures stands { (file : List ℕ) →
+            HoldsSectionHeaders file self.now.loaded self.now.store.now →
             IsShdr file (section_at file section) result }
     {
         self.store.section(section)
@@ -131,7 +126,8 @@ impl SectionView<'_> {
     /// It lies within the file, as `load` checked. With the headers of another file in the store it
     /// may not, and then the answer is None too.
     pub fn names(&self) -> Option<Names>
-        ensures held { (file : List ℕ) → HoldsSectionHeaders file self.now.loaded self.now.store.now →
+        ensures held { (file : List ℕ) →
+            HoldsSectionHeaders file self.now.loaded self.now.store.now →
             result ≡ section_names file }
         ensures within { IfSome result (StringsInBounds self.now.loaded.size) }
         ensures none { self.now.loaded.header.e_shnum ≡ 0 → result ≡ None }
@@ -179,7 +175,8 @@ impl SectionView<'_> {
     /// Those of [`SectionView::symbols`] at the linked section.
     pub fn linked(&self, section: u16) -> Result<Option<(Table, Names)>, Fault>
         requires below { section < self.now.store.now.loaded }
-        ensures held { (file : List ℕ) → HoldsSectionHeaders file self.now.loaded self.now.store.now →
+        ensures held { (file : List ℕ) →
+            HoldsSectionHeaders file self.now.loaded self.now.store.now →
             Links file (section_at file section) result }
         ensures within { IfOk result (λ linked.
             IfSome linked (SymbolTableInBounds self.now.loaded.size)) }
@@ -205,7 +202,8 @@ impl SectionView<'_> {
     /// The first check that fails: those of [`SectionView::table`], then those of [`SectionView::linked`].
     pub fn relocations(&self, section: u16) -> Result<(Table, Option<(Table, Names)>), Fault>
         requires below { section < self.now.store.now.loaded }
-        ensures held { (file : List ℕ) → HoldsSectionHeaders file self.now.loaded self.now.store.now →
+        ensures held { (file : List ℕ) →
+            HoldsSectionHeaders file self.now.loaded self.now.store.now →
             Relocates file (section_at file section) result }
         ensures table { IfOk result (λ found. Ok found.0 ≡ table_in self.now section 24) }
         ensures entry { IfOk result (λ found. found.0.entry ≡ 24) }
@@ -226,7 +224,8 @@ impl SectionView<'_> {
     pub fn first(&self, sh_type: u32) -> Option<u16>
         ensures below { IfSome result (λ section. section < self.now.store.now.loaded) }
         ensures value { result ≡ first_typed (sections_in self.now) sh_type }
-        ensures held { (file : List ℕ) → HoldsSectionHeaders file self.now.loaded self.now.store.now →
+        ensures held { (file : List ℕ) →
+            HoldsSectionHeaders file self.now.loaded self.now.store.now →
             result ≡ first_typed (file_sections file) sh_type }
     {
         for section in 0..self.sections() {
@@ -242,7 +241,8 @@ impl SectionView<'_> {
     pub fn version_numbers_of(&self, symbols: u32) -> Option<u16>
         ensures below { IfSome result (λ section. section < self.now.store.now.loaded) }
         ensures value { result ≡ first_numbers (sections_in self.now) symbols }
-        ensures held { (file : List ℕ) → HoldsSectionHeaders file self.now.loaded self.now.store.now →
+        ensures held { (file : List ℕ) →
+            HoldsSectionHeaders file self.now.loaded self.now.store.now →
             result ≡ first_numbers (file_sections file) symbols }
     {
         for section in 0..self.sections() {
@@ -263,7 +263,8 @@ impl SectionView<'_> {
     /// section.
     pub fn symbol_versions(&self, section: u16) -> Result<(Table, u64), Fault>
         requires below { section < self.now.store.now.loaded }
-        ensures held { (file : List ℕ) → HoldsSectionHeaders file self.now.loaded self.now.store.now →
+        ensures held { (file : List ℕ) →
+            HoldsSectionHeaders file self.now.loaded self.now.store.now →
             Versioned file (section_at file section) result }
         ensures table { IfOk result (λ found. Ok found.0 ≡ table_in self.now section 2) }
         ensures within { IfOk result (λ found. TableInBounds self.now.loaded.size found.0) }
@@ -286,7 +287,8 @@ impl SectionView<'_> {
     pub(crate) fn links_to_symbols(&self, section: u16) -> bool
         requires below { section < self.now.store.now.loaded }
         ensures linked { IsTrue result → LinksToSymbols self.now section }
-        ensures held { (file : List ℕ) → HoldsSectionHeaders file self.now.loaded self.now.store.now →
+        ensures held { (file : List ℕ) →
+            HoldsSectionHeaders file self.now.loaded self.now.store.now →
             let at = section_at file section in
             result ≡ not (sh_link file at == 0 || not (has_symbols file at)) }
     {

@@ -35,7 +35,8 @@ impl Loaded {
         ensures says { IfErr result (IsReadFault src.old src.new (56 * self.now.header.e_phnum)) }
         ensures fault { IfErr result IsOfRead }
         ensures held { (file : List ℕ) → src.old.seen.file ≡ Some file →
-            HoldsSectionHeaders file self.now store.old → OnOk result (HoldsProgramHeaders file self.now store.new) }
+            HoldsSectionHeaders file self.now store.old →
+            OnOk result (HoldsProgramHeaders file self.now store.new) }
     {
         let header = self.header();
         store.forget();

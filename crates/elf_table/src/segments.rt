@@ -1,8 +1,7 @@
 //! The checks of the segments of a file in the segment view.
 ghost use Rattle.std.specs.Prelude.{◌≡◌, ◌+◌, ◌≤◌, ◌<◌, ℕ, List, IfOk, IfErr, IfSome, MatchResult};
 ghost use Rattle.std.specs.Option.{option_map};
-ghost use Rattle.elf_model.specs.Records.{segment_at};
-ghost use Rattle.elf_model.specs.Mapped.{mapped_at};
+ghost use Rattle.elf_model.specs.Prelude.{mapped_at, segment_at};
 ghost use Rattle.elf_record.specs.Phdr.{IsPhdr};
 ghost use Rattle.elf_table.specs.Faults.{IsOfCheck};
 ghost use Rattle.elf_table.specs.Load.{HoldsProgramHeaders};
@@ -33,7 +32,8 @@ impl ExecutionView<'_> {
     pub fn segment(&self, segment: u16) -> Phdr
         requires { segment < self.now.store.now.segments }
         ensures fields { IsPhdr (segment_bytes self.now.store.now segment) 0 result }
-        ensures stands { (file : List ℕ) → HoldsProgramHeaders file self.now.loaded self.now.store.now →
+        ensures stands { (file : List ℕ) →
+            HoldsProgramHeaders file self.now.loaded self.now.store.now →
             IsPhdr file (segment_at file segment) result }
     {
         self.store.segment(segment)
@@ -99,7 +99,8 @@ impl ExecutionView<'_> {
     /// `Unmapped` at `at` where no LOAD program header holds them; `TableOutside` at that program
     /// header where they end past the end of the file.
     pub fn mapped(&self, address: u64, size: u64, at: u64) -> Result<Names, Fault>
-        ensures held { (file : List ℕ) → HoldsProgramHeaders file self.now.loaded self.now.store.now →
+        ensures held { (file : List ℕ) →
+            HoldsProgramHeaders file self.now.loaded self.now.store.now →
             result ≡ strings_mapped file address size at }
         ensures within { IfOk result (StringsInBounds self.now.loaded.size) }
         ensures sized { IfOk result (λ names. names.size ≡ size) }
@@ -116,7 +117,8 @@ impl ExecutionView<'_> {
     /// The index of the first program header of a type, if there is one (gABI 5, Program Header).
     pub fn first_segment(&self, kind: u32) -> Option<u16>
         ensures below { IfSome result (λ segment. segment < self.now.store.now.segments) }
-        ensures first { (file : List ℕ) → HoldsProgramHeaders file self.now.loaded self.now.store.now →
+        ensures first { (file : List ℕ) →
+            HoldsProgramHeaders file self.now.loaded self.now.store.now →
             result ≡ first_of_kind file kind }
     {
         for index in 0..self.segments() {
@@ -135,7 +137,8 @@ impl ExecutionView<'_> {
     /// `Unmapped` at `at` where no LOAD program header holds the byte; `TableOutside` at that program
     /// header where its bytes end past the end of the file.
     pub fn rest(&self, address: u64, at: u64) -> Result<Table, Fault>
-        ensures value { (file : List ℕ) → HoldsProgramHeaders file self.now.loaded self.now.store.now →
+        ensures value { (file : List ℕ) →
+            HoldsProgramHeaders file self.now.loaded self.now.store.now →
             result ≡ rest_mapped file address at }
         ensures lies { MatchResult result (BytesWithin self.now.loaded.size) IsOfCheck }
     {
@@ -149,7 +152,8 @@ impl ExecutionView<'_> {
 
     /// The index of the first LOAD program header that holds `size` bytes from an address on.
     fn mapping(&self, address: u64, size: u64) -> Option<u16>
-        ensures held { (file : List ℕ) → HoldsProgramHeaders file self.now.loaded self.now.store.now →
+        ensures held { (file : List ℕ) →
+            HoldsProgramHeaders file self.now.loaded self.now.store.now →
             mapped_at file address size ≡ option_map (segment_at file) result }
         ensures below { IfSome result (λ segment. segment < self.now.store.now.segments) }
         ensures holds { IfSome result (λ segment.

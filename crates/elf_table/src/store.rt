@@ -1,10 +1,8 @@
 //! The store of headers, over memory that its caller lends.
 ghost use Rattle.std.specs.Prelude.{◌≡◌, ℕ, ◌+◌, ◌*◌, ◌^◌, if◌then◌else◌, is_ok, ◌<◌, ◌≤◌};
 ghost use Rattle.std.specs.Prelude.{List, Some, length, take, IfOk, IfErr, OnOk};
-ghost use Rattle.elf_model.specs.Bytes.{slice};
-ghost use Rattle.elf_model.specs.Records.{section_at, segment_at};
-ghost use Rattle.elf_record.specs.Phdr.{IsPhdr};
-ghost use Rattle.elf_record.specs.Shdr.{IsShdr};
+ghost use Rattle.elf_model.specs.Prelude.{section_at, segment_at, slice};
+ghost use Rattle.elf_record.specs.Prelude.{IsPhdr, IsShdr};
 ghost use Rattle.elf_source.specs.Source.{ReadsUpTo};
 ghost use Rattle.elf_table.specs.Faults.{IsReadFault, IsOfRead};
 ghost use Rattle.elf_table.specs.Store.{empty, emptied, row, segment_bytes};

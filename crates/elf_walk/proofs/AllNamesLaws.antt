@@ -3,8 +3,7 @@ use Rattle.std.proofs.Common.{◌≡◌, ℕ, zero, suc, ◌≤◌, ◌<◌, nat
 use Rattle.std.proofs.lemmas.Bool.{ltb-true, ltb-false}
 use Rattle.std.proofs.lemmas.List.{length-drop}
 use Rattle.std.specs.declared.cmp.Ordering.TheVariants.{Less}
-use Rattle.elf_walk.specs.Order.{order}
-use Rattle.elf_walk.specs.Passes.{names_following, in_order, passes}
+use Rattle.elf_walk.specs.Prelude.{in_order, names_following, order, passes}
 use Rattle.elf_walk.proofs.AscendLaws.{after_member, after_ascends, after_twice, member_is_after, order_ascends, order_after}
 use Rattle.elf_walk.proofs.OrderLaws.{take_all}
 

@@ -7,8 +7,7 @@ use Rattle.std.specs.Ordering.{is_gt, nat_cmp, ordering_reverse}
 use Rattle.std.specs.Cmp.Lexicographic.{slice_cmp}
 use Rattle.std.specs.declared.cmp.Ordering.{Ordering}
 use Rattle.std.specs.declared.cmp.Ordering.TheVariants.{Less, Equal, Greater}
-use Rattle.elf_walk.specs.Order.{order, insert_by, put_all_by}
-use Rattle.elf_walk.specs.Passes.{AreAfter, Ascends, names_following}
+use Rattle.elf_walk.specs.Prelude.{AreAfter, Ascends, insert_by, names_following, order, put_all_by}
 use Rattle.elf_walk.proofs.OrderLaws.{put_less, put_equal, put_greater}
 
 total : IsTotalOrder (slice_cmp nat_cmp)

@@ -1,22 +1,17 @@
 -- The check of a file by its sort, and what that asks for.
 use Rattle.std.proofs.Common.{◌≡◌, ℕ, ◌+◌, ◌≤◌, nat_lt, Bool, true, false, if◌then◌else◌, List, Option, None, Some, sym, ◌∙◌, arith}
 use Rattle.std.specs.Prelude.{IfSome}
-use Rattle.elf_model.specs.ArchiveCost.{archive_ceiling}
-use Rattle.elf_model.specs.Cost.{style_ceiling}
-use Rattle.elf_model.specs.FileLists.{front_size}
-use Rattle.elf_model.specs.Style.{ListingStyle}
-use Rattle.elf_model.specs.declared.states.FileMagic.{FileMagic}
+use Rattle.elf_model.specs.Prelude.{ListingStyle, archive_ceiling, front_size, style_ceiling}
 use Rattle.elf_model.specs.declared.states.FileMagic.TheVariants as sort
+use Rattle.elf_model.specs.declared.states.FileMagic.{FileMagic}
 use Rattle.elf_model.specs.declared.states.FileStatus.{FileStatus}
 use Rattle.elf_model.specs.declared.states.FileStatus.TheVariants as state
 use Rattle.elf_source.specs.Source.{CountedState, KeepsSource, SourceState}
-use Rattle.elf_options.specs.Permitted.{style_of}
+use Rattle.elf_options.specs.Prelude.{style_of}
 use Rattle.elf_options.specs.declared.caps.Caps.{Caps}
+use Rattle.elf_walk.specs.Prelude.{AsksNoMore, FailsRead, FindsSorted, FindsSortedState, check_ceiling, front_asked}
 use Rattle.elf_archive.specs.FirstFault.{BeginsArchive}
-use Rattle.elf_walk.specs.Checked.{FailsRead}
-use Rattle.elf_walk.specs.Fronts.{front_asked}
-use Rattle.elf_walk.specs.CheckedFile.{AsksNoMore, check_ceiling}
-use Rattle.elf_walk.specs.Members.{FindsSorted, FindsSortedState, unlisted_state}
+use Rattle.elf_walk.specs.Members.{unlisted_state}
 
 -- what a file asks for, by the ceiling of an archive of as many bytes
 check_most : (short : Bool) (size headers : ℕ) (style : ListingStyle) → (if short then 4 else style_ceiling size headers style) ≤ archive_ceiling size headers style

@@ -1,29 +1,23 @@
 -- The state of a file, by what is known of its listing.
-use Rattle.elf_model.specs.Style.{ListingStyle}
-use Rattle.elf_options.specs.Permitted.{style_of}
+use Rattle.elf_model.specs.Prelude.{IsBudgeted, IsStateOf, ListingStyle, first_refusal, header_checks, is_not_elf, listing, listing_cost, report_of, state_of, style_ceiling}
+use Rattle.elf_model.specs.declared.states.FileStatus.{FileStatus}
+use Rattle.elf_model.specs.declared.causes.Refusal.{Refusal}
+use Rattle.elf_options.specs.Prelude.{style_of}
+use Rattle.elf_options.specs.declared.caps.Caps.{Caps}
 use Rattle.std.proofs.Common.{◌≡◌, ℕ, ◌+◌, ◌<◌, ◌≤◌, Bool, true, false, if◌then◌else◌, List, length, Option, None, Some, inl, refl, sym, ap, ◌∙◌, nat_lt, arith, ◌^◌}
 use Rattle.std.specs.Prelude.{Ok, Err, IfSome}
 use Rattle.std.proofs.lemmas.Bool.Decides.{nat_tests}
-use Rattle.elf_model.specs.Budget.{IsBudgeted}
-use Rattle.elf_model.specs.Checking.{IsStateOf, is_not_elf, listed_state, short_state, state_of}
-use Rattle.elf_model.specs.Cost.{listing_cost, style_ceiling}
-use Rattle.elf_model.specs.Checks.{first_refusal, header_checks}
-use Rattle.elf_model.specs.Listing.{report_of}
-use Rattle.elf_model.specs.Report.{listing}
-use Rattle.elf_model.specs.declared.causes.Cause.TheVariants.{Short}
-use Rattle.elf_model.specs.declared.causes.Refusal.{Refusal}
 use Rattle.elf_model.specs.declared.states.FileMagic.TheVariants as sort
-use Rattle.elf_model.specs.declared.states.FileStatus.{FileStatus}
+use Rattle.elf_model.specs.Checking.{listed_state, short_state}
+use Rattle.elf_model.specs.declared.causes.Cause.TheVariants.{Short}
 use Rattle.elf_model.specs.declared.states.FileStatus.TheVariants as state
 use Rattle.elf_model.proofs.ListingLemmas.{header_fault}
-use Rattle.elf_source.specs.Output.{OutState}
-use Rattle.elf_source.specs.Source.{CountedState}
-use Rattle.elf_options.specs.declared.caps.Caps.{Caps}
+use Rattle.elf_source.specs.Prelude.{CountedState, OutState}
 use Rattle.elf_table.specs.declared.run_fault.RunFault.TheVariants.{Refused as StopRefused}
 use Rattle.elf_listing.specs.Reports.{WroteReport}
-use Rattle.elf_walk.specs.Checked.{FailsRead, FindsShort, short_refusal}
+use Rattle.elf_walk.specs.Prelude.{AsksNoMore, FailsRead, FindsShort, FindsState, check_ceiling, check_cost, short_refusal}
 use Rattle.elf_walk.proofs.StateLaws.{judged_long, long_state}
-use Rattle.elf_walk.specs.CheckedFile.{AsksNoMore, FindsElf, FindsState, IsElfState, check_ceiling, check_cost, elf_cost}
+use Rattle.elf_walk.specs.CheckedFile.{FindsElf, IsElfState, elf_cost}
 
 short_first : (file : List ℕ) → length file < 64 → first_refusal (header_checks file) ≡ Some (short_refusal file)
 short_first file short =

@@ -1,26 +1,20 @@
 -- What is found of a file, by what the search for its traits answered.
 use Rattle.std.proofs.Common.{◌≡◌, ℕ, ◌^◌, ◌<◌, ◌≤◌, ◌++◌, ◌⊎◌, true, false, if◌then◌else◌, List, length, Option, None, Some, Result, Ok, Err, inl, inr, refl, sym, ap, subst, ◌∙◌, nat_lt, arith}
 use Rattle.std.proofs.lemmas.Bool.Decides.{nat_tests}
-use Rattle.elf_model.specs.Budget.{IsBudgetRefusal}
-use Rattle.elf_model.specs.Checking.{is_not_elf, state_of}
-use Rattle.elf_model.specs.Checks.{first_refusal, header_checks, load_checks}
-use Rattle.elf_model.specs.Style.{without_sections}
-use Rattle.elf_model.specs.TraitCost.{traits_cost}
-use Rattle.elf_model.specs.Traits.{loaded_traits, traits_by_segments, traits_of}
+use Rattle.elf_model.specs.Prelude.{IsBudgetRefusal, first_refusal, header_checks, is_not_elf, load_checks, loaded_traits, state_of, traits_by_segments, traits_cost, traits_of, without_sections}
 use Rattle.elf_model.specs.declared.causes.Cause.TheVariants.{Budget, Short}
-use Rattle.elf_model.specs.declared.causes.Refusal.{Refusal}
 use Rattle.elf_model.specs.declared.states.FileStatus.{FileStatus}
-use Rattle.elf_model.specs.declared.states.FileStatus.TheVariants as state
 use Rattle.elf_model.specs.declared.traits.Hardening.{Hardening}
+use Rattle.elf_model.specs.declared.causes.Refusal.{Refusal}
+use Rattle.elf_model.specs.declared.states.FileStatus.TheVariants as state
 use Rattle.elf_model.proofs.BudgetLaws.{is_budget_fault}
 use Rattle.elf_model.proofs.StyleLemmas.{from_length}
 use Rattle.elf_source.specs.Source.{CountedState, SetsLimit}
 use Rattle.elf_source.proofs.LimitLaws.{budget_below}
 use Rattle.elf_table.specs.declared.fault.Fault.TheVariants.{Refused}
 use Rattle.elf_loader.specs.TraitStages.{FindsTraits}
-use Rattle.elf_walk.specs.Checked.{FindsShort, short_refusal}
+use Rattle.elf_walk.specs.Prelude.{FindsShort, FindsWithin, IsFoundWithin, short_refusal, traits_found}
 use Rattle.elf_walk.proofs.StateLaws.{judged_long}
-use Rattle.elf_walk.specs.Found.{FindsWithin, IsFoundWithin, traits_found}
 
 -- a file that is too short for a file header has no traits
 short_first : (file : List ℕ) (headers : ℕ) → length file < 64 → first_refusal (header_checks file ++ load_checks file headers) ≡ Some (short_refusal file)

@@ -7,9 +7,7 @@ use Rattle.std.specs.Ordering.{is_gt, is_lt, nat_cmp, ordering_reverse}
 use Rattle.std.specs.Cmp.Lexicographic.{slice_cmp}
 use Rattle.std.specs.declared.cmp.Ordering.{Ordering}
 use Rattle.std.specs.declared.cmp.Ordering.TheVariants.{Less, Equal, Greater}
-use Rattle.elf_walk.specs.Kept.{IsCutFront, IsFront}
-use Rattle.elf_walk.specs.Order.{order, insert_by}
-use Rattle.elf_walk.specs.Passes.{AreAfter, Ascends, names_following, in_order}
+use Rattle.elf_walk.specs.Prelude.{AreAfter, Ascends, IsCutFront, IsFront, in_order, insert_by, names_following, order}
 use Rattle.elf_walk.proofs.AscendLaws.{order_ascends}
 use Rattle.elf_walk.proofs.MemberLaws.{stays}
 use Rattle.elf_walk.proofs.OrderLaws.{put_less, put_equal, put_greater}

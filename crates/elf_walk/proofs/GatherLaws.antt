@@ -5,12 +5,10 @@ use Rattle.std.proofs.lemmas.Grind.{flat_map-append}
 use Rattle.std.proofs.lemmas.List.{take_all, drop_all, drop-drop}
 use Rattle.std.specs.Io.KnownBytes.{Consumes, IsAtEnd, Keeps}
 use Rattle.std.specs.List.{flat_map}
+use Rattle.elf_walk.specs.Prelude.{AreNamesOf, GathersNames, IsNameable, KeepsFirstNames, KeptNames, PutsNames, is_dot_entry, last_entry, list_entries, rest_from, saturated, unnamed_count, whole_entries}
 use Rattle.std.specs.Prelude.{Option, None, Some, IfSome}
-use Rattle.elf_walk.specs.Entries.{list_entries, whole_entries, last_entry, rest_from}
-use Rattle.elf_walk.specs.Gathered.{AreNamesOf, GathersNames, PutsNames, saturated, unnamed_count}
-use Rattle.elf_walk.specs.Kept.{IsNameable, KeptNames, KeepsFirstNames, is_dot_entry}
-use Rattle.elf_walk.specs.declared.batch.Put.{Put}
 use Rattle.elf_walk.specs.declared.batch.Put.TheVariants.{Placed, Unnamed}
+use Rattle.elf_walk.specs.declared.batch.Put.{Put}
 use Rattle.elf_walk.proofs.EntryLaws.{all_left, first_ends, none_ends}
 
 -- entries, and then others

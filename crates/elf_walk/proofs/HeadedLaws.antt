@@ -1,31 +1,25 @@
 -- A listing behind the line of a path, by what was written of both.
 use Rattle.std.proofs.Common.{◌≡◌, ℕ, Bool, false, List, [], ◌∷◌, Option, None, Some, Result, Ok, Err, refl, ap, ◌∙◌, inl}
 use Rattle.std.specs.Prelude.{IfErr}
-use Rattle.elf_model.specs.Archive.{archive_items}
-use Rattle.elf_model.specs.Choice.{RowFilter, EveryRow, RowsOf}
-use Rattle.elf_model.specs.FileLists.{headed, members_alone, undecided}
+use Rattle.elf_model.specs.Prelude.{EveryRow, ListingStyle, RowFilter, RowsOf, SymbolQuery, archive_items, fault_of, headed, listing, members_alone, report_of}
+use Rattle.elf_model.specs.FileLists.{undecided}
 use Rattle.elf_model.specs.Lines.{refusal_line}
-use Rattle.elf_model.specs.Listing.{fault_of, report_of}
-use Rattle.elf_model.specs.Loader.{SymbolQuery}
-use Rattle.elf_model.specs.Report.{listing}
-use Rattle.elf_model.specs.Style.{ListingStyle}
-use Rattle.elf_model.specs.declared.causes.Refusal.{Refusal}
 use Rattle.elf_model.specs.declared.formats.Format.{Format}
 use Rattle.elf_model.specs.declared.states.FileMagic.{FileMagic}
+use Rattle.elf_model.specs.declared.causes.Refusal.{Refusal}
 use Rattle.elf_model.specs.declared.states.FileMagic.TheVariants as sort
-use Rattle.elf_source.specs.Growth.{OutGrows}
-use Rattle.elf_source.specs.Output.{FailsOutput, EndsLine, KeepsDeferred, OutState, SinkTakes, SinkTakesPrefix, before_text}
-use Rattle.elf_source.specs.Source.{CountedState}
-use Rattle.elf_source.specs.declared.faults.OutFault.{OutFault}
+use Rattle.elf_source.specs.Prelude.{CountedState, EndsLine, FailsOutput, KeepsDeferred, OutGrows, OutState, SinkTakes, SinkTakesPrefix, before_text}
 use Rattle.elf_source.specs.declared.holding_sink.DeferredLine.{DeferredLine}
+use Rattle.elf_source.specs.declared.faults.OutFault.{OutFault}
 use Rattle.elf_source.proofs.LineLaws.{broken_takes, line_ends, line_fails, line_front}
 use Rattle.elf_source.proofs.PutsLaws.{SinkTakes-then, SinkTakesPrefix-then, SinkTakesPrefix-more}
-use Rattle.elf_options.specs.Permitted.{style_of}
+use Rattle.elf_options.specs.Prelude.{style_of}
 use Rattle.elf_options.specs.declared.caps.Caps.{Caps}
 use Rattle.elf_options.specs.declared.caps.Limits.{Limits}
+use Rattle.elf_table.specs.declared.run_fault.RunFault.TheVariants.{Out}
 use Rattle.elf_table.specs.declared.run_fault.RunFault.{RunFault}
-use Rattle.elf_table.specs.declared.run_fault.RunFault.TheVariants.{Refused, Source, Out}
-use Rattle.elf_listing.specs.Reports.{ReturnsStop, WroteReport, WroteText}
+use Rattle.elf_table.specs.declared.run_fault.RunFault.TheVariants.{Refused, Source}
+use Rattle.elf_listing.specs.Reports.{WroteReport, WroteText, ReturnsStop}
 use Rattle.elf_archive.specs.Listed.{AnswersAfter, ArchiveSays, ReportsArchive}
 use Rattle.elf_walk.specs.Lists.{IsListedText, ListsHeaded, ListsSort, ReturnsRefused, WroteHeaded, lists_refused}
 

@@ -1,11 +1,11 @@
 -- The first word that is lacking is among those that are left.
 use Rattle.std.proofs.Common.{◌≡◌, ℕ, zero, suc, ◌<◌, Bool, true, false, List, [], ◌∷◌, ◌++◌, length, drop, refl, ap, sym, ◌∙◌, arith, subst, Option, None, Some}
 use Rattle.std.specs.Prelude.{slice_index_or}
-use Rattle.elf_model.specs.TraitWords.{Required, first_lacking, has_word, is_program, lacking, lacking_line, trait_line, traits_text}
+use Rattle.elf_model.specs.Prelude.{Required, first_lacking, has_word, is_program, lacking, lacking_line, trait_line, traits_text}
 use Rattle.elf_model.specs.declared.formats.Format.{Format}
-use Rattle.elf_model.specs.declared.traits.TraitColumn.{TraitColumn}
 use Rattle.elf_model.specs.declared.traits.Hardening.{Hardening}
-use Rattle.elf_options.specs.Required.{required_word, required_words}
+use Rattle.elf_model.specs.declared.traits.TraitColumn.{TraitColumn}
+use Rattle.elf_options.specs.Prelude.{required_word, required_words}
 use Rattle.elf_options.specs.declared.required.RequiredTrait.{RequiredTrait}
 
 parted : (words : List RequiredTrait) (i : ℕ) (d : RequiredTrait) → i < length words → drop i words ≡ slice_index_or words i d ∷ drop (suc i) words

@@ -2,23 +2,22 @@
 use Rattle.std.proofs.Common.{◌≡◌, ℕ, ◌+◌, ◌-◌, ◌≤◌, Bool, true, false, not, if◌then◌else◌, List, Option, None, Some, Result, Ok, Err, nat_lt, refl, arith}
 use Rattle.std.specs.Prelude.{IfSome, IfErr}
 use Rattle.std.proofs.lemmas.Bool.Decides.{nat_tests}
-use Rattle.elf_model.specs.FileLists.{budget_after, front_size}
+use Rattle.elf_model.specs.Prelude.{budget_after, front_size}
 use Rattle.elf_model.specs.declared.states.FileMagic.{FileMagic}
-use Rattle.elf_model.specs.declared.states.FileMagic.TheVariants as sort
+use Rattle.elf_model.specs.declared.formats.Format.{Format}
 use Rattle.elf_model.specs.declared.states.FileStatus.TheVariants.{Unread}
-use Rattle.elf_source.specs.Output.{OutState}
-use Rattle.elf_source.specs.Source.{CountedState, IsSourceFault, KeepsSource}
+use Rattle.elf_model.specs.declared.states.FileMagic.TheVariants as sort
+use Rattle.elf_source.specs.Prelude.{CountedState, IsSourceFault, KeepsSource, OutState}
+use Rattle.elf_source.specs.declared.faults.SourceFault.TheVariants.{Device, Ended}
 use Rattle.elf_source.specs.declared.faults.OutFault.{OutFault}
 use Rattle.elf_source.specs.declared.faults.SourceFault.{SourceFault}
-use Rattle.elf_source.specs.declared.faults.SourceFault.TheVariants.{Device, Ended}
-use Rattle.elf_walk.specs.Checked.{FailsRead}
-use Rattle.elf_walk.specs.Fronts.{front_asked}
-use Rattle.elf_table.specs.declared.run_fault.RunFault.{RunFault}
-use Rattle.elf_table.specs.declared.run_fault.RunFault.TheVariants.{Refused, Source, Out}
-use Rattle.elf_model.specs.declared.formats.Format.{Format}
-use Rattle.elf_archive.specs.Listed.{ArchiveSays}
-use Rattle.elf_walk.specs.ToldListings.{EndsListing, ListsFile, ToldOf, is_unlisted}
+use Rattle.elf_walk.specs.Prelude.{EndsListing, FailsRead, ListsFile, ToldOf, front_asked}
 use Rattle.elf_walk.specs.declared.options.ListOptions.{ListOptions}
+use Rattle.elf_table.specs.declared.run_fault.RunFault.TheVariants.{Out}
+use Rattle.elf_table.specs.declared.run_fault.RunFault.{RunFault}
+use Rattle.elf_table.specs.declared.run_fault.RunFault.TheVariants.{Refused, Source}
+use Rattle.elf_archive.specs.Listed.{ArchiveSays}
+use Rattle.elf_walk.specs.ToldListings.{is_unlisted}
 
 -- the bytes that tell what a file is, and what is left behind them, are within a budget
 within_both : (members : Bool) (bytes size : ℕ) (t u : Bool) → nat_lt size 4 ≡ t → nat_lt bytes (front_size members size) ≡ u

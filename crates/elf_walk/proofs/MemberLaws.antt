@@ -12,8 +12,7 @@ use Rattle.std.specs.Ordering.{is_eq, nat_cmp, ordering_reverse}
 use Rattle.std.specs.Cmp.Lexicographic.{slice_cmp}
 use Rattle.std.specs.declared.cmp.Ordering.{Ordering}
 use Rattle.std.specs.declared.cmp.Ordering.TheVariants.{Less, Equal, Greater}
-use Rattle.elf_walk.specs.Order.{order, insert_by, put_all_by}
-use Rattle.elf_walk.specs.Passes.{AreAfter, Ascends, in_order}
+use Rattle.elf_walk.specs.Prelude.{AreAfter, Ascends, in_order, insert_by, order, put_all_by}
 use Rattle.elf_walk.proofs.AscendLaws.{all_behind, order_ascends}
 
 total : IsTotalOrder (slice_cmp nat_cmp)

@@ -1,9 +1,7 @@
 -- What a pass over names keeps.
 use Rattle.std.proofs.Common.{◌≡◌, ℕ, suc, ◌+◌, Bool, true, false, nat_lt, List, [], ◌∷◌, ◌++◌, length, take, get_or, refl, ap, sym, ◌∙◌, arith}
 use Rattle.std.proofs.lemmas.Bool.{both_ways, lt-ltb, ltb-true}
-use Rattle.elf_walk.specs.Kept.{KeptNames, IsFront, KeepsFirstNames}
-use Rattle.elf_walk.specs.Pass.{IsPass}
-use Rattle.elf_walk.specs.Passes.{names_following, in_order}
+use Rattle.elf_walk.specs.Prelude.{IsFront, IsPass, KeepsFirstNames, KeptNames, in_order, names_following}
 
 all_taken : (names : List (List ℕ)) → names ≡ take (length names) names
 all_taken [] = refl

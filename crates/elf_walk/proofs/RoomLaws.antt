@@ -6,10 +6,7 @@ use Rattle.std.specs.Prelude.{All, sum_by}
 use Rattle.std.specs.declared.cmp.Ordering.{Ordering}
 use Rattle.std.specs.declared.cmp.Ordering.TheVariants.{Less, Equal, Greater}
 use Rattle.elf_model.specs.Bytes.{slice}
-use Rattle.elf_walk.specs.Held.{IsEnough, IsSmallFolder, IsWithinKept, LeavesRoom, bytes_held}
-use Rattle.elf_walk.specs.Kept.{HoldsWithin, KeptNames}
-use Rattle.elf_walk.specs.Order.{order, insert_by}
-use Rattle.elf_walk.specs.Passes.{in_order}
+use Rattle.elf_walk.specs.Prelude.{HoldsWithin, IsEnough, IsSmallFolder, IsWithinKept, KeptNames, LeavesRoom, bytes_held, in_order, insert_by, order}
 use Rattle.elf_walk.proofs.SortedLaws.{all_more}
 
 piece_length : (bytes : List ℕ) (start len : ℕ) → start + len ≤ length bytes → length (slice bytes start len) ≡ len

@@ -12,9 +12,7 @@ use Rattle.std.specs.Prelude.{⊤, bytes_eq}
 use Rattle.std.specs.Cmp.Lexicographic.{slice_cmp}
 use Rattle.std.specs.declared.cmp.Ordering.{Ordering}
 use Rattle.std.specs.declared.cmp.Ordering.TheVariants.{Less, Equal, Greater}
-use Rattle.elf_walk.specs.Held.{repeats}
-use Rattle.elf_walk.specs.Order.{order, insert_by, put_all_by}
-use Rattle.elf_walk.specs.Passes.{in_order}
+use Rattle.elf_walk.specs.Prelude.{in_order, insert_by, order, put_all_by, repeats}
 use Rattle.elf_walk.proofs.MemberLaws.{same_name}
 use Rattle.elf_walk.proofs.OrderLaws.{put_equal, put_greater}
 

@@ -1,12 +1,14 @@
 -- The state of a file that is too short, or refused.
 use Rattle.std.proofs.Common.{◌≡◌, ℕ, ◌<◌, ◌≤◌, true, false, if◌then◌else◌, List, length, Option, Some, refl, sym, ap, ◌∙◌, nat_lt, arith}
 use Rattle.std.proofs.lemmas.Bool.Decides.{nat_tests}
-use Rattle.elf_model.specs.Checking.{is_not_elf, listed_state, short_state, state_of}
-use Rattle.elf_model.specs.FileLists.{file_magic}
-use Rattle.elf_model.specs.declared.causes.Refusal.{Refusal}
-use Rattle.elf_model.specs.declared.states.FileMagic.{FileMagic}
+use Rattle.elf_model.specs.Prelude.{is_not_elf, state_of}
 use Rattle.elf_model.specs.declared.states.FileMagic.TheVariants as sort
+use Rattle.elf_model.specs.Checking.{listed_state, short_state}
+use Rattle.elf_model.specs.FileLists.{file_magic}
+use Rattle.elf_model.specs.declared.states.FileMagic.{FileMagic}
 use Rattle.elf_model.specs.declared.states.FileStatus.{FileStatus}
+use Rattle.elf_model.specs.declared.causes.Refusal.{Refusal}
+use Rattle.elf_model.specs.declared.causes.Cause.TheVariants.{Short}
 use Rattle.elf_model.specs.declared.states.FileStatus.TheVariants as state
 use Rattle.elf_source.specs.Source.{CountedState}
 use Rattle.elf_walk.specs.Checked.{FailsRead, FindsShort, short_refusal}

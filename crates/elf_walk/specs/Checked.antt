@@ -1,9 +1,9 @@
 -- The state of a file among many, where it is too short for a file header, or was not read.
 use Rattle.std.specs.Prelude.{ℕ, ◌≡◌, ◌<◌, List, length, Option, Some, ⊤}
-use Rattle.elf_model.specs.Checking.{state_of}
-use Rattle.elf_model.specs.declared.causes.Cause.TheVariants.{Short}
-use Rattle.elf_model.specs.declared.causes.Refusal.{Refusal}
+use Rattle.elf_model.specs.Prelude.{state_of}
 use Rattle.elf_model.specs.declared.states.FileStatus.{FileStatus}
+use Rattle.elf_model.specs.declared.causes.Refusal.{Refusal}
+use Rattle.elf_model.specs.declared.causes.Cause.TheVariants.{Short}
 use Rattle.elf_model.specs.declared.states.FileStatus.TheVariants as state
 use Rattle.elf_source.specs.Source.{CountedState, IsHonest}
 

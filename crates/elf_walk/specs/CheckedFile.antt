@@ -1,15 +1,13 @@
 -- What the check of one file did.
 use Rattle.std.specs.Prelude.{ℕ, ◌≡◌, ◌+◌, ◌≤◌, nat_lt, if◌then◌else◌, List, length, Option, Some, IfSome, ⊤}
+use Rattle.elf_model.specs.Prelude.{ELF_MAGIC_SIZE, FILE_HEADER_SIZE, IsStateOf, ListingStyle, listing_cost, style_ceiling}
 use Rattle.elf_model.specs.Budget.{IsBudgeted}
-use Rattle.elf_model.specs.Checking.{IsStateOf, listed_state}
-use Rattle.elf_model.specs.Cost.{listing_cost, style_ceiling}
-use Rattle.elf_model.specs.Records.{FILE_HEADER_SIZE, ELF_MAGIC_SIZE}
-use Rattle.elf_model.specs.Style.{ListingStyle}
+use Rattle.elf_model.specs.Checking.{listed_state}
 use Rattle.elf_model.specs.declared.causes.Refusal.{Refusal}
 use Rattle.elf_model.specs.declared.states.FileStatus.{FileStatus}
 use Rattle.elf_model.specs.declared.states.FileStatus.TheVariants as state
 use Rattle.elf_source.specs.Source.{CountedState}
-use Rattle.elf_options.specs.Permitted.{style_of}
+use Rattle.elf_options.specs.Prelude.{style_of}
 use Rattle.elf_options.specs.declared.caps.Caps.{Caps}
 use Rattle.elf_listing.specs.Reports.{KeepsSourceUnlimited}
 use Rattle.elf_walk.specs.Checked.{FailsRead}

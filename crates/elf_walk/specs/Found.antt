@@ -1,14 +1,10 @@
 -- The traits that are found of one file among many, within its limits.
 use Rattle.std.specs.Prelude.{ℕ, ◌≡◌, ◌<◌, ◌⊎◌, ⊤, nat_lt, if◌then◌else◌, List, length, Option, None, Some, Result, Ok, Err}
-use Rattle.elf_model.specs.Budget.{IsBudgetRefusal}
-use Rattle.elf_model.specs.Checking.{state_of}
-use Rattle.elf_model.specs.Records.{FILE_HEADER_SIZE, ELF_MAGIC_SIZE}
-use Rattle.elf_model.specs.TraitCost.{traits_ceiling, traits_cost}
-use Rattle.elf_model.specs.Traits.{traits_of}
-use Rattle.elf_model.specs.declared.causes.Refusal.{Refusal}
+use Rattle.elf_model.specs.Prelude.{ELF_MAGIC_SIZE, FILE_HEADER_SIZE, IsBudgetRefusal, state_of, traits_ceiling, traits_cost, traits_of}
 use Rattle.elf_model.specs.declared.states.FileStatus.{FileStatus}
-use Rattle.elf_model.specs.declared.states.FileStatus.TheVariants as state
 use Rattle.elf_model.specs.declared.traits.Hardening.{Hardening}
+use Rattle.elf_model.specs.declared.causes.Refusal.{Refusal}
+use Rattle.elf_model.specs.declared.states.FileStatus.TheVariants as state
 
 -- the traits of a file, or the state of one that is refused
 abbrev pub traits_found : Option ℕ → List ℕ → Result Hardening Refusal → Result Hardening FileStatus

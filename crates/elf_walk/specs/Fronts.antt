@@ -1,7 +1,6 @@
 -- What is asked for to tell what a file is, by its first bytes.
 use Rattle.std.specs.Prelude.{ℕ, nat_lt, if◌then◌else◌, Bool, Option}
-use Rattle.elf_model.specs.FileLists.{front_size, may_read_bytes}
-use Rattle.elf_model.specs.Records.{ELF_MAGIC_SIZE}
+use Rattle.elf_model.specs.Prelude.{ELF_MAGIC_SIZE, front_size, may_read_bytes}
 
 -- how many bytes are asked for: where the file and the budget have them
 abbrev pub front_asked : Bool → Option ℕ → (size : ℕ) → ℕ

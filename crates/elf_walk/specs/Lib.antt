@@ -18,3 +18,4 @@ pub mod Lists
 pub mod ToldListings
 pub mod Found
 pub mod ToldTraits
+pub mod Prelude

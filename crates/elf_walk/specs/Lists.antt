@@ -1,19 +1,16 @@
 -- What is listed of one file among many, by its sort.
 use Rattle.std.specs.Prelude.{ℕ, ◌≡◌, List, [], ◌++◌, Option, None, Some, Bool, false, Result, Ok, Err}
-use Rattle.elf_model.specs.ArchiveCost.{IsArchiveBudgeted, any_refused, archive_ceiling, archive_cost}
-use Rattle.elf_model.specs.Budget.{IsBudgeted}
-use Rattle.elf_model.specs.Choice.{RowFilter}
-use Rattle.elf_model.specs.Cost.{listing_cost, style_ceiling}
-use Rattle.elf_model.specs.FileLists.{headed, members_alone, undecided}
+use Rattle.elf_model.specs.Prelude.{IsArchiveBudgeted, IsBudgeted, ListingStyle, RowFilter, any_refused, archive_ceiling, archive_cost, headed, listing_cost, members_alone, style_ceiling}
+use Rattle.elf_model.specs.FileLists.{undecided}
 use Rattle.elf_model.specs.Lines.{refusal_line}
-use Rattle.elf_model.specs.Style.{ListingStyle}
-use Rattle.elf_model.specs.declared.causes.Refusal.{Refusal}
 use Rattle.elf_model.specs.declared.states.FileMagic.{FileMagic}
+use Rattle.elf_model.specs.declared.causes.Refusal.{Refusal}
 use Rattle.elf_model.specs.declared.states.FileMagic.TheVariants as sort
 use Rattle.elf_source.specs.Output.{OutState, SinkTakes, SinkTakesPrefix}
 use Rattle.elf_options.specs.declared.caps.Limits.{Limits}
+use Rattle.elf_table.specs.declared.run_fault.RunFault.TheVariants.{Out}
 use Rattle.elf_table.specs.declared.run_fault.RunFault.{RunFault}
-use Rattle.elf_table.specs.declared.run_fault.RunFault.TheVariants.{Refused, Source, Out}
+use Rattle.elf_table.specs.declared.run_fault.RunFault.TheVariants.{Refused, Source}
 use Rattle.elf_listing.specs.Reports.{WroteText}
 
 -- a text with this fault is what is listed of a file of a sort within a budget: its listing, or that of an archive, whose members'

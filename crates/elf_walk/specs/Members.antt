@@ -1,14 +1,13 @@
 -- What the check of an archive with its members did.
 use Rattle.std.specs.Prelude.{ℕ, ◌≡◌, ◌+◌, ⊤, true, List, length, None, Some}
-use Rattle.elf_model.specs.ArchiveCost.{archive_ceiling}
-use Rattle.elf_model.specs.FileLists.{budget_after, file_magic, front_size, undecided}
-use Rattle.elf_model.specs.Style.{ListingStyle}
+use Rattle.elf_model.specs.Prelude.{ListingStyle, archive_ceiling, budget_after, file_magic, front_size}
+use Rattle.elf_model.specs.FileLists.{undecided}
 use Rattle.elf_model.specs.declared.causes.Cause.TheVariants.{Thin}
 use Rattle.elf_model.specs.declared.states.FileMagic.{FileMagic}
-use Rattle.elf_model.specs.declared.states.FileMagic.TheVariants as sort
 use Rattle.elf_model.specs.declared.states.FileStatus.{FileStatus}
+use Rattle.elf_model.specs.declared.states.FileMagic.TheVariants as sort
 use Rattle.elf_model.specs.declared.states.FileStatus.TheVariants as state
-use Rattle.elf_options.specs.Permitted.{style_of}
+use Rattle.elf_options.specs.Prelude.{style_of}
 use Rattle.elf_options.specs.declared.caps.Caps.{Caps}
 use Rattle.elf_archive.specs.FirstFault.{IsArchiveFault, before_magic, cost_after_magic}
 use Rattle.elf_walk.specs.CheckedFile.{FindsElf, elf_cost}

@@ -1,13 +1,11 @@
 -- What is told of one file among many.
 use Rattle.std.specs.Prelude.{ℕ, ◌≡◌, ◌≤◌, ◌^◌, ◌⊎◌, false, List, max, Result, Ok, Err, OnOk, OnErr}
 use Rattle.elf_walk.specs.Statuses.{state_status}
-use Rattle.elf_model.specs.Checking.{check_line}
-use Rattle.elf_model.specs.declared.formats.Format.{Format}
+use Rattle.elf_model.specs.Prelude.{check_line}
 use Rattle.elf_model.specs.declared.states.FileStatus.{FileStatus}
+use Rattle.elf_model.specs.declared.formats.Format.{Format}
 use Rattle.elf_model.specs.declared.states.FileStatus.TheVariants.{Memory, Unread}
-use Rattle.elf_source.specs.Output.{OutPuts, OutState}
-use Rattle.elf_source.specs.Ranges.{IsWholeRange}
-use Rattle.elf_source.specs.Source.{CountedState}
+use Rattle.elf_source.specs.Prelude.{CountedState, IsWholeRange, OutPuts, OutState}
 use Rattle.elf_source.specs.declared.faults.OutFault.{OutFault}
 
 -- a source as it is when a file is opened: a range of all its bytes, of which nothing is hidden, and not much was asked

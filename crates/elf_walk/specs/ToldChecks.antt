@@ -1,12 +1,10 @@
 -- What is told of one checked file among many.
 use Rattle.std.specs.Prelude.{ℕ, ◌≡◌, ◌+◌, ◌≤◌, Bool, true, false, List, Some, Result, IfOk}
-use Rattle.elf_model.specs.Checking.{check_line}
-use Rattle.elf_model.specs.Style.{ListingStyle}
+use Rattle.elf_model.specs.Prelude.{ListingStyle, check_line}
 use Rattle.elf_model.specs.declared.states.FileStatus.{FileStatus}
-use Rattle.elf_source.specs.Output.{OutPuts, OutState}
-use Rattle.elf_source.specs.Source.{CountedState}
+use Rattle.elf_source.specs.Prelude.{CountedState, OutPuts, OutState}
 use Rattle.elf_source.specs.declared.faults.OutFault.{OutFault}
-use Rattle.elf_options.specs.Permitted.{style_of}
+use Rattle.elf_options.specs.Prelude.{style_of}
 use Rattle.elf_options.specs.declared.caps.Caps.{Caps}
 use Rattle.elf_walk.specs.Checked.{FailsRead}
 use Rattle.elf_walk.specs.Statuses.{state_status}

@@ -1,18 +1,17 @@
 -- What is told of one listed file among many.
-use Rattle.std.specs.Prelude.{ℕ, ◌≡◌, ◌+◌, ◌≤◌, List, Option, None, Some, Bool, true, false, Result, Ok, Err, IfOk, IfSome}
-use Rattle.elf_model.specs.Checking.{check_line}
-use Rattle.elf_model.specs.FileLists.{budget_after, file_magic, front_size, list_status, path_line}
-use Rattle.elf_model.specs.declared.formats.Format.{Format}
+use Rattle.std.specs.Prelude.{ℕ, ◌≡◌, ◌+◌, ◌≤◌, List, Option, None, Some, Bool, false, Result, Ok, Err, IfOk, IfSome, true}
+use Rattle.elf_model.specs.Prelude.{budget_after, check_line, file_magic, front_size, list_status, path_line}
 use Rattle.elf_model.specs.declared.states.FileMagic.{FileMagic}
-use Rattle.elf_model.specs.declared.states.FileMagic.TheVariants as sort
+use Rattle.elf_model.specs.declared.formats.Format.{Format}
 use Rattle.elf_model.specs.declared.states.FileStatus.TheVariants.{Unread}
-use Rattle.elf_source.specs.Output.{OutPuts, OutState}
-use Rattle.elf_source.specs.Source.{CountedState}
+use Rattle.elf_model.specs.declared.states.FileMagic.TheVariants as sort
+use Rattle.elf_source.specs.Prelude.{CountedState, OutPuts, OutState}
 use Rattle.elf_source.specs.declared.faults.OutFault.{OutFault}
-use Rattle.elf_options.specs.Permitted.{style_of}
+use Rattle.elf_options.specs.Prelude.{style_of}
 use Rattle.elf_options.specs.declared.caps.Limits.{Limits}
+use Rattle.elf_table.specs.declared.run_fault.RunFault.TheVariants.{Out}
 use Rattle.elf_table.specs.declared.run_fault.RunFault.{RunFault}
-use Rattle.elf_table.specs.declared.run_fault.RunFault.TheVariants.{Refused, Source, Out}
+use Rattle.elf_table.specs.declared.run_fault.RunFault.TheVariants.{Refused, Source}
 use Rattle.elf_walk.specs.Checked.{FailsRead}
 use Rattle.elf_walk.specs.Fronts.{front_asked}
 use Rattle.elf_walk.specs.Lists.{ListsHeaded, sort_ceiling, sort_cost}

@@ -1,13 +1,11 @@
 -- What is told of one file's traits among many.
 use Rattle.std.specs.Prelude.{ℕ, ◌≡◌, ◌+◌, ◌≤◌, List, Some, Result, Ok, Err, IfErr, IfOk}
-use Rattle.elf_model.specs.Checking.{check_line}
-use Rattle.elf_model.specs.TraitWords.{Required, traits_status, traits_text}
-use Rattle.elf_model.specs.declared.formats.Format.{Format}
+use Rattle.elf_model.specs.Prelude.{Required, check_line, traits_status, traits_text}
 use Rattle.elf_model.specs.declared.states.FileStatus.{FileStatus}
-use Rattle.elf_model.specs.declared.states.FileStatus.TheVariants as state
+use Rattle.elf_model.specs.declared.formats.Format.{Format}
 use Rattle.elf_model.specs.declared.traits.Hardening.{Hardening}
-use Rattle.elf_source.specs.Output.{OutPuts, OutState}
-use Rattle.elf_source.specs.Source.{CountedState}
+use Rattle.elf_model.specs.declared.states.FileStatus.TheVariants as state
+use Rattle.elf_source.specs.Prelude.{CountedState, OutPuts, OutState}
 use Rattle.elf_source.specs.declared.faults.OutFault.{OutFault}
 use Rattle.elf_options.specs.Required.{required_words}
 use Rattle.elf_walk.specs.Checked.{FailsRead}

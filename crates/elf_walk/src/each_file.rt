@@ -1,8 +1,7 @@
 //! What is done with each of many files.
 ghost use Rattle.std.specs.Prelude.{◌≡◌, ℕ, List, Result};
 ghost use Rattle.elf_walk.specs.Telling.{StandsWhole};
-ghost use Rattle.elf_source.specs.Output.{OutState};
-ghost use Rattle.elf_source.specs.Source.{CountedState};
+ghost use Rattle.elf_source.specs.Prelude.{CountedState, OutState};
 ghost use Rattle.elf_source.specs.declared.faults.OutFault.{OutFault};
 
 use elf_source::{Counted, DeferredSink, Out, OutFault, RangeSource, Sink, Source};

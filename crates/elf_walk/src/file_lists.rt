@@ -1,7 +1,7 @@
 //! The listing of each of many files.
 ghost use Rattle.std.specs.Prelude.{◌≡◌};
 ghost use Rattle.elf_walk.specs.ToldListings.{LeavesLimits, EndsListing, PutsUnread, is_unlisted};
-ghost use Rattle.elf_model.specs.FileLists.{budget_after};
+ghost use Rattle.elf_model.specs.Prelude.{budget_after};
 
 use crate::each_file::FileVisitor;
 use crate::headed::list_with_path_line;

@@ -1,11 +1,9 @@
 //! What a file is, by its first bytes.
-ghost use Rattle.std.specs.Prelude.{◌≡◌, ◌+◌, ◌≤◌, ◌==◌, ℕ, List, None, Some, Ok, IfErr, IfOk, if◌then◌else◌};
-ghost use Rattle.elf_archive.specs.FirstFault.{BeginsArchive};
-ghost use Rattle.elf_model.specs.Archive.{ARCHIVE_MAGIC, THIN_MAGIC};
-ghost use Rattle.elf_model.specs.Bytes.{field};
-ghost use Rattle.elf_model.specs.FileLists.{file_magic, front_size, may_read_bytes};
-ghost use Rattle.elf_model.specs.Records.{has_elf_magic};
+ghost use Rattle.std.specs.Prelude.{◌≡◌, ◌+◌, ◌≤◌, ◌==◌, ℕ, List, None, Some, IfErr, IfOk, if◌then◌else◌, Ok};
+ghost use Rattle.elf_model.specs.Prelude.{ARCHIVE_MAGIC, field, file_magic, front_size, has_elf_magic, may_read_bytes};
 ghost use Rattle.elf_model.specs.declared.states.FileMagic.TheVariants.{Archive, Elf, Foreign, Thin};
+ghost use Rattle.elf_archive.specs.FirstFault.{BeginsArchive};
+ghost use Rattle.elf_model.specs.Archive.{THIN_MAGIC};
 ghost use Rattle.elf_source.specs.Source.{IsSourceFault, FillsUnlimited, KeepsSource};
 ghost use Rattle.elf_walk.specs.Fronts.{front_asked};
 

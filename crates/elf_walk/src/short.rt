@@ -1,8 +1,9 @@
 //! The state of a file that is too short for a file header, and of one that is refused.
 ghost use Rattle.std.specs.Prelude.{◌≡◌, ◌+◌, ◌<◌, ◌≤◌, ◌^◌, ℕ, List, IfSome, None, Some, if◌then◌else◌};
-ghost use Rattle.elf_model.specs.Checking.{is_not_elf, short_state};
+ghost use Rattle.elf_model.specs.Prelude.{is_not_elf};
 ghost use Rattle.elf_model.specs.declared.states.FileStatus.TheVariants.{NoElf, Refused};
 ghost use Rattle.elf_source.specs.Source.{KeepsSource};
+ghost use Rattle.elf_model.specs.Checking.{short_state};
 ghost use Rattle.elf_walk.specs.Checked.{FailsRead, FindsShort};
 
 use crate::line_prefixes::find_file_type;

@@ -3,10 +3,8 @@ use Rattle.std.proofs.Common.{◌≡◌, ◌≤◌, ◌+◌, ℕ, Bool, true, Li
 use Rattle.std.specs.Prelude.{IfErr, IfOk}
 use Rattle.std.specs.Io.KnownBytes.{append_known}
 use Rattle.elf_model.specs.ArchiveCost.{archive_cost}
-use Rattle.elf_source.specs.Growth.{OutGrows}
-use Rattle.elf_source.specs.Source.{CountedState}
-use Rattle.elf_source.specs.Output.{OutState}
-use Rattle.elf_options.specs.Permitted.{style_of}
+use Rattle.elf_source.specs.Prelude.{CountedState, OutGrows, OutState}
+use Rattle.elf_options.specs.Prelude.{style_of}
 use Rattle.elf_options.specs.declared.caps.Caps.{Caps}
 use Rattle.elf_table.specs.declared.run_fault.RunFault.{RunFault}
 use Rattle.elf_listing.specs.Reports.{KeepsSourceUnlimited}

@@ -2,12 +2,10 @@
 use Rattle.std.specs.Prelude.{ℕ, ◌≡◌, ◌⊎◌, ◌≤◌, ◌+◌, ⊤, Bool, true, false, List, codes, Option, None, Some, Result, Ok, Err, IfErr, IfOk}
 use Rattle.std.specs.Io.Buffered.{writer_buffer, writer_contents, writer_inner}
 use Rattle.std.specs.declared.io.buffered.BufWriter.{BufWriter}
-use Rattle.elf_model.specs.ArchiveCost.{archive_cost}
+use Rattle.elf_model.specs.Prelude.{archive_cost}
 use Rattle.elf_model.specs.declared.causes.Refusal.{Refusal}
-use Rattle.elf_source.specs.Growth.{OutGrows}
-use Rattle.elf_source.specs.Source.{CountedState, SourceState}
-use Rattle.elf_source.specs.Output.{Writing, OutState}
-use Rattle.elf_options.specs.Permitted.{style_of}
+use Rattle.elf_source.specs.Prelude.{CountedState, OutGrows, OutState, SourceState, Writing}
+use Rattle.elf_options.specs.Prelude.{style_of}
 use Rattle.elf_options.specs.declared.caps.Caps.{Caps}
 use Rattle.elf_table.specs.declared.run_fault.RunFault.{RunFault}
 use Rattle.elf_table.specs.declared.run_fault.RunFault.TheVariants.{Refused}
@@ -15,7 +13,7 @@ use Rattle.elf_listing.specs.Reports.{KeepsSourceUnlimited}
 use Rattle.elf_archive.specs.Listed.{ArchiveSays, AsksInArchive, ReportsArchive}
 use Rattle.elf_walk.specs.declared.lists.ListFault.{ListFault}
 use Rattle.elf_walk.specs.declared.lists.ListFault.TheVariants as list
-use Rattle.elf_cli.specs.Endings.{ProgramEnds, PutsRest, wants_rest}
+use Rattle.elf_cli.specs.Prelude.{ProgramEnds, PutsRest, wants_rest}
 use Rattle.elf_cli.specs.declared.outputs.RunEnd.{RunEnd}
 use Rattle.elf_cli.specs.declared.outputs.RunEnd.TheVariants.{Status, Told, Unwritten}
 use Rattle.elf_requests.specs.ArchiveAnswers.{refused_by}

@@ -1,12 +1,11 @@
 -- What is told behind a refusal of a section, and what that asks for.
 use Rattle.std.specs.Prelude.{ℕ, ◌+◌, ◌-◌, ◌≤◌, max, Bool, false, List, Option, None, Result, Ok, Err, IfSome, option_map}
-use Rattle.elf_model.specs.Explain.{MissingEntry, explained}
+use Rattle.elf_model.specs.Prelude.{MissingEntry, explained}
 use Rattle.elf_model.specs.declared.causes.Refusal.{Refusal}
-use Rattle.elf_source.specs.Source.{CountedState}
-use Rattle.elf_source.specs.Output.{OutState, SinkTakes, SinkTakesPrefix}
+use Rattle.elf_source.specs.Prelude.{CountedState, OutState, SinkTakes, SinkTakesPrefix}
 use Rattle.elf_table.specs.declared.run_fault.RunFault.{RunFault}
-use Rattle.elf_requests.specs.declared.requests.Task.{Task}
 use Rattle.elf_requests.specs.declared.requests.Task.TheVariants.{Apply, Place}
+use Rattle.elf_requests.specs.declared.requests.Task.{Task}
 
 -- whether a task asks what would help
 unfoldable pub asks_why : Task → Bool

@@ -1,10 +1,10 @@
 -- A section that is applied with the items of a file.
 use Rattle.std.specs.Prelude.{ℕ, ◌≡◌, ◌⊎◌, Bool, List, [], codes}
 use Rattle.elf_model.specs.Placing.{Layout}
+use Rattle.elf_layout.specs.declared.items.LayoutFileFault.TheVariants.{BadItem, Memory, Read, Repeats, TooLarge}
 use Rattle.elf_layout.specs.declared.items.LayoutFileFault.{LayoutFileFault}
-use Rattle.elf_layout.specs.declared.items.LayoutFileFault.TheVariants.{Read, TooLarge, BadItem, Repeats, Memory}
-use Rattle.elf_requests.specs.declared.requests.Task.{Task}
 use Rattle.elf_requests.specs.declared.requests.Task.TheVariants.{Place}
+use Rattle.elf_requests.specs.declared.requests.Task.{Task}
 use Rattle.elfsee.specs.Ends.{EndsWithoutMemory}
 
 -- a task applies a section in these addresses

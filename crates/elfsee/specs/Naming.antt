@@ -1,13 +1,12 @@
 -- A listing of the rows of some names.
 use Rattle.std.specs.Prelude.{ℕ, ◌≡◌, List, codes}
-use Rattle.elf_options.specs.NamedRows.{named_style}
-use Rattle.elf_options.specs.declared.names_fault.NamesFault.{NamesFault}
-use Rattle.elf_options.specs.declared.names_fault.NamesFault.TheVariants.{Read, TooLarge, BadName, NoNames, Memory}
-use Rattle.elf_options.specs.Permitted.{style_of}
+use Rattle.elf_options.specs.Prelude.{named_style, style_of}
+use Rattle.elf_options.specs.declared.names_fault.NamesFault.TheVariants.{BadName, Memory, Read, TooLarge, NoNames}
 use Rattle.elf_options.specs.declared.caps.ListingStyle.{ListingStyle}
+use Rattle.elf_options.specs.declared.names_fault.NamesFault.{NamesFault}
 use Rattle.elf_record.specs.declared.parts.Parts.{Parts}
-use Rattle.elf_requests.specs.declared.requests.Task.{Task}
 use Rattle.elf_requests.specs.declared.requests.Task.TheVariants.{Show}
+use Rattle.elf_requests.specs.declared.requests.Task.{Task}
 use Rattle.elfsee.specs.Ends.{EndsWithoutMemory}
 
 -- a task lists these parts, of which the rows of these names alone are shown, in a style that is else this one

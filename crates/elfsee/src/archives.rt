@@ -1,9 +1,7 @@
 //! The listing of an archive.
 ghost use Rattle.std.specs.Prelude.{◌≡◌, ◌⊎◌, IfErr, length};
 ghost use Rattle.elfsee.specs.Ends.{EndsRunOver, EndsWithoutFile, EndsWithoutMemory, RunsArchive};
-ghost use Rattle.elf_options.specs.Permitted.{style_of};
-ghost use Rattle.elf_options.specs.NamedRows.{named_style};
-ghost use Rattle.elf_options.specs.Names.{NeverDescend, texts_of};
+ghost use Rattle.elf_options.specs.Prelude.{NeverDescend, named_style, style_of, texts_of};
 ghost use Rattle.elfsee.specs.Naming.{EndsWithoutNames};
 
 use crate::names::{read_list, sorted_names};

@@ -1,8 +1,6 @@
 //! The listings of many files.
 ghost use Rattle.std.specs.Prelude.{◌≡◌, ◌⊎◌, IfErr};
-ghost use Rattle.elf_options.specs.Permitted.{style_of};
-ghost use Rattle.elf_options.specs.NamedRows.{named_style};
-ghost use Rattle.elf_options.specs.Names.{NeverDescend, texts_of};
+ghost use Rattle.elf_options.specs.Prelude.{NeverDescend, named_style, style_of, texts_of};
 ghost use Rattle.elfsee.specs.Ends.{EndsWithoutMemory};
 ghost use Rattle.elfsee.specs.Naming.{EndsWithoutNames};
 

@@ -10,11 +10,10 @@ mod names;
 mod needs;
 
 ghost use Rattle.std.specs.Prelude.{◌≡◌, ◌⊎◌, IfErr, IfOk, map, string_bytes};
-ghost use Rattle.elf_requests.specs.Requests.{RunsTask};
-ghost use Rattle.elf_cli.specs.Endings.{EndsWords};
-ghost use Rattle.elf_requests.specs.Answered.{WordsAsk};
-ghost use Rattle.elfsee.specs.Ends.{EndsRunOver, EndsWithoutFile, EndsWithoutMemory, told_refusal};
+ghost use Rattle.elf_requests.specs.Prelude.{RunsTask, WordsAsk};
+ghost use Rattle.elf_cli.specs.Prelude.{EndsWords};
 ghost use Rattle.elf_cli.specs.declared.faults.RequestFault.{RequestFault};
+ghost use Rattle.elfsee.specs.Ends.{EndsRunOver, EndsWithoutFile, EndsWithoutMemory, told_refusal};
 
 use archives::list_archive;
 use elf_cli::{

@@ -1,10 +1,8 @@
 //! What would help behind a refusal of a section, told on standard error.
 ghost use Rattle.std.specs.Prelude.{◌≡◌, ◌≤◌, ◌^◌, ℕ, List, None, Some, IfErr, false};
-ghost use Rattle.elf_model.specs.Explain.{explained};
-ghost use Rattle.elf_model.specs.ExplainLine.{explanation};
+ghost use Rattle.elf_model.specs.Prelude.{explained, explanation};
 ghost use Rattle.elf_source.specs.Source.{ReadsUpTo, SetsLimit};
-ghost use Rattle.elf_listing.specs.Reports.{KeepsSourceUnlimited};
-ghost use Rattle.elf_listing.specs.Shows.{StopSays};
+ghost use Rattle.elf_listing.specs.Prelude.{KeepsSourceUnlimited, StopSays};
 ghost use Rattle.elf_reloc.specs.Explained.{explain_bytes, may_be_missing};
 ghost use Rattle.elfsee.specs.Explaining.{AsksRest, WroteUpTo, asks_why, lack_in, budget_rest};
 

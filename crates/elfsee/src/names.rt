@@ -1,8 +1,7 @@
 //! The names of which the rows are shown, and the listing of a file by them.
 ghost use Rattle.std.specs.Prelude.{◌≡◌, ◌<◌, ◌++◌, [], length, IfErr, IfOk};
 ghost use Rattle.std.specs.List.Sorted.{IsPermutation};
-ghost use Rattle.elf_options.specs.NameLists.{listed_names};
-ghost use Rattle.elf_options.specs.Names.{NeverDescend, texts_of};
+ghost use Rattle.elf_options.specs.Prelude.{NeverDescend, listed_names, texts_of};
 ghost use Rattle.elfsee.specs.Naming.{EndsNames, EndsWithoutNames, ShowsRowsOf};
 
 use crate::answer_request;

@@ -1,18 +1,13 @@
 -- A listing that is asked for is one in its style.
 use Rattle.std.proofs.Common.{◌≡◌, ◌≤◌, ℕ, List, Option, Some, length, sym, subst, ◌∙◌, arith}
 use Rattle.std.specs.Prelude.{IfSome}
-use Rattle.elf_model.specs.Budget.{IsBudgeted}
-use Rattle.elf_model.specs.Cost.{listing_cost}
-use Rattle.elf_model.specs.Style.{ListingStyle}
-use Rattle.elf_capi.specs.Asked.{AsksListing, GivesListing, BorrowedTexts, caller_style, parts_in, style_in}
-use Rattle.elf_capi.specs.Limits.{AreCaps, budget_of, headers_of}
-use Rattle.elf_capi.specs.Shown.{FillsMemory, HasStyledListing, ShowsInMemory}
-use Rattle.elf_capi.specs.Told.{IsStatus}
-use Rattle.elf_capi.specs.declared.caller_listing.CallerListing.{CallerListing}
+use Rattle.elf_model.specs.Prelude.{IsBudgeted, ListingStyle, listing_cost}
+use Rattle.elf_capi.specs.Prelude.{AreCaps, AsksListing, BorrowedTexts, FillsMemory, GivesListing, HasStyledListing, IsStatus, ShowsInMemory, budget_of, caller_style, headers_of, parts_in, style_in}
+use Rattle.elf_capi.specs.declared.call_status.CallStatus.TheVariants.{BadCall, Done, Full, Refused}
 use Rattle.elf_capi.specs.declared.end.CallEnd.{CallEnd}
-use Rattle.elf_capi.specs.declared.limits.CallerLimits.{CallerLimits}
 use Rattle.elf_capi.specs.declared.call_status.CallStatus.{CallStatus}
-use Rattle.elf_capi.specs.declared.call_status.CallStatus.TheVariants.{Done, Refused, Full, BadCall}
+use Rattle.elf_capi.specs.declared.limits.CallerLimits.{CallerLimits}
+use Rattle.elf_capi.specs.declared.caller_listing.CallerListing.{CallerListing}
 
 module _ (file : List ℕ) (limits : CallerLimits) (room : ℕ) (asked : List ℕ) (names : Option BorrowedTexts) (listing : CallerListing) (gives : GivesListing asked names (Some listing)) where
   -- what fills the memory

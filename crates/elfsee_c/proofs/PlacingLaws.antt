@@ -1,18 +1,15 @@
 -- What a call in a layout that is lent did with its arguments, by what it tells.
 use Rattle.std.proofs.Common.{◌≡◌, ℕ, ◌+◌, ◌≤◌, List, Option}
 use Rattle.std.specs.Prelude.{IfSome}
-use Rattle.elf_model.specs.ApplyCost.{apply_cost_by_order}
-use Rattle.elf_model.specs.Placing.{Layout}
+use Rattle.elf_model.specs.Prelude.{Layout, apply_cost_by_order}
 use Rattle.elf_reloc.specs.Explained.{explain_bytes}
-use Rattle.elf_capi.specs.Applied.{AppliesFor}
-use Rattle.elf_capi.specs.LentLayouts.{ExplainsTold, MayBorrowLayout, PlacesInMemory, lent_layout}
-use Rattle.elf_capi.specs.Limits.{AreInRange, budget_of, headers_of}
+use Rattle.elf_capi.specs.Prelude.{AppliesFor, AreInRange, ExplainsTold, MayBorrowLayout, PlacesInMemory, budget_of, headers_of, lent_layout}
+use Rattle.elf_capi.specs.declared.call_status.CallStatus.TheVariants.{BadCall, Done, Full, Refused}
 use Rattle.elf_capi.specs.declared.end.CallEnd.{CallEnd}
+use Rattle.elf_capi.specs.declared.call_status.CallStatus.{CallStatus}
 use Rattle.elf_capi.specs.declared.lent_layout.CallerLayout.{CallerLayout}
 use Rattle.elf_capi.specs.declared.limits.CallerLimits.{CallerLimits}
 use Rattle.elf_capi.specs.declared.missing.CallerMissing.{CallerMissing}
-use Rattle.elf_capi.specs.declared.call_status.CallStatus.{CallStatus}
-use Rattle.elf_capi.specs.declared.call_status.CallStatus.TheVariants.{Done, Refused, Full, BadCall}
 
 -- by each answer
 places_by : (file : List ℕ) (limits : CallerLimits) (section : ℕ) (layout : CallerLayout) (room : ℕ) (before out : List ℕ) (end : CallEnd) (missing : CallerMissing) (told : CallStatus)

@@ -1,8 +1,7 @@
 //! The export that looks a name up in a file in memory.
 ghost use Rattle.std.specs.Prelude.{◌≡◌, ◌≤◌, IfSome, length};
 ghost use Rattle.elf_model.specs.Find.{find_cost};
-ghost use Rattle.elf_capi.specs.Found.{CallLooks, HasLookup};
-ghost use Rattle.elf_capi.specs.Limits.{budget_of, headers_of};
+ghost use Rattle.elf_capi.specs.Prelude.{CallLooks, HasLookup, budget_of, headers_of};
 
 use elf_capi::{CallEnd, CallerLimits, LookupFields, limits_of, look_in, report_found};
 use elf_hash::Lookup;

@@ -1,8 +1,6 @@
 //! The export that opens the symbols which a loader knows of a file in memory.
 ghost use Rattle.std.specs.Prelude.{◌≡◌, ◌≤◌, IfSome, length};
-ghost use Rattle.elf_capi.specs.Hashed.{hashed_cost};
-ghost use Rattle.elf_capi.specs.HashedRows.{HasHashed, OpensHashed, by_flags};
-ghost use Rattle.elf_capi.specs.Limits.{budget_of, headers_of};
+ghost use Rattle.elf_capi.specs.Prelude.{HasHashed, OpensHashed, budget_of, by_flags, hashed_cost, headers_of};
 
 use elf_capi::{CallEnd, CallerLimits, RowPosition, limits_of, open_hashed, report_opened};
 use elf_record::Refusal;

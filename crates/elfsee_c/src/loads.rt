@@ -1,7 +1,6 @@
 //! The exports that go by the program headers of a file in memory, with no section headers.
 ghost use Rattle.elf_memory.specs.MappedBytes.{ReadsMapped};
-ghost use Rattle.elf_capi.specs.SegmentDynamic.{ReadsSegmentDynamic};
-ghost use Rattle.elf_capi.specs.Ends.{ReturnsRead};
+ghost use Rattle.elf_capi.specs.Prelude.{ReadsSegmentDynamic, ReturnsRead};
 
 use elf_capi::{CallEnd, RowPosition, segment_dynamic, tell};
 use elf_memory::{ByteRange, find_mapped};

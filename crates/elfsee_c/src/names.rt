@@ -1,8 +1,7 @@
 //! The exports that tell where names in string tables lie.
 ghost use Rattle.std.specs.Prelude.{length};
 ghost use Rattle.elf_memory.specs.Names.{FindsName};
-ghost use Rattle.elf_capi.specs.Ends.{ReturnsOpened, ReturnsRead};
-ghost use Rattle.elf_capi.specs.CallOpenings.{OpensNames};
+ghost use Rattle.elf_capi.specs.Prelude.{OpensNames, ReturnsOpened, ReturnsRead};
 
 use elf_capi::{CallEnd, CallerLimits, limits_of, names_in, report_opened, tell};
 use elf_memory::{ByteRange, find_name};

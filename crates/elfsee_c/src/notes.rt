@@ -48,7 +48,8 @@ pub extern "C" fn elfsee_next_note(
     note: &mut Note,
     end: &mut CallEnd,
 ) -> u32
-    ensures { ReturnsRead (TakesNote file.now notes.old notes.new) result note.old note.new end.new }
+    ensures { ReturnsRead (TakesNote file.now notes.old notes.new) result note.old note.new
+        end.new }
 {
     tell(next_note(file, notes), note, end)
 }

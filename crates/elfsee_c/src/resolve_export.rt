@@ -1,10 +1,7 @@
 //! The export that looks a name up in a file in memory as a loader does.
 ghost use Rattle.std.specs.Prelude.{◌≡◌, ◌≤◌, IfSome, length};
 ghost use Rattle.elf_model.specs.LoaderFind.{loader_cost};
-ghost use Rattle.elf_capi.specs.Ends.{ReturnsNone};
-ghost use Rattle.elf_capi.specs.Limits.{budget_of, headers_of};
-ghost use Rattle.elf_capi.specs.Queries.{IsPermitted, asks_of, wanted_by};
-ghost use Rattle.elf_capi.specs.Resolved.{IsResolved, Resolves, ResolvesIn, ReturnsResolved, file_of, nothing_resolved};
+ghost use Rattle.elf_capi.specs.Prelude.{IsPermitted, IsResolved, Resolves, ResolvesIn, ReturnsNone, ReturnsResolved, asks_of, budget_of, file_of, headers_of, nothing_resolved, wanted_by};
 
 use elf_capi::{CallEnd, CallerLimits, Query, Resolved, limits_of, report_resolved, resolve_in};
 use elf_loader::SymbolLookup;

@@ -1,10 +1,7 @@
 //! The exports that list a file in memory.
 ghost use Rattle.std.specs.Prelude.{◌≡◌, ◌≤◌, ℕ, IfSome, List, None, Option, Some, length};
 ghost use Rattle.elf_model.specs.Cost.{listing_cost};
-ghost use Rattle.elf_capi.specs.Asked.{AsksListing, GivesListing, BorrowedTexts, caller_style};
-ghost use Rattle.elf_capi.specs.Asked.{parts_in, style_in};
-ghost use Rattle.elf_capi.specs.Limits.{AreCaps, budget_of, headers_of};
-ghost use Rattle.elf_capi.specs.Shown.{HasAskedListing, HasListing, ShowsInMemory};
+ghost use Rattle.elf_capi.specs.Prelude.{AreCaps, AsksListing, BorrowedTexts, GivesListing, HasAskedListing, HasListing, ShowsInMemory, budget_of, caller_style, headers_of, parts_in, style_in};
 
 use elf_capi::{
     CallEnd, CallOutcome, CallStatus, CallerLimits, CallerListing, caps_of, list, listing_of,

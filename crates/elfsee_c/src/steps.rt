@@ -1,13 +1,10 @@
 //! The exports that read the next rows of a table of a file in memory.
 ghost use Rattle.std.specs.Prelude.{◌<◌, ℕ, length, slice_index_or};
-ghost use Rattle.elf_capi.specs.Entries.{IsDynamic, IsRelocation};
-ghost use Rattle.elf_capi.specs.Rows.{StepsRows, next_at};
-ghost use Rattle.elf_capi.specs.Symbols.{IsSymbol};
-ghost use Rattle.elf_capi.specs.VersionRecords.{IsVersionWord};
-ghost use Rattle.elf_capi.specs.declared.dynamic.Dynamic.{Dynamic as OneDynamic};
+ghost use Rattle.elf_capi.specs.Prelude.{IsDynamic, IsRelocation, IsSymbol, IsVersionWord, StepsRows, next_at};
 ghost use Rattle.elf_capi.specs.declared.relocations.Relocation.{Relocation as OneRelocation};
 ghost use Rattle.elf_capi.specs.declared.symbol.Symbol.{Symbol as OneSymbol};
 ghost use Rattle.elf_capi.specs.declared.version_words.Versym.{Versym as OneWord};
+ghost use Rattle.elf_capi.specs.declared.dynamic.Dynamic.{Dynamic as OneDynamic};
 
 use elf_capi::{Dynamic, Relocation, RowPosition, Symbol, Versym, next_rows};
 

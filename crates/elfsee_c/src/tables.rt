@@ -1,8 +1,8 @@
 //! The exports that open the rows of a section of a file in memory.
 ghost use Rattle.std.specs.Prelude.{length};
-ghost use Rattle.elf_capi.specs.declared.kind.RowKind.TheVariants.{Symbols, Relocations, Dynamic, VersionWords};
-ghost use Rattle.elf_capi.specs.CallOpenings.{OpensRows};
-ghost use Rattle.elf_capi.specs.Ends.{ReturnsOpened};
+ghost use Rattle.elf_capi.specs.Prelude.{OpensRows, ReturnsOpened};
+ghost use Rattle.elf_capi.specs.declared.kind.RowKind.TheVariants.{Relocations, Symbols, VersionWords};
+ghost use Rattle.elf_capi.specs.declared.kind.RowKind.TheVariants.{Dynamic};
 
 use elf_capi::{CallEnd, CallerLimits, RowKind, RowPosition, limits_of, report_opened, rows_in};
 

@@ -1,8 +1,6 @@
 //! The exports that go over the version definitions and needs of a file in memory.
 ghost use Rattle.std.specs.Prelude.{length};
-ghost use Rattle.elf_capi.specs.VersionRecords.{StepsRecord};
-ghost use Rattle.elf_capi.specs.Ends.{ReturnsOpened, ReturnsRead};
-ghost use Rattle.elf_capi.specs.CallOpenings.{OpensRecords};
+ghost use Rattle.elf_capi.specs.Prelude.{OpensRecords, ReturnsOpened, ReturnsRead, StepsRecord};
 
 use elf_capi::{
     CallEnd, CallerLimits, RecordRow, VersionRecordPosition, limits_of, next_record, records_in,

@@ -1,18 +1,11 @@
 //! The exports that read rows within a budget: what they read counts, over all tables.
 ghost use Rattle.std.specs.Prelude.{◌≡◌, ◌≤◌, ◌<◌, ℕ, IfSome, length, slice_index_or};
-ghost use Rattle.elf_capi.specs.Entries.{IsDynamic, IsRelocation};
-ghost use Rattle.elf_capi.specs.Rows.{next_at};
-ghost use Rattle.elf_capi.specs.SegmentDynamic.{ReadsSegmentDynamic};
-ghost use Rattle.elf_capi.specs.Symbols.{IsSymbol};
-ghost use Rattle.elf_capi.specs.VersionRecords.{IsVersionWord};
-ghost use Rattle.elf_capi.specs.declared.dynamic.Dynamic.{Dynamic as OneDynamic};
-ghost use Rattle.elf_capi.specs.declared.kind.RowKind.TheVariants.{Dynamic as DynamicRows};
+ghost use Rattle.elf_capi.specs.Prelude.{IsDynamic, IsRelocation, IsSymbol, IsVersionWord, OpensAlways, OpensEntries, OpensRows, ReadsSegmentDynamic, ReturnsEntries, StepsBudgeted, budget_of, next_at};
 ghost use Rattle.elf_capi.specs.declared.relocations.Relocation.{Relocation as OneRelocation};
 ghost use Rattle.elf_capi.specs.declared.symbol.Symbol.{Symbol as OneSymbol};
 ghost use Rattle.elf_capi.specs.declared.version_words.Versym.{Versym as OneWord};
-ghost use Rattle.elf_capi.specs.Limits.{budget_of};
-ghost use Rattle.elf_capi.specs.CallOpenings.{OpensRows};
-ghost use Rattle.elf_capi.specs.Within.{OpensAlways, OpensEntries, StepsBudgeted, ReturnsEntries};
+ghost use Rattle.elf_capi.specs.declared.dynamic.Dynamic.{Dynamic as OneDynamic};
+ghost use Rattle.elf_capi.specs.declared.kind.RowKind.TheVariants.{Dynamic as DynamicRows};
 
 use elf_capi::{
     CallEnd, CallerLimits, Dynamic, Relocation, RowPosition, Symbol, Versym, count_entries,

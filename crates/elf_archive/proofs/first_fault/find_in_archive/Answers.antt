@@ -1,7 +1,6 @@
 -- The members are gone over behind the magic string, which was read.
 use Rattle.std.proofs.Common.{◌-◌, ◌≡◌, ◌≤◌, ℕ, ◌^◌, length, refl, ap, ◌∙◌, arith, Err}
-use Rattle.elf_model.specs.Archive.{before_members}
-use Rattle.elf_model.specs.ArchiveCost.{allowance, members_cost}
+use Rattle.elf_model.specs.Prelude.{allowance, before_members, members_cost}
 use Rattle.elf_model.proofs.AllowanceLaws.{allowance_within}
 use Rattle.elf_source.proofs.GrowthLaws.{grows_not}
 use Rattle.elf_source.proofs.ReadsLaws.{ReadsUpTo-none}

@@ -1,17 +1,14 @@
 -- Each step goes through the next member behind those before it.
 use Rattle.std.proofs.Common.{rules, ◌≡◌, ℕ, ◌+◌, length, None, Ok, Err, refl, sym, ◌∙◌, subst, arith}
 use Rattle.std.proofs.lemmas.Result.{err_from_is_err_and}
-use Rattle.elf_model.specs.Archive.{Member, before_members, next_member}
-use Rattle.elf_model.specs.ArchiveCost.{header_cost, member_cost}
-use Rattle.elf_model.specs.Cost.{style_ceiling}
+use Rattle.elf_model.specs.Prelude.{Member, before_members, header_cost, member_cost, next_member, style_ceiling}
 use Rattle.elf_source.proofs.GrowthLaws.{grows_not, grows_then}
 use Rattle.elf_source.proofs.ReadsLaws.{ReadsUpTo-none, ReadsUpTo-then, ReadsUpTo-to}
 use Rattle.elf_source.specs.Source.{ReadsUpTo}
+use Rattle.elf_table.specs.Prelude.{stop_of}
 use Rattle.elf_table.specs.declared.run_fault.RunFault.TheVariants.{Refused}
 use Rattle.elf_options.specs.Permitted.{style_of}
-use Rattle.elf_table.specs.Stops.{stop_of}
-use Rattle.elf_archive.specs.Listed.{ReadsAtMostIn}
-use Rattle.elf_archive.specs.Members.{IsMemberWalkInBounds, member_of, step_cost}
+use Rattle.elf_archive.specs.Prelude.{IsMemberWalkInBounds, ReadsAtMostIn, member_of, step_cost}
 use Rattle.elf_archive.proofs.ConsumeLaws.{ReadsAtMostIn-fault, ReadsAtMostIn-then, still_whole}
 use Rattle.elf_archive.proofs.FaultLaws.{check_begins, check_ends, check_more, fault_of_member, fault_takes, sound_member, step_cost_left, stop_of_member, walk_fault}
 use Rattle.elf_archive.proofs.ListingLaws.{cost_of_data, header_first, member_allowed, step_allowed, step_ends, step_within}

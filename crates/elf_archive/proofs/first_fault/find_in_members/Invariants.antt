@@ -1,9 +1,7 @@
 -- The members before the cursor's have no fault, and what may still be asked for is left for those behind.
 use Rattle.std.proofs.Common.{◌≡◌, ℕ, ◌+◌, ◌-◌, ◌≤◌, List, length, Some}
-use Rattle.elf_model.specs.Archive.{before_members}
-use Rattle.elf_model.specs.ArchiveCost.{allowance}
-use Rattle.elf_source.specs.Growth.{OutGrows}
-use Rattle.elf_source.specs.Source.{ReadsUpTo}
+use Rattle.elf_model.specs.Prelude.{allowance, before_members}
+use Rattle.elf_source.specs.Prelude.{OutGrows, ReadsUpTo}
 use Rattle.elf_options.specs.Permitted.{style_of}
 use Rattle.elf_archive.specs.Members.{IsMemberWalkInBounds}
 use Rattle.elf_archive.proofs.FaultLaws.{CheckedSoFar}

@@ -1,8 +1,7 @@
 -- The magic string is read first, and the members are listed behind it.
 use Rattle.std.proofs.Common.{◌-◌, length, refl, ap, ◌∙◌, arith}
 use Rattle.std.proofs.lemmas.Result.{err_from_is_err_and}
-use Rattle.elf_model.specs.Archive.{before_members}
-use Rattle.elf_model.specs.ArchiveCost.{allowance, members_cost}
+use Rattle.elf_model.specs.Prelude.{allowance, before_members, members_cost}
 use Rattle.elf_model.proofs.AllowanceLaws.{allowance_within}
 use Rattle.elf_source.proofs.GrowthLaws.{grows_not}
 use Rattle.elf_options.specs.Permitted.{style_of}

@@ -1,16 +1,13 @@
 -- A member's line stands behind those before it, and its listing behind that.
 use Rattle.std.proofs.Common.{rules, ◌≡◌, ℕ, ◌+◌, Ok, Err, None, refl, subst, ◌∙◌, arith}
 use Rattle.std.proofs.lemmas.Result.{err_from_is_err_and}
-use Rattle.elf_model.specs.Archive.{Member}
-use Rattle.elf_model.specs.ArchiveCost.{header_cost, member_cost}
-use Rattle.elf_model.specs.Cost.{style_ceiling}
+use Rattle.elf_model.specs.Prelude.{Member, header_cost, member_cost, style_ceiling}
 use Rattle.elf_source.proofs.GrowthLaws.{grows_not}
 use Rattle.elf_source.proofs.PutsLaws.{SinkTakes-nothing}
 use Rattle.elf_options.specs.Permitted.{style_of}
 use Rattle.elf_listing.proofs.RowLaws.{WroteUntilStop-first}
 use Rattle.elf_source.specs.Source.{ReadsUpTo}
-use Rattle.elf_archive.specs.Listed.{ReadsAtMostIn}
-use Rattle.elf_archive.specs.Members.{member_of, step_cost}
+use Rattle.elf_archive.specs.Prelude.{ReadsAtMostIn, member_of, step_cost}
 use Rattle.elf_archive.proofs.ConsumeLaws.{ReadsAtMostIn-fault, ReadsAtMostIn-then, still_whole}
 use Rattle.elf_archive.proofs.ListingLaws.{cost_of_data, header_first, member_allowed, step_allowed, unread_next}
 use Rattle.elf_archive.proofs.listing.list_next.Goals as goal

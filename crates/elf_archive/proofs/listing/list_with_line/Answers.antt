@@ -6,8 +6,7 @@ use Rattle.elf_source.proofs.GrowthLaws.{grows_front, grows_then}
 use Rattle.elf_source.proofs.LineLaws.{broken_takes}
 use Rattle.elf_source.proofs.ReadsLaws.{ReadsUpTo-none}
 use Rattle.elf_options.specs.Permitted.{style_of}
-use Rattle.elf_archive.specs.Listed.{ReadsAtMostIn}
-use Rattle.elf_archive.specs.Members.{member_of}
+use Rattle.elf_archive.specs.Prelude.{ReadsAtMostIn, member_of}
 use Rattle.elf_archive.proofs.HeldLaws.{broken_stops, held_consumes, held_grows, held_refused, held_writes, line_fails_first, line_writes, told_clean}
 use Rattle.elf_archive.proofs.listing.list_with_line.Goals as goal
 

@@ -1,6 +1,5 @@
 use Rattle.std.proofs.Common.{ap, ◌∙◌, sym}
-use Rattle.elf_model.specs.Archive.{trimmed}
-use Rattle.elf_model.specs.Notes.{capped}
+use Rattle.elf_model.specs.Prelude.{capped, trimmed}
 use Rattle.elf_archive.proofs.names.read_short_name.Goals as goal
 
 pub returns-clause-read : goal.returns-clause-read

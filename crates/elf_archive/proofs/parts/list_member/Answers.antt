@@ -1,14 +1,12 @@
 -- A member that is an ELF file is listed behind the four bytes that tell it, and its listing is that of a file of its own.
 use Rattle.std.proofs.Common.{rules, ◌≡◌, true, false, refl, ap, ◌∙◌, arith}
 use Rattle.std.proofs.lemmas.Result.{err_from_is_err_and}
-use Rattle.elf_model.specs.Archive.{bytes_in, is_elf, lists_members}
-use Rattle.elf_model.specs.Cost.{listing_cost, style_ceiling}
+use Rattle.elf_model.specs.Prelude.{bytes_in, is_elf, listing_cost, lists_members, style_ceiling}
 use Rattle.elf_source.proofs.GrowthLaws.{grows_not}
 use Rattle.elf_source.proofs.PutsLaws.{SinkTakes-nothing}
 use Rattle.elf_source.proofs.ReadsLaws.{ReadsUpTo-none, ReadsUpTo-to}
 use Rattle.elf_options.specs.Permitted.{style_of}
-use Rattle.elf_archive.specs.Listed.{IsAll, member_at}
-use Rattle.elf_archive.specs.Members.{IsInBounds, extent_of}
+use Rattle.elf_archive.specs.Prelude.{IsAll, IsInBounds, extent_of, member_at}
 use Rattle.elf_archive.proofs.ConsumeLaws.{ReadsAtMostIn-fault, ReadsAtMostIn-then, lies_within, still_whole}
 use Rattle.elf_archive.proofs.ListingLaws.{member_listed, member_elf}
 use Rattle.elf_archive.proofs.NarrowLaws.{part_consumes, part_file}

@@ -1,9 +1,9 @@
 use Rattle.std.proofs.Common.{◌≡◌, ◌+◌, Ok, refl, sym, ap, ◌∙◌, arith}
-use Rattle.elf_model.specs.Archive.{Broken, bytes_in}
+use Rattle.elf_model.specs.Prelude.{bytes_in}
 use Rattle.elf_model.specs.declared.causes.Cause.TheVariants.{MemberCut}
+use Rattle.elf_model.specs.Archive.{Broken}
 use Rattle.elf_format.specs.Named.{shown_as}
-use Rattle.elf_archive.specs.MemberRows.{extent_in, member_in, walk_at}
-use Rattle.elf_archive.specs.Members.{extent_of}
+use Rattle.elf_archive.specs.Prelude.{extent_in, extent_of, member_in, walk_at}
 use Rattle.elf_archive.specs.declared.rows.MemberRow.{MemberRow}
 use Rattle.elf_archive.proofs.MemberLaws.{data-none, next-ends, next-cut, next-member, next-unnamed, behind-is, size-short}
 use Rattle.elf_archive.proofs.RowLaws.{flagged, flag_small}

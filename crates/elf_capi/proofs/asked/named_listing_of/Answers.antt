@@ -1,7 +1,6 @@
 -- The same bytes ask for a listing of the rows of some names as for one of every row.
 use Rattle.std.proofs.Common.{ap}
-use Rattle.elf_options.specs.Names.{texts_of}
-use Rattle.elf_options.specs.NamedRows.{named_style}
+use Rattle.elf_options.specs.Prelude.{named_style, texts_of}
 use Rattle.elf_capi.proofs.AskedLaws.{asks_named, every_row, no_names, no_part}
 use Rattle.elf_capi.proofs.asked.named_listing_of.Goals as goal
 

@@ -1,8 +1,7 @@
 -- The entries before the first DT_NULL, and it, are those that are listed.
 use Rattle.std.proofs.Common.{◌≡◌, ◌+◌, ◌*◌, ◌≤◌, arith}
 use Rattle.std.proofs.lemmas.Bool.Decides.{nat_tests}
-use Rattle.elf_model.specs.Numbers.{DT_NULL}
-use Rattle.elf_model.specs.Records.{d_tag}
+use Rattle.elf_model.specs.Prelude.{DT_NULL, d_tag}
 use Rattle.elf_model.proofs.DynamicLaws.{count-all, count-first}
 use Rattle.elf_capi.proofs.ListedLaws.{count_past}
 use Rattle.elf_capi.proofs.dynamic_table.listed_count.Goals as goal

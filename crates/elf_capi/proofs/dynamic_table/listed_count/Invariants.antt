@@ -1,6 +1,5 @@
 use Rattle.std.proofs.Common.{◌-◌, ◌+◌, ◌*◌, ◌<◌, ◌≤◌, ℕ, ◌≢◌}
-use Rattle.elf_model.specs.Numbers.{DT_NULL}
-use Rattle.elf_model.specs.Records.{d_tag}
+use Rattle.elf_model.specs.Prelude.{DT_NULL, d_tag}
 use Rattle.elf_capi.proofs.dynamic_table.listed_count.Given as goal
 
 abbrev pub invariant-loop-done : goal.invariant-loop-done

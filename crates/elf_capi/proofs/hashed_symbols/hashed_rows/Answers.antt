@@ -4,7 +4,7 @@ use Rattle.std.proofs.lemmas.Result.{err_from_is_err_and}
 use Rattle.elf_hash.specs.declared.place.HashTableLocation.{HashTableLocation}
 use Rattle.elf_table.proofs.LedgerLaws.{CallReads-more, CallDid-as, CallDid-then}
 use Rattle.elf_capi.proofs.HashedLaws.{places_hashed, costs_counts, costs_words, counted, few_counts, place_of, rows_within, uncounted, unread, unscoped}
-use Rattle.elf_capi.specs.Hashed.{hashed_cost}
+use Rattle.elf_capi.specs.Prelude.{hashed_cost}
 use Rattle.elf_capi.specs.declared.rows.RowPosition.{RowPosition}
 use Rattle.elf_capi.proofs.hashed_symbols.hashed_rows.Goals as goal
 

@@ -2,8 +2,7 @@
 use Rattle.std.proofs.Common.{rules, ◌≡◌, Some, Ok, Err, ap, ◌∙◌, arith}
 use Rattle.elf_source.specs.Source.{SourceState}
 use Rattle.elf_table.specs.declared.fault.Fault.TheVariants.{Refused as Refuses}
-use Rattle.elf_capi.specs.Queries.{asks_of, wanted_by}
-use Rattle.elf_capi.specs.Resolved.{file_of}
+use Rattle.elf_capi.specs.Prelude.{asks_of, file_of, wanted_by}
 use Rattle.elf_capi.proofs.ResolvingLaws.{resolve_refused}
 use Rattle.elf_capi.proofs.loader_lookup.resolve_in.Goals as goal
 

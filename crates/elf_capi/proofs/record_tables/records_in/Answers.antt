@@ -1,9 +1,8 @@
 -- All records of the section are left where its table passes its checks.
 use Rattle.std.proofs.Common.{◌≡◌, ◌<◌, List, ℕ, None, Some, sym, subst, ◌∙◌, arith}
-use Rattle.elf_model.specs.Records.{e_shnum, section_at}
+use Rattle.elf_model.specs.Prelude.{e_shnum, section_at}
 use Rattle.elf_model.specs.declared.versions.VersionKind.{VersionKind}
-use Rattle.elf_capi.specs.LoadRefused.{load_refused}
-use Rattle.elf_capi.specs.VersionRecords.{AreRecords, first_kind}
+use Rattle.elf_capi.specs.Prelude.{AreRecords, first_kind, load_refused}
 use Rattle.elf_capi.proofs.RecordTables.{are_records}
 use Rattle.elf_capi.proofs.record_tables.records_in.Goals as goal
 

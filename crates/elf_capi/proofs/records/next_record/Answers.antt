@@ -3,8 +3,8 @@ use Rattle.std.proofs.Common.{rules, ◌≡◌, ◌-◌, Some, None, Ok, Err, op
 use Rattle.elf_model.specs.Versions.{visited_from, next_position, with_visited}
 use Rattle.elf_model.proofs.VersionSteps.{met-ended}
 use Rattle.elf_source.specs.Source.{SourceState}
+use Rattle.elf_table.specs.Prelude.{TableRange}
 use Rattle.elf_table.specs.declared.fault.Fault.TheVariants.{Refused}
-use Rattle.elf_table.specs.Tables.{TableRange}
 use Rattle.elf_note.specs.Reading.{BufferedTable, IsCursorOf, record_position_of, versions_left}
 use Rattle.elf_capi.specs.VersionRecords.{bytes_within, records_left, standing_in}
 use Rattle.elf_capi.proofs.RecordLaws.{goes_on, left_is, visited_inside}

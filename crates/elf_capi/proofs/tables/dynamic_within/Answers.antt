@@ -1,7 +1,7 @@
 -- More entries are listed than may be looked at.
 use Rattle.std.proofs.Common.{◌≡◌, ◌<◌, true, sym, ◌∙◌, arith}
 use Rattle.elf_model.specs.Records.{e_shnum, section_at}
-use Rattle.elf_capi.specs.TableOpenings.{holds}
+use Rattle.elf_capi.specs.Prelude.{holds}
 use Rattle.elf_capi.specs.declared.kind.RowKind.TheVariants.{Dynamic}
 use Rattle.elf_capi.proofs.ListedLaws.{table_past}
 use Rattle.elf_capi.proofs.tables.dynamic_within.Goals as goal

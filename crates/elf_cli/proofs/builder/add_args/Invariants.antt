@@ -1,7 +1,6 @@
 use Rattle.std.proofs.Common.{drop, ◌≡◌}
 use Rattle.clap.specs.Simple.{App}
-use Rattle.elf_cli.specs.Building.{IsBuilt}
-use Rattle.elf_cli.specs.Described.{add_args}
+use Rattle.elf_cli.specs.Prelude.{IsBuilt, add_args}
 use Rattle.elf_cli.proofs.builder.add_args.Given as goal
 
 -- the rest of the words makes of the command so far what all of them make of the first

@@ -1,7 +1,6 @@
 -- The tag is shown as its bits.
 use Rattle.std.proofs.Common.{◌≡◌, refl}
-use Rattle.elf_model.specs.Records.{d_tag}
-use Rattle.elf_model.specs.LineFronts.{dynamic_prefix}
+use Rattle.elf_model.specs.Prelude.{d_tag, dynamic_prefix}
 use Rattle.elf_format.proofs.TagBits.{tag_bits}
 use Rattle.elf_format.proofs.dynamic_rows.dynamic_prefix.Goals as goal
 

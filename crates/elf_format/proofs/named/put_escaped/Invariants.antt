@@ -1,6 +1,5 @@
 use Rattle.std.proofs.Common.{◌++◌, drop}
-use Rattle.elf_format.specs.Pieces.{TakesBefore}
-use Rattle.elf_format.specs.Pieces.{spelt}
+use Rattle.elf_format.specs.Prelude.{TakesBefore, spelt}
 use Rattle.elf_format.proofs.named.put_escaped.Given as goal
 
 -- what was written, the line, and the bytes of the name that are left are the text

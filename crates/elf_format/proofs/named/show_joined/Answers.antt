@@ -1,8 +1,7 @@
 -- The pieces are put one behind the other: the line with the first name, what stands between, the next name, and the tail.
 use Rattle.std.proofs.lemmas.Result.{err_from_is_err_and}
 use Rattle.elf_source.proofs.PutsLaws.{SinkTakesPrefix-more}
-use Rattle.elf_format.specs.Named.{shown_as}
-use Rattle.elf_format.specs.Pieces.{spelt}
+use Rattle.elf_format.specs.Prelude.{shown_as, spelt}
 use Rattle.elf_format.proofs.NameText.{joined-pieces}
 use Rattle.elf_format.proofs.Pieces.{TakesBefore-more, TakesBefore-then, TakesBefore-front, OutPuts-rest}
 use Rattle.elf_format.proofs.named.show_joined.Goals as goal

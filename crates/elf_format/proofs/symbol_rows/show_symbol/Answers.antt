@@ -1,10 +1,7 @@
 -- In the standards' names a symbol's line is the same on every machine.
 use Rattle.std.proofs.Common.{◌≡◌, ℕ, false, List, refl, ap, ◌∙◌, subst}
-use Rattle.elf_model.specs.LineFronts.{symbol_prefix}
-use Rattle.elf_model.specs.NameTables.{places}
-use Rattle.elf_model.specs.Records.{e_machine}
+use Rattle.elf_model.specs.Prelude.{e_machine, named_line, places, symbol_prefix}
 use Rattle.elf_model.specs.declared.formats.Format.{Format}
-use Rattle.elf_model.specs.Lines.{named_line}
 use Rattle.elf_model.specs.Names.DisplayedName.{Whole}
 use Rattle.elf_source.specs.Output.{OutPuts}
 use Rattle.elf_source.proofs.GrowthLaws.{grows_put}

@@ -1,6 +1,5 @@
 use Rattle.std.proofs.Common.{◌++◌, drop}
-use Rattle.elf_format.specs.Pieces.{TakesBefore}
-use Rattle.elf_format.specs.Told.{reported_text}
+use Rattle.elf_format.specs.Prelude.{TakesBefore, reported_text}
 use Rattle.elf_format.proofs.told.show_escaped_text.Given as goal
 
 -- what was written, the line, and the bytes of the text that are left are the text

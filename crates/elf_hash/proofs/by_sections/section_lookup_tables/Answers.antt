@@ -1,13 +1,10 @@
 -- The checks of the hash table's section, then those of the tables of versions.
 use Rattle.std.proofs.Common.{rules, refl, ap, sym, ◌∙◌}
 use Rattle.std.proofs.lemmas.Result.{err_from_is_err_and}
-use Rattle.elf_model.specs.Find.{hash_checks_from}
-use Rattle.elf_model.specs.LoaderScope.{version_checks}
-use Rattle.elf_model.specs.Records.{section_at}
+use Rattle.elf_model.specs.Prelude.{hash_checks_from, section_at, version_checks}
 use Rattle.elf_table.proofs.HashSectionLaws.{place_is}
 use Rattle.elf_record.specs.declared.ehdr.Ehdr.{Ehdr}
-use Rattle.elf_hash.specs.HashStyles.{hash_style_of}
-use Rattle.elf_hash.specs.HashSections.{min_hash_bytes}
+use Rattle.elf_hash.specs.Prelude.{hash_style_of, min_hash_bytes}
 use Rattle.elf_hash.proofs.SectionLaws.{section_is}
 use Rattle.elf_hash.proofs.SettleLaws.{finds, refused_back, refused_front, refuses}
 use Rattle.elf_hash.proofs.by_sections.section_lookup_tables.Goals as goal

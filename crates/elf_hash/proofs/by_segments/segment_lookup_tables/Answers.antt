@@ -3,8 +3,7 @@ use Rattle.std.proofs.Common.{rules, ◌≡◌, ◌⊎◌, inl, inr, true, ◌<�
 use Rattle.std.proofs.lemmas.Result.{err_from_is_err_and}
 use Rattle.elf_model.specs.Records.{segment_at}
 use Rattle.elf_record.specs.declared.ehdr.Ehdr.{Ehdr}
-use Rattle.elf_hash.specs.HashStyles.{hash_style_of}
-use Rattle.elf_hash.specs.HashSections.{min_hash_bytes}
+use Rattle.elf_hash.specs.Prelude.{hash_style_of, min_hash_bytes}
 use Rattle.elf_hash.proofs.LookupTableLaws.{hash_refuses, rows_refuse, scope_settles, shape_refuses}
 use Rattle.elf_hash.proofs.SettleLaws.{finds, refuses}
 use Rattle.elf_hash.proofs.by_segments.segment_lookup_tables.Goals as goal

@@ -2,8 +2,7 @@
 use Rattle.std.proofs.Common.{◌≡◌, ℕ, List, Some, ap, ◌∙◌, arith, rules}
 use Rattle.elf_record.specs.Dyn.{IsDyn}
 use Rattle.elf_table.proofs.LedgerLaws.{CallDid-of}
-use Rattle.elf_table.specs.Cursors.{next_row, row_at}
-use Rattle.elf_table.specs.Tables.{TableRange}
+use Rattle.elf_table.specs.Prelude.{TableRange, next_row, row_at}
 use Rattle.elf_note.proofs.EntriesLeft.{given, ended}
 use Rattle.elf_note.proofs.EntriesLoop.{goes-fewer, goes-next, goes-place, goes-reads, goes-row, goes-start}
 use Rattle.elf_hash.proofs.EntryLaws.{each_end, each_step, takes_at}

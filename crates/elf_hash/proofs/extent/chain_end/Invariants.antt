@@ -1,8 +1,7 @@
 -- The chain is gone along up to a symbol index, and its end is what is told from there on.
 use Rattle.std.proofs.Common.{◌≡◌, ◌+◌, ◌-◌, ◌*◌, ◌≤◌, None}
 use Rattle.elf_table.specs.Ledger.{CallDid}
-use Rattle.elf_hash.specs.Counts.{IsGnu}
-use Rattle.elf_hash.specs.Extents.{last_in}
+use Rattle.elf_hash.specs.Prelude.{IsGnu, last_in}
 use Rattle.elf_model.specs.Chains.{HashTable as Place}
 use Rattle.elf_hash.proofs.extent.chain_end.Given as goal
 

@@ -1,7 +1,6 @@
 -- The highest of the buckets' words, and the end of the chain that begins there.
 use Rattle.std.proofs.Common.{ℕ, sym, ap, ◌∙◌, arith}
-use Rattle.elf_model.specs.GnuHash.{gnu_first}
-use Rattle.elf_model.specs.Traits.{max_bucket, unfound}
+use Rattle.elf_model.specs.Prelude.{gnu_first, max_bucket, unfound}
 use Rattle.elf_table.proofs.LedgerLaws.{CallReads-then, CallDid-as, CallDid-then}
 use Rattle.elf_hash.proofs.ExtentLaws.{none_chained, read_of, some_chained}
 use Rattle.elf_hash.proofs.extent.gnu_extent.Goals as goal

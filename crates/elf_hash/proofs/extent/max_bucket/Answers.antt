@@ -1,11 +1,8 @@
 -- The word of each bucket is the file's, and the highest of those that are gone by is kept.
 use Rattle.std.proofs.Common.{◌≡◌, ℕ, suc, ◌*◌, max, ap, sym, ◌∙◌, arith}
-use Rattle.elf_model.specs.Bytes.{field, slice}
-use Rattle.elf_model.specs.GnuHash.{gnu_bucket_at}
-use Rattle.elf_model.specs.Traits.{max_bucket}
+use Rattle.elf_model.specs.Prelude.{field, gnu_bucket_at, max_bucket, slice}
 use Rattle.elf_source.proofs.ReadsLaws.{ReadsUpTo-none, ReadsUpTo-then, ReadsUpTo-to}
-use Rattle.elf_table.specs.Cursors.{next_row, row_at}
-use Rattle.elf_table.specs.Tables.{TableRange}
+use Rattle.elf_table.specs.Prelude.{TableRange, next_row, row_at}
 use Rattle.elf_table.proofs.CursorLaws.{agrees_none}
 use Rattle.elf_hash.proofs.ExtentLaws.{bucket_stands, greater_is, highest_next, highest_none, row_given, unread_start}
 use Rattle.elf_hash.proofs.extent.max_bucket.Goals as goal

@@ -1,7 +1,6 @@
 -- The words of some buckets are gone by, and the highest of them is known.
 use Rattle.std.proofs.Common.{◌≡◌, ◌+◌, ◌*◌, ◌≤◌, ℕ, List, None, Some}
-use Rattle.elf_model.specs.Chains.{HashTable as Place}
-use Rattle.elf_model.specs.Traits.{max_bucket}
+use Rattle.elf_model.specs.Prelude.{HashTable as Place, max_bucket}
 use Rattle.elf_source.specs.Source.{ReadsUpTo}
 use Rattle.elf_table.specs.Cursors.{HoldsRows, unread_bytes}
 use Rattle.elf_hash.specs.Counts.{IsGnu}

@@ -1,7 +1,7 @@
 -- Of a table of the GNU system, or of the gABI.
 use Rattle.std.proofs.Common.{ℕ, min, ap, ◌∙◌, arith}
 use Rattle.elf_table.proofs.LedgerLaws.{CallDid-as, CallDid-none}
-use Rattle.elf_hash.specs.SearchedTables.{place_of_table}
+use Rattle.elf_hash.specs.Prelude.{place_of_table}
 use Rattle.elf_hash.specs.declared.table.HashTable.{HashTable}
 use Rattle.elf_hash.proofs.ExtentLaws.{gnu_told, sysv_told}
 use Rattle.elf_hash.proofs.extent.symbol_extent.Goals as goal

@@ -2,7 +2,7 @@
 use Rattle.std.proofs.Common.{◌≡◌, ◌/◌, ◌≤◌, None, length, refl, ap, sym, ◌∙◌, arith, mul-le-mul_right}
 use Rattle.std.proofs.lemmas.Result.{err_from_is_err_and}
 use Rattle.elf_model.specs.Find.{first_hash}
-use Rattle.elf_hash.specs.Lookups.{looked_after, step_bytes}
+use Rattle.elf_hash.specs.Prelude.{looked_after, step_bytes}
 use Rattle.elf_hash.specs.declared.place.HashTableLocation.{HashTableLocation}
 use Rattle.elf_table.proofs.Absent.{none-of}
 use Rattle.elf_hash.proofs.FindLaws.{finds_checks, finds_counts, looked_there, place_is_of}

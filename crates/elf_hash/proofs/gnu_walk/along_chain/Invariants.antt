@@ -1,10 +1,9 @@
 -- The walk has read so many chain words and tried so many symbols, and has asked for those alone.
 use Rattle.std.proofs.Common.{◌≡◌, ℕ, ◌+◌, ◌-◌, ◌*◌, ◌<◌, ◌≤◌, Bool, Result, None}
-use Rattle.elf_model.specs.Chains.{HashTable as Place}
+use Rattle.elf_model.specs.Prelude.{HashTable as Place}
 use Rattle.elf_model.specs.declared.causes.Refusal.{Refusal}
 use Rattle.elf_table.specs.Ledger.{CallDid}
-use Rattle.elf_hash.specs.Counts.{IsGnu}
-use Rattle.elf_hash.specs.Walks.{HoldsHash, walk_bytes}
+use Rattle.elf_hash.specs.Prelude.{HoldsHash, IsGnu, walk_bytes}
 use Rattle.elf_hash.proofs.GnuSteps.{Along}
 use Rattle.elf_hash.proofs.gnu_walk.along_chain.Given as goal
 

@@ -1,10 +1,9 @@
 -- The walk has come to the word of so many steps, and has asked for those alone.
 use Rattle.std.proofs.Common.{ℕ, ◌-◌, ◌≤◌, Bool, Result, None}
-use Rattle.elf_model.specs.Chains.{HashTable as Place}
+use Rattle.elf_model.specs.Prelude.{HashTable as Place}
 use Rattle.elf_model.specs.declared.causes.Refusal.{Refusal}
 use Rattle.elf_table.specs.Ledger.{CallDid}
-use Rattle.elf_hash.specs.Counts.{IsSysv}
-use Rattle.elf_hash.specs.Walks.{walk_bytes}
+use Rattle.elf_hash.specs.Prelude.{IsSysv, walk_bytes}
 use Rattle.elf_hash.proofs.SysvSteps.{Along}
 use Rattle.elf_hash.proofs.sysv_walk.sysv_walk.Given as goal
 

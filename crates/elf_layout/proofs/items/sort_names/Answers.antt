@@ -1,6 +1,5 @@
 use Rattle.std.proofs.lemmas.List.Sorted.{All-permutation, IsPermutation-map}
-use Rattle.elf_layout.specs.Layouts.{IsName}
-use Rattle.elf_layout.specs.Lent.{lent_name, name_order, named}
+use Rattle.elf_layout.specs.Prelude.{IsName, lent_name, name_order, named}
 use Rattle.elf_layout.proofs.ListedSteps.{keys_sorted}
 use Rattle.elf_layout.proofs.items.sort_names.Goals as goal
 

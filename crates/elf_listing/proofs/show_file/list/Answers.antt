@@ -1,11 +1,8 @@
 -- The file header's checks stand before all, and its line before what is loaded.
 use Rattle.elf_options.specs.Permitted.{style_of}
-use Rattle.elf_model.specs.Style.{viewed as view_of}
+use Rattle.elf_model.specs.Prelude.{known_parts, load_items, style_ceiling, viewed as view_of}
 use Rattle.std.proofs.Common.{◌≡◌, ℕ, Ok, Err, sym, ap, arith, ◌∙◌}
 use Rattle.std.proofs.lemmas.Result.{err_from_is_err_and}
-use Rattle.elf_model.specs.Cost.{style_ceiling}
-use Rattle.elf_model.specs.Listing.{known_parts}
-use Rattle.elf_model.specs.Report.{load_items}
 use Rattle.elf_listing.proofs.FileShown.{header_part, items_are, header_alone}
 use Rattle.elf_listing.proofs.RowLaws.{WroteUntilStop-first, WroteSome-as}
 use Rattle.elf_listing.proofs.SectionCosts.{slots_below, cost_is}

@@ -5,8 +5,7 @@ use Rattle.elf_table.proofs.LedgerLaws.{CallReads-none, CallDid-as, CallDid-none
 use Rattle.elf_model.specs.Loader.{asked_name}
 use Rattle.elf_table.proofs.Absent.{none-of}
 use Rattle.elf_options.specs.Wants.{asked_of}
-use Rattle.elf_loader.specs.Tables.{max_versions_of}
-use Rattle.elf_loader.specs.Telling.{telling_bytes, parsed_member_bytes}
+use Rattle.elf_loader.specs.Prelude.{max_versions_of, parsed_member_bytes, telling_bytes}
 use Rattle.elf_loader.proofs.FoundLaws.{finds-fault-by, finds-told-by, finds-unnamed, finds-wanted, word-at, word-is}
 use Rattle.elf_loader.proofs.found.found_version.Goals as goal
 

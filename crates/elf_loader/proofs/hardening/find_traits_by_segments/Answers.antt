@@ -1,8 +1,8 @@
 -- The symbols that are known, the dynamic entries, the word of the features, and what the symbols tell.
 use Rattle.std.proofs.Common.{ℕ, ◌+◌, ◌*◌, Ok, ap, sym, ◌∙◌, arith}
+use Rattle.elf_model.specs.Prelude.{properties_asked, trait_entries_asked}
 use Rattle.elf_model.specs.declared.traits.Hardening.{Hardening}
 use Rattle.std.proofs.lemmas.Result.{err_from_is_err_and}
-use Rattle.elf_model.specs.TraitCost.{properties_asked, trait_entries_asked}
 use Rattle.elf_table.proofs.LedgerLaws.{CallReads-more, CallReads-then, CallDid-as, CallDid-then}
 use Rattle.elf_hash.specs.Segments.{entries_asked}
 use Rattle.elf_loader.specs.Known.{counts_asked}

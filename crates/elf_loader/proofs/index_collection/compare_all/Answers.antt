@@ -2,8 +2,7 @@
 use Rattle.std.proofs.Common.{◌+◌, [], length, ap, arith}
 use Rattle.std.proofs.lemmas.Result.{err_from_is_err_and}
 use Rattle.elf_table.proofs.LedgerLaws.{CallDid-as, CallDid-then}
-use Rattle.elf_model.specs.Loader.{compared_with, readings}
-use Rattle.elf_model.specs.Names.{pad64}
+use Rattle.elf_model.specs.Prelude.{compared_with, pad64, readings}
 use Rattle.elf_hash.specs.Symbols.{table_if_any}
 use Rattle.elf_loader.specs.Tables.{max_records_of, readings_before}
 use Rattle.elf_loader.proofs.TablesLaws.{compares-fault, compares-then, part, read-parted, sum-pays}

@@ -2,13 +2,10 @@
 use Rattle.std.proofs.Common.{◌≡◌, ◌+◌, ◌*◌, length, None, Some, [], refl, ap, sym, ◌∙◌, arith, option_map}
 use Rattle.std.proofs.lemmas.Result.{err_from_is_err_and}
 use Rattle.elf_table.proofs.LedgerLaws.{CallReads-none, CallDid-as, CallDid-none}
-use Rattle.elf_model.specs.Loader.{asked_name, compared_with, readings}
-use Rattle.elf_model.specs.LoaderFind.{record_cost}
-use Rattle.elf_model.specs.Names.{pad64}
+use Rattle.elf_model.specs.Prelude.{asked_name, compared_with, pad64, readings, record_cost}
 use Rattle.elf_table.proofs.Absent.{none-of}
 use Rattle.elf_options.specs.Wants.{asked_of}
-use Rattle.elf_loader.specs.Comparing.{comparing_bytes}
-use Rattle.elf_loader.specs.Tables.{max_versions_of}
+use Rattle.elf_loader.specs.Prelude.{comparing_bytes, max_versions_of}
 use Rattle.elf_loader.proofs.CollectLaws.{all-compared, collects-all, collects-fault, collects-none, no-version, no-words}
 use Rattle.elf_loader.proofs.index_collection.version_indices.Goals as goal
 

@@ -2,12 +2,10 @@
 use Rattle.std.proofs.Common.{◌/◌, refl, ap, arith}
 use Rattle.std.proofs.lemmas.Result.{err_from_is_err_and}
 use Rattle.elf_table.proofs.LedgerLaws.{CallDid-as, CallDid-then}
-use Rattle.elf_hash.specs.Walks.{walk_bytes}
+use Rattle.elf_hash.specs.Prelude.{walk_bytes}
 use Rattle.elf_hash.specs.declared.place.HashTableLocation.{HashTableLocation}
-use Rattle.elf_model.specs.Loader.{answers}
-use Rattle.elf_model.specs.LoaderFind.{walk_in}
-use Rattle.elf_loader.specs.Lookups.{match_bytes}
-use Rattle.elf_loader.specs.NumberSets.{has_number}
+use Rattle.elf_model.specs.Prelude.{answers, walk_in}
+use Rattle.elf_loader.specs.Prelude.{has_number, match_bytes}
 use Rattle.elf_loader.proofs.LookLaws.{looks_unwalked, looks_walked, walks_as}
 use Rattle.elf_options.specs.Wants.{query_of}
 use Rattle.elf_loader.proofs.loader_lookup.search_chain.Goals as goal

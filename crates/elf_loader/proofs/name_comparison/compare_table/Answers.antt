@@ -3,8 +3,7 @@ use Rattle.std.proofs.Common.{◌≡◌, ◌+◌, ◌-◌, ◌*◌, length, arit
 use Rattle.std.proofs.lemmas.Result.{err_from_is_err_and}
 use Rattle.elf_table.proofs.Absent.{none-of}
 use Rattle.elf_table.proofs.LedgerLaws.{CallDid-as, CallDid-none, CallDid-then}
-use Rattle.elf_model.specs.Loader.{compared_with}
-use Rattle.elf_model.specs.Names.{pad64}
+use Rattle.elf_model.specs.Prelude.{compared_with, pad64}
 use Rattle.elf_table.specs.Tables.{strings_in}
 use Rattle.elf_note.specs.Reading.{unread}
 use Rattle.elf_note.proofs.TakenLaws.{going-did}

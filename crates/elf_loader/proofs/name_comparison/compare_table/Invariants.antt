@@ -1,8 +1,7 @@
 -- So many records of the table are compared, and the others are left.
 use Rattle.std.proofs.Common.{◌+◌, ◌*◌, List, length, None}
 use Rattle.elf_table.specs.Ledger.{CallDid}
-use Rattle.elf_model.specs.Loader.{VersionRecordRead, VersionRecordTable as IsTableOf, compared_with, readings_of}
-use Rattle.elf_model.specs.Names.{pad64}
+use Rattle.elf_model.specs.Prelude.{VersionRecordRead, VersionRecordTable as IsTableOf, compared_with, pad64, readings_of}
 use Rattle.elf_hash.specs.Symbols.{IsVersionRecordTable}
 use Rattle.elf_note.specs.Reading.{IsCursorOf}
 use Rattle.elf_loader.specs.Comparing.{CompareProgress}

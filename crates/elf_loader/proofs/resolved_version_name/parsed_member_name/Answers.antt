@@ -2,12 +2,11 @@
 use Rattle.std.proofs.Common.{ℕ, [], IfErr, IfSome, Result, Ok, Err, arith}
 use Rattle.std.proofs.lemmas.Result.{err_from_is_err_and}
 use Rattle.elf_source.specs.Source.{CountedState}
-use Rattle.elf_table.specs.Faults.{IsReadFault}
-use Rattle.elf_table.specs.Ledger.{fault_of_result}
+use Rattle.elf_table.specs.Prelude.{IsReadFault, fault_of_result}
 use Rattle.elf_table.specs.declared.fault.Fault.{Fault}
 use Rattle.elf_table.specs.declared.fault.Fault.TheVariants.{Refused}
 use Rattle.elf_table.proofs.LedgerLaws.{CallDid-as, CallDid-of, CallDid-stop, CallDid-then}
-use Rattle.elf_model.specs.Loader.{naming_of, readings}
+use Rattle.elf_model.specs.Prelude.{naming_of, readings}
 use Rattle.elf_model.specs.declared.causes.Cause.TheVariants.{VersionIndex}
 use Rattle.elf_table.proofs.Absent.{none-of}
 use Rattle.elf_loader.proofs.NamingLaws.{naming-nothing}

@@ -1,10 +1,7 @@
 -- No segment that is gone by has a list of properties.
 use Rattle.std.proofs.Common.{◌≡◌, ◌-◌, ◌*◌, ◌≤◌, None}
-use Rattle.elf_model.specs.Cost.{sum_over}
-use Rattle.elf_model.specs.Properties.{listed_from, property_list}
-use Rattle.elf_model.specs.Records.{e_phnum}
-use Rattle.elf_table.specs.Ledger.{CallReads, CallDid}
-use Rattle.elf_table.specs.Load.{HoldsProgramHeaders}
+use Rattle.elf_model.specs.Prelude.{e_phnum, listed_from, property_list, sum_over}
+use Rattle.elf_table.specs.Prelude.{CallDid, CallReads, HoldsProgramHeaders}
 use Rattle.elf_loader.specs.Lists.{notes_asked}
 use Rattle.elf_loader.proofs.trait_notes.property_list.Given as goal
 

@@ -1,8 +1,6 @@
 -- No segment that is gone by may be written and run.
 use Rattle.std.proofs.Common.{◌≡◌, ◌-◌, ℕ, List}
-use Rattle.elf_model.specs.Find.{first_that}
-use Rattle.elf_model.specs.Records.{e_phnum}
-use Rattle.elf_model.specs.Traits.{is_writable_code}
+use Rattle.elf_model.specs.Prelude.{e_phnum, first_that, is_writable_code}
 use Rattle.elf_table.specs.Load.{HoldsProgramHeaders}
 use Rattle.elf_loader.proofs.trait_segments.first_writable_code.Given as goal
 

@@ -4,8 +4,7 @@ use Rattle.std.proofs.lemmas.Result.{err_from_is_err_and}
 use Rattle.elf_model.specs.Bytes.{slice}
 use Rattle.elf_source.proofs.ReadsLaws.{ReadsUpTo-none, ReadsUpTo-then, ReadsUpTo-to}
 use Rattle.elf_hash.proofs.ExtentLaws.{row_ended, row_given}
-use Rattle.elf_table.specs.Cursors.{next_row, row_at}
-use Rattle.elf_table.specs.Tables.{TableRange, strings_in}
+use Rattle.elf_table.specs.Prelude.{TableRange, next_row, row_at, strings_in}
 use Rattle.elf_loader.specs.Marks.{symbol_traits_of}
 use Rattle.elf_loader.proofs.MarkLaws.{at_is_read, mark_more, mark_none, mark_stops, read_symbol_traits}
 use Rattle.elf_table.proofs.CursorLaws.{agrees_none}

@@ -2,8 +2,7 @@
 use Rattle.std.proofs.Common.{◌≡◌, ◌+◌, ◌*◌, ◌≤◌, ℕ, List, None, Some}
 use Rattle.elf_source.specs.Source.{ReadsUpTo}
 use Rattle.elf_note.specs.Ahead.{IsAheadOf}
-use Rattle.elf_table.specs.Cursors.{HoldsRows, next_row, unread_bytes}
-use Rattle.elf_table.specs.Tables.{strings_in}
+use Rattle.elf_table.specs.Prelude.{HoldsRows, next_row, strings_in, unread_bytes}
 use Rattle.elf_loader.specs.Marks.{marks_in, symbol_traits_of}
 use Rattle.elf_loader.proofs.trait_symbols.symbol_traits_of_rows.Given as goal
 

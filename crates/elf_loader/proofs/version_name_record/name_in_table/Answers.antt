@@ -3,8 +3,7 @@ use Rattle.std.proofs.Common.{◌≡◌, ◌-◌, sym, ◌∙◌, arith}
 use Rattle.std.proofs.lemmas.Result.{err_from_is_err_and}
 use Rattle.elf_table.proofs.Absent.{none-of}
 use Rattle.elf_table.proofs.LedgerLaws.{CallDid-as, CallDid-none, CallDid-then}
-use Rattle.elf_model.specs.BoundSymbols.{file_or}
-use Rattle.elf_model.specs.Loader.{naming_of}
+use Rattle.elf_model.specs.Prelude.{file_or, naming_of}
 use Rattle.elf_table.specs.Tables.{strings_in}
 use Rattle.elf_note.specs.Reading.{unread}
 use Rattle.elf_note.proofs.TakenLaws.{going-did}

@@ -1,9 +1,7 @@
 -- So many records of the table have not the number, and the others are left.
 use Rattle.std.proofs.Common.{◌≡◌, ℕ, ◌*◌, List, Option, None, Some}
 use Rattle.elf_table.specs.Ledger.{CallDid}
-use Rattle.elf_model.specs.BoundSymbols.{file_before}
-use Rattle.elf_model.specs.Loader.{VersionRecordRead, VersionRecordTable as IsTableOf, naming_of, readings_of}
-use Rattle.elf_model.specs.Versions.{VisitedRecord}
+use Rattle.elf_model.specs.Prelude.{VersionRecordRead, VersionRecordTable as IsTableOf, VisitedRecord, file_before, naming_of, readings_of}
 use Rattle.elf_hash.specs.Symbols.{IsVersionRecordTable}
 use Rattle.elf_note.specs.Reading.{IsCursorOf}
 use Rattle.elf_loader.specs.Naming.{IsFileIf, NamedAs}

@@ -1,7 +1,6 @@
 -- A step is that of the notes that are left.
 use Rattle.std.proofs.Common.{◌≡◌, ℕ, ◌+◌, ◌-◌, ◌<◌, ◌≤◌, min, length, drop, refl, ap, sym, ◌∙◌, arith, length-take}
-use Rattle.elf_model.specs.Bytes.{slice}
-use Rattle.elf_model.specs.Notes.{first_note, note_align, alignment_gap, descriptor_start, bytes_to_alignment}
+use Rattle.elf_model.specs.Prelude.{alignment_gap, bytes_to_alignment, descriptor_start, first_note, note_align, slice}
 use Rattle.elf_record.specs.NoteHead.{IsNoteHead}
 use Rattle.elf_memory.proofs.NoteSteps.{ends, tails, past, found, tells, end-of, sized}
 use Rattle.elf_memory.proofs.notes.next_note.Goals as goal

@@ -1,8 +1,7 @@
 -- The lines of the objects before this one are written.
 use Rattle.std.proofs.Common.{◌≡◌, ℕ, List, drop, length}
 use Rattle.elf_model.specs.BoundSymbols.{bound_items, objects_items}
-use Rattle.elf_needs.specs.Binds.{AreObjectFiles}
-use Rattle.elf_needs.specs.Bound.{AsksAll, WritesSoFar, bound_among}
+use Rattle.elf_needs.specs.Prelude.{AreObjectFiles, AsksAll, WritesSoFar, bound_among}
 use Rattle.elf_needs.proofs.bindings.bind_all.Given as goal
 
 abbrev pub invariant-loop-place : goal.invariant-loop-place

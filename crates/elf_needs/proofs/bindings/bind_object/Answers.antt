@@ -1,9 +1,8 @@
 -- The symbols are counted, and the lines of one more are written, or not; and no symbol is left.
 use Rattle.std.proofs.Common.{Ok, Err, [], get_or, sym, ap, ◌∙◌, arith}
 use Rattle.std.proofs.lemmas.Result.{err_from_is_err_and}
-use Rattle.elf_model.specs.BoundSymbols.{object_items}
-use Rattle.elf_model.specs.LoaderScope.{lookup_tables_of}
-use Rattle.elf_needs.specs.Bound.{IsLimited, bound_among}
+use Rattle.elf_model.specs.Prelude.{lookup_tables_of, object_items}
+use Rattle.elf_needs.specs.Prelude.{IsLimited, bound_among}
 use Rattle.elf_needs.specs.declared.search_scope.WriteEnd.TheVariants.{Cut, Ended}
 use Rattle.elf_needs.proofs.AskLaws.{are_kept, asks_one, asks_then, file_here, limited_from, limited_of, spends_same}
 use Rattle.elf_needs.proofs.WriteLaws.{SymbolsIn, counted_in, faulted_lines, hashed_fits, items_are, items_none, items_refused, only_of, so_far_all, so_far_none, symbol_ends, symbol_more}

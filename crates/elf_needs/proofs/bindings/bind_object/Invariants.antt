@@ -1,10 +1,7 @@
 -- The lines of the symbols before this one are written.
 use Rattle.std.proofs.Common.{◌≡◌, ℕ, ◌-◌, List, [], get_or, Ok}
-use Rattle.elf_model.specs.Bindings.{symbols_hashed}
-use Rattle.elf_model.specs.BoundSymbols.{items_from}
-use Rattle.elf_model.specs.LoaderScope.{LookupTables as IsScopeOf, lookup_tables_of}
-use Rattle.elf_needs.specs.Binds.{AreObjectFiles}
-use Rattle.elf_needs.specs.Bound.{AsksAll, WritesSoFar, bound_among}
+use Rattle.elf_model.specs.Prelude.{LookupTables as IsScopeOf, items_from, lookup_tables_of, symbols_hashed}
+use Rattle.elf_needs.specs.Prelude.{AreObjectFiles, AsksAll, WritesSoFar, bound_among}
 use Rattle.elf_needs.proofs.bindings.bind_object.Given as goal
 
 abbrev pub invariant-loop-symbol : goal.invariant-loop-symbol

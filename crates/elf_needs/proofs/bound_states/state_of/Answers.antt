@@ -1,9 +1,8 @@
 -- The lookup over all objects answers, or fails, or the object of the version's file is asked.
 use Rattle.std.proofs.Common.{[], get_or}
 use Rattle.std.proofs.lemmas.Result.{err_from_is_err_and}
-use Rattle.elf_needs.specs.Sought.{asked_if}
+use Rattle.elf_needs.specs.Prelude.{asked_if, bound_among}
 use Rattle.elf_options.specs.Wants.{query_of}
-use Rattle.elf_needs.specs.Bound.{bound_among}
 use Rattle.elf_needs.proofs.AskLaws.{are_kept, asks_bind, asks_then, limited_bind}
 use Rattle.elf_needs.proofs.StateLaws.{state_bound, state_fault, state_none, state_refused, wanted_is}
 use Rattle.elf_needs.proofs.bound_states.state_of.Goals as goal

@@ -2,11 +2,10 @@
 use Rattle.std.proofs.Common.{◌/◌, refl, ap, arith}
 use Rattle.std.proofs.lemmas.Result.{err_from_is_err_and}
 use Rattle.elf_table.proofs.LedgerLaws.{CallDid-as}
-use Rattle.elf_hash.specs.Walks.{walk_bytes}
+use Rattle.elf_hash.specs.Prelude.{walk_bytes}
 use Rattle.elf_hash.specs.declared.place.HashTableLocation.{HashTableLocation}
 use Rattle.elf_model.specs.Bindings.{defines, definer_walk}
-use Rattle.elf_loader.specs.Lookups.{match_bytes}
-use Rattle.elf_loader.specs.NumberSets.{has_number}
+use Rattle.elf_loader.specs.Prelude.{has_number, match_bytes}
 use Rattle.elf_options.specs.Wants.{query_of}
 use Rattle.elf_needs.proofs.DefinerLaws.{defines_unwalked, defines_walked, definer_walks}
 use Rattle.elf_needs.proofs.definition.definition_along.Goals as goal

@@ -5,8 +5,7 @@ use Rattle.elf_model.specs.Bytes.{slice}
 use Rattle.elf_source.proofs.ReadsLaws.{ReadsUpTo-none, ReadsUpTo-then, ReadsUpTo-to}
 use Rattle.elf_note.proofs.EntriesLeft.{ended, given, next-place}
 use Rattle.elf_table.proofs.CursorLaws.{agrees_none}
-use Rattle.elf_table.specs.Cursors.{next_row, row_at}
-use Rattle.elf_table.specs.Tables.{TableRange, size_of}
+use Rattle.elf_table.specs.Prelude.{TableRange, next_row, row_at, size_of}
 use Rattle.elf_needs.proofs.LoopLaws.{account_next, account_start, at_is_read, charges_after, link_more, link_stops, links_end, links_start, read_links_stop}
 use Rattle.elf_needs.proofs.entries.list_link_info.Goals as goal
 

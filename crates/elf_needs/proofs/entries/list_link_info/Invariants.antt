@@ -1,12 +1,9 @@
 -- The entries that are gone by are kept, and those that are left tell the rest.
 use Rattle.std.proofs.Common.{◌≡◌, ◌+◌, ◌*◌, ◌≤◌, ℕ, List, None, Some}
-use Rattle.elf_model.specs.Dynamic.{dynamic_count}
-use Rattle.elf_model.specs.Links.{linked_from, no_link_info}
+use Rattle.elf_model.specs.Prelude.{dynamic_count, linked_from, no_link_info}
 use Rattle.elf_source.specs.Source.{ReadsUpTo}
-use Rattle.elf_table.specs.Load.{HoldsProgramHeaders}
+use Rattle.elf_table.specs.Prelude.{HoldsProgramHeaders, HoldsRows, next_row, size_of, unread_bytes}
 use Rattle.elf_note.specs.DynCursors.{entries_left}
-use Rattle.elf_table.specs.Cursors.{HoldsRows, next_row, unread_bytes}
-use Rattle.elf_table.specs.Tables.{size_of}
 use Rattle.elf_needs.proofs.LoopLaws.{LeftLinks}
 use Rattle.elf_needs.proofs.entries.list_link_info.Given as goal
 

@@ -1,7 +1,7 @@
 -- The counts of the table, and what its words tell.
 use Rattle.std.proofs.Common.{◌≡◌, ap, arith}
 use Rattle.std.proofs.lemmas.Result.{err_from_is_err_and}
-use Rattle.elf_hash.specs.SearchedTables.{place_of_table}
+use Rattle.elf_hash.specs.Prelude.{place_of_table}
 use Rattle.elf_hash.specs.declared.place.HashTableLocation.{HashTableLocation}
 use Rattle.elf_table.proofs.LedgerLaws.{CallDid-as, CallDid-then}
 use Rattle.elf_needs.proofs.DefinerLaws.{few_counts, place_of}

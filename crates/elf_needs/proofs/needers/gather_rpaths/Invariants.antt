@@ -1,7 +1,6 @@
 -- What the objects that are gone by name, with what those that are left do, is all.
 use Rattle.std.proofs.Common.{◌≡◌, ◌≤◌, ◌++◌, length, drop}
-use Rattle.elf_needs.specs.Searching.{rpath_dirs}
-use Rattle.elf_needs.specs.Steps.{dirs_in, needers_of}
+use Rattle.elf_needs.specs.Prelude.{dirs_in, needers_of, rpath_dirs}
 use Rattle.elf_needs.proofs.needers.gather_rpaths.Given as goal
 
 abbrev pub invariant-loop-needer : goal.invariant-loop-needer

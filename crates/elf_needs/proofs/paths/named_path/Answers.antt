@@ -1,6 +1,5 @@
 use Rattle.std.proofs.Common.{List, ℕ, Some, true, false, subst}
-use Rattle.elf_needs.specs.Searching.{root_before}
-use Rattle.elf_needs.specs.Steps.{PutsText}
+use Rattle.elf_needs.specs.Prelude.{PutsText, root_before}
 use Rattle.elf_needs.proofs.PathLaws.{named_made, named_long}
 use Rattle.elf_needs.proofs.paths.named_path.Goals as goal
 

@@ -1,6 +1,5 @@
 use Rattle.std.proofs.Common.{List, ℕ, Some, true, false, subst}
-use Rattle.elf_needs.specs.Searching.{root_before}
-use Rattle.elf_needs.specs.Steps.{PutsText, origin_of}
+use Rattle.elf_needs.specs.Prelude.{PutsText, origin_of, root_before}
 use Rattle.elf_needs.proofs.PathLaws.{entry_made, not_named, not_rooted}
 use Rattle.elf_needs.proofs.paths.put_entry.Goals as goal
 

@@ -1,7 +1,6 @@
 use Rattle.std.proofs.Common.{ℕ, ◌+◌, ◌≤◌, List, [], length, length-drop, ap, sym, subst, ◌∙◌, arith}
 use Rattle.std.proofs.lemmas.List.{take_rest}
-use Rattle.elf_needs.specs.Searching.{token_in}
-use Rattle.elf_needs.specs.Steps.{token_of}
+use Rattle.elf_needs.specs.Prelude.{token_in, token_of}
 use Rattle.elf_needs.proofs.TokenLaws.{goes_all, goes_put, goes_short, none_some, short_put, at_byte, at_token, at_none}
 use Rattle.elf_needs.proofs.paths.put_expanded.Goals as goal
 

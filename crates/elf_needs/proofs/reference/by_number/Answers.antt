@@ -4,7 +4,7 @@ use Rattle.std.proofs.lemmas.Result.{err_from_is_err_and}
 use Rattle.elf_table.proofs.Absent.{none-of}
 use Rattle.elf_table.proofs.LedgerLaws.{CallDid-as, CallDid-stop, CallDid-then}
 use Rattle.elf_table.specs.declared.fault.Fault.TheVariants.{Refused}
-use Rattle.elf_model.specs.Loader.{naming_of}
+use Rattle.elf_model.specs.Prelude.{naming_of}
 use Rattle.elf_model.specs.declared.causes.Cause.TheVariants.{VersionIndex}
 use Rattle.elf_loader.proofs.NamingLaws.{naming-nothing}
 use Rattle.elf_needs.proofs.SoughtLaws.{none_by, spelt_by, unnamed_by, unspelt_by}

@@ -2,8 +2,7 @@
 use Rattle.std.proofs.Common.{sym, ◌∙◌, arith}
 use Rattle.std.proofs.lemmas.Result.{err_from_is_err_and}
 use Rattle.elf_table.proofs.LedgerLaws.{CallDid-as, CallDid-of, CallDid-then}
-use Rattle.elf_model.specs.Bindings.{is_weak}
-use Rattle.elf_model.specs.Loader.{symbol_offset}
+use Rattle.elf_model.specs.Prelude.{is_weak, symbol_offset}
 use Rattle.elf_needs.proofs.SoughtLaws.{asks, nameless, nothing, symbol_is, versionless}
 use Rattle.elf_needs.proofs.reference.reference_symbol.Goals as goal
 

@@ -2,9 +2,9 @@
 use Rattle.std.proofs.Common.{arith}
 use Rattle.std.proofs.lemmas.Result.{err_from_is_err_and}
 use Rattle.elf_table.proofs.LedgerLaws.{CallDid-as, CallDid-of, CallDid-stop}
+use Rattle.elf_table.specs.Prelude.{strings_in}
 use Rattle.elf_table.specs.declared.fault.Fault.TheVariants.{Refused}
 use Rattle.elf_model.specs.declared.causes.Cause.TheVariants.{TooLong}
-use Rattle.elf_table.specs.Tables.{strings_in}
 use Rattle.elf_needs.proofs.SoughtLaws.{whole_cut, whole_fault, whole_is}
 use Rattle.elf_needs.proofs.reference.whole_name.Goals as goal
 

@@ -1,8 +1,7 @@
 use Rattle.std.proofs.Common.{◌≡◌, ℕ, ◌+◌, ◌-◌, ◌<◌, ◌≤◌, min, length, inl, ap, sym, ◌∙◌, arith, rules}
 use Rattle.std.proofs.lemmas.List.{take_at}
 use Rattle.std.proofs.lemmas.Result.{err_from_is_err_and}
-use Rattle.elf_model.specs.Bytes.{slice}
-use Rattle.elf_model.specs.Notes.{descriptor_start, bytes_to_alignment}
+use Rattle.elf_model.specs.Prelude.{bytes_to_alignment, descriptor_start, slice}
 use Rattle.elf_record.specs.NoteHead.{IsNoteHead}
 use Rattle.elf_table.specs.Windows.{bytes_left, range_end}
 use Rattle.elf_note.specs.NoteCursors.{note_size}

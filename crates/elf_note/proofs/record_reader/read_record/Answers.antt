@@ -1,9 +1,9 @@
 -- The checks are those of the words, and the name is read where they pass.
 use Rattle.std.proofs.Common.{◌≡◌, ℕ, ◌+◌, ap, sym, ◌∙◌, arith}
 use Rattle.std.proofs.lemmas.Result.{err_from_is_err_and}
+use Rattle.elf_table.specs.Prelude.{TableRange}
 use Rattle.elf_table.specs.declared.fault.Fault.TheVariants.{Refused}
 use Rattle.elf_table.proofs.LedgerLaws.{CallDid-as, CallDid-stop, CallDid-then}
-use Rattle.elf_table.specs.Tables.{TableRange}
 use Rattle.elf_note.specs.Reading.{record_position_of}
 use Rattle.elf_table.proofs.Absent.{none-of}
 use Rattle.elf_note.proofs.WordLaws.{asks-words, asks-name, distance-inside, read-fails, record-checked}

@@ -1,6 +1,5 @@
 use Rattle.std.proofs.Common.{◌≡◌, List, ℕ, Some, Option, ap, sym, ◌∙◌, rules}
-use Rattle.elf_model.specs.Dynamic.{dynamic_value}
-use Rattle.elf_model.specs.Numbers.{DT_STRSZ, DT_STRTAB}
+use Rattle.elf_model.specs.Prelude.{DT_STRSZ, DT_STRTAB, dynamic_value}
 use Rattle.elf_record.specs.Dyn.{IsDyn}
 use Rattle.elf_table.proofs.LedgerLaws.{CallDid-of}
 use Rattle.elf_table.specs.Cursors.{next_row}

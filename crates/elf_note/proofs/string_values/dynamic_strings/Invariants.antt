@@ -1,6 +1,5 @@
 use Rattle.std.proofs.Common.{◌≡◌, ℕ, List, Some}
-use Rattle.elf_model.specs.Dynamic.{dynamic_value, listed_value}
-use Rattle.elf_model.specs.Numbers.{DT_STRSZ, DT_STRTAB}
+use Rattle.elf_model.specs.Prelude.{DT_STRSZ, DT_STRTAB, dynamic_value, listed_value}
 use Rattle.elf_table.specs.Cursors.{next_row}
 use Rattle.elf_note.specs.DynCursors.{entries_left, first_value}
 use Rattle.elf_note.proofs.EntriesLoop.{GoesOver}

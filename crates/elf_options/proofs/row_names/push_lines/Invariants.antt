@@ -1,7 +1,6 @@
 -- The names that are there, and behind them those that are left, are the names that there were and those of the list.
 use Rattle.std.proofs.Common.{◌≡◌, ◌++◌, All}
-use Rattle.elf_options.specs.Names.{texts_of}
-use Rattle.elf_options.specs.NameLists.{IsNoNames, IsRowName, after_bytes, after_lines, listed_names, line_names}
+use Rattle.elf_options.specs.Prelude.{IsNoNames, IsRowName, after_bytes, after_lines, line_names, listed_names, texts_of}
 use Rattle.elf_options.specs.declared.names_fault.NamesFault.{NamesFault}
 use Rattle.elf_options.proofs.row_names.push_lines.Given as goal
 

@@ -1,12 +1,9 @@
 use Rattle.std.proofs.Common.{rules, ◌+◌, ◌-◌, ◌*◌, ℕ, length, arith, ap, ◌∙◌, Err}
 use Rattle.std.proofs.lemmas.Result.{err_from_is_err_and}
-use Rattle.elf_model.specs.Records.{e_shnum}
-use Rattle.elf_model.specs.ApplyCost.{entries_for, window_passes, cost_with}
+use Rattle.elf_model.specs.Prelude.{cost_with, e_shnum, entries_for, window_passes}
 use Rattle.elf_source.proofs.GrowthLaws.{grows_not}
 use Rattle.elf_source.proofs.ReadsLaws.{ReadsUpTo-none}
-use Rattle.elf_reloc.specs.Applied.{IsApplyTarget, passes_cost}
-use Rattle.elf_reloc.specs.Walk.{walk_all}
-use Rattle.elf_reloc.specs.Windows.{windows}
+use Rattle.elf_reloc.specs.Prelude.{IsApplyTarget, passes_cost, walk_all, windows}
 use Rattle.elf_reloc.specs.declared.entry.ApplyTarget.{ApplyTarget}
 use Rattle.elf_reloc.proofs.ApplySteps.{before_request, request_failed}
 use Rattle.elf_reloc.proofs.BudgetSteps.{all_says_after, all_wants, all_wants_after, check_applies, check_wants, order_wants, spends_reads, spends_to}

@@ -1,7 +1,6 @@
 use Rattle.std.proofs.Common.{rules, arith, sym, ap, ◌∙◌, Err}
 use Rattle.std.proofs.lemmas.Result.{err_from_is_err_and}
-use Rattle.elf_model.specs.Apply.{patched}
-use Rattle.elf_model.specs.Bytes.{slice}
+use Rattle.elf_model.specs.Prelude.{patched, slice}
 use Rattle.elf_table.proofs.OpenLaws.{still_open}
 use Rattle.elf_reloc.specs.Walk.{walk_all}
 use Rattle.elf_reloc.proofs.ApplySteps.{check_failed, writes_failed}

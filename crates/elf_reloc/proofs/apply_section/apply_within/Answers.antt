@@ -1,7 +1,6 @@
 use Rattle.std.proofs.Common.{rules, ◌+◌, ◌-◌, ◌*◌, ◌≤◌, ℕ, arith, sym, ap, ap₂, ◌∙◌, Err}
 use Rattle.std.proofs.lemmas.Result.{err_from_is_err_and}
-use Rattle.elf_model.specs.ApplyCost.{apply_cost_by_order, window_passes}
-use Rattle.elf_model.specs.Records.{e_shnum}
+use Rattle.elf_model.specs.Prelude.{apply_cost_by_order, e_shnum, window_passes}
 use Rattle.elf_source.proofs.GrowthLaws.{grows_not}
 use Rattle.elf_source.proofs.ReadsLaws.{ReadsUpTo-then}
 use Rattle.elf_table.specs.Load.{load_cost}

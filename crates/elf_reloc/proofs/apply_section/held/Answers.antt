@@ -1,10 +1,7 @@
 -- Where the section's bytes stand, behind the checks of the request.
 use Rattle.std.proofs.Common.{◌≡◌, ◌==◌, ◌||◌, nat_lt, not, true, false, sym, ◌∙◌, arith}
 use Rattle.std.proofs.lemmas.Bool.Decides.{nat_tests}
-use Rattle.elf_model.specs.Apply.{is_compressed}
-use Rattle.elf_model.specs.Checks.{is_section_outside}
-use Rattle.elf_model.specs.Numbers.{ET_REL, EM_X86_64}
-use Rattle.elf_model.specs.Records.{e_machine, e_shnum, e_type, section_at}
+use Rattle.elf_model.specs.Prelude.{EM_X86_64, ET_REL, e_machine, e_shnum, e_type, is_compressed, is_section_outside, section_at}
 use Rattle.elf_reloc.proofs.HeldSteps.{holds_bytes, holds_none, lies_outside}
 use Rattle.elf_reloc.proofs.apply_section.held.Goals as goal
 

@@ -1,8 +1,7 @@
 -- The first section that has the entry is the first one that is met.
 use Rattle.std.proofs.Common.{◌≡◌, ℕ, ap, inl, inr, ◌∙◌, arith}
 use Rattle.std.proofs.lemmas.Bool.{cases_eq}
-use Rattle.elf_model.specs.Explain.{refused_in, relocates_at}
-use Rattle.elf_model.specs.Records.{e_shnum, section_at}
+use Rattle.elf_model.specs.Prelude.{e_shnum, refused_in, relocates_at, section_at}
 use Rattle.elf_model.proofs.LookupSteps.{first_that-none, first_that-some}
 use Rattle.elf_reloc.proofs.entries.entries_at.Goals as goal
 

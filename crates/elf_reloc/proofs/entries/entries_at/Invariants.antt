@@ -1,7 +1,6 @@
 -- No section so far has the entry.
 use Rattle.std.proofs.Common.{◌≡◌, ℕ, ◌<◌, false, List}
-use Rattle.elf_model.specs.Explain.{relocates_at}
-use Rattle.elf_model.specs.Records.{section_at}
+use Rattle.elf_model.specs.Prelude.{relocates_at, section_at}
 use Rattle.elf_table.specs.Load.{HoldsSectionHeaders}
 use Rattle.elf_reloc.proofs.entries.entries_at.Given as goal
 

@@ -1,8 +1,7 @@
 -- The section of entries, what is missing there, and the name.
 use Rattle.std.proofs.Common.{◌≡◌, ◌∙◌, sym, ap, None, arith}
 use Rattle.std.proofs.lemmas.Result.{err_from_is_err_and}
-use Rattle.elf_model.specs.Explain.{lack_with}
-use Rattle.elf_model.specs.Records.{section_at}
+use Rattle.elf_model.specs.Prelude.{lack_with, section_at}
 use Rattle.elf_table.proofs.LedgerLaws.{CallDid-as, CallDid-none, CallDid-then}
 use Rattle.elf_reloc.proofs.ExplainLaws.{lacks_nothing, lacks_told, nowhere, somewhere}
 use Rattle.elf_reloc.proofs.LackLaws.{none_of}

@@ -1,9 +1,7 @@
 -- What was written so far is the front of what is copied.
 use Rattle.std.proofs.Common.{◌≡◌, ℕ, ◌+◌, ◌-◌, ◌^◌, ◌≤◌, List, length, take, min, Some}
 use Rattle.elf_model.specs.Bytes.{slice}
-use Rattle.elf_source.specs.Growth.{OutGrows}
-use Rattle.elf_source.specs.Source.{ReadsUpTo}
-use Rattle.elf_source.specs.Output.{SinkTakes}
+use Rattle.elf_source.specs.Prelude.{OutGrows, ReadsUpTo, SinkTakes}
 use Rattle.elf_reloc.proofs.in_order.copy.Given as goal
 
 abbrev pub invariant-pages : goal.invariant-pages

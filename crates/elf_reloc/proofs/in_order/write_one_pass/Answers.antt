@@ -2,11 +2,8 @@ use Rattle.std.proofs.Common.{rules, refl, sym, ap, ◌∙◌, subst, ◌+◌, �
 use Rattle.std.proofs.lemmas.Result.{err_from_is_err_and}
 use Rattle.elf_source.proofs.ReadsLaws.{ReadsUpTo-none, ReadsUpTo-then, ReadsUpTo-to}
 use Rattle.elf_table.proofs.OpenLaws.{still_open}
-use Rattle.elf_model.specs.Apply.{patched, patches_of}
-use Rattle.elf_model.specs.ApplyLaws.{AllInside}
-use Rattle.elf_model.specs.Bytes.{slice}
-use Rattle.elf_reloc.specs.Walk.{walk_all, walk_left}
-use Rattle.elf_reloc.specs.Entries.{patch_as}
+use Rattle.elf_model.specs.Prelude.{AllInside, patched, patches_of, slice}
+use Rattle.elf_reloc.specs.Prelude.{patch_as, walk_all, walk_left}
 use Rattle.elf_reloc.proofs.InOrderSteps.{underway_start, underway_first, underway_next, underway_stopped, underway_end, underway_failed, finds_refusal}
 use Rattle.elf_reloc.proofs.ReadLaws.{not_over, IsUnlimitedReadFault-then}
 use Rattle.elf_reloc.proofs.WindowSteps.{fault_says, stopping}

@@ -1,12 +1,8 @@
 -- What was written so far is the front of the section, and what is held the part behind it.
 use Rattle.std.proofs.Common.{◌≡◌, ℕ, ◌+◌, ◌-◌, ◌^◌, ◌≤◌, List, min, Some, Ok}
-use Rattle.elf_model.specs.Apply.{StoredBytes, patches_of, patched}
-use Rattle.elf_model.specs.ApplyLaws.{AllInside}
-use Rattle.elf_model.specs.Bytes.{slice}
-use Rattle.elf_source.specs.Growth.{OutGrows}
-use Rattle.elf_source.specs.Source.{ReadsUpTo}
-use Rattle.elf_reloc.specs.InOrder.{OffsetsAscend, UnderWay, end_of}
-use Rattle.elf_reloc.specs.Walk.{IsWalkAlive, ReadsEntries, changes_left, changes_all, walk_left, walk_all, steps_left}
+use Rattle.elf_model.specs.Prelude.{AllInside, StoredBytes, patched, patches_of, slice}
+use Rattle.elf_source.specs.Prelude.{OutGrows, ReadsUpTo}
+use Rattle.elf_reloc.specs.Prelude.{IsWalkAlive, OffsetsAscend, ReadsEntries, UnderWay, changes_all, changes_left, end_of, steps_left, walk_all, walk_left}
 use Rattle.elf_reloc.proofs.in_order.write_one_pass.Given as goal
 
 abbrev pub invariant-entries : goal.invariant-entries

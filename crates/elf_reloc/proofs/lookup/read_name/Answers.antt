@@ -1,7 +1,6 @@
 -- What was read is what stands at the name's index.
 use Rattle.std.proofs.Common.{rules, ◌+◌, length, refl, sym, ap, ◌∙◌, arith}
-use Rattle.elf_model.specs.ApplyCost.{longest}
-use Rattle.elf_model.specs.Bytes.{slice}
+use Rattle.elf_model.specs.Prelude.{longest, slice}
 use Rattle.elf_model.proofs.Slices.{slice-size}
 use Rattle.elf_table.specs.Tables.{strings_in}
 use Rattle.elf_reloc.proofs.NameSteps.{front_is, ReadsUpTo-more}

@@ -1,8 +1,7 @@
 -- A lookup that reads a name once.
 use Rattle.std.proofs.Common.{rules, refl, arith}
 use Rattle.elf_table.proofs.LedgerLaws.{CallReads-more}
-use Rattle.elf_model.specs.ApplyCost.{lookup_cost}
-use Rattle.elf_model.specs.Placing.{Searched}
+use Rattle.elf_model.specs.Prelude.{Searched, lookup_cost}
 use Rattle.elf_table.specs.Tables.{strings_in}
 use Rattle.elf_reloc.proofs.NameSteps.{lookup_most, no_names, no_strings, past_end}
 use Rattle.elf_reloc.proofs.lookup.searched.Goals as goal

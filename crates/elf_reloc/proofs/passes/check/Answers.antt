@@ -4,9 +4,7 @@ use Rattle.elf_source.proofs.ReadsLaws.{ReadsUpTo-none, ReadsUpTo-then}
 use Rattle.elf_table.proofs.Absent.{none-of}
 use Rattle.elf_table.proofs.OpenLaws.{still_open}
 use Rattle.elf_reloc.proofs.WalkSteps.{reads-left}
-use Rattle.elf_reloc.specs.Walk.{walk_left, entries_from, changes_left}
-use Rattle.elf_reloc.specs.Passes.{folded, rising}
-use Rattle.elf_reloc.specs.Entries.{patch_as}
+use Rattle.elf_reloc.specs.Prelude.{changes_left, entries_from, folded, patch_as, rising, walk_left}
 use Rattle.elf_reloc.proofs.PassSteps.{folded-some, folded-none, folded-fault, checks_fault}
 use Rattle.elf_reloc.proofs.ReadLaws.{IsReadFault-then}
 use Rattle.elf_reloc.proofs.passes.check.Goals as goal

@@ -1,8 +1,7 @@
 -- What is left gives the answer.
 use Rattle.std.proofs.Common.{Some, ◌≡◌, ℕ, ◌+◌, ◌≤◌, List, true}
 use Rattle.elf_source.specs.Source.{ReadsUpTo}
-use Rattle.elf_reloc.specs.Passes.{folded, rising}
-use Rattle.elf_reloc.specs.Walk.{IsWalkAlive, ReadsEntries, entries_from, changes_left, changes_all, walk_left, walk_all, steps_left}
+use Rattle.elf_reloc.specs.Prelude.{IsWalkAlive, ReadsEntries, changes_all, changes_left, entries_from, folded, rising, steps_left, walk_all, walk_left}
 use Rattle.elf_reloc.proofs.passes.check.Given as goal
 
 abbrev pub invariant-entries : goal.invariant-entries

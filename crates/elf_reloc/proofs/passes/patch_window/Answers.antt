@@ -4,9 +4,7 @@ use Rattle.elf_source.proofs.ReadsLaws.{ReadsUpTo-none, ReadsUpTo-then}
 use Rattle.elf_table.proofs.Absent.{none-of}
 use Rattle.elf_table.proofs.OpenLaws.{still_open}
 use Rattle.elf_reloc.proofs.WalkSteps.{reads-left}
-use Rattle.elf_reloc.specs.Walk.{walk_left, changes_left}
-use Rattle.elf_reloc.specs.Passes.{folded, storing}
-use Rattle.elf_reloc.specs.Entries.{patch_as}
+use Rattle.elf_reloc.specs.Prelude.{changes_left, folded, patch_as, storing, walk_left}
 use Rattle.elf_reloc.proofs.PassSteps.{folded-some, folded-none, folded-fault, folds-fault}
 use Rattle.elf_reloc.proofs.ReadLaws.{IsReadFault-then}
 use Rattle.elf_reloc.proofs.passes.patch_window.Goals as goal

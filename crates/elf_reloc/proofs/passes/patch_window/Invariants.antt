@@ -1,8 +1,7 @@
 -- What is left gives the answer.
 use Rattle.std.proofs.Common.{Some, ◌≡◌, ℕ, ◌+◌, ◌≤◌, List, length}
 use Rattle.elf_source.specs.Source.{ReadsUpTo}
-use Rattle.elf_reloc.specs.Passes.{folded, storing}
-use Rattle.elf_reloc.specs.Walk.{IsWalkAlive, ReadsEntries, changes_left, changes_all, walk_left, walk_all, steps_left}
+use Rattle.elf_reloc.specs.Prelude.{IsWalkAlive, ReadsEntries, changes_all, changes_left, folded, steps_left, storing, walk_all, walk_left}
 use Rattle.elf_reloc.proofs.passes.patch_window.Given as goal
 
 abbrev pub invariant-entries : goal.invariant-entries

@@ -2,8 +2,7 @@ use Rattle.std.proofs.Common.{rules, refl, sym, ap, ◌∙◌, ◌+◌, ◌-◌,
 use Rattle.std.proofs.lemmas.Result.{err_from_is_err_and}
 use Rattle.elf_source.proofs.ReadsLaws.{ReadsUpTo-none, ReadsUpTo-then, ReadsUpTo-to}
 use Rattle.elf_table.proofs.OpenLaws.{still_open}
-use Rattle.elf_model.specs.Apply.{patched}
-use Rattle.elf_model.specs.Bytes.{slice}
+use Rattle.elf_model.specs.Prelude.{patched, slice}
 use Rattle.elf_reloc.specs.Walk.{walk_all}
 use Rattle.elf_reloc.proofs.WindowSteps.{window_more, window_stopped, windows_end, windows_account, takes_start, short_take, stopping}
 use Rattle.elf_source.proofs.GrowthLaws.{grows_not, grows_then}

@@ -1,13 +1,8 @@
 -- What was written so far is the front of the section.
 use Rattle.std.proofs.Common.{◌≡◌, ℕ, ◌+◌, ◌-◌, ◌*◌, ◌^◌, ◌≤◌, List, take, min, Some, Ok}
-use Rattle.elf_model.specs.Apply.{patches_of, patched}
-use Rattle.elf_model.specs.ApplyLaws.{AllInside}
-use Rattle.elf_model.specs.Bytes.{slice}
-use Rattle.elf_source.specs.Growth.{OutGrows}
-use Rattle.elf_source.specs.Source.{ReadsUpTo}
-use Rattle.elf_source.specs.Output.{SinkTakes}
-use Rattle.elf_reloc.specs.Walk.{changes_all, walk_all}
-use Rattle.elf_reloc.specs.Windows.{windows}
+use Rattle.elf_model.specs.Prelude.{AllInside, patched, patches_of, slice}
+use Rattle.elf_source.specs.Prelude.{OutGrows, ReadsUpTo, SinkTakes}
+use Rattle.elf_reloc.specs.Prelude.{changes_all, walk_all, windows}
 use Rattle.elf_reloc.proofs.windows.write_by_windows.Given as goal
 
 abbrev pub invariant-windows : goal.invariant-windows

@@ -1,7 +1,7 @@
 -- What was applied is the answer, or the budget ends it.
 use Rattle.elf_source.proofs.GrowthLaws.{grows_then}
 use Rattle.elf_source.proofs.LimitLaws.{spent_within}
-use Rattle.elf_model.specs.Apply.{applied}
+use Rattle.elf_model.specs.Prelude.{applied}
 use Rattle.elf_model.specs.declared.formats.Format.TheVariants.{Columns}
 use Rattle.elf_requests.proofs.TaskLaws.{answered_stop, answered_whole, runs, section_says, section_stops, section_wrote}
 use Rattle.elf_requests.proofs.apply_request.write_applied.Goals as goal

@@ -1,7 +1,6 @@
 -- What the lookup gives is the answer, or the budget ends it.
 use Rattle.std.proofs.Common.{length, rules, ◌≡◌, Ok, Err}
-use Rattle.elf_model.specs.Find.{find_cost, looked}
-use Rattle.elf_model.specs.FindApplyAnswer.{find_answer}
+use Rattle.elf_model.specs.Prelude.{find_answer, find_cost, looked}
 use Rattle.elf_hash.specs.Lookups.{find_bytes}
 use Rattle.elf_requests.proofs.LookupLaws.{find_refuses, lookup_answers, lookup_stopped}
 use Rattle.elf_requests.proofs.find_request.look_up.Goals as goal

@@ -1,12 +1,8 @@
 -- What the lookup gives is the answer, or the budget ends it.
 use Rattle.std.proofs.Common.{rules, ◌≡◌, ℕ, List, Ok, Err, sym, ap, subst}
-use Rattle.elf_model.specs.Loader.{VersionQuery, SymbolQuery, parse_query}
-use Rattle.elf_model.specs.LoaderAnswer.{loader_answer}
-use Rattle.elf_model.specs.LoaderFind.{loader_ceiling, loader_cost, loader_looked}
-use Rattle.elf_model.specs.Style.{looked_at}
+use Rattle.elf_model.specs.Prelude.{SymbolQuery, VersionQuery, loader_answer, loader_ceiling, loader_cost, loader_looked, looked_at, parse_query}
 use Rattle.elf_loader.specs.Lookups.{AnswersLoaderLookup, AreShort}
-use Rattle.elf_requests.specs.Answers.{WroteAnswer}
-use Rattle.elf_requests.specs.Lookups.{resolved_answer}
+use Rattle.elf_requests.specs.Prelude.{WroteAnswer, resolved_answer}
 use Rattle.elf_requests.proofs.LookupLaws.{lookup_answers, lookup_stopped, resolve_is, resolve_refuses, wanted_short}
 use Rattle.elf_requests.proofs.resolve_request.resolve.Goals as goal
 

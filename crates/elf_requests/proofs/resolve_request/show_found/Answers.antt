@@ -1,6 +1,6 @@
 -- The symbol's line, and behind it that of its version.
 use Rattle.std.proofs.Common.{◌≡◌, false, subst}
-use Rattle.elf_model.specs.Lines.{named_line}
+use Rattle.elf_model.specs.Prelude.{named_line}
 use Rattle.elf_model.specs.Names.{Whole}
 use Rattle.elf_source.specs.Output.{SinkTakes}
 use Rattle.elf_source.proofs.GrowthLaws.{grows_put, grows_then}

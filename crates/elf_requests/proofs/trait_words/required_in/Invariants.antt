@@ -1,6 +1,5 @@
 use Rattle.std.proofs.Common.{◌≡◌, ◌++◌, length, map, Some, IsUtf8}
-use Rattle.elf_options.specs.Required.{required_words}
-use Rattle.elf_options.specs.Spelled.{parsed_trait_word}
+use Rattle.elf_options.specs.Prelude.{parsed_trait_word, required_words}
 use Rattle.elf_requests.specs.AskedTraits.{pieces}
 use Rattle.elf_requests.proofs.trait_words.required_in.Given as goal
 

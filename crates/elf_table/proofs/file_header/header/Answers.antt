@@ -1,8 +1,8 @@
 -- The file header's checks are those of the length, and then those of the bytes that were read.
 use Rattle.std.proofs.Common.{◌≡◌, ℕ, List, ◌++◌, length, None, Some, refl, sym, ap, ◌∙◌}
-use Rattle.elf_model.specs.Checks.{first_refusal, length_checks, ident_checks}
-use Rattle.elf_model.proofs.CheckSteps.{first_refusal-none, first_refusal-some}
+use Rattle.elf_model.specs.Prelude.{first_refusal, ident_checks, length_checks}
 use Rattle.elf_model.specs.declared.causes.Refusal.{Refusal}
+use Rattle.elf_model.proofs.CheckSteps.{first_refusal-none, first_refusal-some}
 use Rattle.elf_table.proofs.LoadLaws.{ident_unbudgeted}
 use Rattle.elf_table.proofs.file_header.header.Goals as goal
 

@@ -1,8 +1,6 @@
 use Rattle.std.proofs.Common.{◌≡◌, ℕ, ◌+◌, ◌-◌, ◌≤◌, List, length, take, None, Some, Ok}
-use Rattle.elf_model.specs.Bytes.{slice}
-use Rattle.elf_model.specs.Names.{nul_in}
-use Rattle.elf_table.specs.WindowCalls.{ReadsThroughWindow}
-use Rattle.elf_table.specs.Windows.{HoldsBytes}
+use Rattle.elf_model.specs.Prelude.{nul_in, slice}
+use Rattle.elf_table.specs.Prelude.{HoldsBytes, ReadsThroughWindow}
 use Rattle.elf_table.proofs.name_search.search_name.Given as goal
 
 abbrev pub invariant-loop-done : goal.invariant-loop-done

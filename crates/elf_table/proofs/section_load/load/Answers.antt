@@ -1,11 +1,10 @@
 -- The load's checks: those of the file header, and then those of the section of the section names.
 use Rattle.std.proofs.Common.{◌≡◌, ℕ, length, Option, refl, sym, ap, ◌∙◌}
-use Rattle.elf_model.specs.Checks.{first_refusal, early_checks, section_name_checks}
+use Rattle.elf_model.specs.Prelude.{early_checks, first_refusal, section_name_checks}
 use Rattle.elf_model.specs.declared.causes.Refusal.{Refusal}
 use Rattle.elf_model.proofs.CheckSteps.{first_refusal-some}
 use Rattle.elf_record.specs.declared.ehdr.Ehdr.{Ehdr}
-use Rattle.elf_table.specs.Load.{early_of}
-use Rattle.elf_table.specs.Store.{StoreState, emptied}
+use Rattle.elf_table.specs.Prelude.{StoreState, early_of, emptied}
 use Rattle.elf_source.proofs.ReadsLaws.{ReadsUpTo-none}
 use Rattle.elf_table.proofs.LoadLaws.{belongs_loaded, early_is, early_unbudgeted, late_answer, load_reads, load_says, read_stops, rows_loaded}
 use Rattle.elf_table.proofs.section_load.load.Goals as goal

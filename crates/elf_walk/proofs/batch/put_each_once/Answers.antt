@@ -1,7 +1,6 @@
 use Rattle.std.proofs.Common.{rules, ◌≡◌, ◌∙◌, ◌++◌, ◌∷◌, [], add-one, sym, true, false, ◌<◌, length, ap, take}
 use Rattle.std.specs.Prelude.{slice_index_or}
-use Rattle.elf_walk.specs.Held.{repeats}
-use Rattle.elf_walk.specs.Passes.{in_order}
+use Rattle.elf_walk.specs.Prelude.{in_order, repeats}
 use Rattle.elf_walk.proofs.SortedLaws.{added, none_put, repeated}
 use Rattle.elf_walk.proofs.batch.put_each_once.Goals as goal
 

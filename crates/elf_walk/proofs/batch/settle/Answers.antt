@@ -1,6 +1,5 @@
 use Rattle.std.proofs.Common.{rules, ◌≡◌, ◌∙◌, sym, subst}
-use Rattle.elf_walk.specs.Held.{IsEnough}
-use Rattle.elf_walk.specs.Passes.{in_order}
+use Rattle.elf_walk.specs.Prelude.{IsEnough, in_order}
 use Rattle.elf_walk.proofs.FrontLaws.{cut_front, taken_stays, whole_front, whole_stays}
 use Rattle.elf_walk.proofs.MemberLaws.{permuted}
 use Rattle.elf_walk.proofs.batch.settle.Goals as goal

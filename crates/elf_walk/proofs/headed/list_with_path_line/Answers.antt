@@ -2,11 +2,9 @@
 use Rattle.std.proofs.Common.{rules, ◌≡◌, true, false, ap, refl, ◌∙◌}
 use Rattle.std.specs.Prelude.{map}
 use Rattle.std.proofs.lemmas.Result.{err_from_is_err_and}
-use Rattle.elf_model.specs.Choice.{EveryRow, RowsOf, wanted_text}
-use Rattle.elf_model.specs.FileLists.{path_line}
-use Rattle.elf_options.specs.Names.{texts_of}
+use Rattle.elf_model.specs.Prelude.{EveryRow, RowsOf, path_line, wanted_text}
+use Rattle.elf_options.specs.Prelude.{style_of, texts_of}
 use Rattle.elf_source.specs.Source.{SourceState}
-use Rattle.elf_options.specs.Permitted.{style_of}
 use Rattle.elf_walk.proofs.HeadedLaws.{every_headed, held_headed, line_begun, line_unheld, path_stops}
 use Rattle.elf_walk.proofs.headed.list_with_path_line.Goals as goal
 

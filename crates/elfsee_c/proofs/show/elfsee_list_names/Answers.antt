@@ -1,7 +1,6 @@
 -- What was listed is told as numbers.
 use Rattle.std.proofs.Common.{Some, length}
-use Rattle.elf_capi.specs.Asked.{AsksListing, parts_in, style_in}
-use Rattle.elf_capi.specs.Limits.{AreCaps}
+use Rattle.elf_capi.specs.Prelude.{AreCaps, AsksListing, parts_in, style_in}
 use Rattle.elfsee_c.proofs.AskedLaws.{told_listing}
 use Rattle.elfsee_c.proofs.show.elfsee_list_names.Goals as goal
 

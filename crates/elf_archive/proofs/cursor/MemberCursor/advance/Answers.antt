@@ -1,12 +1,9 @@
 use Rattle.std.proofs.Common.{◌≡◌, ◌+◌, nat_le, Err, subst, sym, ap, ◌∙◌, arith}
 use Rattle.std.proofs.lemmas.Result.{err_from_is_err_and}
-use Rattle.elf_model.specs.ArchiveCost.{long_name_bytes}
-use Rattle.elf_model.specs.Bytes.{slice}
-use Rattle.elf_model.specs.Cost.{cost_where}
+use Rattle.elf_model.specs.Prelude.{Member, MemberWalkState, OneMember, cost_where, long_name_bytes, next_member, slice}
 use Rattle.elf_source.proofs.ReadsLaws.{ReadsUpTo-then, ReadsUpTo-to}
 use Rattle.elf_archive.proofs.AskLaws.{CountsRead-then, CountsRead-to, header_least, header_some, name_most, where_more, where_room}
-use Rattle.elf_model.specs.Archive.{Member, OneMember, MemberWalkState, next_member}
-use Rattle.elf_archive.specs.Members.{ReturnsMember, extent_of, member_of, extent_of_names}
+use Rattle.elf_archive.specs.Prelude.{ReturnsMember, extent_of, extent_of_names, member_of}
 use Rattle.elf_archive.specs.declared.member.Member.{Member as Given}
 use Rattle.elf_archive.proofs.MemberLaws.{next-ends, next-member, tells-data, tells-name, behind-is}
 use Rattle.elf_archive.proofs.cursor.MemberCursor.advance.Goals as goal

@@ -1,8 +1,7 @@
 -- The faults of the table and of what it is linked to are those of the relocation entries.
 use Rattle.std.proofs.Common.{◌≡◌, false, true, refl, sym}
 use Rattle.std.proofs.lemmas.Result.{err_from_is_err_and}
-use Rattle.elf_model.specs.Records.{section_at}
-use Rattle.elf_model.specs.Tables.{linked_table_checks}
+use Rattle.elf_model.specs.Prelude.{linked_table_checks, section_at}
 use Rattle.elf_table.proofs.RelocationLaws.{back_refused, relocations_none, relocations_some, table_refused}
 use Rattle.elf_capi.proofs.held.MemoryFile.relocations.Goals as goal
 

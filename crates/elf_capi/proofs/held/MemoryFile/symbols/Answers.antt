@@ -1,8 +1,7 @@
 -- The faults of the table and of its strings are those of the symbols.
 use Rattle.std.proofs.Common.{◌≡◌, false, true, ap, refl, sym, ◌∙◌}
 use Rattle.std.proofs.lemmas.Result.{err_from_is_err_and}
-use Rattle.elf_model.specs.Checks.{strings_checks}
-use Rattle.elf_model.specs.Records.{section_at}
+use Rattle.elf_model.specs.Prelude.{section_at, strings_checks}
 use Rattle.elf_table.specs.Sections.{strings}
 use Rattle.elf_table.proofs.RelocationLaws.{strings_refused, symbols-refused, symbols_none, symbols_some, table_refused}
 use Rattle.elf_capi.proofs.held.MemoryFile.symbols.Goals as goal

@@ -1,7 +1,6 @@
 use Rattle.std.proofs.Common.{ap, sym, subst, ◌∙◌, Equal, nat_cmp, get_or}
 use Rattle.std.proofs.lemmas.Cmp.{nat_cmp_total, ranked}
-use Rattle.elf_layout.specs.Lent.{borrowed_index, named, placed}
-use Rattle.elf_layout.specs.Listed.{HasTwice, KeysNeverDescend}
+use Rattle.elf_layout.specs.Prelude.{HasTwice, KeysNeverDescend, borrowed_index, named, placed}
 use Rattle.elf_layout.proofs.ListedSteps.{key_twice}
 use Rattle.elf_layout.proofs.items.Items.lent.Goals as goal
 

@@ -1,7 +1,5 @@
 use Rattle.std.proofs.Common.{◌≡◌, ◌+◌, None, Ok, Err, ap, sym, subst, ◌∙◌, arith}
-use Rattle.elf_model.specs.ApplyCost.{longest}
-use Rattle.elf_model.specs.Bytes.{slice}
-use Rattle.elf_model.specs.Placing.{address_named}
+use Rattle.elf_model.specs.Prelude.{address_named, longest, slice}
 use Rattle.elf_model.specs.declared.causes.Cause.TheVariants.{NameUnended}
 use Rattle.elf_layout.proofs.NameSteps.{said, stopped, unstopped}
 use Rattle.elf_layout.proofs.lent.SortedNames.find.Goals as goal

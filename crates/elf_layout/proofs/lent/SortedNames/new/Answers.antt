@@ -2,8 +2,7 @@ use Rattle.std.proofs.Common.{arith, add-one, subst, ap, refl, get_or, inl, inr,
 use Rattle.std.proofs.lemmas.Bool.{cases_lt}
 use Rattle.std.proofs.lemmas.Cmp.{nat_list_cmp_total}
 use Rattle.elf_model.specs.ApplyCost.{longest}
-use Rattle.elf_layout.specs.Layouts.{IsName}
-use Rattle.elf_layout.specs.Lent.{lent_name}
+use Rattle.elf_layout.specs.Prelude.{IsName, lent_name}
 use Rattle.elf_layout.specs.declared.lent.LentName.{LentName}
 use Rattle.elf_layout.proofs.LentSteps.{below_more}
 use Rattle.elf_layout.proofs.NameSteps.{greater_is, longest_more, lends_front, some_item}

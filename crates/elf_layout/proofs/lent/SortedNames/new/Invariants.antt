@@ -2,8 +2,7 @@
 use Rattle.std.proofs.Common.{length, take, ◌-◌, ◌≡◌, ◌≤◌, ◌<◌, ℕ, get_or}
 use Rattle.std.proofs.lemmas.Cmp.{nat_list_cmp_total}
 use Rattle.elf_model.specs.ApplyCost.{longest}
-use Rattle.elf_layout.specs.Layouts.{IsName}
-use Rattle.elf_layout.specs.Lent.{lent_name, named}
+use Rattle.elf_layout.specs.Prelude.{IsName, lent_name, named}
 use Rattle.elf_layout.specs.declared.lent.LentName.{LentName}
 use Rattle.elf_layout.proofs.LentSteps.{Below}
 use Rattle.elf_layout.proofs.lent.SortedNames.new.Given as goal

@@ -2,9 +2,8 @@
 use Rattle.elf_options.specs.Permitted.{style_of}
 use Rattle.std.proofs.Common.{◌≡◌, refl, ap, ◌∙◌, arith}
 use Rattle.std.proofs.lemmas.Result.{err_from_is_err_and}
-use Rattle.elf_model.specs.Dynamic.{dynamic_at}
+use Rattle.elf_model.specs.Prelude.{dynamic_at, dynamic_prefix}
 use Rattle.elf_format.specs.Fronts.{front_of}
-use Rattle.elf_model.specs.LineFronts.{dynamic_prefix}
 use Rattle.elf_listing.specs.Strings.{strings_reported, string_told}
 use Rattle.elf_listing.proofs.RowLaws.{WroteSome-as}
 use Rattle.elf_listing.proofs.StringsTold.{entry_is, reported_row, told_shown, WroteUntilStop-told}

@@ -1,11 +1,11 @@
 -- Each header is shown behind those before it.
-use Rattle.elf_options.specs.Permitted.{style_of}
+use Rattle.elf_options.specs.Prelude.{style_of}
+use Rattle.elf_options.specs.declared.caps.ListingStyle.{ListingStyle}
 use Rattle.std.proofs.Common.{◌≡◌, ℕ, List, refl, arith}
 use Rattle.std.proofs.lemmas.Result.{err_from_is_err_and}
 use Rattle.elf_model.specs.Listing.{ListingItem}
-use Rattle.elf_options.specs.declared.caps.ListingStyle.{ListingStyle}
 use Rattle.elf_table.specs.declared.file.SectionView.{SectionView}
-use Rattle.elf_listing.specs.Parts.{listed_by}
+use Rattle.elf_listing.specs.Prelude.{listed_by}
 use Rattle.elf_listing.specs.declared.parts.Part.{Part}
 use Rattle.elf_listing.proofs.ListsLaws.{ListingCalls-nothing}
 use Rattle.elf_listing.proofs.LoopLaws.{rows_none}

@@ -1,10 +1,8 @@
 -- What was shown so far are the headers before the index.
 use Rattle.elf_options.specs.Permitted.{style_of}
 use Rattle.std.proofs.Common.{◌≡◌, ℕ, ◌-◌, ◌≤◌, List, Ok}
-use Rattle.elf_model.specs.Cost.{sum_over}
-use Rattle.elf_model.specs.Listing.{each}
-use Rattle.elf_listing.specs.Parts.{listed_by}
-use Rattle.elf_listing.specs.Shows.{ListingCalls, ListingWrote}
+use Rattle.elf_model.specs.Prelude.{each, sum_over}
+use Rattle.elf_listing.specs.Prelude.{ListingCalls, ListingWrote, listed_by}
 use Rattle.elf_listing.proofs.listing.Listing.headers.Given as goal
 
 abbrev pub invariant-headers : goal.invariant-headers

@@ -1,8 +1,7 @@
 use Rattle.std.proofs.Common.{refl, sym, ap, ◌∙◌, arith}
 use Rattle.std.proofs.lemmas.Result.{err_from_is_err_and}
 use Rattle.elf_options.specs.Permitted.{style_of}
-use Rattle.elf_model.specs.Lines.{note_line}
-use Rattle.elf_model.specs.Listing.{Line}
+use Rattle.elf_model.specs.Prelude.{Line, note_line}
 use Rattle.elf_format.specs.Named.{shown_as}
 use Rattle.elf_listing.proofs.NotesShown.{named_as, note_is}
 use Rattle.elf_listing.proofs.RowLaws.{Whole-line, WroteUntilStop-line}

@@ -2,8 +2,7 @@
 use Rattle.std.proofs.Common.{◌+◌, refl, ap, sym, ◌∙◌, arith}
 use Rattle.std.proofs.lemmas.Result.{err_from_is_err_and}
 use Rattle.elf_options.specs.Permitted.{style_of}
-use Rattle.elf_model.specs.Bytes.{slice}
-use Rattle.elf_model.specs.Notes.{note_align}
+use Rattle.elf_model.specs.Prelude.{note_align, slice}
 use Rattle.elf_note.proofs.HeldLaws.{still_held}
 use Rattle.elf_note.proofs.SpendsLaws.{SpendsAtMost-none}
 use Rattle.elf_table.proofs.OpenLaws.{still_open}

@@ -1,15 +1,11 @@
 -- What was shown so far are the notes before the cursor's, and what may still be asked for is counted.
 use Rattle.std.proofs.Common.{◌≡◌, ℕ, ◌+◌, ◌≤◌, List, None, Some}
 use Rattle.elf_options.specs.Permitted.{style_of}
-use Rattle.elf_model.specs.Bytes.{slice}
-use Rattle.elf_model.specs.Notes.{note_align, walked}
-use Rattle.elf_model.specs.Rows.{walk_rows}
-use Rattle.elf_note.specs.Ahead.{ReadsOnCredit}
-use Rattle.elf_note.specs.NoteCursors.{notes_left}
+use Rattle.elf_model.specs.Prelude.{note_align, slice, walk_rows, walked}
+use Rattle.elf_note.specs.Prelude.{ReadsOnCredit, notes_left}
 use Rattle.elf_table.specs.Windows.{HoldsBytes, bytes_left}
 use Rattle.elf_source.specs.Growth.{OutGrows}
-use Rattle.elf_listing.specs.Notes.{WrittenBefore, note_items}
-use Rattle.elf_listing.specs.Shows.{SameFile}
+use Rattle.elf_listing.specs.Prelude.{SameFile, WrittenBefore, note_items}
 use Rattle.elf_listing.proofs.listing.Listing.notes.Given as goal
 
 abbrev pub invariant-notes : goal.invariant-notes

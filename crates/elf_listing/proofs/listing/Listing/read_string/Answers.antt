@@ -1,9 +1,8 @@
 -- The string of an entry by the cases of the definition.
 use Rattle.std.proofs.Common.{rules, ◌≡◌, true, false, Ok, sym, ap, refl}
 use Rattle.std.proofs.lemmas.Result.{err_from_is_err_and}
+use Rattle.elf_model.specs.Prelude.{d_tag, is_string_tag}
 use Rattle.elf_model.specs.Names.DisplayedName.{Whole}
-use Rattle.elf_model.specs.Records.{d_tag}
-use Rattle.elf_model.specs.Rows.{is_string_tag}
 use Rattle.elf_listing.specs.Strings.{strings_reported}
 use Rattle.elf_listing.proofs.StringsTold.{reported_none, told_read, told_refused}
 use Rattle.elf_listing.proofs.listing.Listing.read_string.Goals as goal

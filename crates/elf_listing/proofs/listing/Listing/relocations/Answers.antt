@@ -3,10 +3,7 @@ use Rattle.elf_options.specs.Permitted.{style_of}
 use Rattle.std.proofs.Common.{rules, refl, sym, ap, ◌∙◌}
 use Rattle.std.proofs.lemmas.Bool.{eq-eqb, ne_eqb}
 use Rattle.std.proofs.lemmas.Result.{err_from_is_err_and}
-use Rattle.elf_model.specs.Listing.{each}
-use Rattle.elf_model.specs.Records.{section_at}
-use Rattle.elf_model.specs.Rows.{relocation_row}
-use Rattle.elf_model.specs.TableKinds.{relocations}
+use Rattle.elf_model.specs.Prelude.{each, relocation_row, relocations, section_at}
 use Rattle.elf_record.specs.declared.ehdr.Ehdr.{Ehdr}
 use Rattle.elf_table.specs.Store.{row}
 use Rattle.elf_listing.proofs.RowLaws.{WroteSome-as}

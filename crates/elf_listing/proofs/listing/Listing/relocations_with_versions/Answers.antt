@@ -4,11 +4,8 @@ use Rattle.std.proofs.lemmas.Bool.{eq-eqb, false≢true, ne_eqb}
 use Rattle.std.proofs.lemmas.Result.{err_from_is_err_and}
 use Rattle.elf_options.specs.Permitted.{style_of}
 use Rattle.elf_table.specs.Store.{row}
-use Rattle.elf_model.specs.Names.{name_bytes}
-use Rattle.elf_model.specs.Records.{section_at, sh_link}
-use Rattle.elf_model.specs.TableKinds.{relocations, relocations_with_versions}
-use Rattle.elf_listing.specs.Parts.{store_sections}
-use Rattle.elf_listing.specs.Suffixed.{linked_count, suffix_bytes, walks_asked}
+use Rattle.elf_model.specs.Prelude.{name_bytes, relocations, relocations_with_versions, section_at, sh_link}
+use Rattle.elf_listing.specs.Prelude.{linked_count, store_sections, suffix_bytes, walks_asked}
 use Rattle.elf_listing.specs.declared.suffixes.VersionLookup.{VersionLookup}
 use Rattle.elf_listing.proofs.ListsLaws.{ListingCalls-nothing, ListingCalls-refused, ListingCalls-unread}
 use Rattle.elf_listing.proofs.RowLaws.{WroteSome-as}

@@ -8,8 +8,7 @@ use Rattle.elf_table.proofs.OpenLaws.{still_open}
 use Rattle.elf_listing.proofs.ViewedLaws.{still_viewed}
 use Rattle.elf_table.specs.Cursors.{unread_bytes}
 use Rattle.elf_table.proofs.CursorLaws.{agrees_none}
-use Rattle.elf_listing.specs.Kinds.{own_cost, row_items, rows_cost}
-use Rattle.elf_listing.specs.RowCursors.{reading, rows_listed}
+use Rattle.elf_listing.specs.Prelude.{own_cost, reading, row_items, rows_cost, rows_listed}
 use Rattle.elf_listing.proofs.LoopLaws.{rows_none, rows_unread, account_begins, account_step, account_row, at_most, spent_unread, step_ends, step_gives, step_last, step_more, step_stopped, turn, turn_more, turn_stopped, with_credit}
 use Rattle.elf_source.proofs.GrowthLaws.{grows_not, grows_then}
 use Rattle.elf_listing.proofs.listing.Listing.rows_in.Goals as goal

@@ -5,9 +5,7 @@ use Rattle.elf_model.specs.Listing.{each}
 use Rattle.elf_note.specs.Ahead.{ReadsOnCredit}
 use Rattle.elf_table.specs.Cursors.{HoldsRows, unread_bytes}
 use Rattle.elf_source.specs.Growth.{OutGrows}
-use Rattle.elf_listing.specs.Kinds.{own_cost, row_items, rows_cost, KindOf}
-use Rattle.elf_listing.specs.RowCursors.{reading, rows_to_give, rows_listed}
-use Rattle.elf_listing.specs.Shows.{SameFile, WroteItems}
+use Rattle.elf_listing.specs.Prelude.{KindOf, SameFile, WroteItems, own_cost, reading, row_items, rows_cost, rows_listed, rows_to_give}
 use Rattle.elf_listing.proofs.listing.Listing.rows_in.Given as goal
 
 abbrev pub invariant-rows : goal.invariant-rows

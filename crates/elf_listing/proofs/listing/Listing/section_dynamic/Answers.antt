@@ -3,8 +3,7 @@ use Rattle.elf_options.specs.Permitted.{style_of}
 use Rattle.std.proofs.Common.{rules, ◌≡◌, ◌==◌, false, refl, sym, ◌∙◌}
 use Rattle.std.proofs.lemmas.Bool.{eq-eqb, ne_eqb}
 use Rattle.std.proofs.lemmas.Result.{err_from_is_err_and}
-use Rattle.elf_model.specs.Records.{section_at, sh_size}
-use Rattle.elf_model.specs.TableKinds.{section_dynamic}
+use Rattle.elf_model.specs.Prelude.{section_at, section_dynamic, sh_size}
 use Rattle.elf_table.specs.Store.{row}
 use Rattle.elf_listing.proofs.RowLaws.{WroteSome-as}
 use Rattle.elf_listing.proofs.SectionCosts.{section_within}

@@ -3,13 +3,8 @@ use Rattle.elf_options.specs.Permitted.{style_of}
 use Rattle.std.proofs.Common.{rules, ◌≡◌, refl, sym, ap, ◌∙◌, arith}
 use Rattle.std.proofs.lemmas.Bool.{eq-eqb, ne_eqb}
 use Rattle.std.proofs.lemmas.Result.{err_from_is_err_and}
-use Rattle.elf_model.specs.Bytes.{slice}
-use Rattle.elf_model.specs.Notes.{note_align, walked}
-use Rattle.elf_model.specs.Records.{segment_at, p_align, p_filesz}
-use Rattle.elf_model.specs.Rows.{walk_rows}
-use Rattle.elf_model.specs.TableKinds.{segment_notes}
-use Rattle.elf_table.specs.Store.{segment_bytes}
-use Rattle.elf_table.specs.Tables.{TableRange}
+use Rattle.elf_model.specs.Prelude.{note_align, p_align, p_filesz, segment_at, segment_notes, slice, walk_rows, walked}
+use Rattle.elf_table.specs.Prelude.{TableRange, segment_bytes}
 use Rattle.elf_listing.specs.Parts.{store_segments}
 use Rattle.elf_listing.proofs.RowLaws.{WroteSome-as}
 use Rattle.elf_listing.proofs.SectionCosts.{range_within}

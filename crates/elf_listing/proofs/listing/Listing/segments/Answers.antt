@@ -2,15 +2,10 @@
 use Rattle.elf_options.specs.Permitted.{style_of}
 use Rattle.std.proofs.Common.{◌≡◌, ◌≤◌, ◌==◌, ℕ, true, false, [], sym, ap, ◌∙◌, arith}
 use Rattle.std.proofs.lemmas.Bool.{ne_eqb}
-use Rattle.elf_table.specs.Load.{LoadedFile}
-use Rattle.elf_model.specs.Listing.{each, has, SEGMENTS}
-use Rattle.elf_model.specs.Records.{e_phnum, e_phoff}
-use Rattle.elf_model.specs.Rows.{segment_row}
-use Rattle.elf_table.specs.Sections.{rows}
-use Rattle.elf_table.specs.Tables.{TableRange}
-use Rattle.elf_listing.specs.Kinds.{rows_cost}
+use Rattle.elf_table.specs.Prelude.{LoadedFile, TableRange, rows}
+use Rattle.elf_model.specs.Prelude.{SEGMENTS, e_phnum, e_phoff, each, has, segment_row}
+use Rattle.elf_listing.specs.Prelude.{rows_cost, segments_listed}
 use Rattle.elf_listing.specs.declared.rows.RowLayout.TheVariants.{Segments}
-use Rattle.elf_listing.specs.Parts.{segments_listed}
 use Rattle.elf_listing.proofs.FileShown.{viewed_segments}
 use Rattle.elf_listing.proofs.RowLaws.{WroteSome-as}
 use Rattle.elf_listing.proofs.SectionCosts.{sum_of_equal}

@@ -2,17 +2,10 @@
 use Rattle.std.proofs.Common.{rules, ◌≡◌, ℕ, ◌+◌, ◌*◌, ◌≤◌, false, true, Option, None, Some, Ok, Err, refl, sym, ap, ◌∙◌, subst, arith}
 use Rattle.std.proofs.lemmas.Result.{err_from_is_err_and}
 use Rattle.elf_options.specs.Permitted.{style_of}
-use Rattle.elf_table.specs.Store.{row}
-use Rattle.elf_model.specs.Bytes.{slice}
-use Rattle.elf_model.specs.Checks.{is_symbol_table}
-use Rattle.elf_model.specs.Names.{name_bytes}
-use Rattle.elf_model.specs.Records.{section_at}
-use Rattle.elf_model.specs.Suffixes.{symbol_row_with_version}
-use Rattle.elf_model.specs.TableKinds.{suffixed_symbols, symbols}
-use Rattle.elf_table.specs.Tables.{StringTableRange}
+use Rattle.elf_table.specs.Prelude.{StringTableRange, row}
+use Rattle.elf_model.specs.Prelude.{is_symbol_table, name_bytes, section_at, slice, suffixed_symbols, symbol_row_with_version, symbols}
 use Rattle.elf_table.proofs.RelocationLaws.{symbols-fail, symbols-pass}
-use Rattle.elf_listing.specs.Parts.{store_sections}
-use Rattle.elf_listing.specs.Suffixed.{SuffixesOr, suffix_bytes, walks_asked}
+use Rattle.elf_listing.specs.Prelude.{SuffixesOr, store_sections, suffix_bytes, walks_asked}
 use Rattle.elf_listing.specs.declared.suffixes.VersionLookup.{VersionLookup}
 use Rattle.elf_listing.proofs.ListsLaws.{ListingCalls-nothing, ListingCalls-refused, ListingCalls-unread}
 use Rattle.elf_listing.proofs.RowLaws.{WroteSome-as}

@@ -2,9 +2,8 @@
 use Rattle.std.proofs.Common.{◌≡◌, ℕ, ◌+◌, ◌*◌, ◌==◌, not, refl, sym, ap, ◌∙◌, [], Ok, Err, arith}
 use Rattle.std.proofs.lemmas.Result.{err_from_is_err_and}
 use Rattle.elf_options.specs.Permitted.{style_of}
-use Rattle.elf_model.specs.Names.{name_bytes}
-use Rattle.elf_model.specs.Records.{section_at, sh_offset}
-use Rattle.elf_table.specs.NamesRead.{shown_by}
+use Rattle.elf_model.specs.Prelude.{name_bytes, section_at, sh_offset}
+use Rattle.elf_table.specs.Prelude.{shown_by}
 use Rattle.elf_table.specs.declared.names.NameEnd.{NameEnd}
 use Rattle.elf_table.specs.declared.names.NameEnd.TheVariants.{Whole}
 use Rattle.elf_listing.specs.Suffixed.{suffix_read}

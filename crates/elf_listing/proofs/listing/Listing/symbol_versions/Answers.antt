@@ -4,8 +4,7 @@ use Rattle.std.proofs.lemmas.Bool.{eq-eqb, ne_eqb}
 use Rattle.std.proofs.lemmas.Result.{err_from_is_err_and}
 use Rattle.elf_table.specs.Load.{section_place}
 use Rattle.elf_options.specs.Permitted.{style_of}
-use Rattle.elf_model.specs.Records.{section_at, sh_size}
-use Rattle.elf_model.specs.VersionRows.{symbol_versions}
+use Rattle.elf_model.specs.Prelude.{section_at, sh_size, symbol_versions}
 use Rattle.elf_listing.proofs.ListsLaws.{ListingCalls-nothing, ListingCalls-refused, ListingCalls-unread}
 use Rattle.elf_listing.proofs.SectionShown.{no_table, table_fails, table_passes}
 use Rattle.elf_listing.proofs.VersionedCosts.{versioned-within}

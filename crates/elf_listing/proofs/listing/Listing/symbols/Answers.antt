@@ -2,15 +2,9 @@
 use Rattle.elf_options.specs.Permitted.{style_of}
 use Rattle.std.proofs.Common.{rules, ◌≡◌, false, true, refl, sym, ap, ◌∙◌}
 use Rattle.std.proofs.lemmas.Result.{err_from_is_err_and}
-use Rattle.elf_model.specs.Checks.{is_symbol_table}
-use Rattle.elf_model.specs.Listing.{each}
-use Rattle.elf_model.specs.Records.{section_at}
-use Rattle.elf_model.specs.Rows.{symbol_row}
-use Rattle.elf_model.specs.TableKinds.{symbols}
-use Rattle.elf_model.specs.Bytes.{slice}
-use Rattle.elf_table.specs.Tables.{StringTableRange}
+use Rattle.elf_model.specs.Prelude.{each, is_symbol_table, section_at, slice, symbol_row, symbols}
+use Rattle.elf_table.specs.Prelude.{StringTableRange, row}
 use Rattle.elf_table.proofs.RelocationLaws.{symbols-fail, symbols-pass}
-use Rattle.elf_table.specs.Store.{row}
 use Rattle.elf_listing.proofs.RowLaws.{WroteSome-as}
 use Rattle.elf_listing.proofs.SectionCosts.{section_within}
 use Rattle.elf_listing.proofs.SectionShown.{no_table, table_fails, table_passes}

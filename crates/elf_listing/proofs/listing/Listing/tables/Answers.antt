@@ -1,13 +1,13 @@
 -- The parts one behind the other.
-use Rattle.elf_options.specs.Permitted.{style_of}
+use Rattle.elf_options.specs.Prelude.{style_of}
+use Rattle.elf_options.specs.declared.caps.ListingStyle.{ListingStyle}
 use Rattle.std.proofs.Common.{ℕ, ◌+◌, List, ◌++◌}
 use Rattle.std.proofs.lemmas.Result.{err_from_is_err_and}
 use Rattle.elf_model.specs.Listing.{ListingItem}
-use Rattle.elf_options.specs.declared.caps.ListingStyle.{ListingStyle}
 use Rattle.elf_table.specs.declared.file.SectionView.{SectionView}
-use Rattle.elf_listing.specs.Parts.{relocations_part, segments_listed, symbols_part}
+use Rattle.elf_listing.specs.Prelude.{relocations_part, segments_listed, symbols_part}
+use Rattle.elf_listing.specs.declared.parts.Part.TheVariants.{Definitions, Needs, SectionDynamic, SectionNotes, SegmentDynamic, SegmentNotes, SymbolVersions}
 use Rattle.elf_listing.specs.declared.parts.Part.{Part}
-use Rattle.elf_listing.specs.declared.parts.Part.TheVariants.{SectionNotes, SegmentNotes, SectionDynamic, SegmentDynamic, Definitions, Needs, SymbolVersions}
 use Rattle.elf_listing.proofs.FileShown.{segment_part, tables_are}
 use Rattle.elf_listing.proofs.PartsLaws.{Parts-as, Parts-more, Parts-then, cost_asked, items_asked, versions_await}
 use Rattle.elf_listing.proofs.listing.Listing.tables.Goals as goal

@@ -1,13 +1,10 @@
 -- What was shown so far are the records before the cursor's, and what may still be asked for is counted.
 use Rattle.std.proofs.Common.{◌≡◌, ◌+◌, ◌≤◌, List, ℕ, None, Some}
 use Rattle.elf_options.specs.Permitted.{style_of}
-use Rattle.elf_note.specs.Ahead.{ReadsOnCredit}
+use Rattle.elf_note.specs.Prelude.{IsCursorOf, ReadsOnCredit, versions_left}
 use Rattle.elf_source.specs.Growth.{OutGrows}
 use Rattle.elf_table.specs.Tables.{strings_in}
-use Rattle.elf_note.specs.Reading.{IsCursorOf, versions_left}
-use Rattle.elf_listing.specs.Notes.{WrittenBefore}
-use Rattle.elf_listing.specs.Shows.{SameFile}
-use Rattle.elf_listing.specs.Versions.{records_cost, versions_items}
+use Rattle.elf_listing.specs.Prelude.{SameFile, WrittenBefore, records_cost, versions_items}
 use Rattle.elf_listing.proofs.listing.Listing.version_rows_in.Given as goal
 
 abbrev pub invariant-records : goal.invariant-records

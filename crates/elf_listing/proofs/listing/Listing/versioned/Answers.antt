@@ -2,8 +2,7 @@
 use Rattle.std.proofs.Common.{rules, ◌≡◌, ◌+◌, ◌*◌, nat_lt, true, false, refl, sym, ap, ◌∙◌, append-nil, arith}
 use Rattle.std.proofs.lemmas.Bool.Decides.{nat_tests}
 use Rattle.std.proofs.lemmas.Result.{err_from_is_err_and}
-use Rattle.elf_model.specs.Names.{name_bytes}
-use Rattle.elf_model.specs.Versions.{VERSYM_SIZE}
+use Rattle.elf_model.specs.Prelude.{VERSYM_SIZE, name_bytes}
 use Rattle.elf_note.proofs.SpendsLaws.{SpendsAtMost-to}
 use Rattle.elf_table.specs.Tables.{TableRange}
 use Rattle.elf_listing.specs.SymbolVersions.{versioned_items}

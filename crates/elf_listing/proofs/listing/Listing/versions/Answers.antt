@@ -4,14 +4,11 @@ use Rattle.std.proofs.lemmas.Bool.{eq-eqb, ne_eqb}
 use Rattle.std.proofs.lemmas.Result.{err_from_is_err_and}
 use Rattle.elf_options.specs.Permitted.{style_of}
 use Rattle.elf_table.proofs.OpenLaws.{still_open}
-use Rattle.elf_model.specs.Names.{name_bytes}
-use Rattle.elf_model.specs.Records.{section_at, sh_size}
-use Rattle.elf_model.specs.Versions.{max_records, record_size}
+use Rattle.elf_model.specs.Prelude.{max_records, name_bytes, record_size, section_at, sh_size}
 use Rattle.elf_note.proofs.HeldLaws.{still_held}
 use Rattle.elf_source.proofs.GrowthLaws.{grows_not}
 use Rattle.elf_note.specs.Reading.{bytes_each}
-use Rattle.elf_listing.specs.Parts.{store_sections}
-use Rattle.elf_listing.specs.Versions.{records_kind}
+use Rattle.elf_listing.specs.Prelude.{records_kind, store_sections}
 use Rattle.elf_listing.proofs.ListsLaws.{ListingCalls-nothing, ListingCalls-refused}
 use Rattle.elf_listing.proofs.RowLaws.{WroteUntilStop-unread-first, WroteSome-as}
 use Rattle.elf_listing.proofs.SectionCosts.{range_within}

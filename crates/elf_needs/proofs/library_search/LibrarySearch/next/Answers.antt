@@ -1,6 +1,5 @@
 use Rattle.std.proofs.Common.{◌++◌, List, ℕ, drop, refl, ap, ◌∙◌}
-use Rattle.elf_needs.specs.Searching.{searched_paths}
-use Rattle.elf_needs.specs.Steps.{dirs_in}
+use Rattle.elf_needs.specs.Prelude.{dirs_in, searched_paths}
 use Rattle.elf_needs.proofs.FolderLaws.{next_text, no_text}
 use Rattle.elf_needs.proofs.library_search.LibrarySearch.next.Goals as goal
 

@@ -1,7 +1,6 @@
 -- The paths that are left of a text, and those of the texts behind it, are those that there were.
 use Rattle.std.proofs.Common.{◌≡◌, ◌++◌, ◌-◌, length, drop}
-use Rattle.elf_needs.specs.Searching.{searched_paths}
-use Rattle.elf_needs.specs.Steps.{dirs_in}
+use Rattle.elf_needs.specs.Prelude.{dirs_in, searched_paths}
 use Rattle.elf_needs.proofs.library_search.LibrarySearch.next.Given as goal
 
 abbrev pub invariant-loop-self : goal.invariant-loop-self

@@ -2,8 +2,7 @@
 use Rattle.std.proofs.Common.{◌*◌, ◌/◌, refl, arith, mul-le-mul_right}
 use Rattle.elf_table.proofs.LedgerLaws.{CallReads-more}
 use Rattle.elf_loader.proofs.ReadLaws.{most_all}
-use Rattle.elf_model.specs.Loader.{Version}
-use Rattle.elf_model.specs.LoaderFind.{record_cost}
+use Rattle.elf_model.specs.Prelude.{Version, record_cost}
 use Rattle.elf_needs.proofs.SpendLaws.{spent_off}
 use Rattle.elf_needs.proofs.object.LookupObject.lacks_version.Goals as goal
 

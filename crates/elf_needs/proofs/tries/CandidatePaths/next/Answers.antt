@@ -1,6 +1,5 @@
 use Rattle.std.proofs.Common.{◌∙◌, ap}
-use Rattle.elf_needs.specs.Searching.{entry_paths}
-use Rattle.elf_needs.specs.Steps.{left_entries, origin_of}
+use Rattle.elf_needs.specs.Prelude.{entry_paths, left_entries, origin_of}
 use Rattle.elf_needs.proofs.PathLaws.{nothing_left, passed_over, taken}
 use Rattle.elf_needs.proofs.tries.CandidatePaths.next.Goals as goal
 

@@ -1,7 +1,6 @@
 -- The paths that are left are those that there were.
 use Rattle.std.proofs.Common.{◌≡◌}
-use Rattle.elf_needs.specs.Searching.{entry_paths}
-use Rattle.elf_needs.specs.Steps.{left_bytes, left_entries, origin_of}
+use Rattle.elf_needs.specs.Prelude.{entry_paths, left_bytes, left_entries, origin_of}
 use Rattle.elf_needs.proofs.tries.CandidatePaths.next.Given as goal
 
 abbrev pub invariant-loop-self : goal.invariant-loop-self

@@ -1,7 +1,6 @@
 use Rattle.std.proofs.Common.{◌≡◌, ◌==◌, length, rules, sym, ap, ◌∙◌, arith}
 use Rattle.std.proofs.lemmas.List.{take_all}
-use Rattle.elf_model.specs.Numbers.{DT_NULL}
-use Rattle.elf_model.specs.Records.{d_tag}
+use Rattle.elf_model.specs.Prelude.{DT_NULL, d_tag}
 use Rattle.elf_note.proofs.EntriesLeft.{gives-entry, ends-entries}
 use Rattle.elf_note.proofs.dyn_cursor.DynCursor.advance.Goals as goal
 

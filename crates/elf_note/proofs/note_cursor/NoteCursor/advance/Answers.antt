@@ -1,13 +1,10 @@
 -- A cursor that had not failed goes over the next note, and keeps what that call did.
 use Rattle.std.proofs.Common.{◌≡◌, ℕ, Option, None, Some, Result, IfErr, refl}
 use Rattle.elf_table.proofs.Absent.{none-of}
-use Rattle.elf_source.specs.Onward.{ReadsOnward}
-use Rattle.elf_source.specs.Source.{SourceState, CountedState, ReadsUpTo}
-use Rattle.elf_table.specs.Faults.{IsReadFault}
+use Rattle.elf_source.specs.Prelude.{CountedState, ReadsOnward, ReadsUpTo, SourceState}
+use Rattle.elf_table.specs.Prelude.{IsReadFault, MovesOn, frontier}
 use Rattle.elf_table.specs.declared.fault.Fault.{Fault}
-use Rattle.elf_table.specs.Windows.{MovesOn, frontier}
-use Rattle.elf_note.specs.NoteCursors.{KeepsNotes, NoteCursorState}
-use Rattle.elf_note.specs.Steps.{StepReads}
+use Rattle.elf_note.specs.Prelude.{KeepsNotes, NoteCursorState, StepReads}
 use Rattle.elf_note.proofs.note_cursor.NoteCursor.advance.Goals as goal
 
 no-some : {o : Option Fault} (fault : Fault) → o ≡ None → o ≡ Some fault → ⊥

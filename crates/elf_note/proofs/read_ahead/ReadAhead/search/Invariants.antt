@@ -1,7 +1,6 @@
 -- The bytes so far have no NUL and are kept; what is left to look at is paid for, and no byte behind it was asked for.
 use Rattle.std.proofs.Common.{◌≡◌, ℕ, ◌+◌, ◌-◌, ◌<◌, ◌≤◌, List, length, take, None, Some}
-use Rattle.elf_model.specs.Bytes.{slice}
-use Rattle.elf_model.specs.Names.{nul_in}
+use Rattle.elf_model.specs.Prelude.{nul_in, slice}
 use Rattle.elf_note.specs.Ahead.{IsAheadOf, IsOf, ReadsOnCredit}
 use Rattle.elf_note.proofs.read_ahead.ReadAhead.search.Given as goal
 

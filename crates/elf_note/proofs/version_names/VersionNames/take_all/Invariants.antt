@@ -2,8 +2,7 @@
 use Rattle.std.proofs.Common.{◌≡◌, ◌-◌, ◌≤◌, List, ◌++◌, length, None}
 use Rattle.elf_table.specs.Ledger.{CallDid}
 use Rattle.elf_model.specs.Versions.{VisitedRecord}
-use Rattle.elf_note.specs.NumberNames.{NamesNumbers}
-use Rattle.elf_note.specs.Reading.{IsCursorOf, unread, versions_left}
+use Rattle.elf_note.specs.Prelude.{IsCursorOf, NamesNumbers, unread, versions_left}
 use Rattle.elf_note.proofs.TakenLaws.{after_all}
 use Rattle.elf_note.proofs.version_names.VersionNames.take_all.Given as goal
 

@@ -2,8 +2,7 @@ use Rattle.std.proofs.Common.{◌≡◌, ◌<◌, ◌+◌, ◌*◌, refl, sym, a
 use Rattle.std.proofs.lemmas.Result.{err_from_is_err_and}
 use Rattle.elf_model.specs.Records.{section_at}
 use Rattle.elf_table.specs.Tables.{TableRange}
-use Rattle.elf_reloc.specs.Entries.{target_as}
-use Rattle.elf_reloc.specs.Walk.{sections_of}
+use Rattle.elf_reloc.specs.Prelude.{sections_of, target_as}
 use Rattle.elf_reloc.proofs.WalkSteps.{rows-few, entries-end, entries-next, entries-other, entries-table, steps-passed, cost-passed, left-end, left-passed, section_none, cost-opened, opened-fault, opened-rows}
 use Rattle.elf_reloc.proofs.walk.RelocationWalk.open.Goals as goal
 

@@ -3,12 +3,11 @@ use Rattle.std.specs.Prelude.{IfOk}
 use Rattle.std.proofs.lemmas.Result.{err_from_is_err_and}
 use Rattle.elf_model.specs.Records.{section_at, sh_offset}
 use Rattle.elf_reloc.proofs.Opened.{gave, given_row}
-use Rattle.elf_reloc.specs.Entries.{beside_entry_cost}
-use Rattle.elf_reloc.specs.Walk.{IsWalkAlive, StepGives, WentOn}
-use Rattle.elf_reloc.proofs.ReadLaws.{check_says, IsReadFault-more, IsReadFault-then}
-use Rattle.elf_reloc.proofs.WalkSteps.{unread-left, cost-row, row-asks, row-goes, goes-same, steps-row, fault-asks, end-asks, row-stores, row-nothing, row-fails, reads-row, same-walked}
+use Rattle.elf_reloc.specs.Prelude.{IsWalkAlive, StepGives, WentOn, beside_entry_cost}
 use Rattle.elf_reloc.specs.declared.walk.RelocationWalk.{RelocationWalk}
 use Rattle.elf_reloc.specs.declared.walk.WalkStep.{WalkStep}
+use Rattle.elf_reloc.proofs.ReadLaws.{check_says, IsReadFault-more, IsReadFault-then}
+use Rattle.elf_reloc.proofs.WalkSteps.{unread-left, cost-row, row-asks, row-goes, goes-same, steps-row, fault-asks, end-asks, row-stores, row-nothing, row-fails, reads-row, same-walked}
 use Rattle.elf_reloc.proofs.walk.RelocationWalk.step.Goals as goal
 
 pub entry_change-requires : goal.entry_change-requires

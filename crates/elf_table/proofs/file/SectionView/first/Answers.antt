@@ -1,8 +1,7 @@
 -- The first section of the type is the first one that is met.
 use Rattle.std.proofs.Common.{◌≡◌, ◌==◌, ℕ, inl, inr, ap, sym, ◌∙◌, arith, eq-eqb, ne_eqb}
 use Rattle.std.proofs.lemmas.Bool.{cases_eq}
-use Rattle.elf_model.specs.HeaderTables.{file_sections, header_field}
-use Rattle.elf_model.specs.Records.{e_shnum, sh_type}
+use Rattle.elf_model.specs.Prelude.{e_shnum, file_sections, header_field, sh_type}
 use Rattle.elf_model.proofs.LookupSteps.{first_that-none, first_that-some}
 use Rattle.elf_table.specs.Versions.{sections_in}
 use Rattle.elf_table.proofs.file.SectionView.first.Goals as goal

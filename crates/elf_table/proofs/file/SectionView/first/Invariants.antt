@@ -1,9 +1,7 @@
 -- No section so far is of the type.
 use Rattle.std.proofs.Common.{◌≡◌, ◌==◌, ℕ, ◌<◌, false, List}
-use Rattle.elf_model.specs.HeaderTables.{file_sections, header_field}
-use Rattle.elf_model.specs.Records.{sh_type}
-use Rattle.elf_table.specs.Load.{HoldsSectionHeaders}
-use Rattle.elf_table.specs.Versions.{sections_in}
+use Rattle.elf_model.specs.Prelude.{file_sections, header_field, sh_type}
+use Rattle.elf_table.specs.Prelude.{HoldsSectionHeaders, sections_in}
 use Rattle.elf_table.proofs.file.SectionView.first.Given as goal
 
 abbrev pub invariant-loop-section : goal.invariant-loop-section

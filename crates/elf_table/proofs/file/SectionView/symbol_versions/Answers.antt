@@ -2,13 +2,8 @@
 use Rattle.std.proofs.Common.{◌≡◌, ◌==◌, ◌&&◌, ◌||◌, not, true, false, sym, ap, ◌∙◌, arith}
 use Rattle.std.proofs.lemmas.Bool.{ne_eqb}
 use Rattle.std.proofs.lemmas.Result.{err_from_is_err_and}
-use Rattle.elf_model.specs.Records.{section_at, sh_link, sh_size}
-use Rattle.elf_model.specs.Tables.{has_symbols}
-use Rattle.elf_model.specs.VersionCost.{has_strings, links}
-use Rattle.elf_model.specs.Checks.{is_symbol_table}
-use Rattle.elf_table.specs.Store.{row}
-use Rattle.elf_table.specs.Sections.{symbols_at}
-use Rattle.elf_table.specs.Versions.{sections_in}
+use Rattle.elf_model.specs.Prelude.{has_strings, has_symbols, is_symbol_table, links, section_at, sh_link, sh_size}
+use Rattle.elf_table.specs.Prelude.{row, sections_in, symbols_at}
 use Rattle.elf_table.proofs.VersionLaws.{both-true, not_empty, not_false, not_true, symbols-stored, symbols_refused, table-refused, unlinked, unversioned, versioned}
 use Rattle.elf_table.proofs.file.SectionView.symbol_versions.Goals as goal
 

@@ -1,9 +1,7 @@
 -- The first section of version numbers that link there is the first one that is met.
 use Rattle.std.proofs.Common.{◌≡◌, ◌==◌, ◌&&◌, ℕ, Bool, true, false, inl, inr, ap, ap₂, sym, ◌∙◌, arith}
 use Rattle.std.proofs.lemmas.Bool.{cases_eq}
-use Rattle.elf_model.specs.HeaderTables.{file_sections, header_field}
-use Rattle.elf_model.specs.Numbers.{SHT_GNU_VERSYM}
-use Rattle.elf_model.specs.Records.{e_shnum, sh_link, sh_type}
+use Rattle.elf_model.specs.Prelude.{SHT_GNU_VERSYM, e_shnum, file_sections, header_field, sh_link, sh_type}
 use Rattle.elf_model.proofs.LookupSteps.{first_that-none, first_that-some}
 use Rattle.elf_table.specs.Versions.{sections_in}
 use Rattle.elf_table.proofs.file.SectionView.version_numbers_of.Goals as goal

@@ -1,10 +1,7 @@
 -- No section so far holds version numbers that link there.
 use Rattle.std.proofs.Common.{◌≡◌, ◌==◌, ◌&&◌, ℕ, ◌<◌, false, List}
-use Rattle.elf_model.specs.HeaderTables.{file_sections, header_field}
-use Rattle.elf_model.specs.Numbers.{SHT_GNU_VERSYM}
-use Rattle.elf_model.specs.Records.{sh_link, sh_type}
-use Rattle.elf_table.specs.Load.{HoldsSectionHeaders}
-use Rattle.elf_table.specs.Versions.{sections_in}
+use Rattle.elf_model.specs.Prelude.{SHT_GNU_VERSYM, file_sections, header_field, sh_link, sh_type}
+use Rattle.elf_table.specs.Prelude.{HoldsSectionHeaders, sections_in}
 use Rattle.elf_table.proofs.file.SectionView.version_numbers_of.Given as goal
 
 abbrev pub invariant-loop-section : goal.invariant-loop-section

@@ -1,6 +1,6 @@
 -- The first LOAD segment that lies over the one before it is the first one that is met.
 use Rattle.std.proofs.Common.{◌≡◌, ℕ, ◌+◌, ◌*◌, Some, ap, sym, ◌∙◌, arith}
-use Rattle.elf_model.specs.Records.{segment_at}
+use Rattle.elf_model.specs.Prelude.{segment_at}
 use Rattle.elf_model.specs.declared.causes.Cause.TheVariants.{LoadOverlap}
 use Rattle.elf_table.proofs.OverlapLaws.{left, begun, met, passed, ended}
 use Rattle.elf_table.proofs.segment_view.ExecutionView.check_overlaps.Goals as goal

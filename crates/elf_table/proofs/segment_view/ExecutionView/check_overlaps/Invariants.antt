@@ -1,7 +1,6 @@
 -- What refuses the file is what refuses the program headers that are left, behind the page of those so far.
 use Rattle.std.proofs.Common.{◌-◌, ◌≡◌, ℕ, ◌≤◌, List}
-use Rattle.elf_model.specs.Checks.{first_refusal}
-use Rattle.elf_model.specs.Overlaps.{overlap_checks}
+use Rattle.elf_model.specs.Prelude.{first_refusal, overlap_checks}
 use Rattle.elf_table.specs.Load.{HoldsProgramHeaders}
 use Rattle.elf_table.proofs.OverlapLaws.{left}
 use Rattle.elf_table.proofs.segment_view.ExecutionView.check_overlaps.Given as goal

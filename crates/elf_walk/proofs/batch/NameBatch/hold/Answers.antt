@@ -1,8 +1,7 @@
 -- A name that is wanted is put among those that are kept, and another one changes nothing.
 use Rattle.std.proofs.Common.{rules, ◌≡◌, [], refl, true, false, not, ◌&&◌, ◌||◌}
 use Rattle.std.specs.Ordering.{is_gt, is_lt}
-use Rattle.elf_walk.specs.Order.{order}
-use Rattle.elf_walk.specs.Passes.{in_order}
+use Rattle.elf_walk.specs.Prelude.{in_order, order}
 use Rattle.elf_walk.proofs.FrontLaws.{keeps_unwanted, keeps_wanted}
 use Rattle.elf_walk.proofs.RoomLaws.{holds_more, holds_still}
 use Rattle.elf_walk.proofs.SortedLaws.{all_more}

@@ -1,6 +1,7 @@
 -- What is told of a file, by what it is.
-use Rattle.std.proofs.Common.{rules, ◌≡◌, None, Some, Ok, false, true, subst, ◌∙◌, arith}
-use Rattle.elf_walk.specs.ToldListings.{ReturnsListing, is_unlisted}
+use Rattle.std.proofs.Common.{rules, ◌≡◌, None, Some, Ok, false, subst, ◌∙◌, arith, true}
+use Rattle.elf_walk.specs.Prelude.{ReturnsListing}
+use Rattle.elf_walk.specs.ToldListings.{is_unlisted}
 use Rattle.elf_walk.specs.declared.options.ListOptions.{ListOptions}
 use Rattle.elf_walk.proofs.ListingToldLaws.{end_fails, fault_after, fault_fails, file_told, front_within, nothing_told, sort_within}
 use Rattle.elf_walk.proofs.file_lists.ListFilesFileVisitor.tell.Goals as goal
