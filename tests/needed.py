@@ -291,7 +291,8 @@ class Sought:
         if not self.is_one:
             return
         self.name = whole_text(scope.content, scope.strings.offset, scope.strings.size, name, at)
-        if scope.words is None:
+        self.is_one = self.name != b""
+        if not self.is_one or scope.words is None:
             return
         refuse_where(index >= scope.words_count, scope.words.at, "version-cut")
         word = scope.words.offset + 2 * index

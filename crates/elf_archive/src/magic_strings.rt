@@ -60,7 +60,7 @@ pub fn magic<S: Source>(src: &mut Counted<S>) -> Result<(), Fault>
 ///
 /// # Errors
 /// A fault of the read, or a refusal for want of budget, at the offset of the bytes.
-pub fn begins_elf<S: Source>(src: &mut Counted<S>, extent: FileRange) -> Result<bool, Fault>
+pub fn has_elf_magic<S: Source>(src: &mut Counted<S>, extent: FileRange) -> Result<bool, Fault>
     requires lies { IsInBounds src.old.seen.size (extent_of extent) }
     ensures asks { AsksAtMost src.old src.new result 4 }
     ensures fault { IfErr result IsOfRead }

@@ -5,7 +5,7 @@ ghost use Rattle.elf_options.specs.Permitted.{style_of};
 ghost use Rattle.elf_archive.specs.Listed.{EndsPart, GoesThroughMember, HoldsPart, ListsMember};
 ghost use Rattle.elf_archive.specs.Members.{extent_of};
 
-use crate::magic_strings::begins_elf;
+use crate::magic_strings::has_elf_magic;
 use crate::member::FileRange;
 use elf_listing::list;
 use elf_record::{Cause, Parts, Refusal};
@@ -36,7 +36,7 @@ pub(crate) fn list_member<S: Source, W: Sink>(
     if parts.known(style.gnu).0 == 0 {
         return Ok(None);
     }
-    if !begins_elf(src, extent)? {
+    if !has_elf_magic(src, extent)? {
         return Ok(None);
     }
     src.narrow(extent.at, extent.size);

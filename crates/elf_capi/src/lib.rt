@@ -74,7 +74,7 @@ pub use record_tables::records_in;
 pub use records::{VersionRecordPosition, next_record};
 pub use relocations::Relocation;
 pub use resolved::Resolved;
-pub use row_status::{report_opened, tell};
+pub use row_status::{report_opened, report_row};
 pub use rows::RowPosition;
 pub use section_names::names_in;
 pub use segment_entries::{segment_dynamic, segment_dynamic_within};

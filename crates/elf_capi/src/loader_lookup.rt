@@ -63,7 +63,7 @@ pub fn report_resolved(
 {
     match answer {
         Some(Ok(SymbolLookup::Found(found))) => {
-            resolved.tell(found, told);
+            resolved.report(found, told);
             0
         }
         Some(Ok(SymbolLookup::Absent { tried })) => {

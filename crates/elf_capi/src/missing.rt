@@ -43,7 +43,7 @@ impl CallerMissing {
     }
 
     /// Tells what is missing, with the bytes of the symbol's name.
-    pub fn tell(&mut self, missing: &MissingAddress, end: NameEnd, name: &[u8])
+    pub fn report(&mut self, missing: &MissingAddress, end: NameEnd, name: &[u8])
         requires { length name.now ≤ 256 }
         ensures { ReturnsMissing self.new (lack_as name.now (Some (missing.now, end))) }
     {

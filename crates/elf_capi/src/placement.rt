@@ -46,7 +46,7 @@ pub fn place_section(
     };
     let written = write_section(file, store, wanted, out, &mut outcome);
     if let CallStatus::Refused(refusal) = outcome.told {
-        let more = tell_lack(file, store, wanted, outcome.asked, refusal, missing);
+        let more = report_missing(file, store, wanted, outcome.asked, refusal, missing);
         end.asked = short(outcome.asked.saturating_add(more));
         return CallStatus::Refused(refusal);
     }
@@ -58,7 +58,7 @@ pub fn place_section(
 
 /// Tells in `missing` what the layout lacks where a section was refused, for which `asked` bytes were
 /// asked for, and answers how many more were. Nothing is told where the budget has no room to find out.
-fn tell_lack(
+fn report_missing(
     file: &[u8],
     store: &mut HeaderStore,
     wanted: &ApplyInput<'_>,
@@ -88,7 +88,7 @@ fn tell_lack(
     let _ = src.into_inner();
     match found {
         Ok(Some((lack, end))) => {
-            missing.tell(&lack, end, name.bytes());
+            missing.report(&lack, end, name.bytes());
             more
         }
         Ok(None) => more,

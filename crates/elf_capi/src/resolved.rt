@@ -62,7 +62,7 @@ impl Resolved {
     }
 
     /// Tells of a symbol; of the name of its version `told` bytes are held.
-    pub fn tell(&mut self, found: &FoundSymbol, told: u64)
+    pub fn report(&mut self, found: &FoundSymbol, told: u64)
         requires { self.old ≡ nothing_resolved 0 }
         ensures symbol { HasSymbol self.new found.now }
         ensures version { ReturnsFoundVersion self.new told found.now.version }
@@ -72,12 +72,12 @@ impl Resolved {
         self.tried = found.tried;
         self.section = found.section;
         if let Some(version) = &found.version {
-            self.tell_version(version, told);
+            self.report_version(version, told);
         }
     }
 
     /// Tells of a version.
-    fn tell_version(&mut self, version: &FoundVersion, told: u64)
+    fn report_version(&mut self, version: &FoundVersion, told: u64)
         requires none { (self.old.version ≡ record { at = 0; len = 0 }) × (self.old.is_cut ≡ 0) }
         ensures version { ReturnsFoundVersion self.new told (Some version.now) }
         ensures others { SameSymbol self.old self.new }

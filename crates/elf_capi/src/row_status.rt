@@ -15,7 +15,7 @@ const BAD_CALL: u32 = 4;
 
 /// Writes the row that was read to `row`, the refusal, where there is one, to `end`, and answers
 /// the status.
-pub fn tell<T: Copy>(read: Result<Option<T>, Refusal>, row: &mut T, end: &mut CallEnd) -> u32
+pub fn report_row<T: Copy>(read: Result<Option<T>, Refusal>, row: &mut T, end: &mut CallEnd) -> u32
     ensures { IsRowReported result row.old row.new end.new read }
 {
     end.clear();
@@ -42,7 +42,7 @@ pub fn report_opened<T: Copy>(
     ensures { IsOpenedTable result place.old place.new end.new opened }
 {
     match opened {
-        Some(read) => tell(read, place, end),
+        Some(read) => report_row(read, place, end),
         None => {
             end.clear();
             BAD_CALL

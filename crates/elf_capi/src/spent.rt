@@ -33,7 +33,7 @@ pub fn next_within<R: TableRow>(
     let room = room_left(limits, *asked, R::BYTES, out.len());
     let count = next_rows(file, rows, &mut out[..room]);
     count_bytes(u128::from(R::BYTES) * count as u128, asked);
-    tell_rest(file.len(), rows, R::BYTES, out.len() - count, end);
+    report_rest(file.len(), rows, R::BYTES, out.len() - count, end);
     count
 }
 
@@ -93,7 +93,7 @@ pub fn count_entries(
 }
 
 /// Tells whether the budget ended a step: where more rows are left, and room for `free` rows.
-fn tell_rest(size: usize, rows: &RowPosition, entry: u64, free: usize, end: &mut CallEnd)
+fn report_rest(size: usize, rows: &RowPosition, entry: u64, free: usize, end: &mut CallEnd)
     requires { 0 < entry }
     ensures { end.new ≡ step_end size entry rows.now free }
 {

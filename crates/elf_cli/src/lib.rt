@@ -40,4 +40,4 @@ pub use outputs::{
 pub use parser::parse_arguments;
 pub use program_arguments::{read_words, report_refused};
 pub use row_names::{chosen_parts_of, has_name_option, is_given};
-pub use version::tell_version;
+pub use version::report_version;

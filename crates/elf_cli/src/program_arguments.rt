@@ -63,7 +63,7 @@ fn report_words(alloc: Global, told: &clap::Error, words: &[String], errors: Std
     ensures { ((result.0 ≡ 2) × (result.1.now ≡ []))
         ⊎ ((result.0 ≡ 3) × (result.1.now ≡ codes "elfsee: out of memory")) }
 {
-    match tell(alloc, told, words, errors) {
+    match report_clap_error(alloc, told, words, errors) {
         Ok(()) => BAD_WORDS,
         Err(AllocError) => OUT_OF_MEMORY,
     }
@@ -73,7 +73,7 @@ fn report_words(alloc: Global, told: &clap::Error, words: &[String], errors: Std
 ///
 /// # Errors
 /// There is no memory for the text; nothing is written then.
-fn tell(
+fn report_clap_error(
     alloc: Global,
     told: &clap::Error,
     words: &[String],

@@ -15,7 +15,7 @@ const VERSION: &str = "elfsee 0.1.0\n";
 ///
 /// # Errors
 /// There is no memory; nothing is written then.
-pub fn tell_version<R: Print + AllocGlobal>(rt: &R) -> Result<ExitLine, ExitLine> {
+pub fn report_version<R: Print + AllocGlobal>(rt: &R) -> Result<ExitLine, ExitLine> {
     match BufWriter::with_capacity(rt.alloc(), OUTPUT_BYTES, io::writer(rt)) {
         Ok(output) => Ok(version_into(output)),
         Err(_) => Err(OUT_OF_MEMORY),

@@ -7,7 +7,7 @@ ghost use Rattle.elf_format.specs.Fronts.{front_of};
 
 use crate::columns::{LineBuf, put};
 use crate::fields::{
-    LinePrefix, begin, begin_named, put_closing, put_decimal, put_hexadecimal, put_text,
+    LinePrefix, begin, begin_named, put_closing, put_decimal, put_hex_field, put_text,
 };
 use crate::named::show_named;
 use crate::render::{Columns, Json, Render};
@@ -40,7 +40,7 @@ pub fn put_fault<R: Render>(line: &mut LineBuf, state: FileStatus)
     ensures items { line.new.items ≡ with_fields R.FORMAT line.old.items (fault_fields state) }
 {
     if let FileStatus::Refused(refusal) = state {
-        put_hexadecimal::<R>(line, b"place", 16, refusal.at, b' ');
+        put_hex_field::<R>(line, b"place", 16, refusal.at, b' ');
         put_text::<R>(
             line,
             b"cause",

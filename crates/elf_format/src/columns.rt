@@ -141,7 +141,7 @@ pub fn put_where(line: &mut LineBuf, holds: bool, text: &[u8])
 
 /// Puts the last hexadecimal digits of a number, in lower case, with leading zeros.
 #[inline(always)]
-pub(crate) fn put_hex(line: &mut LineBuf, digits: u32, number: u64)
+pub(crate) fn write_hex(line: &mut LineBuf, digits: u32, number: u64)
     requires room { array_vec_len line.old + digits ≤ 256 }
     requires digits { digits ≤ 16 }
     ensures items { line.new.items ≡ line.old.items ++ hex digits number }

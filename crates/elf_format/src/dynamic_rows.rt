@@ -4,7 +4,7 @@ ghost use Rattle.elf_model.specs.Prelude.{dynamic_prefix, dynamic_tags, name_of}
 ghost use Rattle.elf_record.specs.Dyn.{IsDyn};
 ghost use Rattle.elf_format.specs.Fronts.{front_of};
 
-use crate::fields::{LinePrefix, begin_named, put_decimal, put_hexadecimal, put_name_or_hex};
+use crate::fields::{LinePrefix, begin_named, put_decimal, put_hex_field, put_name_or_hex};
 use crate::name_tables::name_in_either_table;
 use crate::render::Render;
 use elf_record::Dyn;
@@ -37,7 +37,7 @@ pub fn dynamic_prefix<R: Render>(front: &mut LinePrefix, index: u64, entry: &Dyn
     let line = &mut front.line;
     put_decimal::<R>(line, b"index", 5, index, b' ');
     put_name_or_hex::<R>(line, b"tag", 16, 16, tag_name(tag, gnu), tag);
-    put_hexadecimal::<R>(line, b"value", 16, entry.d_un, b' ');
+    put_hex_field::<R>(line, b"value", 16, entry.d_un, b' ');
 }
 
 /// The name of a dynamic array tag.

@@ -6,7 +6,7 @@ ghost use Rattle.elf_model.specs.Prelude.{ArgSpec, Decimal, Hexadecimal, NameOrD
 ghost use Rattle.elf_model.specs.Fields.Field.{Signed};
 ghost use Rattle.elf_format.specs.Rooms.{half_room, number_room, text_room};
 
-use crate::columns::{LineBuf, number_sign, put, put_hex, put_left, put_right, put_spaces};
+use crate::columns::{LineBuf, number_sign, put, put_left, put_right, put_spaces, write_hex};
 use crate::objects::{put_key, put_name_or_number, put_number, put_quoted};
 use crate::render::Render;
 use elf_model::Format;
@@ -103,7 +103,7 @@ pub fn put_half<R: Render>(line: &mut LineBuf, key: &[u8], number: u16, end: u8)
 /// Puts a number in so many hexadecimal digits, and the byte that ends the column.
 #[tactic(auto, unfolding(elf_model::specs::Fields::with_field))]
 #[inline(always)]
-pub fn put_hexadecimal<R: Render>(line: &mut LineBuf, key: &[u8], digits: u32, number: u64, end: u8)
+pub fn put_hex_field<R: Render>(line: &mut LineBuf, key: &[u8], digits: u32, number: u64, end: u8)
     requires room { array_vec_len line.old + number_room (length key.now) ≤ 256 }
     requires digits { digits ≤ 16 }
     ensures items { line.new.items
@@ -112,7 +112,7 @@ pub fn put_hexadecimal<R: Render>(line: &mut LineBuf, key: &[u8], digits: u32, n
 {
     match R::FORMAT {
         Format::Columns => {
-            put_hex(line, digits, number);
+            write_hex(line, digits, number);
             line.push(end);
         }
         Format::Object => put_number(line, key, number),
@@ -131,7 +131,7 @@ pub fn put_signed<R: Render>(line: &mut LineBuf, key: &[u8], number: i64)
     match R::FORMAT {
         Format::Columns => {
             line.push(if number < 0 { b'-' } else { b'+' });
-            put_hex(line, 16, number.unsigned_abs());
+            write_hex(line, 16, number.unsigned_abs());
             line.push(b' ');
         }
         Format::Object => put_number(line, key, number),
@@ -210,7 +210,7 @@ pub fn put_name_or_hex<R: Render>(
         Format::Columns => match name {
             Some(name) => put_left(line, width, name.as_bytes(), b' '),
             None => {
-                put_hex(line, digits, number);
+                write_hex(line, digits, number);
                 put_spaces(line, width - digits as usize);
                 line.push(b' ');
             }

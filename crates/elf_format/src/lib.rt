@@ -34,7 +34,7 @@ pub use columns::{LineBuf, line_of, number_sign, put, put_where};
 pub use constant_names::ConstantNames;
 pub use dynamic_rows::dynamic_prefix;
 pub use fields::{
-    LinePrefix, begin, begin_named, put_closing, put_decimal, put_half, put_hexadecimal,
+    LinePrefix, begin, begin_named, put_closing, put_decimal, put_half, put_hex_field,
     put_name_or_decimal, put_name_or_hex, put_name_or_sign, put_signed, put_text,
 };
 pub use lack_rows::show_missing;

@@ -3,7 +3,7 @@ ghost use Rattle.std.specs.Prelude.{◌≡◌, ◌≤◌, length};
 ghost use Rattle.elf_format.specs.Fronts.{front_of};
 ghost use Rattle.elf_model.specs.Archive.{member_prefix};
 
-use crate::fields::{LinePrefix, begin_named, put_decimal, put_hexadecimal};
+use crate::fields::{LinePrefix, begin_named, put_decimal, put_hex_field};
 use crate::render::Render;
 
 /// The `A` line of an archive's member up to the name, in place of what the front held: its index,
@@ -16,6 +16,6 @@ pub fn member_prefix<R: Render>(front: &mut LinePrefix, index: u64, at: u64, siz
     begin_named::<R>(front, b"A", b"name");
     let line = &mut front.line;
     put_decimal::<R>(line, b"index", 5, index, b' ');
-    put_hexadecimal::<R>(line, b"offset", 16, at, b' ');
-    put_hexadecimal::<R>(line, b"size", 16, size, b' ');
+    put_hex_field::<R>(line, b"offset", 16, at, b' ');
+    put_hex_field::<R>(line, b"size", 16, size, b' ');
 }

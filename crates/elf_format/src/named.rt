@@ -8,7 +8,7 @@ ghost use Rattle.elf_format.specs.Fronts.{front_of};
 ghost use Rattle.elf_format.specs.Named.{escaped_bytes, shown_as, tailed_line};
 ghost use Rattle.elf_format.specs.Pieces.{PutsBefore, byte_text, name_closing, name_start, spelt};
 
-use crate::columns::{LINE_BYTES, LineBuf, put, put_hex};
+use crate::columns::{LINE_BYTES, LineBuf, put, write_hex};
 use crate::fields::LinePrefix;
 use crate::objects::{put_key, put_quoted_byte};
 use elf_model::Format;
@@ -351,7 +351,7 @@ pub(crate) fn put_name_byte(line: &mut LineBuf, byte: u8)
         b' '..=b'~' => line.push(byte),
         _ => {
             put(line, b"\\x");
-            put_hex(line, 2, u64::from(byte));
+            write_hex(line, 2, u64::from(byte));
         }
     }
 }

@@ -8,7 +8,7 @@ ghost use Rattle.elf_format.specs.Notes.{IsDescriptor, note_end};
 ghost use Rattle.elf_format.specs.Named.{shown_as};
 
 use crate::columns::{LineBuf, put, put_where};
-use crate::fields::{LinePrefix, begin_named, put_closing, put_half, put_hexadecimal, put_text};
+use crate::fields::{LinePrefix, begin_named, put_closing, put_half, put_hex_field, put_text};
 use crate::named::show_tailed;
 use crate::render::{Json, Render};
 use elf_model::Format;
@@ -31,9 +31,9 @@ pub fn note_prefix<R: Render>(front: &mut LinePrefix, index: u16, head: &NoteHea
     begin_named::<R>(front, b"N", b"name");
     let line = &mut front.line;
     put_half::<R>(line, b"index", index, b' ');
-    put_hexadecimal::<R>(line, b"type", 8, u64::from(head.kind), b' ');
-    put_hexadecimal::<R>(line, b"namesz", 8, u64::from(head.namesz), b' ');
-    put_hexadecimal::<R>(line, b"descsz", 8, u64::from(head.descsz), b' ');
+    put_hex_field::<R>(line, b"type", 8, u64::from(head.kind), b' ');
+    put_hex_field::<R>(line, b"namesz", 8, u64::from(head.namesz), b' ');
+    put_hex_field::<R>(line, b"descsz", 8, u64::from(head.descsz), b' ');
 }
 
 /// Writes the `N` line of a note behind its front, with its name, which `is_cut` where it has more

@@ -4,7 +4,7 @@ ghost use Rattle.std.specs.Prelude.{option_copied};
 ghost use Rattle.arrayvec.specs.ArrayVec.{array_vec_len};
 ghost use Rattle.elf_model.specs.Prelude.{member_key, name_byte_text, name_or_value, quoted, string_byte, string_text};
 
-use crate::columns::{LineBuf, put, put_hex};
+use crate::columns::{LineBuf, put, write_hex};
 use itoa::{Buffer, Integer};
 
 /// Puts a comma, a key and a colon.
@@ -97,7 +97,7 @@ pub(crate) fn put_quoted_byte(line: &mut LineBuf, byte: u8)
         b' '..=b'~' => line.push(byte),
         _ => {
             put(line, b"\\\\x");
-            put_hex(line, 2, u64::from(byte));
+            write_hex(line, 2, u64::from(byte));
         }
     }
 }

@@ -6,7 +6,7 @@ ghost use Rattle.elf_format.specs.Fronts.{front_of};
 
 use crate::constant_names::ConstantNames;
 use crate::fields::{
-    LinePrefix, begin_named, put_half, put_hexadecimal, put_name_or_sign, put_signed,
+    LinePrefix, begin_named, put_half, put_hex_field, put_name_or_sign, put_signed,
 };
 use crate::name_tables::name_in_either_table;
 use crate::render::Render;
@@ -43,9 +43,9 @@ pub fn relocation_prefix<R: Render>(
     begin_named::<R>(front, b"R", b"name");
     let line = &mut front.line;
     put_half::<R>(line, b"table", section, b' ');
-    put_hexadecimal::<R>(line, b"offset", 16, entry.r_offset, b' ');
+    put_hex_field::<R>(line, b"offset", 16, entry.r_offset, b' ');
     put_name_or_sign::<R>(line, b"type", name_on_machine(kind, naming), kind);
-    put_hexadecimal::<R>(line, b"symbol", 8, u64::from(entry.symbol()), b' ');
+    put_hex_field::<R>(line, b"symbol", 8, u64::from(entry.symbol()), b' ');
     put_signed::<R>(line, b"addend", entry.r_addend);
 }
 

@@ -5,7 +5,7 @@ ghost use Rattle.elf_record.specs.Ehdr.{IsEhdr};
 ghost use Rattle.elf_source.specs.Output.{OutPuts};
 
 use crate::columns::LineBuf;
-use crate::fields::{begin, put_closing, put_half, put_hexadecimal, put_name_or_hex, put_text};
+use crate::fields::{begin, put_closing, put_half, put_hex_field, put_name_or_hex, put_text};
 use crate::name_tables::name_of;
 use crate::render::{Columns, Json, Render};
 use elf_model::Format;
@@ -26,10 +26,10 @@ pub fn header_row<R: Render>(header: &Ehdr) -> LineBuf
     begin::<R>(&mut line, b"H");
     put_name_or_hex::<R>(&mut line, b"type", 4, 4, file_type_name(kind), kind);
     put_half::<R>(&mut line, b"machine", header.e_machine, b' ');
-    put_hexadecimal::<R>(&mut line, b"entry", 16, header.e_entry, b' ');
-    put_hexadecimal::<R>(&mut line, b"phoff", 16, header.e_phoff, b' ');
-    put_hexadecimal::<R>(&mut line, b"shoff", 16, header.e_shoff, b' ');
-    put_hexadecimal::<R>(&mut line, b"flags", 8, u64::from(header.e_flags), b' ');
+    put_hex_field::<R>(&mut line, b"entry", 16, header.e_entry, b' ');
+    put_hex_field::<R>(&mut line, b"phoff", 16, header.e_phoff, b' ');
+    put_hex_field::<R>(&mut line, b"shoff", 16, header.e_shoff, b' ');
+    put_hex_field::<R>(&mut line, b"flags", 8, u64::from(header.e_flags), b' ');
     put_half::<R>(&mut line, b"phnum", header.e_phnum, b' ');
     put_half::<R>(&mut line, b"shnum", header.e_shnum, b' ');
     put_half::<R>(&mut line, b"shstrndx", header.e_shstrndx, b'\n');
@@ -44,7 +44,7 @@ fn refusal_row<R: Render>(refusal: Refusal) -> LineBuf
 {
     let mut line = LineBuf::new();
     begin::<R>(&mut line, b"!");
-    put_hexadecimal::<R>(&mut line, b"place", 16, refusal.at, b' ');
+    put_hex_field::<R>(&mut line, b"place", 16, refusal.at, b' ');
     put_text::<R>(
         &mut line,
         b"cause",

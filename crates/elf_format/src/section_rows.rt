@@ -8,9 +8,7 @@ ghost use Rattle.elf_format.specs.Fronts.{front_of};
 
 use crate::columns::{LineBuf, put_where};
 use crate::constant_names::ConstantNames;
-use crate::fields::{
-    LinePrefix, begin_named, put_half, put_hexadecimal, put_name_or_hex, put_text,
-};
+use crate::fields::{LinePrefix, begin_named, put_half, put_hex_field, put_name_or_hex, put_text};
 use crate::name_tables::name_in_either_table;
 use crate::render::Render;
 use elf_record::gnu_numbers::{
@@ -44,11 +42,11 @@ pub fn section_prefix<R: Render>(
     put_half::<R>(line, b"index", index, b' ');
     put_name_or_hex::<R>(line, b"type", 13, 8, section_type_name(kind, naming), kind);
     put_text::<R>(line, b"flags", 12, &letters, b' ');
-    put_hexadecimal::<R>(line, b"address", 16, header.sh_addr, b' ');
-    put_hexadecimal::<R>(line, b"offset", 16, header.sh_offset, b' ');
-    put_hexadecimal::<R>(line, b"size", 16, header.sh_size, b' ');
-    put_hexadecimal::<R>(line, b"link", 8, u64::from(header.sh_link), b' ');
-    put_hexadecimal::<R>(line, b"info", 8, u64::from(header.sh_info), b' ');
+    put_hex_field::<R>(line, b"address", 16, header.sh_addr, b' ');
+    put_hex_field::<R>(line, b"offset", 16, header.sh_offset, b' ');
+    put_hex_field::<R>(line, b"size", 16, header.sh_size, b' ');
+    put_hex_field::<R>(line, b"link", 8, u64::from(header.sh_link), b' ');
+    put_hex_field::<R>(line, b"info", 8, u64::from(header.sh_info), b' ');
 }
 
 /// How many letters of flags are shown at most.

@@ -6,7 +6,7 @@ ghost use Rattle.elf_model.specs.Prelude.{name_of, segment_flags_text, segment_l
 ghost use Rattle.elf_record.specs.Phdr.{IsPhdr};
 
 use crate::columns::LineBuf;
-use crate::fields::{begin, put_closing, put_half, put_hexadecimal, put_name_or_hex, put_text};
+use crate::fields::{begin, put_closing, put_half, put_hex_field, put_name_or_hex, put_text};
 use crate::name_tables::name_in_either_table;
 use crate::render::Render;
 use bitflags::Flags;
@@ -34,12 +34,12 @@ pub fn segment_row<R: Render>(index: u16, header: &Phdr, gnu: bool) -> LineBuf
     put_half::<R>(&mut line, b"index", index, b' ');
     put_name_or_hex::<R>(&mut line, b"type", 8, 8, segment_type_name(kind, gnu), kind);
     put_text::<R>(&mut line, b"permissions", 3, &letters, b' ');
-    put_hexadecimal::<R>(&mut line, b"offset", 16, header.p_offset, b' ');
-    put_hexadecimal::<R>(&mut line, b"vaddr", 16, header.p_vaddr, b' ');
-    put_hexadecimal::<R>(&mut line, b"paddr", 16, header.p_paddr, b' ');
-    put_hexadecimal::<R>(&mut line, b"filesz", 16, header.p_filesz, b' ');
-    put_hexadecimal::<R>(&mut line, b"memsz", 16, header.p_memsz, b' ');
-    put_hexadecimal::<R>(&mut line, b"align", 16, header.p_align, b'\n');
+    put_hex_field::<R>(&mut line, b"offset", 16, header.p_offset, b' ');
+    put_hex_field::<R>(&mut line, b"vaddr", 16, header.p_vaddr, b' ');
+    put_hex_field::<R>(&mut line, b"paddr", 16, header.p_paddr, b' ');
+    put_hex_field::<R>(&mut line, b"filesz", 16, header.p_filesz, b' ');
+    put_hex_field::<R>(&mut line, b"memsz", 16, header.p_memsz, b' ');
+    put_hex_field::<R>(&mut line, b"align", 16, header.p_align, b'\n');
     put_closing::<R>(&mut line);
     line
 }

@@ -8,7 +8,7 @@ ghost use Rattle.elf_format.specs.Fronts.{front_of};
 
 use crate::constant_names::ConstantNames;
 use crate::fields::{
-    LinePrefix, begin_named, put_decimal, put_half, put_hexadecimal, put_name_or_decimal,
+    LinePrefix, begin_named, put_decimal, put_half, put_hex_field, put_name_or_decimal,
 };
 use crate::name_tables::{name_in_either_table, name_of};
 use crate::named::show_named;
@@ -45,8 +45,8 @@ pub fn symbol_prefix<R: Render>(
     let line = &mut front.line;
     put_half::<R>(line, b"table", section, b' ');
     put_decimal::<R>(line, b"index", 10, index, b' ');
-    put_hexadecimal::<R>(line, b"value", 16, symbol.st_value, b' ');
-    put_hexadecimal::<R>(line, b"size", 16, symbol.st_size, b' ');
+    put_hex_field::<R>(line, b"value", 16, symbol.st_value, b' ');
+    put_hex_field::<R>(line, b"size", 16, symbol.st_size, b' ');
     put_name_or_decimal::<R>(line, b"type", 7, symbol_type_name(kind, naming.gnu), kind);
     put_name_or_decimal::<R>(
         line,

@@ -3,7 +3,7 @@ ghost use Rattle.std.specs.Prelude.{◌≡◌, ◌≤◌, if◌then◌else◌, c
 ghost use Rattle.elf_format.specs.Fronts.{front_of};
 ghost use Rattle.elf_model.specs.VersionRows.{kind_text, version_prefix, symbol_version_prefix};
 
-use crate::fields::{LinePrefix, begin_named, put_decimal, put_half, put_hexadecimal, put_text};
+use crate::fields::{LinePrefix, begin_named, put_decimal, put_half, put_hex_field, put_text};
 use crate::render::{Columns, Json, Render};
 use elf_model::Format;
 use elf_record::{VersionKind, version_number};
@@ -28,8 +28,8 @@ pub fn version_prefix<R: Render>(
     put_half::<R>(line, b"index", section, b' ');
     put_text::<R>(line, b"kind", 4, kind_name(kind).as_bytes(), b' ');
     put_half::<R>(line, b"number", number, b' ');
-    put_hexadecimal::<R>(line, b"flags", 4, u64::from(flags), b' ');
-    put_hexadecimal::<R>(line, b"hash", 8, u64::from(hash), b' ');
+    put_hex_field::<R>(line, b"flags", 4, u64::from(flags), b' ');
+    put_hex_field::<R>(line, b"hash", 8, u64::from(hash), b' ');
 }
 
 /// The `X` line of a symbol's version up to its name, in place of what the front held: the index of

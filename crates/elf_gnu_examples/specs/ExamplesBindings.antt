@@ -78,6 +78,12 @@ SymbolsAsk =
     × SeeksAt (with_bytes 0xfc (little 1 0x02) library) 1 (Ok None)
     × SeeksAt (with_bytes 0xf8 (little 4 0) library) 1 (Ok None)
 
+-- one whose name is empty asks for nothing, whatever its word of a version is
+abbrev pub EmptyNamesAskForNothing : Type 0
+EmptyNamesAskForNothing =
+    SeeksAt (with_bytes 0xf8 (little 4 5) library) 1 (Ok None)
+    × SeeksAt (with_bytes 0xf8 (little 4 5) (with_bytes 0x1a2 (little 2 9) library)) 1 (Ok None)
+
 -- a unique symbol asks, and one of another binding does not; the highest bit of the word is no part of the number; a number of a
 -- definition is a version too; a symbol that is defined asks for nothing, whatever its name is
 abbrev pub OtherSymbolsAsk : Type 0

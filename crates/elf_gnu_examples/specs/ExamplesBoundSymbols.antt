@@ -30,7 +30,7 @@ objects_of files libc = record { files = files; indexes = 0 ∷ 2 ∷ 3 ∷ []; 
 
 -- what is told of `puts`
 abbrev puts : ℕ → BindingState → BoundItem
-puts object found = Told object 1 found (codes "puts@GLIBC_2.2.5")
+puts object found = Told object 1 found (codes "puts") (Some (codes "GLIBC_2.2.5"))
 
 abbrev AreBound : List (List ℕ) → Option ℕ → List BoundItem → Type 0
 AreBound files libc items = bound_items (objects_of files libc) ≡ items
@@ -39,7 +39,7 @@ AreBound files libc items = bound_items (objects_of files libc) ≡ items
 abbrev pub FirstBinds : Type 0
 FirstBinds =
     AreBound (asking ∷ library ∷ library ∷ []) None
-    (puts 0 state.Unbound ∷ Told 0 4 (state.Bound 2 4) (codes "f@V2") ∷ puts 2 state.Unbound ∷ puts 3 state.Unbound ∷ [])
+    (puts 0 state.Unbound ∷ Told 0 4 (state.Bound 2 4) (codes "f") (Some (codes "V2")) ∷ puts 2 state.Unbound ∷ puts 3 state.Unbound ∷ [])
 
 -- none defines it: a weak one may be undefined; the object of the needed file has versions and not that one; or it is not looked
 -- in, or there is none
@@ -100,9 +100,9 @@ NeededFilesAreAsked =
 -- it lacks none that it has; nor where it defines no versions, or has no words of them
 abbrev pub VersionsAreLacked : Type 0
 VersionsAreLacked =
-    AreBoundBy (with_bytes 0x228 (little 4 0x2a) library) library libc (Told 0 1 state.Unbound (codes "puts@V1") ∷ puts 2 state.NoVersion ∷ [])
+    AreBoundBy (with_bytes 0x228 (little 4 0x2a) library) library libc (Told 0 1 state.Unbound (codes "puts") (Some (codes "V1")) ∷ puts 2 state.NoVersion ∷ [])
     × AreBoundBy library (with_bytes 0x2a0 (little 8 99) library) libc (puts 0 state.Unbound ∷ puts 2 state.Unbound ∷ [])
-    × AreBoundBy library (with_bytes 0x290 (little 8 99) library) libc (puts 0 state.Unbound ∷ Told 2 1 state.Unbound (codes "puts") ∷ [])
+    × AreBoundBy library (with_bytes 0x290 (little 8 99) library) libc (puts 0 state.Unbound ∷ Told 2 1 state.Unbound (codes "puts") None ∷ [])
 
 -- the name of the needed file is read only where it is asked for
 abbrev pub NeededNamesAreRefused : Type 0
@@ -113,7 +113,7 @@ NeededNamesAreRefused =
 -- the last symbol is one of them
 abbrev pub LastSymbolsAreBound : Type 0
 LastSymbolsAreBound =
-    AreBound (with_bytes 0x15e (little 2 0) library ∷ []) None (puts 0 state.Unbound ∷ Told 0 5 state.Unbound (codes "h@V2") ∷ [])
+    AreBound (with_bytes 0x15e (little 2 0) library ∷ []) None (puts 0 state.Unbound ∷ Told 0 5 state.Unbound (codes "h") (Some (codes "V2")) ∷ [])
 
 -- the other lines, and as objects; what tells that something is missing
 abbrev pub OtherLinesTell : Type 0
@@ -123,9 +123,18 @@ OtherLinesTell =
     ≡ codes "B     0          1 nover    -     -          puts@GLIBC_2.2.5\n" ++ codes "B     0          1 refused      2 -          puts@GLIBC_2.2.5\n"
     ++ codes "! 0000000000000250 hash-shape\n")
     × (bound_text Object (puts 0 state.Unbound ∷ puts 0 (state.Bound 2 4) ∷ [])
-    ≡ codes "{\"line\":\"B\",\"object\":0,\"symbol\":1,\"state\":\"unbound\",\"definer\":\"-\",\"definition\":\"-\",\"name\":\"puts@GLIBC_2.2.5\"}\n"
-    ++ codes "{\"line\":\"B\",\"object\":0,\"symbol\":1,\"state\":\"bound\",\"definer\":2,\"definition\":4,\"name\":\"puts@GLIBC_2.2.5\"}\n")
+    ≡ codes "{\"line\":\"B\",\"object\":0,\"symbol\":1,\"state\":\"unbound\",\"definer\":\"-\",\"definition\":\"-\",\"name\":\"puts\",\"version\":\"GLIBC_2.2.5\"}\n"
+    ++ codes "{\"line\":\"B\",\"object\":0,\"symbol\":1,\"state\":\"bound\",\"definer\":2,\"definition\":4,\"name\":\"puts\",\"version\":\"GLIBC_2.2.5\"}\n")
     × (any_unbound (puts 0 state.Weak ∷ puts 0 (state.Bound 2 4) ∷ []) ≡ false)
     × (any_unbound (puts 0 state.Weak ∷ puts 0 state.NoVersion ∷ []) ≡ true)
     × (any_unbound (puts 0 (state.Refused 2) ∷ []) ≡ true)
     × (any_unbound (puts 0 state.Weak ∷ fault ∷ []) ≡ true)
+
+-- a name with an `@` in it: in columns it looks as one with a version, as an object it does not; bytes of both are spelt
+abbrev pub NamesAndVersionsArePartedInObjects : Type 0
+NamesAndVersionsArePartedInObjects =
+    (bound_text Columns (Told 0 1 state.Weak (codes "a@b") None ∷ Told 0 2 state.Weak (codes "a") (Some (codes "b")) ∷ [])
+    ≡ codes "B     0          1 weak     -     -          a@b\n" ++ codes "B     0          2 weak     -     -          a@b\n")
+    × (bound_text Object (Told 0 1 state.Weak (codes "a@b") None ∷ Told 0 2 state.Weak (codes "a") (Some (codes "b\"\\")) ∷ [])
+    ≡ codes "{\"line\":\"B\",\"object\":0,\"symbol\":1,\"state\":\"weak\",\"definer\":\"-\",\"definition\":\"-\",\"name\":\"a@b\"}\n"
+    ++ codes "{\"line\":\"B\",\"object\":0,\"symbol\":2,\"state\":\"weak\",\"definer\":\"-\",\"definition\":\"-\",\"name\":\"a\",\"version\":\"b\\\"\\\\\\\\\"}\n")

@@ -1,5 +1,5 @@
 //! Worked bindings of names over files, each computed by the prover.
-ghost use Rattle.elf_gnu_examples.specs.ExamplesBindings.{FirstDefines, HighestBucketsCount, LookupsAsk, NoneDefines, OtherSymbolsAsk, RefusalsStop, SymbolsAreCounted, SymbolsAreRefused, SymbolsAreRefusedInOrder, SymbolsAsk, WordsOfSymbolsEnd};
+ghost use Rattle.elf_gnu_examples.specs.ExamplesBindings.{EmptyNamesAskForNothing, FirstDefines, HighestBucketsCount, LookupsAsk, NoneDefines, OtherSymbolsAsk, RefusalsStop, SymbolsAreCounted, SymbolsAreRefused, SymbolsAreRefusedInOrder, SymbolsAsk, WordsOfSymbolsEnd};
 
 /// The first file that defines a name is its definer.
 #[tactic(auto, unfolding(elf_model::proofs::OnLiterals::on_literals, elf_model::proofs::OnLoader::on_loader, elf_model::specs::Bindings::defines, elf_model::specs::Bindings::definer_walk, elf_model::specs::Bindings::definition_in, elf_model::specs::Bindings::definition_lookup, elf_model::specs::Bindings::definition_cost, elf_model::specs::Bindings::bound_from, elf_model::specs::Bindings::is_reference, elf_model::specs::Bindings::whole_name, elf_model::specs::Bindings::reference_by_index, elf_model::specs::Bindings::reference_version, elf_model::specs::Bindings::reference_at, elf_model::specs::Bindings::symbols_hashed, elf_model::specs::Traits::hashed_symbol_count, elf_model::specs::Traits::gnu_symbols, elf_model::specs::Traits::max_bucket))]
@@ -29,6 +29,12 @@ pub fn lookups_ask()
 #[tactic(auto, unfolding(elf_model::proofs::OnLiterals::on_literals, elf_model::proofs::OnLoader::on_loader, elf_model::specs::Bindings::defines, elf_model::specs::Bindings::definer_walk, elf_model::specs::Bindings::definition_in, elf_model::specs::Bindings::definition_lookup, elf_model::specs::Bindings::definition_cost, elf_model::specs::Bindings::bound_from, elf_model::specs::Bindings::is_reference, elf_model::specs::Bindings::whole_name, elf_model::specs::Bindings::reference_by_index, elf_model::specs::Bindings::reference_version, elf_model::specs::Bindings::reference_at, elf_model::specs::Bindings::symbols_hashed, elf_model::specs::Traits::hashed_symbol_count, elf_model::specs::Traits::gnu_symbols, elf_model::specs::Traits::max_bucket))]
 pub fn symbols_ask()
     ensures { SymbolsAsk }
+{}
+
+/// Symbols with an empty name.
+#[tactic(auto, unfolding(elf_model::proofs::OnLiterals::on_literals, elf_model::proofs::OnLoader::on_loader, elf_model::specs::Bindings::defines, elf_model::specs::Bindings::definer_walk, elf_model::specs::Bindings::definition_in, elf_model::specs::Bindings::definition_lookup, elf_model::specs::Bindings::definition_cost, elf_model::specs::Bindings::bound_from, elf_model::specs::Bindings::is_reference, elf_model::specs::Bindings::whole_name, elf_model::specs::Bindings::reference_by_index, elf_model::specs::Bindings::reference_version, elf_model::specs::Bindings::reference_at, elf_model::specs::Bindings::symbols_hashed, elf_model::specs::Traits::hashed_symbol_count, elf_model::specs::Traits::gnu_symbols, elf_model::specs::Traits::max_bucket))]
+pub fn empty_names_ask_for_nothing()
+    ensures { EmptyNamesAskForNothing }
 {}
 
 /// What is refused of a symbol that asks others for something.

@@ -117,9 +117,9 @@ impl<'a> Items<'a> {
     {
         push_sections(&mut self.sections, layout.sections())?;
         push_names(&mut self.definitions, layout.definitions())?;
-        push_names(&mut self.linkage, layout.linkage())?;
-        push_names(&mut self.table, layout.table())?;
-        push_names(&mut self.thread, layout.thread())
+        push_names(&mut self.linkage, layout.plt())?;
+        push_names(&mut self.table, layout.got())?;
+        push_names(&mut self.thread, layout.tpoff_got())
     }
 
     /// Puts an item behind those of its sort.

@@ -144,7 +144,7 @@ impl Layout {
     }
 
     /// The procedure linkage table entries, in the order in which they were given.
-    pub fn linkage(&self) -> &[NamedAddress]
+    pub fn plt(&self) -> &[NamedAddress]
         ensures items { result.now ≡ self.now.linkage }
         ensures names { HaveNames result.now }
     {
@@ -152,7 +152,7 @@ impl Layout {
     }
 
     /// The global offset table entries, in the order in which they were given.
-    pub fn table(&self) -> &[NamedAddress]
+    pub fn got(&self) -> &[NamedAddress]
         ensures items { result.now ≡ self.now.table }
         ensures names { HaveNames result.now }
     {
@@ -161,7 +161,7 @@ impl Layout {
 
     /// The global offset table entries of offsets from the thread pointer, in the order in which they
     /// were given.
-    pub fn thread(&self) -> &[NamedAddress]
+    pub fn tpoff_got(&self) -> &[NamedAddress]
         ensures items { result.now ≡ self.now.thread }
         ensures names { HaveNames result.now }
     {

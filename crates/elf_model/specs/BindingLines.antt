@@ -1,11 +1,13 @@
 -- The lines of the symbols that the objects of a program ask others for.
 use Rattle.std.specs.Prelude.{ℕ, [], ◌∷◌, ◌++◌, List, codes, Bool, true, false, Option, None, Some}
-use Rattle.elf_model.specs.Fields.{Field, Fields, LinePrefix, front}
+use Rattle.elf_model.specs.Fields.{Field, Fields, LinePrefix, closing, front}
 use Rattle.elf_model.specs.Fields.Field.{Decimal, NameOrDecimal, ArgSpec}
-use Rattle.elf_model.specs.Lines.{named_line}
-use Rattle.elf_model.specs.Loader.{AT_SIGN}
+use Rattle.elf_model.specs.Lines.{escaped, name_member, named_line}
 use Rattle.elf_model.specs.Names.DisplayedName.{Whole}
+use Rattle.elf_model.specs.Suffixes.{version_member}
+use Rattle.elf_model.specs.Text.{newline}
 use Rattle.elf_model.specs.declared.formats.Format.{Format}
+use Rattle.elf_model.specs.declared.formats.Format.TheVariants.{Columns, Object}
 use Rattle.elf_model.specs.declared.states.BindingState.{BindingState}
 use Rattle.elf_model.specs.declared.states.BindingState.TheVariants as state
 
@@ -55,11 +57,15 @@ binding_fields object symbol found = record {
 unfoldable pub binding_front : Format → (object symbol : ℕ) → BindingState → LinePrefix
 binding_front format object symbol found = front format (codes "name") (binding_fields object symbol found)
 
--- its name, with the version that it asks for
-abbrev pub reference_name : (name : List ℕ) → Option (List ℕ) → List ℕ
-reference_name name None = name
-reference_name name (Some version) = name ++ AT_SIGN ∷ version
+-- a line that ends in a name, with `@` and the version that is asked for; in an object that is a member of its own
+unfoldable pub line_requested : Format → (key text name version : List ℕ) → List ℕ
+line_requested Columns key text name version = text ++ (escaped name ++ codes "@" ++ escaped version ++ newline)
+line_requested Object key text name version = text ++ (name_member key (Whole name) ++ version_member (Whole version) ++ closing Object)
 
--- THE LINE OF A SYMBOL that an object asks others for
-abbrev pub binding_line : Format → (object symbol : ℕ) → BindingState → List ℕ → List ℕ
-binding_line format object symbol found name = named_line (binding_front format object symbol found) (Whole name)
+abbrev pub requested_line : LinePrefix → (name : List ℕ) → (version : Option (List ℕ)) → List ℕ
+requested_line front name None = named_line front (Whole name)
+requested_line front name (Some version) = line_requested front.format front.key front.text name version
+
+-- THE LINE OF A SYMBOL that an object asks others for, with its name and the version that it asks for
+abbrev pub binding_line : Format → (object symbol : ℕ) → BindingState → (name : List ℕ) → (version : Option (List ℕ)) → List ℕ
+binding_line format object symbol found name version = requested_line (binding_front format object symbol found) name version

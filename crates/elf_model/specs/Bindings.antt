@@ -105,7 +105,7 @@ abbrev pub bound_in : (headers : ℕ) → SymbolQuery → List (List ℕ) → Bi
 bound_in headers wanted files = bound_from 0 headers wanted files
 
 -- WHAT A SYMBOL ASKS OTHERS FOR. It is undefined, global, weak or unique, and has a name (gABI 4, Symbol Table: an index of 0 is
--- none)
+-- none), of one byte or more
 unfoldable pub is_reference : List ℕ → ℕ → Bool
 is_reference file at =
     (st_shndx file at == SHN_UNDEF)
@@ -156,14 +156,14 @@ reference_version file symbols y = elim symbols.words [
       else reference_by_index file symbols.records number (versym_at words y))
 ]
 
--- nothing; or its name and the version; a fault of the name is at the symbol
+-- nothing, also where the name is empty; or its name and the version; a fault of the name is at the symbol
 unfoldable pub reference_at : List ℕ → DynamicSymbols → ℕ → Result (Option SymbolQuery) Refusal
 reference_at file symbols y =
     let at = symbol_offset symbols y in
     if not (is_reference file at) then Ok None
     else elim (whole_name symbols.strings (st_name file at) at) [
       | Err refusal ↦ Err refusal
-      | Ok name ↦ elim (reference_version file symbols y) [
+      | Ok name ↦ if length name == 0 then Ok None else elim (reference_version file symbols y) [
         | Err refusal ↦ Err refusal
         | Ok asked ↦ Ok (Some (record { name = name; asked = asked }))
       ]

@@ -1,7 +1,7 @@
 -- From where the symbols come that the objects of a program ask others for: each object's symbols in order, with what binds each,
 -- as a loader of the GNU system binds them over all objects in order (gABI 5, Shared Object Dependencies), and the lines of these.
 use Rattle.std.specs.Prelude.{ℕ, zero, suc, ◌-◌, ◌==◌, ◌||◌, nat_lt, if◌then◌else◌, Bool, true, false, List, [], ◌∷◌, ◌++◌, length, get_or, position, Option, None, Some, Result, Ok, Err}
-use Rattle.elf_model.specs.BindingLines.{binding_line, is_unbound, reference_name, unbound_state}
+use Rattle.elf_model.specs.BindingLines.{binding_line, is_unbound, unbound_state}
 use Rattle.elf_model.specs.Bindings.{Binding, BoundTo, BoundToNone, StoppedIn, bound_in, is_weak, reference_at, symbols_hashed, whole_name}
 use Rattle.elf_model.specs.Lines.{refusal_line}
 use Rattle.elf_model.specs.Loader.{Meets, Misses, VersionRecordRead, VersionRecordTable, Refuses, DynamicSymbols, SymbolQuery, asked_name, compared_with, readings, symbol_offset, versym_at}
@@ -123,16 +123,16 @@ abbrev pub state_in : BoundObjects → List ℕ → DynamicSymbols → ℕ → S
 state_in objects file symbols y wanted =
     state_by objects file symbols y wanted (bound_in objects.headers wanted objects.files)
 
--- WHAT IS LISTED OF AN OBJECT: what binds a symbol of it, which has an index there, under the name that it asks for; or the refusal
--- of its own symbol, name or version, with which it ends
+-- WHAT IS LISTED OF AN OBJECT: what binds a symbol of it, which has an index there, under the name that it asks for and with the
+-- version, if it asks for one; or the refusal of its own symbol, name or version, with which it ends
 pub data BoundItem : Type 0 where
-  Told : (object symbol : ℕ) → BindingState → (name : List ℕ) → BoundItem
+  Told : (object symbol : ℕ) → BindingState → (name : List ℕ) → (version : Option (List ℕ)) → BoundItem
   Faulty : Refusal → BoundItem
 
 -- of one symbol of the object at a place: nothing where it asks for nothing
 abbrev pub reported_as : (object symbol : ℕ) → SymbolQuery → Result BindingState Refusal → Option BoundItem
 reported_as object symbol wanted (Err refusal) = Some (Faulty refusal)
-reported_as object symbol wanted (Ok found) = Some (Told object symbol found (reference_name wanted.name (asked_name wanted.asked)))
+reported_as object symbol wanted (Ok found) = Some (Told object symbol found wanted.name (asked_name wanted.asked))
 
 unfoldable pub bound_item : BoundObjects → (place : ℕ) → List ℕ → DynamicSymbols → ℕ → Option BoundItem
 bound_item objects place file symbols y = elim (reference_at file symbols y) [
@@ -145,7 +145,7 @@ bound_item objects place file symbols y = elim (reference_at file symbols y) [
 abbrev pub before_items : Option BoundItem → List BoundItem → List BoundItem
 before_items None items = items
 before_items (Some (Faulty refusal)) items = Faulty refusal ∷ []
-before_items (Some (Told object symbol found name)) items = Told object symbol found name ∷ items
+before_items (Some (Told object symbol found name version)) items = Told object symbol found name version ∷ items
 
 -- of so many symbols from one on
 unfoldable pub items_from : BoundObjects → (place : ℕ) → List ℕ → DynamicSymbols → (first count : ℕ) → List BoundItem
@@ -175,7 +175,7 @@ bound_items objects = objects_items objects 0 objects.files
 
 -- the line of an item, and those of some
 abbrev pub item_line : Format → BoundItem → List ℕ
-item_line format (Told object symbol found name) = binding_line format object symbol found name
+item_line format (Told object symbol found name version) = binding_line format object symbol found name version
 item_line format (Faulty refusal) = refusal_line format refusal
 
 abbrev pub bound_text : Format → List BoundItem → List ℕ
@@ -184,7 +184,7 @@ bound_text format (item ∷ items) = item_line format item ++ bound_text format 
 
 -- an item says that a symbol is missing, or that its state is not known; and one of some does, so that the exit status is 1
 abbrev pub is_failed : BoundItem → Bool
-is_failed (Told object symbol found name) = is_unbound found
+is_failed (Told object symbol found name version) = is_unbound found
 is_failed (Faulty refusal) = true
 
 abbrev pub any_unbound : List BoundItem → Bool

@@ -1,7 +1,8 @@
 -- HOW A FILE IS LINKED, as its dynamic entries say to a loader (gABI 5, Dynamic Section and Shared Object Dependencies): which
 -- libraries it needs, what it is called as one, and where libraries are looked for. The definitions are over a file that has no
 -- section headers.
-use Rattle.std.specs.Prelude.{ℕ, zero, suc, ◌+◌, ◌-◌, ◌*◌, ◌/◌, ◌==◌, ◌||◌, nat_lt, Bool, true, false, if◌then◌else◌, List, [], ◌∷◌, ◌++◌, length, Option, None, Some, Result, Ok, Err}
+use Rattle.std.specs.Prelude.{ℕ, zero, suc, ◌+◌, ◌-◌, ◌*◌, ◌/◌, ◌==◌, ◌&&◌, ◌||◌, nat_lt, Bool, true, false, if◌then◌else◌, List, [], ◌∷◌, ◌++◌, length, Option, None, Some, Result, Ok, Err}
+use Rattle.elf_model.specs.Bytes.{field}
 use Rattle.elf_model.specs.Checks.{first_refusal, header_checks, load_checks}
 use Rattle.elf_model.specs.Dynamic.{dynamic_count, listed_value}
 use Rattle.elf_model.specs.LoaderScope.{dynamic_segment_index, lookup_tables_by_segments}
@@ -9,7 +10,7 @@ use Rattle.elf_model.specs.Mapped.{strings_at}
 use Rattle.elf_model.specs.Names.{name_bytes, shown}
 use Rattle.elf_model.specs.Names.DisplayedName.{Whole, Cut}
 use Rattle.elf_model.specs.Numbers.{DT_NEEDED, DT_RPATH, DT_RUNPATH, DT_SONAME, DT_STRSZ, DT_STRTAB}
-use Rattle.elf_model.specs.Records.{FILE_HEADER_SIZE, PROGRAM_HEADER_SIZE, d_tag, d_un, p_filesz, p_offset, segment_at}
+use Rattle.elf_model.specs.Records.{FILE_HEADER_SIZE, PROGRAM_HEADER_SIZE, d_tag, d_un, e_machine, has_elf_magic, p_filesz, p_offset, segment_at}
 use Rattle.elf_model.specs.Style.{without_sections}
 use Rattle.elf_model.specs.Tables.{DYNAMIC_SIZE, segment_dynamic_checks}
 use Rattle.elf_model.specs.Traits.{has_none}
@@ -152,3 +153,17 @@ links_of file headers room = links_by_segments (without_sections file) headers r
 unfoldable pub links_ceiling : (size headers : ℕ) → ℕ
 links_ceiling size headers =
     FILE_HEADER_SIZE + headers * PROGRAM_HEADER_SIZE + 3 * size + size / DYNAMIC_SIZE * name_bytes LINK_TEXT_BYTES
+
+-- WHICH MACHINE A FILE IS FOR, so that a loader of that machine takes it as a library: one of 64 bits that is little-endian. None of
+-- any other file (gABI 4, ELF Identification: the magic number, the class and the encoding; ELF Header, e_machine)
+abbrev pub MACHINE_END : ℕ
+MACHINE_END = 20
+
+abbrev pub has_class_and_encoding : List ℕ → Bool
+has_class_and_encoding file = field file 4 1 == 2 && field file 5 1 == 1
+
+unfoldable pub machine_in : List ℕ → Option ℕ
+machine_in file =
+    if nat_lt (length file) MACHINE_END then None
+    else if has_elf_magic file && has_class_and_encoding file then Some (e_machine file)
+    else None

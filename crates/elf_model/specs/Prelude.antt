@@ -1,22 +1,22 @@
 -- The words of this crate, for one import elsewhere.
 pub use Rattle.elf_model.specs.Answer.{Answer, IsShown, show_answer, show_answer_by, status_of}
 pub use Rattle.elf_model.specs.Apply.{ApplyTarget, Fails, Put, SectionChange, StoredBytes, applies_to, before_entries, has_no_bytes, is_compressed, relocation_entries, section_headers, symbol_checks, target_of, terms_of, value_checks}
-unfoldable pub use Rattle.elf_model.specs.Apply.{and_patches, applied, apply_checks, change_of, changes_of, entry_changes, entry_checks, held_bytes, named_value, patched, patches_of, places_from, put, section_changes, where_based}
 pub use Rattle.elf_model.specs.ApplyCost.{cost_of_passes, window_passes}
 unfoldable pub use Rattle.elf_model.specs.ApplyCost.{apply_cost, apply_cost_by_order, apply_cost_in_order, cost_with, entries_for, entries_in, layout_names_cost, longest, lookup_cost, never_fall_from, offsets_at, offsets_never_fall}
 pub use Rattle.elf_model.specs.ApplyLaws.{AllInside, AppliedKeepsLength, BytePatched, ChangesInside, EntryStoresValue, FinalBelow, IsInside, KeptAbove, LengthKept, WindowPatched}
 unfoldable pub use Rattle.elf_model.specs.ApplyLaws.{byte_after, byte_with, clipped}
+unfoldable pub use Rattle.elf_model.specs.Apply.{and_patches, applied, apply_checks, change_of, changes_of, entry_changes, entry_checks, held_bytes, named_value, patched, patches_of, places_from, put, section_changes, where_based}
 pub use Rattle.elf_model.specs.Archive.{ARCHIVE_MAGIC, FileRange, Member, MemberWalkState, Members, NextMember, OneMember, THIN_MAGIC, archive, archive_checks, archive_length_checks, are_all, before_members, before_some, behind, bytes_in, end_items, is_decimal, is_elf, is_name_table, is_refused, line_before, lists_members, long_of, member_items, member_line, member_listing, member_named, name_field, names_behind, newline_in, padded_end, told, with_member}
-unfoldable pub use Rattle.elf_model.specs.Archive.{archive_items, bsd_name, bsd_name_length, data_after, long_name, long_offset, member_data, member_name, member_prefix, member_size, members_from, members_items, members_of, name_in_data, next_member, padded_number, parse_padded_decimal, parsed_member_name, parsed_member_size, short_name, trimmed, walk_items, without_slash}
 pub use Rattle.elf_model.specs.ArchiveCost.{IsArchiveBudgeted, allowance, any_refused, data_most, long_name_bytes}
 unfoldable pub use Rattle.elf_model.specs.ArchiveCost.{archive_ceiling, archive_cost, header_cost, is_elsewhere, member_cost, members_cost}
 pub use Rattle.elf_model.specs.ArchiveLaws.{ArchiveCostIsWithinCeiling, DataLieInTheFile}
-pub use Rattle.elf_model.specs.BindingLines.{binding_line, definer_fields, is_unbound, reference_name, unbound_state}
+unfoldable pub use Rattle.elf_model.specs.Archive.{archive_items, bsd_name, bsd_name_length, data_after, long_name, long_offset, member_data, member_name, member_prefix, member_size, members_from, members_items, members_of, name_in_data, next_member, padded_number, parse_padded_decimal, parsed_member_name, parsed_member_size, short_name, trimmed, walk_items, without_slash}
+pub use Rattle.elf_model.specs.BindingLines.{binding_line, definer_fields, is_unbound}
 unfoldable pub use Rattle.elf_model.specs.BindingLines.{binding_front, binding_state_name}
 pub use Rattle.elf_model.specs.Bindings.{Binding, BoundTo, BoundToNone, DefinerLookup, SOUGHT_BYTES, StoppedIn, bound_in, bound_or, definer_by, is_weak, unwalked}
 unfoldable pub use Rattle.elf_model.specs.Bindings.{bound_from, definer_walk, defines, definition_cost, definition_in, definition_lookup, is_reference, reference_at, reference_by_index, reference_version, symbols_hashed, whole_name}
-pub use Rattle.elf_model.specs.BoundSymbols.{BoundItem, BoundObjects, Faulty, Told, any_unbound, before_items, bound_items, bound_text, file_or, is_definition, is_failed, is_none_of, item_line, place_of, state_in}
-unfoldable pub use Rattle.elf_model.specs.BoundSymbols.{bound_item, counted_items, definitions_among, file_before, file_lacks, file_of_version, items_from, lacks_among, lacks_version, missing_version_requested, object_items, object_lacks, objects_items, state_by}
+pub use Rattle.elf_model.specs.BoundSymbols.{BoundItem, BoundObjects, Faulty, Told, any_unbound, before_items, bound_items, bound_text, file_or, is_definition, is_failed, is_none_of, item_line}
+unfoldable pub use Rattle.elf_model.specs.BoundSymbols.{bound_item, counted_items, definitions_among, file_before, file_of_version, items_from, lacks_among, lacks_version, object_items, objects_items}
 pub use Rattle.elf_model.specs.Budget.{IsBudgetRefusal, IsBudgeted, IsCut, IsReport}
 pub use Rattle.elf_model.specs.Bytes.{IsBytes, slice}
 unfoldable pub use Rattle.elf_model.specs.Bytes.{field, little, number}
@@ -26,39 +26,39 @@ pub use Rattle.elf_model.specs.Checking.{IsStateOf, check_line, fault_fields, is
 unfoldable pub use Rattle.elf_model.specs.Checking.{check_front, file_status_name, unnamed_line}
 pub use Rattle.elf_model.specs.Checks.{Check, HeaderCounts, before_headers, early_checks, early_checks_of, first_refusal, has_section_names, header_checks, ident_checks, is_outside, is_section_outside, is_symbol_table, length_checks, load_checks, pass, range_checks, range_checks_of, refuse, section_name_checks, strings_checks, table_checks, table_checks_of, unless_empty, whole_checks_of}
 pub use Rattle.elf_model.specs.Choice.{EveryRow, NoSuffix, RowFilter, RowsOf, Suffix, Suffixed, chooses, is_named, is_whole, suits, wanted_text}
-unfoldable pub use Rattle.elf_model.specs.Choice.{most_bytes}
 pub use Rattle.elf_model.specs.ChoiceLaws.{CutNamesAreNone, NamesAloneAreChosen, NamesAreChosen, NamesFitEveryVersion, OrderChoosesNothing, VersionsAreChosen, has_sign, has_sign_first, has_version}
+unfoldable pub use Rattle.elf_model.specs.Choice.{most_bytes}
 pub use Rattle.elf_model.specs.Cost.{after_header, cost, cost_where, needs_segments, suffixes_most}
-unfoldable pub use Rattle.elf_model.specs.Cost.{ceiling, is_loadable, kinds_cost, listing_cost, sections_cost, segments_cost, style_ceiling, sum_over, table_cost, tables_cost}
 pub use Rattle.elf_model.specs.CostLaws.{AnyRowsAreWithinCeiling, AnySegmentsAreWithinCeiling, CostIsWithinCeiling, LastCostIsAdded, PlacesDecideNothing, RowsCostWhatTheFileCosts, SegmentsCostWhatTheFileCosts, SumsGrow, TablesCostKindByKind}
 unfoldable pub use Rattle.elf_model.specs.CostLaws.{kind_by_kind}
+unfoldable pub use Rattle.elf_model.specs.Cost.{ceiling, is_loadable, kinds_cost, listing_cost, sections_cost, segments_cost, style_ceiling, sum_over, table_cost, tables_cost}
 pub use Rattle.elf_model.specs.Dynamic.{CountedIsListed, IsFirstValue, IsListed, ListedIsCounted, NoValueHasNoTag, ValueIsFirst, dynamic_at, listed_value}
 unfoldable pub use Rattle.elf_model.specs.Dynamic.{dynamic_count, dynamic_value}
 pub use Rattle.elf_model.specs.Explain.{ITEM_NAME_SIZE, MissingEntry, lack_with}
-unfoldable pub use Rattle.elf_model.specs.Explain.{explained, has_entry, lack_of, missing, missing_for_type, missing_ifunc_entry, missing_of, missing_place, name_wanted, refused_in, relocates_at, resolved_symbol_name, symbol_place, wanted}
 pub use Rattle.elf_model.specs.ExplainLine.{explanation, item_text, where_named}
 unfoldable pub use Rattle.elf_model.specs.ExplainLine.{entry_item_text, entry_text, help_text, items_text, missing_line, place_text, type_prefix}
+unfoldable pub use Rattle.elf_model.specs.Explain.{explained, has_entry, lack_of, missing, missing_for_type, missing_ifunc_entry, missing_of, missing_place, name_wanted, refused_in, relocates_at, resolved_symbol_name, symbol_place, wanted}
 pub use Rattle.elf_model.specs.Fields.{Field, Fields, LinePrefix, closed_line, front, name_or_value, with_fields}
-unfoldable pub use Rattle.elf_model.specs.Fields.{begun, closing, member_key, quoted, signed_text, string_byte, string_text, with_field}
 pub use Rattle.elf_model.specs.Fields.Field.{ArgSpec, Decimal, Hexadecimal, NameOrDecimal, NameOrHexadecimal, NameOrNumber}
+unfoldable pub use Rattle.elf_model.specs.Fields.{begun, closing, member_key, quoted, signed_text, string_byte, string_text, with_field}
 pub use Rattle.elf_model.specs.FileLists.{budget_after, front_size, headed, list_status, may_read_bytes, member_fault, members_alone, path_line, placed_after}
 unfoldable pub use Rattle.elf_model.specs.FileLists.{archive_fault, file_magic, first_fault, path_front}
 pub use Rattle.elf_model.specs.Find.{has_64_bit_words, hash_checks_from}
-unfoldable pub use Rattle.elf_model.specs.Find.{find_cost, first_hash, first_that, hash_checks, looked, looked_in, shape_checks}
 pub use Rattle.elf_model.specs.FindApplyAnswer.{IsAnswered, applied_status, applied_text, apply_answer, find_answer, lookup_status, lookup_text}
-unfoldable pub use Rattle.elf_model.specs.Fixtures.{bare_header, file_header, one_symbol_table, section_header, symbol, with_bytes, zeros}
+unfoldable pub use Rattle.elf_model.specs.Find.{find_cost, first_hash, first_that, hash_checks, looked, looked_in, shape_checks}
 unfoldable pub use Rattle.elf_model.specs.FixturesApply.{defined_layout, empty_layout, entry_layout, falling_relocations, full_layout, linked_to_zero, one_call, overlapping_in_other_order, overlapping_relocations, placed_layout, relocated, relocation, rising_relocations, special_layout, table_layout, third_overflows, two_relocation_sections, unplaced_layout, with_entries_header, with_symbol}
 unfoldable pub use Rattle.elf_model.specs.FixturesArchive.{archive_of, library, long_names, member, member_header, padded_to}
 unfoldable pub use Rattle.elf_model.specs.FixturesHash.{hash_file, hash_with_cycle, hash_with_end, with_hash_header, with_strings_header, with_symbols_header, words}
 unfoldable pub use Rattle.elf_model.specs.FixturesSegments.{library_strings, library_without_sections, loaded, loaded_at, needed_with, object, object_with}
 unfoldable pub use Rattle.elf_model.specs.FixturesTables.{aligned_note, build_note, linked_to_first, named_section, needed_library, note_segment, numbers_from, odd_name, one_load, one_segment, one_table, plain_note, program_header, repeated_tags, special_places, tables_over_headers, tagged}
 unfoldable pub use Rattle.elf_model.specs.FixturesVersions.{defined_name, definition, halfwords, hostile_library, library_header, loaded_section, needed_file, needed_version, symbols_with_versions, versioned_body, versioned_dynamic, versioned_hash, versioned_library, versioned_records, versioned_sections, versioned_segments, versioned_strings, versioned_without_sections}
+unfoldable pub use Rattle.elf_model.specs.Fixtures.{bare_header, file_header, one_symbol_table, section_header, symbol, with_bytes, zeros}
 pub use Rattle.elf_model.specs.GnuHash.{EndsInChain, IsGnuLookup, before_chains, chain_word, end_of_chain, gnu_bucket_at, gnu_chain_at, gnu_first, gnu_hash_byte, gnu_nbloom, gnu_nbucket, gnu_shift, gnu_start, gnu_symbol, gnu_walked_by, hash_bits_match, holds_none, in_chains, is_chain_end, is_chained, is_set}
-unfoldable pub use Rattle.elf_model.specs.GnuHash.{filter_may_contain, gnu_bucket_of, gnu_end, gnu_hash, gnu_looked_up, gnu_tried, gnu_walk_end, gnu_walked_at, gnu_word_at}
 pub use Rattle.elf_model.specs.GnuHashLaws.{GnuAbsentMeansNone, GnuFoundAnswers, GnuFoundIsFirst, GnuLookupAnswers, GnuLookupIsBounded, GnuLookupIsOne, IsFound, IsHeld, IsWithinTable}
+unfoldable pub use Rattle.elf_model.specs.GnuHash.{filter_may_contain, gnu_bucket_of, gnu_end, gnu_hash, gnu_looked_up, gnu_tried, gnu_walk_end, gnu_walked_at, gnu_word_at}
 pub use Rattle.elf_model.specs.Hash.{Absent, ChainEnd, Found, IsEndless, IsFirst, IsLookup, Lookup, LookupEnd, Nameless, NoIndex, Outcome, Wanted, chain_at, cycle, end_of_name, hash_byte, is_index, lookup_by, lookup_word, nchain, next_in_chain, refused_after, symbol_at, symbol_count, sysv_chain_at, sysv_nbucket, sysv_nchain}
-unfoldable pub use Rattle.elf_model.specs.Hash.{bucket_of, end_among, end_at_word, looked_up, lookup_at, lookup_end, same_symbol, sysv_hash, walk_word, word_at}
 pub use Rattle.elf_model.specs.HashLaws.{ComparedWithinChains, CycleExactly, CycleIsEndless, GoesOn, IsBounded, LongWalkNeverEnds, LongWalkRepeats, LookupAnswers, LookupIsBounded, LookupIsOne, RepeatNeverEnds, Repeats}
+unfoldable pub use Rattle.elf_model.specs.Hash.{bucket_of, end_among, end_at_word, looked_up, lookup_at, lookup_end, same_symbol, sysv_hash, walk_word, word_at}
 pub use Rattle.elf_model.specs.HeaderTables.{HeaderTable, TableKind, file_sections, file_segments, first_typed, header_field, held_headers}
 unfoldable pub use Rattle.elf_model.specs.LineFronts.{dynamic_prefix, note_prefix, relocation_prefix, section_prefix, symbol_prefix}
 pub use Rattle.elf_model.specs.Lines.{SHOWN_DESCRIPTOR, cut_mark, name_member, named_line, note_line}
@@ -66,10 +66,9 @@ unfoldable pub use Rattle.elf_model.specs.Lines.{descriptor_text, escaped, heade
 pub use Rattle.elf_model.specs.Links.{LINK_TEXT_BYTES, LinkState, NeededName, TextRoom, first_text, has_room, is_link, no_link_info, room_after}
 unfoldable pub use Rattle.elf_model.specs.Links.{link_text, linked_by, linked_from, linked_in, linked_with, links_by_segments, links_ceiling, links_of, loaded_links, lookup_refusal}
 pub use Rattle.elf_model.specs.Listing.{ALL, DYNAMIC, Fault, GNU_ALL, HEADER, Line, ListingItem, NOTES, RELOCS, SECTIONS, SEGMENTS, SYMBOLS, VERSIONS, all_parts, end_text, fault_of, guarded, has, has_tables, known_parts, lines_of, report_of, where_asked}
-unfoldable pub use Rattle.elf_model.specs.Listing.{each, file_header_items}
 pub use Rattle.elf_model.specs.ListingLaws.{HeaderAloneIsListed, HeaderFaultIsListedAlone, LastRowIsLast, ListingsAppend, LoadFaultIsListedSecond, NothingAfterTheFault, OtherBitsMeanNothing, RowsSplit}
+unfoldable pub use Rattle.elf_model.specs.Listing.{each, file_header_items}
 pub use Rattle.elf_model.specs.Loader.{AT_SIGN, CompareResult, DefaultVersion, DynamicSymbols, Meets, Misses, NoVersion, NumberNameSource, Refuses, SymbolQuery, Version, VersionQuery, VersionRecordRead, VersionRecordTable, VersymTable, asked_after, asked_name, compared_until, end_reading, has_record, is_among, is_hidden, one_later, one_more, symbol_offset, versym_at, with_number}
-unfoldable pub use Rattle.elf_model.specs.Loader.{answers, compared_with, fits, is_complete, is_exported, meetings, naming_of, parse_query, position_after, readings, readings_of, version_fits}
 pub use Rattle.elf_model.specs.LoaderAnswer.{loader_answer, loader_text}
 unfoldable pub use Rattle.elf_model.specs.LoaderAnswer.{found_version_line, loader_answer_for}
 pub use Rattle.elf_model.specs.LoaderFind.{FoundVersion, LoaderLookup, TOLD_BYTES, found_lookup, record_cost, refused_lookup}
@@ -77,14 +76,15 @@ unfoldable pub use Rattle.elf_model.specs.LoaderFind.{counts_check, found_in, lo
 pub use Rattle.elf_model.specs.LoaderLaws.{ComparedNumbersAreRecords, ComparingEndsAtTheFirst, EndsReadings, FirstEntriesAreAlike, IsComparable, IsRefusedAt, IsTaken, LoaderCostIsWithinCeiling, LoaderFoundIsTaken, NumbersAreNamedAlike, ReadingsAreRecords, StandsAtItsEnd, WalksStandAtRecords, WalksStandAtTheirEnd, names_wanted, numbers_under, records_in, records_read}
 pub use Rattle.elf_model.specs.LoaderScope.{GnuTable, HashStyle, LookupTables, SysvTable, checks_of_row, checks_of_section, checks_of_type, has_bytes, has_wide_kind, least_size, records_of_tag, records_of_type, records_with, rest_place, section_checks}
 unfoldable pub use Rattle.elf_model.specs.LoaderScope.{dynamic_segment_index, hash_row, hash_section, lookup_tables_by_segments, lookup_tables_of, rest_checks, rest_size, rows_checks, scope_by_sections, scope_in_segment, scope_in_segments, section_lookup_tables, section_words, segment_checks, segment_lookup_tables, segment_strings, segment_strings_at, segment_symbols, segment_words, tagged_row, version_checks, words_row, words_section}
+unfoldable pub use Rattle.elf_model.specs.Loader.{answers, compared_with, fits, is_complete, is_exported, meetings, naming_of, parse_query, position_after, readings, readings_of, version_fits}
 pub use Rattle.elf_model.specs.Mapped.{is_mapped_by, mapped_at, mapped_bytes, mapped_checks, mapped_offset, mapped_place}
 unfoldable pub use Rattle.elf_model.specs.Mapped.{mapped_from, mapped_strings, strings_at}
 pub use Rattle.elf_model.specs.NameLaws.{Differ, IsNameOutside, IsWanted, OneNameAtMost, PadsToPieces, SameCauses, SameExactly, SameNotExactly, SameOutsideExactly, SameUnendedExactly, ShownCauses, ShownCutExactly, ShownOutsideExactly, ShownUnendedExactly, ShownWholeExactly}
 pub use Rattle.elf_model.specs.NameTables.{flags_with_letters, name_or_number, names_where, relocation_names}
 unfoldable pub use Rattle.elf_model.specs.NameTables.{bindings, dynamic_tag_text, dynamic_tags, file_type_text, file_types, flags_column, further_relocation_types, further_section_flags, further_section_types, gnu_bindings, gnu_dynamic_tags, gnu_section_flags, gnu_section_types, gnu_segment_types, gnu_symbol_types, letter_or_dash, letters_and_mark, letters_of, number_sign, places, processor_section_flags, relocation_type_text, relocation_types, section_flags, section_flags_text, section_type_text, section_types, segment_flags_text, segment_type_text, segment_types, standard_bindings, standard_dynamic_tags, standard_places, standard_relocation_types, standard_section_flags, standard_section_types, standard_segment_types, standard_symbol_types, symbol_types, visibilities, x86_64_places, x86_64_section_flags, x86_64_section_types}
 pub use Rattle.elf_model.specs.Names.{DisplayedName, IsEmptyAtZero, IsNameBytesAt, IsNameOf, IsNulTerminatedAt, is_empty_at_zero, name_bytes, nul_in, pad64, shown_of}
-unfoldable pub use Rattle.elf_model.specs.Names.{begins, same, shown}
 pub use Rattle.elf_model.specs.Names.DisplayedName.{Cut}
+unfoldable pub use Rattle.elf_model.specs.Names.{begins, same, shown}
 pub use Rattle.elf_model.specs.NoteLaws.{BeforeNulExactly, CutIsWalked, FitsOrIsCut, FittingIsWalked, IsAligned, IsNoteInTable, NoteShownCutExactly, NoteShownWholeExactly, OneListAtMost, RowsAligned, RowsStand, WalkedFits, WalkedIsCut}
 pub use Rattle.elf_model.specs.Notes.{AllPadded, CutAt, EndsInSpelling, EndsInZeros, IsNoteEncoding, NextNote, Note, NoteRow, NoteScan, Notes, OneNote, Padded, alignment_gap, are_zeros, before_nul, bytes_to_alignment, capped, descriptor_start, escaped_size, first_end, first_note, note_align, padded_size, with_note}
 unfoldable pub use Rattle.elf_model.specs.Notes.{next_note, note_rows, note_shown, walk_from, walked}
@@ -105,14 +105,14 @@ unfoldable pub use Rattle.elf_model.specs.Rows.{dynamic_row, note_row, notes_row
 pub use Rattle.elf_model.specs.Searches.{NulFound}
 pub use Rattle.elf_model.specs.ShownNames.{shown_as}
 pub use Rattle.elf_model.specs.Style.{ListingStyle, looked_at, standard, viewed, without_sections}
-unfoldable pub use Rattle.elf_model.specs.Style.{tells_of_sections, without_sections_from}
 pub use Rattle.elf_model.specs.StyleLaws.{ViewIsAsLong, ViewIsCheckedAlike, ViewIsItsOwnView, ViewIsSeenInSlices, ViewIsTheFileAfterTheHeader, ViewIsTheFileElsewhere, ViewTellsOfNone}
+unfoldable pub use Rattle.elf_model.specs.Style.{tells_of_sections, without_sections_from}
 pub use Rattle.elf_model.specs.SuffixLaws.{SuffixesAreWithinMost, UndefinedHaveNoDefault, UnversionedEntriesArePlain, UnversionedSymbolsArePlain}
 pub use Rattle.elf_model.specs.Suffixes.{after_refusal, first_numbers, is_default, or_refusal, suffix_of, suffixed_line, suffixed_row, version_numbers_of, version_sign}
 unfoldable pub use Rattle.elf_model.specs.Suffixes.{line_suffixed, relocation_row_with_version, suffix_at, suffix_members, suffix_text, suffixed_relocation_rows, suffixed_symbol_rows, suffixes_refusal, symbol_row_with_version, symbol_suffix, version_member, walk_refusal, word_suffix}
 pub use Rattle.elf_model.specs.SysvWalk.{EndsAtWord, IsSysvWalk, fault_at, has_name, is_sysv_index, lookup_answer, parse_lookup, section_table_of, sysv_cycle, sysv_walked_by, sysv_word}
-unfoldable pub use Rattle.elf_model.specs.SysvWalk.{sysv_bucket_of, sysv_end, sysv_walk_end, sysv_walked, sysv_walked_at, sysv_word_at}
 pub use Rattle.elf_model.specs.SysvWalkLaws.{SysvFoundAnswers, SysvWalkAnswers, SysvWalkIsBounded, SysvWalkIsLookup, SysvWalkIsOne}
+unfoldable pub use Rattle.elf_model.specs.SysvWalk.{sysv_bucket_of, sysv_end, sysv_walk_end, sysv_walked, sysv_walked_at, sysv_word_at}
 pub use Rattle.elf_model.specs.TableKinds.{TableHeaders, by_sections, by_segments, section_kinds, segment_kinds}
 unfoldable pub use Rattle.elf_model.specs.TableKinds.{relocations, relocations_with_versions, section_dynamic, section_notes, segment_dynamic, segment_notes, suffixed_symbols, suffixes_cost, symbols, table_headers}
 pub use Rattle.elf_model.specs.Tables.{DYNAMIC_SIZE, RELA_SIZE, SYMBOL_SIZE, all_checks, dynamic_table_checks, entry_at, entry_count, has_symbols, linked_at, linked_table_checks, relocation_table_checks, segment_dynamic_checks, strings_of, symbol_checks_of, symbol_table, symbol_table_checks}

@@ -1,14 +1,17 @@
 -- What objects were asked for, one call after another.
-use Rattle.std.proofs.Common.{◌≡◌, ℕ, zero, suc, ◌+◌, ◌<◌, ◌≤◌, ◌⊎◌, List, [], ◌∷◌, length, length-set, get_or, get_or-set_other, get_or-set_same, set, inl, inr, Option, None, Some, Result, Err, refl, ap, ◌∙◌, arith}
+use Rattle.std.proofs.Common.{◌≡◌, ℕ, zero, suc, ◌+◌, ◌<◌, ◌≤◌, ◌-◌, ◌^◌, ◌⊎◌, min, List, [], ◌∷◌, length, length-set, get_or, get_or-set_other, get_or-set_same, set, inl, inr, Option, None, Some, Result, Err, refl, sym, ap, subst, ◌∙◌, arith}
 use Rattle.std.proofs.lemmas.Bool.{cases_eq, cases_lt}
 use Rattle.std.proofs.lemmas.List.Sums.{sum_by-set}
 use Rattle.elf_model.specs.Loader.{SymbolQuery}
-use Rattle.elf_source.specs.Source.{CountedState}
+use Rattle.elf_model.specs.Budget.{IsBudgetRefusal}
+use Rattle.elf_model.specs.declared.causes.Refusal.{Refusal}
+use Rattle.elf_source.specs.Source.{counted}
 use Rattle.elf_table.specs.declared.fault.Fault.{Fault}
 use Rattle.elf_table.specs.declared.fault.Fault.TheVariants.{Refused, Source}
-use Rattle.elf_needs.specs.Prelude.{AreObjectFiles, AskedFirst, AsksAll, BindsAcross, FailsIn, FaultLeaves, IsLimited, LookupObjectState, OnlyLimited, SameObject, SpendsAtMost, SpendsBudget, asked_of_all, reached}
+use Rattle.elf_needs.specs.Prelude.{AreObjectFiles, AskedFirst, AsksAll, BindsAcross, FailsIn, FaultLeaves, LookupObjectState, SameObject, SpendsAtMost, SpendsBudget, asked_of_all, reached}
 use Rattle.elf_needs.specs.declared.bind_name.BindFault.{BindFault}
 use Rattle.elf_needs.specs.declared.bind_name.BindResult.{BindResult}
+use Rattle.elf_needs.specs.Bound.{OnlyShort, UsesUp}
 use Rattle.elf_needs.proofs.OpenLaws.{pays_then}
 
 same_none : (o : LookupObjectState) → SameObject o o
@@ -81,42 +84,41 @@ asks_bind {wanted} {old} {new} {l0} {l1} {result} binds = record {
   pays = binds.pays;
 }
 
--- ONLY WITHIN A BUDGET
-limited_by : (left : Option ℕ) (bytes : ℕ) → left ≡ Some bytes → IsLimited left
-limited_by left bytes is = rw is tt
+-- THE BUDGET IS SHORT
+used_by : (asked before bytes : ℕ) (left : Option ℕ) → SpendsBudget (Some bytes) left before asked → counted before bytes < asked + 4096
+    → (b : ℕ) × (left ≡ Some b) × (counted asked b < asked + 4096)
+used_by asked before bytes (Some b) pays late =
+    let same : before + bytes ≡ asked + b = omega (arith, pays) in
+    (b, refl, subst (λ (n : ℕ). min n (2 ^ 128 - 1) < asked + 4096) same late)
+used_by asked before bytes None pays late = absurd pays
 
-pub limited_of : (old new : CountedState) (left : Option ℕ) (n : ℕ) (fault : Fault) → FaultLeaves old new left n fault → OnlyLimited left fault
-limited_of old new left n (Refused refusal) says = λ budget. let over = (says budget).1 in limited_by left over.bytes over.is_left
-limited_of old new left n (Source fault at) says = tt
+used_up : (old new : LookupObjectState) (l0 l1 : Option ℕ) (n : ℕ) (refusal : Refusal) → FaultLeaves old.src new.src l0 n (Refused refusal) → IsBudgetRefusal refusal → SpendsBudget l0 l1 old.src.asked new.src.asked
+    → new.src.seen.size ≡ old.src.seen.size → UsesUp new l1 refusal
+used_up old new l0 l1 n refusal says budget pays size =
+    let over = (says budget).1 in
+    let inside = (says budget).0 in
+    let used = used_by new.src.asked old.src.asked over.bytes l1 (subst (λ (l : Option ℕ). SpendsBudget l l1 old.src.asked new.src.asked) over.is_left pays) over.late in
+    record { inside = omega (arith, inside, size); bytes = used.0; is_left = used.1; few = used.2 }
 
-limited_back : (l0 l1 : Option ℕ) (a b : ℕ) → SpendsBudget l0 l1 a b → IsLimited l1 → IsLimited l0
-limited_back (Some l0) l1 a b pays limited = tt
-limited_back None None a b pays limited = limited
-limited_back None (Some l1) a b pays limited = pays
+-- of an object that was asked, among others
+pub short_one : (objects : List LookupObjectState) (n : ℕ) (d new : LookupObjectState) {l0 l1 : Option ℕ} {most : ℕ} (fault : Fault) → n < length objects → SpendsAtMost (get_or objects n d).src new.src l0 (Some fault) most
+    → SpendsBudget l0 l1 (get_or objects n d).src.asked new.src.asked → OnlyShort (set objects n new) l1 fault
+short_one objects n d new {l0} {l1} {most} (Refused refusal) less spends pays = λ budget.
+    (n, λ e. subst (λ (o : LookupObjectState). UsesUp o l1 refusal) (sym (get_or-set_same objects n new e less)) (used_up (get_or objects n d) new l0 l1 most refusal spends.says budget pays spends.keeps.same_size))
+short_one objects n d new (Source fault at) less spends pays = tt
 
-limited_on : (l0 l1 : Option ℕ) (a b : ℕ) → SpendsBudget l0 l1 a b → IsLimited l0 → IsLimited l1
-limited_on l0 (Some l1) a b pays limited = tt
-limited_on None None a b pays limited = limited
-limited_on (Some l0) None a b pays limited = pays
-
-pub limited_then : {a b : List LookupObjectState} {l0 l1 : Option ℕ} (fault : Fault) → AsksAll a b l0 l1 → OnlyLimited l1 fault → OnlyLimited l0 fault
-limited_then {a} {b} {l0} {l1} (Refused refusal) asks only = λ budget. limited_back l0 l1 _ _ asks.pays (only budget)
-limited_then (Source fault at) asks only = tt
-
-pub limited_from : {a b : List LookupObjectState} {l0 l1 : Option ℕ} → AsksAll a b l0 l1 → IsLimited l1 → IsLimited l0
-limited_from {a} {b} {l0} {l1} asks limited = limited_back l0 l1 _ _ asks.pays limited
-
-failed_limited : (wanted : SymbolQuery) (old new : LookupObjectState) (l0 l1 : Option ℕ) (fault : Fault) (a b : ℕ) → FailsIn wanted old new l1 fault → SpendsBudget l0 l1 a b → OnlyLimited l0 fault
-failed_limited wanted old new l0 l1 (Refused refusal) a b fails pays = λ budget.
-    limited_back l0 l1 a b pays (limited_on fails.left l1 _ _ fails.pays (limited_of _ _ fails.left _ (Refused refusal) fails.says budget))
-failed_limited wanted old new l0 l1 (Source fault at) a b fails pays = tt
-
-an_object : (objects : List LookupObjectState) (n : ℕ) → n < length objects → LookupObjectState
-an_object [] n less = absurd (omega (arith, less))
-an_object (one ∷ objects) n less = one
-
-pub limited_bind : {wanted : SymbolQuery} {old new : List LookupObjectState} {l0 l1 : Option ℕ} (blame : BindFault) (n : ℕ) → n < length old → BindsAcross wanted old new l0 l1 (Err blame) → OnlyLimited l0 blame.fault
-limited_bind {wanted} {old} {new} {l0} {l1} blame n less binds = failed_limited wanted _ _ l0 l1 blame.fault _ _ (binds.says (an_object old n less)) binds.pays
+-- of the object that a lookup over all stopped in
+pub short_bind : {wanted : SymbolQuery} {old new : List LookupObjectState} {l0 l1 : Option ℕ} (blame : BindFault) → BindsAcross wanted old new l0 l1 (Err blame) → OnlyShort new l1 blame.fault
+short_bind {wanted} {old} {new} {l0} {l1} blame binds = by_fault blame.fault (λ d. binds.says d)
+  where
+    by_fault : (fault : Fault) → ((d : LookupObjectState) → FailsIn wanted (get_or old blame.object d) (get_or new blame.object d) l1 fault) → OnlyShort new l1 fault
+    by_fault (Refused refusal) fails = λ budget. (
+      blame.object,
+      λ d.
+          let failed = fails d in
+          used_up (get_or old blame.object d) (get_or new blame.object d) failed.left l1 _ refusal failed.says budget failed.pays (binds.asked.asked blame.object d (omega arith)).keeps.same_size,
+    )
+    by_fault (Source fault at) fails = tt
 
 -- THE FILES of the objects
 pub file_here : (headers n : ℕ) (objects : List LookupObjectState) (files : List (List ℕ)) (d : LookupObjectState) → AreObjectFiles headers objects files → n < length objects

@@ -20,3 +20,4 @@ pub mod PageLaws
 pub mod AskLaws
 pub mod StateLaws
 pub mod WriteLaws
+pub mod RequestLaws

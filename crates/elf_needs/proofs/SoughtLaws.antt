@@ -1,5 +1,5 @@
 -- What a symbol asks others for, by what is read of it.
-use Rattle.std.proofs.Common.{◌≡◌, ℕ, ◌<◌, ◌≤◌, ◌%◌, ◌^◌, min, nat_lt, Bool, true, false, List, [], ◌∷◌, Option, None, Some, Result, Ok, Err, refl, sym, subst, ◌∙◌, arith}
+use Rattle.std.proofs.Common.{◌≡◌, ℕ, ◌<◌, ◌≤◌, ◌%◌, ◌^◌, min, nat_lt, ◌==◌, length, Bool, true, false, List, [], ◌∷◌, Option, None, Some, Result, Ok, Err, refl, sym, subst, ◌∙◌, arith}
 use Rattle.std.proofs.lemmas.Bool.Decides.{nat_tests}
 use Rattle.elf_model.specs.Prelude.{Cut as ShownCut, DynamicSymbols as AreSymbolsOf, LookupTables as IsScopeOf, NoVersion, NumberNameSource, SOUGHT_BYTES, Version, VersionQuery, VersymTable as AreWordsOf, VisitedRecord, counts_check, field, file_before, file_of_version, first_refusal, hashed_symbol_count, is_reference, name_index, named_at, naming_of, number_in, readings, reference_at, reference_by_index, reference_version, shown, st_name, symbol_offset, symbols_hashed, versym, versym_at, whole_name}
 use Rattle.elf_model.specs.declared.causes.Refusal.{Refusal}
@@ -207,20 +207,29 @@ module _ (file : List ℕ) (told : AreSymbolsOf) (symbols : DynamicSymbols) (ind
     nameless weak name version (Source fault at) tells = tt
 
     module _ (name : List ℕ) (named : whole_name (strings_in file symbols.names) symbol.st_name (row_at symbols.table index) ≡ Ok name) where
-      pub versionless : (weak : Bool) (version : List ℕ) (fault : Fault) → RefusesAs (reference_version file told index) fault → ReturnsSought (reference_at file told index) weak name version (Err fault)
+      pub unnamed : length name ≡ 0 → reference_at file told index ≡ Ok None
       unfolding reference_at
-      versionless weak version (Refused refusal) tells = λ unless.
+      unnamed none =
+          let e = sym name_as ∙ named in
+          let empty : (length name == 0) ≡ true = rw none refl in
+          rw (sought, reference_at) (rw (e, empty) refl)
+
+      pub versionless : (length name ≡ 0 → ⊥) → (weak : Bool) (version : List ℕ) (fault : Fault) → RefusesAs (reference_version file told index) fault → ReturnsSought (reference_at file told index) weak name version (Err fault)
+      unfolding reference_at
+      versionless some weak version (Refused refusal) tells = λ unless.
           let e = sym name_as ∙ named in
           let v = tells unless in
-          rw (sought, reference_at) (rw e (rw v refl))
-      versionless weak version (Source fault at) tells = tt
+          let full : (length name == 0) ≡ false = grind (arith, nat_tests, some) in
+          rw (sought, reference_at) (rw (e, full) (rw v refl))
+      versionless some weak version (Source fault at) tells = tt
 
-      pub asks : (version : List ℕ) (versioned : Bool) → reference_version file told index ≡ Ok (asked_if versioned version)
+      pub asks : (length name ≡ 0 → ⊥) → (version : List ℕ) (versioned : Bool) → reference_version file told index ≡ Ok (asked_if versioned version)
           → reference_at file told index ≡ Ok (Some (record { name = name; asked = asked_if versioned version }))
       unfolding reference_at
-      asks version versioned v =
+      asks some version versioned v =
           let e = sym name_as ∙ named in
-          rw (sought, reference_at) (rw e (rw v refl))
+          let full : (length name == 0) ≡ false = grind (arith, nat_tests, some) in
+          rw (sought, reference_at) (rw (e, full) (rw v refl))
 
 -- HOW MANY SYMBOLS a file has
 module _ (file : List ℕ) (told : IsScopeOf) where

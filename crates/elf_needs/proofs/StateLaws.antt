@@ -1,7 +1,12 @@
 -- What binds a symbol, by the lookup over the objects and the object of its version's file.
 use Rattle.std.proofs.Common.{◌≡◌, ℕ, ◌<◌, ◌≤◌, nat_lt, Bool, true, false, List, [], length, get_or, Option, None, Some, Result, Ok, Err, refl, sym, ◌∙◌, arith}
 use Rattle.std.proofs.lemmas.Bool.Decides.{nat_tests}
-use Rattle.elf_model.specs.Prelude.{BoundObjects, BoundTo, BoundToNone, DynamicSymbols, LookupTables, SymbolQuery, Told, VersionQuery, VisitedRecord, asked_name, bound_in, bound_item, file_lacks, file_of_version, is_weak, lacks_version, lookup_tables_of, missing_version_requested, name_index, named_at, object_lacks, place_of, reference_at, reference_name, state_by, state_in, symbol_offset, unbound_state, whole_name}
+use Rattle.elf_model.specs.BindingLines.{unbound_state}
+use Rattle.elf_model.specs.Bindings.{BoundTo, BoundToNone, bound_in, is_weak, reference_at, whole_name}
+use Rattle.elf_model.specs.BoundSymbols.{BoundObjects, Told, bound_item, file_lacks, file_of_version, lacks_version, missing_version_requested, object_lacks, place_of, state_by, state_in}
+use Rattle.elf_model.specs.Loader.{DynamicSymbols, SymbolQuery, VersionQuery, asked_name, symbol_offset}
+use Rattle.elf_model.specs.LoaderScope.{LookupTables, lookup_tables_of}
+use Rattle.elf_model.specs.Versions.{VisitedRecord, name_index, named_at}
 use Rattle.elf_model.specs.declared.states.BindingState.{BindingState}
 use Rattle.elf_model.specs.declared.causes.Refusal.{Refusal}
 use Rattle.elf_model.specs.declared.states.BindingState.TheVariants as state
@@ -144,25 +149,24 @@ module _ (objects : BoundObjects) (name version : List ℕ) where
 
 -- WHAT IS TOLD OF A SYMBOL
 module _ (objects : BoundObjects) (place : ℕ) (file : List ℕ) (symbols : DynamicSymbols) (y : ℕ) where
-  pub item_fault : (weak : Bool) (name version shown : List ℕ) (object : ℕ) (fault : Fault) → ReturnsSought (reference_at file symbols y) weak name version (Err fault)
-      → ReturnsItem (bound_item objects place file symbols y) object y shown (Err fault)
+  pub item_fault : (weak : Bool) (name version shown : List ℕ) (under : Option (List ℕ)) (object : ℕ) (fault : Fault) → ReturnsSought (reference_at file symbols y) weak name version (Err fault)
+      → ReturnsItem (bound_item objects place file symbols y) object y shown under (Err fault)
   unfolding bound_item
-  item_fault weak name version shown object (Refused refusal) tells = λ unless. let e = tells unless in rw (e, bound_item) refl
-  item_fault weak name version shown object (Source fault at) tells = tt
+  item_fault weak name version shown under object (Refused refusal) tells = λ unless. let e = tells unless in rw (e, bound_item) refl
+  item_fault weak name version shown under object (Source fault at) tells = tt
 
   pub item_none : reference_at file symbols y ≡ Ok None → bound_item objects place file symbols y ≡ None
   unfolding bound_item
   item_none e = rw (e, bound_item) refl
 
   module _ (name version : List ℕ) (versioned : Bool) (sought : reference_at file symbols y ≡ Ok (Some (record { name = name; asked = asked_if versioned version }))) where
-    pub item_state : (shown : List ℕ) (found : BindingState) → shown ≡ reference_name name (asked_name (asked_if versioned version))
-        → state_in objects file symbols y (record { name = name; asked = asked_if versioned version }) ≡ Ok found
-        → bound_item objects place file symbols y ≡ Some (Told (get_or objects.indexes place 0) y found shown)
+    pub item_state : (found : BindingState) → state_in objects file symbols y (record { name = name; asked = asked_if versioned version }) ≡ Ok found
+        → bound_item objects place file symbols y ≡ Some (Told (get_or objects.indexes place 0) y found name (asked_name (asked_if versioned version)))
     unfolding bound_item
-    item_state shown found s e = rw (s, sought, bound_item) (rw e refl)
+    item_state found e = rw (sought, bound_item) (rw e refl)
 
-    pub item_stopped : (shown : List ℕ) (object : ℕ) (fault : Fault) → RefusesAs (state_in objects file symbols y (record { name = name; asked = asked_if versioned version })) fault
-        → ReturnsItem (bound_item objects place file symbols y) object y shown (Err fault)
+    pub item_stopped : (shown : List ℕ) (under : Option (List ℕ)) (object : ℕ) (fault : Fault) → RefusesAs (state_in objects file symbols y (record { name = name; asked = asked_if versioned version })) fault
+        → ReturnsItem (bound_item objects place file symbols y) object y shown under (Err fault)
     unfolding bound_item
-    item_stopped shown object (Refused refusal) tells = λ unless. let e = tells unless in rw (sought, bound_item) (rw e refl)
-    item_stopped shown object (Source fault at) tells = tt
+    item_stopped shown under object (Refused refusal) tells = λ unless. let e = tells unless in rw (sought, bound_item) (rw e refl)
+    item_stopped shown under object (Source fault at) tells = tt

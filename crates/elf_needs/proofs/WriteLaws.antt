@@ -3,9 +3,10 @@ use Rattle.std.proofs.Common.{◌≡◌, ℕ, zero, suc, ◌+◌, ◌-◌, ◌<�
 use Rattle.elf_model.proofs.BudgetLaws.{is_budget_fault}
 use Rattle.elf_model.specs.Prelude.{BoundItem, BoundObjects, DynamicSymbols, Faulty, IsBudgetRefusal, LookupTables as IsScopeOf, Told, any_unbound, before_items, binding_line, bound_item, bound_text, counted_items, counts_check, first_refusal, hashed_symbol_count, is_failed, is_unbound, item_line, items_from, lookup_tables_of, object_items, objects_items, refusal_line, symbols_hashed}
 use Rattle.elf_model.specs.declared.states.BindingState.{BindingState}
+use Rattle.elf_needs.specs.Bound.{IsBudgetShort, IsCutText, LeadsItems, OnlyShort, ReturnsFault, ReturnsItem, WritesLines, WritesSoFar, WritesSymbol, failing_of}
 use Rattle.elf_model.specs.declared.formats.Format.{Format}
 use Rattle.elf_model.specs.declared.causes.Refusal.{Refusal}
-use Rattle.elf_needs.specs.Prelude.{AreObjectFiles, CountsHashed, IsCutText, IsLimited, LeadsItems, LookupObjectState, OnlyLimited, RefusesAs, ReturnsFault, ReturnsItem, WritesLines, WritesSoFar, WritesSymbol, failing_of}
+use Rattle.elf_needs.specs.Prelude.{AreObjectFiles, CountsHashed, LookupObjectState, RefusesAs}
 use Rattle.elf_needs.specs.declared.search_scope.WriteEnd.TheVariants.{Cut, Ended, Whole}
 use Rattle.elf_needs.specs.declared.walk.NeedsFault.{NeedsFault}
 use Rattle.elf_needs.specs.declared.walk.NeedsFault.TheVariants.{Out, Read}
@@ -60,21 +61,22 @@ so_far_more {format} {all} left items rest {a} {b} {c} {fails} more before parts
 }
 
 -- ALL ARE
-pub so_far_all : {format : Format} {all : List BoundItem} {a b : OutState} {fails : Bool} (limited : Type 0) → WritesSoFar format all [] a b fails → WritesLines format all limited a b (Ok (Whole fails))
-so_far_all {format} {all} {a} {b} {fails} limited before =
+pub so_far_all : {format : Format} {all : List BoundItem} {a b : OutState} {fails : Bool} (short : Refusal → Type 0) → WritesSoFar format all [] a b fails → WritesLines format all short a b (Ok (Whole fails))
+so_far_all {format} {all} {a} {b} {fails} short before =
     let whole : all ≡ before.front = before.split ∙ append-nil before.front in
     (subst (λ (l : List BoundItem). SinkTakes a b (bound_text format l)) (sym whole) before.takes, before.fails_is ∙ ap any_unbound (sym whole))
 
 -- a text that is cut, behind lines and before others
-cut_after : {format : Format} {items : List BoundItem} {text : List ℕ} (all front rest : List BoundItem) → all ≡ front ++ (items ++ rest) → IsCutText format items text
-    → IsCutText format all (bound_text format front ++ text)
-cut_after {format} {items} {text} all front rest split cut = record {
+cut_after : {format : Format} {items : List BoundItem} {short : Refusal → Type 0} {text : List ℕ} (all front rest : List BoundItem) → all ≡ front ++ (items ++ rest) → IsCutText format items short text
+    → IsCutText format all short (bound_text format front ++ text)
+cut_after {format} {items} {short} {text} all front rest split cut = record {
   front = front ++ cut.front;
   rest = cut.rest ++ rest;
   split = split ∙ ap (λ (l : List BoundItem). front ++ (l ++ rest)) cut.split ∙ ap (λ (l : List BoundItem). front ++ l) (append_assoc cut.front cut.rest rest)
       ∙ sym (append_assoc front cut.front (cut.rest ++ rest));
   refusal = cut.refusal;
   for_budget = cut.for_budget;
+  is_short = cut.is_short;
   text_is = ap (λ (t : List ℕ). bound_text format front ++ t) cut.text_is ∙ sym (append_assoc (bound_text format front) (bound_text format cut.front) (refusal_line format cut.refusal))
       ∙ ap (λ (t : List ℕ). t ++ refusal_line format cut.refusal) (sym (text_then format front cut.front));
 }
@@ -83,12 +85,12 @@ whole_of : {format : Format} {all left : List BoundItem} {a b : OutState} {fails
 whole_of items rest before parts = before.split ∙ ap (λ (l : List BoundItem). before.front ++ l) parts
 
 -- THEY END where some more come to an end
-module _ {format : Format} {all : List BoundItem} (left items rest : List BoundItem) {a b : OutState} (c : OutState) {fails : Bool} (inner outer : Type 0) (out_of : inner → outer) (before : WritesSoFar format all left a b fails) (parts : left ≡ items ++ rest) where
-  pub ends_cut : WritesLines format items inner b c (Ok Cut) → WritesLines format all outer a c (Ok Cut)
+module _ {format : Format} {all : List BoundItem} (left items rest : List BoundItem) {a b : OutState} (c : OutState) {fails : Bool} (short : Refusal → Type 0) (before : WritesSoFar format all left a b fails) (parts : left ≡ items ++ rest) where
+  pub ends_cut : WritesLines format items short b c (Ok Cut) → WritesLines format all short a c (Ok Cut)
   ends_cut writes =
-      (out_of writes.0, bound_text format before.front ++ writes.1, cut_after all before.front rest (whole_of items rest before parts) writes.2, SinkTakes-then _ _ before.takes writes.3)
+      (bound_text format before.front ++ writes.0, cut_after all before.front rest (whole_of items rest before parts) writes.1, SinkTakes-then _ _ before.takes writes.2)
 
-  pub ends_fault : (fault : NeedsFault) → WritesLines format items inner b c (Err fault) → WritesLines format all outer a c (Err fault)
+  pub ends_fault : (fault : NeedsFault) → WritesLines format items short b c (Err fault) → WritesLines format all short a c (Err fault)
   ends_fault Read writes = record {
     front = before.front ++ writes.front;
     rest = writes.rest ++ rest;
@@ -98,17 +100,17 @@ module _ {format : Format} {all : List BoundItem} (left items rest : List BoundI
   }
   ends_fault (Out fault) writes = go writes.1
     where
-      go : (writes.0 ≡ bound_text format items) ⊎ (inner × IsCutText format items writes.0) → WritesLines format all outer a c (Err (Out fault))
+      go : (writes.0 ≡ bound_text format items) ⊎ (IsCutText format items short writes.0) → WritesLines format all short a c (Err (Out fault))
       go (inl is) =
           let text : bound_text format all ≡ (bound_text format before.front ++ writes.0) ++ bound_text format rest =
           ap (bound_text format) (whole_of items rest before parts) ∙ text_then format before.front (items ++ rest) ∙ ap (λ (t : List ℕ). bound_text format before.front ++ t) (text_then format items rest)
           ∙ sym (append_assoc (bound_text format before.front) (bound_text format items) (bound_text format rest)) ∙ ap (λ (t : List ℕ). (bound_text format before.front ++ t) ++ bound_text format rest) (sym is) in
           (bound_text format all, inl refl, subst (λ (t : List ℕ). SinkTakesPrefix a c t) (sym text) (SinkTakesPrefix-more _ _ (SinkTakesPrefix-then _ _ before.takes writes.2)), writes.3)
       go (inr cut) =
-          (bound_text format before.front ++ writes.0, inr (out_of cut.0, cut_after all before.front rest (whole_of items rest before parts) cut.1), SinkTakesPrefix-then _ _ before.takes writes.2, writes.3)
+          (bound_text format before.front ++ writes.0, inr (cut_after all before.front rest (whole_of items rest before parts) cut), SinkTakesPrefix-then _ _ before.takes writes.2, writes.3)
 
 -- a fault's line is the last of an object, behind which none is left
-pub ends_last : {format : Format} {all : List BoundItem} (left items : List BoundItem) {a b : OutState} (c : OutState) {fails : Bool} (inner outer : Type 0) → WritesSoFar format all left a b fails → left ≡ items
+pub ends_last : {format : Format} {all : List BoundItem} (left items : List BoundItem) {a b : OutState} (c : OutState) {fails : Bool} (inner outer : Refusal → Type 0) → WritesSoFar format all left a b fails → left ≡ items
     → WritesLines format items inner b c (Ok Ended) → WritesLines format all outer a c (Ok Ended)
 ends_last {format} {all} left items {a} {b} c {fails} inner outer before same writes =
     let whole : all ≡ before.front ++ items = before.split ∙ ap (λ (l : List BoundItem). before.front ++ l) same in (
@@ -117,11 +119,11 @@ ends_last {format} {all} left items {a} {b} c {fails} inner outer before same wr
     )
 
 -- what lines tell that are all written
-pub failing_some : (format : Format) (items : List BoundItem) (limited : Type 0) (b c : OutState) (came : WriteEnd) (more : Bool) → WritesLines format items limited b c (Ok came) → failing_of came ≡ Some more
+pub failing_some : (format : Format) (items : List BoundItem) (short : Refusal → Type 0) (b c : OutState) (came : WriteEnd) (more : Bool) → WritesLines format items short b c (Ok came) → failing_of came ≡ Some more
     → SinkTakes b c (bound_text format items) × (more ≡ any_unbound items)
-failing_some format items limited b c (Whole fails) more writes e = let same : fails ≡ more = some_is fails more e in (writes.0, sym same ∙ writes.1)
-failing_some format items limited b c Ended more writes e = let same : true ≡ more = some_is true more e in (writes.0, sym same ∙ sym writes.1)
-failing_some format items limited b c Cut more writes e = absurd (none_not more e)
+failing_some format items short b c (Whole fails) more writes e = let same : fails ≡ more = some_is fails more e in (writes.0, sym same ∙ writes.1)
+failing_some format items short b c Ended more writes e = let same : true ≡ more = some_is true more e in (writes.0, sym same ∙ sym writes.1)
+failing_some format items short b c Cut more writes e = absurd (none_not more e)
 
 pub failing_none : (came : WriteEnd) → failing_of came ≡ None → came ≡ Cut
 failing_none (Whole fails) e = absurd (none_not fails (sym e))
@@ -129,73 +131,75 @@ failing_none Ended e = absurd (none_not true (sym e))
 failing_none Cut e = refl
 
 -- THE LINE OF A FAULT
-pub only_of : (left : Option ℕ) (fault : Fault) → OnlyLimited left fault → (refusal : Refusal) → fault ≡ Refused refusal → IsBudgetRefusal refusal → IsLimited left
-only_of left (Refused refusal) only other is budget = let same : refusal ≡ other = cc in only (subst IsBudgetRefusal (sym same) budget)
-only_of left (Source fault at) only other is budget = absurd (apart is)
+pub only_of : (objects : List LookupObjectState) (left : Option ℕ) (fault : Fault) → OnlyShort objects left fault → (refusal : Refusal) → fault ≡ Refused refusal → IsBudgetRefusal refusal → IsBudgetShort objects left refusal
+only_of objects left (Refused refusal) only other is budget =
+    let same : refusal ≡ other = cc in
+    subst (λ (r : Refusal). IsBudgetShort objects left r) same (only (subst IsBudgetRefusal (sym same) budget))
+only_of objects left (Source fault at) only other is budget = absurd (apart is)
   where
     apart : Source fault at ≡ Refused other → ⊥
     apart e = cc
 
-module _ (format : Format) (all : List BoundItem) (limited : Type 0) where
-  cut_first : (refusal : Refusal) → IsBudgetRefusal refusal → IsCutText format all (refusal_line format refusal)
-  cut_first refusal budget = record { front = []; rest = all; split = refl; refusal = refusal; for_budget = budget; text_is = refl }
+module _ (format : Format) (all : List BoundItem) (short : Refusal → Type 0) where
+  cut_first : (refusal : Refusal) → IsBudgetRefusal refusal → short refusal → IsCutText format all short (refusal_line format refusal)
+  cut_first refusal budget is = record { front = []; rest = all; split = refl; refusal = refusal; for_budget = budget; is_short = is; text_is = refl }
 
   line_alone : (refusal : Refusal) → all ≡ Faulty refusal ∷ [] → (bound_text format all ≡ refusal_line format refusal) × (any_unbound all ≡ true)
   line_alone refusal is = rw is (append-nil (refusal_line format refusal), refl)
 
   pub faulted_lines : (fault : Fault) (a b : OutState) (result : Result WriteEnd NeedsFault) → ((refusal : Refusal) → fault ≡ Refused refusal → (IsBudgetRefusal refusal → ⊥) → all ≡ Faulty refusal ∷ [])
-      → ((refusal : Refusal) → fault ≡ Refused refusal → IsBudgetRefusal refusal → limited) → ReturnsFault format fault a b result → WritesLines format all limited a b result
+      → ((refusal : Refusal) → fault ≡ Refused refusal → IsBudgetRefusal refusal → short refusal) → ReturnsFault format fault a b result → WritesLines format all short a b result
   faulted_lines (Refused refusal) a b (Ok (Whole fails)) tells only told = absurd told
   faulted_lines (Refused refusal) a b (Ok Ended) tells only told =
       let line = line_alone refusal (tells refusal refl told.0) in
       (subst (λ (t : List ℕ). SinkTakes a b t) (sym line.0) told.1, line.1)
-  faulted_lines (Refused refusal) a b (Ok Cut) tells only told = (only refusal refl told.0, refusal_line format refusal, cut_first refusal told.0, told.1)
+  faulted_lines (Refused refusal) a b (Ok Cut) tells only told = (refusal_line format refusal, cut_first refusal told.0 (only refusal refl told.0), told.1)
   faulted_lines (Refused refusal) a b (Err Read) tells only told = absurd told
   faulted_lines (Refused refusal) a b (Err (Out fault)) tells only told = go (is_budget_fault refusal.cause)
     where
-      go : (IsBudgetRefusal refusal) ⊎ (IsBudgetRefusal refusal → ⊥) → WritesLines format all limited a b (Err (Out fault))
-      go (inl budget) = (refusal_line format refusal, inr (only refusal refl budget, cut_first refusal budget), told.0, told.1)
+      go : (IsBudgetRefusal refusal) ⊎ (IsBudgetRefusal refusal → ⊥) → WritesLines format all short a b (Err (Out fault))
+      go (inl budget) = (refusal_line format refusal, inr (cut_first refusal budget (only refusal refl budget)), told.0, told.1)
       go (inr unless) = (refusal_line format refusal, inl (sym (line_alone refusal (tells refusal refl unless)).0), told.0, told.1)
   faulted_lines (Source fault at) a b result tells only told =
       rw (told.0, told.1) (record { front = []; rest = all; split = refl; takes = SinkTakes-nothing a })
 
 -- OF A SYMBOL
-module _ (format : Format) (item : Option BoundItem) (object symbol : ℕ) (name : List ℕ) (limited : Type 0) where
-  item_is : (fault : Fault) → ReturnsItem item object symbol name (Err fault) → (refusal : Refusal) → fault ≡ Refused refusal → (IsBudgetRefusal refusal → ⊥) → item ≡ Some (Faulty refusal)
+module _ (format : Format) (item : Option BoundItem) (object symbol : ℕ) (name : List ℕ) (version : Option (List ℕ)) (short : Refusal → Type 0) where
+  item_is : (fault : Fault) → ReturnsItem item object symbol name version (Err fault) → (refusal : Refusal) → fault ≡ Refused refusal → (IsBudgetRefusal refusal → ⊥) → item ≡ Some (Faulty refusal)
   item_is (Refused refusal) tells other is unless = let same : refusal ≡ other = cc in subst (λ (r : Refusal). item ≡ Some (Faulty r)) same (tells (subst (λ (r : Refusal). IsBudgetRefusal r → ⊥) (sym same) unless))
   item_is (Source fault at) tells other is unless = absurd (apart is)
     where
       apart : Source fault at ≡ Refused other → ⊥
       apart e = cc
 
-  leads_fault : (fault : Fault) (a b : OutState) (result : Result WriteEnd NeedsFault) → ReturnsItem item object symbol name (Err fault) → ReturnsFault format fault a b result → LeadsItems item result
+  leads_fault : (fault : Fault) (a b : OutState) (result : Result WriteEnd NeedsFault) → ReturnsItem item object symbol name version (Err fault) → ReturnsFault format fault a b result → LeadsItems item result
   leads_fault (Refused refusal) a b (Ok (Whole fails)) tells told = absurd told
   leads_fault (Refused refusal) a b (Ok Ended) tells told = let is = tells told.0 in λ rest. rw is refl
   leads_fault (Refused refusal) a b (Ok Cut) tells told = tt
   leads_fault (Refused refusal) a b (Err fault) tells told = tt
   leads_fault (Source fault at) a b result tells told = rw (told.0) tt
 
-  pub symbol_fault : (fault : Fault) (a b : OutState) (result : Result WriteEnd NeedsFault) → ReturnsItem item object symbol name (Err fault)
-      → ((refusal : Refusal) → fault ≡ Refused refusal → IsBudgetRefusal refusal → limited) → ReturnsFault format fault a b result → WritesSymbol format item limited a b result
+  pub symbol_fault : (fault : Fault) (a b : OutState) (result : Result WriteEnd NeedsFault) → ReturnsItem item object symbol name version (Err fault)
+      → ((refusal : Refusal) → fault ≡ Refused refusal → IsBudgetRefusal refusal → short refusal) → ReturnsFault format fault a b result → WritesSymbol format item short a b result
   symbol_fault fault a b result tells only told = record {
-    writes = faulted_lines format (before_items item []) limited fault a b result
+    writes = faulted_lines format (before_items item []) short fault a b result
         (λ refusal is unless. ap (λ (i : Option BoundItem). before_items i []) (item_is fault tells refusal is unless)) only told;
     leads = leads_fault fault a b result tells told;
   }
 
-  pub symbol_none : (a : OutState) → item ≡ None → WritesSymbol format item limited a a (Ok (Whole false))
+  pub symbol_none : (a : OutState) → item ≡ None → WritesSymbol format item short a a (Ok (Whole false))
   symbol_none a is = rw is (record { writes = (SinkTakes-nothing a, refl); leads = λ rest. refl })
 
-  module _ (found : BindingState) (is : item ≡ Some (Told object symbol found name)) where
-    pub symbol_told : (a b : OutState) (fails : Bool) → SinkTakes a b (binding_line format object symbol found name) → fails ≡ is_unbound found → WritesSymbol format item limited a b (Ok (Whole fails))
+  module _ (found : BindingState) (is : item ≡ Some (Told object symbol found name version)) where
+    pub symbol_told : (a b : OutState) (fails : Bool) → SinkTakes a b (binding_line format object symbol found name version) → fails ≡ is_unbound found → WritesSymbol format item short a b (Ok (Whole fails))
     symbol_told a b fails takes e = rw is (record {
-      writes = (subst (λ (t : List ℕ). SinkTakes a b t) (sym (append-nil (binding_line format object symbol found name))) takes, e ∙ sym (or_false (is_unbound found)));
+      writes = (subst (λ (t : List ℕ). SinkTakes a b t) (sym (append-nil (binding_line format object symbol found name version))) takes, e ∙ sym (or_false (is_unbound found)));
       leads = λ rest. refl;
     })
 
-    pub symbol_out : (a b : OutState) (fault : OutFault) → SinkTakesPrefix a b (binding_line format object symbol found name) → IsOutFault b fault → WritesSymbol format item limited a b (Err (Out fault))
+    pub symbol_out : (a b : OutState) (fault : OutFault) → SinkTakesPrefix a b (binding_line format object symbol found name version) → IsOutFault b fault → WritesSymbol format item short a b (Err (Out fault))
     symbol_out a b fault takes fails = rw is (record {
-      writes = (binding_line format object symbol found name, inl (sym (append-nil (binding_line format object symbol found name))), takes, fails);
+      writes = (binding_line format object symbol found name version, inl (sym (append-nil (binding_line format object symbol found name version))), takes, fails);
       leads = tt;
     })
 
@@ -276,7 +280,7 @@ objects_none objects place files past = let none = no_file place files past in r
 pub parts_of : (item : Option BoundItem) (rest : List BoundItem) → (behind : List BoundItem) × (before_items item rest ≡ before_items item [] ++ behind)
 parts_of None rest = (rest, refl)
 parts_of (Some (Faulty refusal)) rest = ([], refl)
-parts_of (Some (Told object symbol found name)) rest = (rest, refl)
+parts_of (Some (Told object symbol found name version)) rest = (rest, refl)
 
 -- how the lines of an object end, and not those of a symbol alone
 abbrev pub IsEnd : Result WriteEnd NeedsFault → Type 0
@@ -287,14 +291,14 @@ IsEnd (Err fault) = Unit {0}
 
 -- THE ITEM OF ONE SYMBOL more is written, and others may be left, or it is the end
 module _ {format : Format} {all : List BoundItem} {a b : OutState} {fails : Bool} (left : List BoundItem) (item : Option BoundItem) (rest : List BoundItem) (c : OutState) (before : WritesSoFar format all left a b fails) (next : left ≡ before_items item rest) where
-  item_more : (limited : Type 0) (more : Bool) → WritesSymbol format item limited b c (Ok (Whole more)) → WritesSoFar format all rest a c (fails || more)
-  item_more limited more wrote = so_far_more left (before_items item []) rest more before (next ∙ wrote.leads rest) wrote.writes.0 wrote.writes.1
+  item_more : (short : Refusal → Type 0) (more : Bool) → WritesSymbol format item short b c (Ok (Whole more)) → WritesSoFar format all rest a c (fails || more)
+  item_more short more wrote = so_far_more left (before_items item []) rest more before (next ∙ wrote.leads rest) wrote.writes.0 wrote.writes.1
 
-  item_ends : (inner outer : Type 0) → (inner → outer) → (result : Result WriteEnd NeedsFault) → IsEnd result → WritesSymbol format item inner b c result → WritesLines format all outer a c result
-  item_ends inner outer out_of (Ok (Whole more)) end wrote = absurd end
-  item_ends inner outer out_of (Ok Ended) end wrote = ends_last left (before_items item []) c inner outer before (next ∙ wrote.leads rest) wrote.writes
-  item_ends inner outer out_of (Ok Cut) end wrote = let parts = parts_of item rest in ends_cut left (before_items item []) parts.0 c inner outer out_of before (next ∙ parts.1) wrote.writes
-  item_ends inner outer out_of (Err fault) end wrote = let parts = parts_of item rest in ends_fault left (before_items item []) parts.0 c inner outer out_of before (next ∙ parts.1) fault wrote.writes
+  item_ends : (short : Refusal → Type 0) → (result : Result WriteEnd NeedsFault) → IsEnd result → WritesSymbol format item short b c result → WritesLines format all short a c result
+  item_ends short (Ok (Whole more)) end wrote = absurd end
+  item_ends short (Ok Ended) end wrote = ends_last left (before_items item []) c short short before (next ∙ wrote.leads rest) wrote.writes
+  item_ends short (Ok Cut) end wrote = let parts = parts_of item rest in ends_cut left (before_items item []) parts.0 c short before (next ∙ parts.1) wrote.writes
+  item_ends short (Err fault) end wrote = let parts = parts_of item rest in ends_fault left (before_items item []) parts.0 c short before (next ∙ parts.1) fault wrote.writes
 
 -- how many symbols an object has, whose scope is found in its file
 pub record SymbolsIn (file : List ℕ) (headers count : ℕ) : Type 0 where
@@ -315,12 +319,12 @@ counted_in headers n count objects files d new result is counts are less =
 -- THE LINE OF ONE SYMBOL of an object more is written, and it is the last, or others are left
 module _ (objects : BoundObjects) (place : ℕ) (file : List ℕ) (count symbol : ℕ) (has : SymbolsIn file objects.headers count) (less : symbol < count) {format : Format} {a b : OutState} {fails : Bool} (c : OutState)
     (before : WritesSoFar format (items_from objects place file has.told.symbols 1 (count - 1)) (items_from objects place file has.told.symbols symbol (count - symbol)) a b fails) where
-  pub symbol_more : (limited : Type 0) (more : Bool) → WritesSymbol format (bound_item objects place file has.told.symbols symbol) limited b c (Ok (Whole more))
+  pub symbol_more : (short : Refusal → Type 0) (more : Bool) → WritesSymbol format (bound_item objects place file has.told.symbols symbol) short b c (Ok (Whole more))
       → WritesSoFar format (items_from objects place file has.told.symbols 1 (count - 1)) (items_from objects place file has.told.symbols (symbol + 1) (count - (symbol + 1))) a c (fails || more)
-  symbol_more limited more wrote = item_more _ _ _ c before (items_next objects place file has.told.symbols symbol count less) limited more wrote
+  symbol_more short more wrote = item_more _ _ _ c before (items_next objects place file has.told.symbols symbol count less) short more wrote
 
-  pub symbol_ends : (inner outer : Type 0) → (inner → outer) → (result : Result WriteEnd NeedsFault) → IsEnd result → WritesSymbol format (bound_item objects place file has.told.symbols symbol) inner b c result
-      → WritesLines format (object_items objects place file) outer a c result
-  symbol_ends inner outer out_of result end wrote =
-      subst (λ (all : List BoundItem). WritesLines format all outer a c result) (sym (items_are objects place file has.told has.scope count has.hashed))
-      (item_ends _ _ _ c before (items_next objects place file has.told.symbols symbol count less) inner outer out_of result end wrote)
+  pub symbol_ends : (short : Refusal → Type 0) → (result : Result WriteEnd NeedsFault) → IsEnd result → WritesSymbol format (bound_item objects place file has.told.symbols symbol) short b c result
+      → WritesLines format (object_items objects place file) short a c result
+  symbol_ends short result end wrote =
+      subst (λ (all : List BoundItem). WritesLines format all short a c result) (sym (items_are objects place file has.told has.scope count has.hashed))
+      (item_ends _ _ _ c before (items_next objects place file has.told.symbols symbol count less) short result end wrote)

@@ -2,6 +2,7 @@
 use Rattle.std.specs.Prelude.{ℕ, ◌≡◌, ◌<◌, ◌≤◌, ◌⊎◌, Bool, true, false, List, [], ◌++◌, length, get_or, Option, None, Some, Result, Ok, Err}
 use Rattle.elf_model.specs.Prelude.{BoundItem, BoundObjects, Faulty, IsBudgetRefusal, LookupTables as IsScopeOf, Told, any_unbound, before_items, bound_text, file_of_version, is_weak, lookup_tables_of, refusal_line, symbol_offset}
 use Rattle.elf_model.specs.declared.states.BindingState.{BindingState}
+use Rattle.elf_source.specs.Source.{counted}
 use Rattle.elf_model.specs.declared.formats.Format.{Format}
 use Rattle.elf_model.specs.declared.causes.Refusal.{Refusal}
 use Rattle.elf_source.specs.Output.{IsOutFault, SinkTakes, SinkTakesPrefix, OutState}
@@ -42,15 +43,22 @@ pub record AsksAll (old new : List LookupObjectState) (left_old left_new : Optio
   pub objects : SameObjects old new
   pub pays : SpendsBudget left_old left_new (asked_of_all old) (asked_of_all new)
 
--- there is a budget
-abbrev pub IsLimited : Option ℕ → Type 0
-IsLimited None = ⊥
-IsLimited (Some bytes) = Unit {0}
+-- a budget is used up at a place of a file: what is left of it, counted on from what the file was asked for, is fewer than 4,096
+-- bytes
+pub record UsesUp (object : LookupObjectState) (left : Option ℕ) (refusal : Refusal) : Type 0 where
+  pub inside : refusal.at < object.src.seen.size
+  pub bytes : ℕ
+  pub is_left : left ≡ Some bytes
+  pub few : counted object.src.asked bytes < object.src.asked + 4096
 
--- a fault is for want of budget only where there is one
-abbrev pub OnlyLimited : Option ℕ → Fault → Type 0
-OnlyLimited left (Refused refusal) = IsBudgetRefusal refusal → IsLimited left
-OnlyLimited left (Source fault at) = Unit {0}
+-- it is, at a place of the file of one of the objects
+abbrev pub IsBudgetShort : List LookupObjectState → Option ℕ → Refusal → Type 0
+IsBudgetShort objects left refusal = (k : ℕ) × ((d : LookupObjectState) → UsesUp (get_or objects k d) left refusal)
+
+-- a fault is for want of budget only where that is short
+abbrev pub OnlyShort : List LookupObjectState → Option ℕ → Fault → Type 0
+OnlyShort objects left (Refused refusal) = IsBudgetRefusal refusal → IsBudgetShort objects left refusal
+OnlyShort objects left (Source fault at) = Unit {0}
 
 -- what is told over known files of a symbol of the object at a place, of which this was read
 abbrev pub OfSought : List LookupObjectState → (place symbol : ℕ) → SymbolReference → (ℕ → List (List ℕ) → IsScopeOf → Type 0) → Type 0
@@ -59,20 +67,21 @@ OfSought objects place symbol sought tells =
     → 0 < told.table.symbols → sought.weak ≡ is_weak (get_or files place []) (symbol_offset told.symbols symbol)
     → IsFileIf (get_or files place []) (file_of_version (get_or files place []) told.symbols symbol) sought.file → tells headers files told
 
--- what is told of a symbol of an object, under a name
-abbrev pub ReturnsItem : Option BoundItem → (object symbol : ℕ) → (name : List ℕ) → Result (Option BindingState) Fault → Type 0
-ReturnsItem told object symbol name (Ok None) = told ≡ None
-ReturnsItem told object symbol name (Ok (Some found)) = told ≡ Some (Told object symbol found name)
-ReturnsItem told object symbol name (Err (Refused refusal)) = (IsBudgetRefusal refusal → ⊥) → told ≡ Some (Faulty refusal)
-ReturnsItem told object symbol name (Err (Source fault at)) = Unit {0}
+-- what is told of a symbol of an object, under a name and with a version
+abbrev pub ReturnsItem : Option BoundItem → (object symbol : ℕ) → (name : List ℕ) → (version : Option (List ℕ)) → Result (Option BindingState) Fault → Type 0
+ReturnsItem told object symbol name version (Ok None) = told ≡ None
+ReturnsItem told object symbol name version (Ok (Some found)) = told ≡ Some (Told object symbol found name version)
+ReturnsItem told object symbol name version (Err (Refused refusal)) = (IsBudgetRefusal refusal → ⊥) → told ≡ Some (Faulty refusal)
+ReturnsItem told object symbol name version (Err (Source fault at)) = Unit {0}
 
--- a text is a front of the lines, each whole, and then that of a refusal for want of budget
-pub record IsCutText (format : Format) (all : List BoundItem) (text : List ℕ) : Type 0 where
+-- a text is a front of the lines, each whole, and then that of a refusal for want of budget, which is short there
+pub record IsCutText (format : Format) (all : List BoundItem) (short : Refusal → Type 0) (text : List ℕ) : Type 0 where
   pub front : List BoundItem
   pub rest : List BoundItem
   pub split : all ≡ front ++ rest
   pub refusal : Refusal
   pub for_budget : IsBudgetRefusal refusal
+  pub is_short : short refusal
   pub text_is : text ≡ bound_text format front ++ refusal_line format refusal
 
 -- front lines alone were written
@@ -82,15 +91,15 @@ pub record WritesFront (format : Format) (all : List BoundItem) (old new : OutSt
   pub split : all ≡ front ++ rest
   pub takes : SinkTakes old new (bound_text format front)
 
--- WHAT WRITING THE LINES DID: all of them are written; or, only within a budget, a front of them and the line that tells so; or a
--- read failed behind a front; or the output failed in one of these texts
-abbrev pub WritesLines : Format → List BoundItem → (limited : Type 0) → OutState → OutState → Result WriteEnd NeedsFault → Type 0
-WritesLines format all limited old new (Ok (Whole fails)) = SinkTakes old new (bound_text format all) × (fails ≡ any_unbound all)
-WritesLines format all limited old new (Ok Ended) = SinkTakes old new (bound_text format all) × (any_unbound all ≡ true)
-WritesLines format all limited old new (Ok Cut) = limited × (text : List ℕ) × IsCutText format all text × SinkTakes old new text
-WritesLines format all limited old new (Err Read) = WritesFront format all old new
-WritesLines format all limited old new (Err (Out fault)) =
-    (text : List ℕ) × ((text ≡ bound_text format all) ⊎ (limited × IsCutText format all text)) × SinkTakesPrefix old new text × IsOutFault new fault
+-- WHAT WRITING THE LINES DID: all of them are written; or, only where the budget is short, a front of them and the line that tells
+-- so; or a read failed behind a front; or the output failed in one of these texts
+abbrev pub WritesLines : Format → List BoundItem → (short : Refusal → Type 0) → OutState → OutState → Result WriteEnd NeedsFault → Type 0
+WritesLines format all short old new (Ok (Whole fails)) = SinkTakes old new (bound_text format all) × (fails ≡ any_unbound all)
+WritesLines format all short old new (Ok Ended) = SinkTakes old new (bound_text format all) × (any_unbound all ≡ true)
+WritesLines format all short old new (Ok Cut) = (text : List ℕ) × IsCutText format all short text × SinkTakes old new text
+WritesLines format all short old new (Err Read) = WritesFront format all old new
+WritesLines format all short old new (Err (Out fault)) =
+    (text : List ℕ) × ((text ≡ bound_text format all) ⊎ (IsCutText format all short text)) × SinkTakesPrefix old new text × IsOutFault new fault
 
 -- how the items of an object go on behind those of one symbol: a fault is the last
 abbrev pub LeadsItems : Option BoundItem → Result WriteEnd NeedsFault → Type 0
@@ -100,8 +109,8 @@ LeadsItems item (Ok Cut) = Unit {0}
 LeadsItems item (Err fault) = Unit {0}
 
 -- WHAT WRITING THE LINE OF A SYMBOL DID
-pub record WritesSymbol (format : Format) (item : Option BoundItem) (limited : Type 0) (old new : OutState) (result : Result WriteEnd NeedsFault) : Type 0 where
-  pub writes : WritesLines format (before_items item []) limited old new result
+pub record WritesSymbol (format : Format) (item : Option BoundItem) (short : Refusal → Type 0) (old new : OutState) (result : Result WriteEnd NeedsFault) : Type 0 where
+  pub writes : WritesLines format (before_items item []) short old new result
   pub leads : LeadsItems item result
 
 -- what writing the line of a fault did: that of a refusal, which ends the lines of an object, or all of them for want of budget
@@ -134,7 +143,7 @@ status_after Ended status = 1
 status_after Cut status = 1
 
 -- WHAT WRITING THE BINDINGS OF ALL OBJECTS DID
-abbrev pub WritesBindings : Format → List BoundItem → (limited : Type 0) → OutState → OutState → (status : ℕ) → Result ℕ NeedsFault → Type 0
-WritesBindings format all limited old new before (Ok status) =
-    (came : WriteEnd) × WritesLines format all limited old new (Ok came) × (status ≡ status_after came before)
-WritesBindings format all limited old new before (Err fault) = WritesLines format all limited old new (Err fault)
+abbrev pub WritesBindings : Format → List BoundItem → (short : Refusal → Type 0) → OutState → OutState → (status : ℕ) → Result ℕ NeedsFault → Type 0
+WritesBindings format all short old new before (Ok status) =
+    (came : WriteEnd) × WritesLines format all short old new (Ok came) × (status ≡ status_after came before)
+WritesBindings format all short old new before (Err fault) = WritesLines format all short old new (Err fault)

@@ -15,6 +15,7 @@ pub mod Ready
 pub mod Sought
 pub mod Pages
 pub mod Bound
+pub mod Requests
 pub mod Budget
 pub mod Called
 pub mod ObjectLines

@@ -4,12 +4,17 @@ ghost use Rattle.arrayvec.specs.ArrayVec.{array_vec_len};
 ghost use Rattle.elf_model.specs.Prelude.{binding_front, binding_line, binding_state_name, definer_fields, with_fields};
 ghost use Rattle.elf_source.specs.Output.{OutPuts};
 ghost use Rattle.elf_format.specs.Fronts.{front_of};
+ghost use Rattle.elf_model.specs.BindingLines.{line_requested};
+ghost use Rattle.elf_model.specs.Loader.{asked_name};
+ghost use Rattle.elf_needs.specs.Requests.{after_request, before_request};
+ghost use Rattle.elf_options.specs.Wants.{query_of};
 
 use elf_format::{
-    Columns, Json, LineBuf, LinePrefix, Render, begin_named, put_decimal, put_name_or_decimal,
-    put_text, show_named,
+    Columns, Json, LineBuf, LinePrefix, Render, SecondName, begin_named, put_decimal,
+    put_name_or_decimal, put_text, show_joined, show_named,
 };
 use elf_model::{BindingState, Format};
+use elf_options::SymbolQuery;
 use elf_source::{Out, OutFault, Sink};
 
 /// The `B` line of a symbol up to its name.
@@ -72,7 +77,7 @@ fn binding_state_name(state: BindingState) -> &'static str
 
 /// Writes the line of a symbol that an object asks others for: the object's index and the symbol's, its
 /// state, the index of the object that defines it, or in which the lookup is refused, the index of the
-/// symbol there, and its name, with `@` and the version that it asks for, spelt as names are.
+/// symbol there, and its name, with the version that it asks for, spelt as names are.
 ///
 /// # Errors
 /// A fault of the output, with a front of the line written.
@@ -80,17 +85,74 @@ pub fn show_binding<W: Sink>(
     object: u16,
     symbol: u64,
     state: BindingState,
-    name: &[u8],
+    wanted: &SymbolQuery<'_>,
     format: Format,
     out: &mut Out<W>,
 ) -> Result<(), OutFault>
-    ensures puts { OutPuts out.old out.new result
-        (binding_line format object symbol state name.now) }
+    ensures puts { OutPuts out.old out.new result (binding_line format object symbol state
+        (query_of wanted.now).name (asked_name (query_of wanted.now).asked)) }
 {
     let mut front = LinePrefix::new();
     match format {
         Format::Columns => binding_row::<Columns>(&mut front, object, symbol, state),
         Format::Object => binding_row::<Json>(&mut front, object, symbol, state),
     }
-    show_named(&mut front, name, false, out)
+    match wanted.asked.name() {
+        None => show_named(&mut front, wanted.name, false, out),
+        Some(version) => show_requested(&mut front, wanted.name, version, out),
+    }
+}
+
+/// Writes a line that ends in a name and the version that is asked for: in columns after `@`, in an object
+/// as a member.
+///
+/// # Errors
+/// A fault of the output, with a front of the line written.
+#[tactic(auto, using(crate::proofs::RequestLaws::requested_is))]
+fn show_requested<W: Sink>(
+    front: &mut LinePrefix,
+    name: &[u8],
+    version: &[u8],
+    out: &mut Out<W>,
+) -> Result<(), OutFault>
+    requires { length front.old.key.now ≤ 16 }
+    ensures puts { let front = front_of front.old in OutPuts out.old out.new result
+        (line_requested front.format front.key front.text name.now version.now) }
+{
+    let next = SecondName {
+        between: before_request(front.format),
+        name: version,
+        tail: after_request(front.format),
+    };
+    let shown = show_joined(front, name, false, &next, out);
+    let SecondName {
+        between: _,
+        name: _,
+        tail: _,
+    } = next;
+    shown
+}
+
+/// Returns what is between a name and the version that is asked for.
+#[tactic(auto, unfolding(crate::specs::Requests::before_request))]
+fn before_request(format: Format) -> &'static [u8]
+    ensures text { result.now ≡ before_request format }
+    ensures short { length result.now ≤ 16 }
+{
+    match format {
+        Format::Columns => b"@",
+        Format::Object => b",\"version\":\"",
+    }
+}
+
+/// Returns what is after a version that is asked for, with the line's end.
+#[tactic(auto, unfolding(crate::specs::Requests::after_request))]
+fn after_request(format: Format) -> &'static [u8]
+    ensures text { result.now ≡ after_request format }
+    ensures short { length result.now ≤ 16 }
+{
+    match format {
+        Format::Columns => b"\n",
+        Format::Object => b"\"}\n",
+    }
 }

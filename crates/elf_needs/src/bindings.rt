@@ -1,8 +1,9 @@
 //! From where the symbols come that the objects of a program ask others for.
 ghost use Rattle.std.specs.Prelude.{◌≡◌, ◌<◌, ℕ, [], List, Ok, get_or, length};
 ghost use Rattle.elf_needs.specs.Binds.{AreObjectFiles};
-ghost use Rattle.elf_model.specs.Prelude.{LookupTables as IsScopeOf, before_items, bound_item, bound_items, lookup_tables_of, object_items};
-ghost use Rattle.elf_needs.specs.Bound.{AsksAll, IsLimited, ReturnsFault, WritesSymbol, WritesBindings, WritesLines, bound_among, bound_of, status_after};
+ghost use Rattle.elf_model.specs.BoundSymbols.{before_items, bound_item, bound_items, object_items};
+ghost use Rattle.elf_model.specs.LoaderScope.{LookupTables as IsScopeOf, lookup_tables_of};
+ghost use Rattle.elf_needs.specs.Bound.{AsksAll, IsBudgetShort, ReturnsFault, WritesBindings, WritesLines, WritesSymbol, bound_among, bound_of, status_after};
 
 use crate::binding_rows::show_binding;
 use crate::binding_states::is_unbound;
@@ -35,7 +36,8 @@ impl<W: Sink> DependencyWalk<'_, '_, W> {
             AreObjectFiles headers opened.old.objects.items files →
             WritesBindings self.old.format
             (bound_items (bound_of headers files opened.old.indexes.items self.old.objects))
-            (IsLimited self.old.search.account.left) self.old.out self.new.out
+            (IsBudgetShort opened.new.objects.items self.new.search.account.left)
+            self.old.out self.new.out
             self.old.status result }
     {
         let among = SearchScope {
@@ -74,7 +76,7 @@ fn bind_all<S: Source, W: Sink>(
     ensures known { (headers : ℕ) (files : List (List ℕ)) →
         AreObjectFiles headers objects.old files →
         WritesLines among.now.format (bound_items (bound_among headers files among.now))
-        (IsLimited left.old) out.old out.new result }
+        (IsBudgetShort objects.new left.new) out.old out.new result }
 {
     let mut names = ReferenceNames::new();
     let mut fails = false;
@@ -105,7 +107,7 @@ fn bind_object<S: Source, W: Sink>(
     ensures known { (headers : ℕ) (files : List (List ℕ)) →
         AreObjectFiles headers objects.old files →
         WritesLines among.now.format (object_items (bound_among headers files among.now) place
-        (get_or files place [])) (IsLimited left.old) out.old out.new result }
+        (get_or files place [])) (IsBudgetShort objects.new left.new) out.old out.new result }
 {
     let count = match objects[place].symbol_count(left) {
         Ok(count) => count,
@@ -143,7 +145,7 @@ fn bind_symbol<S: Source, W: Sink>(
         lookup_tables_of (get_or files at.place []) headers ≡ Ok told →
         at.symbol < told.table.symbols →
         WritesSymbol among.now.format (bound_item (bound_among headers files among.now) at.place
-        (get_or files at.place []) told.symbols at.symbol) (IsLimited left.old) out.old out.new
+        (get_or files at.place []) told.symbols at.symbol) (IsBudgetShort objects.new left.new) out.old out.new
         result }
 {
     let state = match item_of(objects, among, at, names, left) {
@@ -152,7 +154,8 @@ fn bind_symbol<S: Source, W: Sink>(
         Err(fault) => return tell(fault, among.format, out),
     };
     let object = index_at(among.indexes, at.place);
-    match show_binding(object, at.symbol, state, &names.shown, among.format, out) {
+    let wanted = names.wanted();
+    match show_binding(object, at.symbol, state, &wanted, among.format, out) {
         Ok(()) => Ok(WriteEnd::Whole {
             fails: is_unbound(state),
         }),

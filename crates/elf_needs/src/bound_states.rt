@@ -2,15 +2,17 @@
 ghost use Rattle.std.specs.Prelude.{◌≡◌, ◌<◌, ◌≤◌, ℕ, [], List, Option, None, Some, Ok, IfErr, get_or, length};
 ghost use Rattle.elf_needs.specs.Binds.{AreObjectFiles};
 ghost use Rattle.elf_needs.specs.Sought.{ReturnsAs, asked_if};
-ghost use Rattle.elf_model.specs.Prelude.{LookupTables as IsScopeOf, asked_name, bound_item, lookup_tables_of, missing_version_requested, object_lacks, state_in};
-ghost use Rattle.elf_needs.specs.Bound.{AsksAll, OfSought, OnlyLimited, ReturnsItem, bound_among};
+ghost use Rattle.elf_model.specs.BoundSymbols.{bound_item, missing_version_requested, object_lacks, state_in};
+ghost use Rattle.elf_model.specs.Loader.{asked_name};
+ghost use Rattle.elf_model.specs.LoaderScope.{LookupTables as IsScopeOf, lookup_tables_of};
+ghost use Rattle.elf_needs.specs.Bound.{AsksAll, OfSought, OnlyShort, ReturnsItem, bound_among};
 
 use crate::bind_name::{BindFault, BindResult, bind};
 use crate::binding_states::unbound_state;
 use crate::faults::is_reported_alone;
 use crate::object::LookupObject;
 use crate::reference::SymbolReference;
-use crate::reference_names::{ReferenceNames, show_name};
+use crate::reference_names::ReferenceNames;
 use crate::search_scope::{SearchScope, index_at, place_of};
 use elf_model::BindingState;
 use elf_source::Source;
@@ -23,7 +25,7 @@ pub(crate) struct DefinitionAt {
     pub symbol: u64,
 }
 
-/// What binds a symbol, and the name that it asks for with its version, into `names.shown`; None where it
+/// Finds what binds a symbol, and reads the name and the version that it asks for into `names`; None if it
 /// asks for nothing.
 ///
 /// # Errors
@@ -37,26 +39,22 @@ pub(crate) fn item_of<S: Source>(
 ) -> Result<Option<BindingState>, Fault>
     requires { at.place < length objects.old }
     ensures asks { AsksAll objects.old objects.new left.old left.new }
-    ensures limited { IfErr result (OnlyLimited left.old) }
+    ensures short { IfErr result (OnlyShort objects.new left.new) }
     ensures known { (headers : ℕ) (files : List (List ℕ)) (told : IsScopeOf) →
         AreObjectFiles headers objects.old files →
         lookup_tables_of (get_or files at.place []) headers ≡ Ok told →
         at.symbol < told.table.symbols →
         ReturnsItem (bound_item (bound_among headers files among.now) at.place
         (get_or files at.place []) told.symbols at.symbol)
-        (get_or among.now.indexes.now at.place 0) at.symbol names.new.shown.items result }
+        (get_or among.now.indexes.now at.place 0) at.symbol names.new.name
+        (asked_name (asked_if names.new.versioned names.new.version)) result }
 {
     let one = &mut objects[at.place];
     let sought = one.sought(left, at.symbol, &mut names.name, &mut names.version)?;
     let Some(sought) = sought else {
         return Ok(None);
     };
-    show_name(
-        &names.name,
-        &names.version,
-        sought.versioned,
-        &mut names.shown,
-    );
+    names.versioned = sought.versioned;
     let state = state_of(objects, among, at, &sought, names, left)?;
     Ok(Some(state))
 }
@@ -73,10 +71,13 @@ fn state_of<S: Source>(
     names: &mut ReferenceNames,
     left: &mut Option<u64>,
 ) -> Result<BindingState, Fault>
-    requires { at.place < length objects.old }
+    requires place { at.place < length objects.old }
+    requires versioned { names.old.versioned ≡ sought.now.versioned }
     ensures asks { AsksAll objects.old objects.new left.old left.new }
-    ensures limited { IfErr result (OnlyLimited left.old) }
-    ensures shown { names.new.shown ≡ names.old.shown }
+    ensures short { IfErr result (OnlyShort objects.new left.new) }
+    ensures name { names.new.name ≡ names.old.name }
+    ensures version { names.new.version ≡ names.old.version }
+    ensures versioned { names.new.versioned ≡ names.old.versioned }
     ensures known { OfSought objects.old at.place at.symbol sought.now (λ headers files told.
         ReturnsAs (state_in (bound_among headers files among.now) (get_or files at.place [])
         told.symbols at.symbol (record {
@@ -84,7 +85,7 @@ fn state_of<S: Source>(
           asked = asked_if sought.now.versioned names.old.version;
         })) result) }
 {
-    let wanted = names.wanted(sought.versioned);
+    let wanted = names.wanted();
     match bind(objects, left, &wanted) {
         Ok(BindResult::Bound { object, symbol }) => Ok(BindingState::Bound {
             object: index_at(among.indexes, object),
@@ -120,8 +121,10 @@ fn lacks_version<S: Source>(
 ) -> Result<bool, Fault>
     requires { at.place < length objects.old }
     ensures asks { AsksAll objects.old objects.new left.old left.new }
-    ensures limited { IfErr result (OnlyLimited left.old) }
-    ensures shown { names.new.shown ≡ names.old.shown }
+    ensures short { IfErr result (OnlyShort objects.new left.new) }
+    ensures name { names.new.name ≡ names.old.name }
+    ensures version { names.new.version ≡ names.old.version }
+    ensures versioned { names.new.versioned ≡ names.old.versioned }
     ensures known { OfSought objects.old at.place at.symbol sought.now (λ headers files told.
         ReturnsAs (missing_version_requested (bound_among headers files among.now)
         (get_or files at.place [])
@@ -161,7 +164,7 @@ fn lacks_in<S: Source>(
 ) -> Result<bool, Fault>
     requires { length version.now ≤ 4096 }
     ensures asks { AsksAll objects.old objects.new left.old left.new }
-    ensures limited { IfErr result (OnlyLimited left.old) }
+    ensures short { IfErr result (OnlyShort objects.new left.new) }
     ensures known { (headers : ℕ) (files : List (List ℕ)) →
         AreObjectFiles headers objects.old files →
         ReturnsAs (Ok (object_lacks (bound_among headers files among.now) name.now version.now))

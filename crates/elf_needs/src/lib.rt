@@ -72,7 +72,7 @@ pub use open_objects::OpenObjects;
 pub use page::PAGE_BYTES;
 pub use paths::{CandidatePath, dir_of_path, named_path};
 pub use reference::SymbolReference;
-pub use reference_names::{ReferenceNames, show_name};
+pub use reference_names::ReferenceNames;
 pub use search_dirs::SearchDirs;
 pub use states::ObjectState;
 pub use texts::StringArena;

@@ -7,7 +7,7 @@ ghost use Rattle.elf_needs.specs.ObjectLines.{file_state, object_front, object_l
 use crate::states::ObjectState;
 use elf_format::{
     Columns, Json, LineBuf, LinePrefix, Render, begin, begin_named, put_closing, put_decimal,
-    put_fault, put_hexadecimal, put_name_or_decimal, put_text, show_named,
+    put_fault, put_hex_field, put_name_or_decimal, put_text, show_named,
 };
 use elf_model::{FileStatus, Format};
 use elf_source::{Out, OutFault, Sink};
@@ -104,7 +104,7 @@ fn too_many_row<R: Render>(place: u64) -> LineBuf
 {
     let mut line = LineBuf::new();
     begin::<R>(&mut line, b"!");
-    put_hexadecimal::<R>(&mut line, b"place", 16, place, b' ');
+    put_hex_field::<R>(&mut line, b"place", 16, place, b' ');
     put_text::<R>(&mut line, b"cause", 0, b"too-many-objects", b'\n');
     put_closing::<R>(&mut line);
     line

@@ -45,9 +45,9 @@ const NO_VERSION: VersionReference = VersionReference {
     file: None,
 };
 
-/// What the symbol of an index asks others for: its name, into `name`, and where it asks for a version
-/// that, into `version`. None where it asks for nothing: it is defined, or local, or has no name. After
-/// a fault they hold any bytes.
+/// Reads what the symbol of an index asks others for: its name, into `name`, and if it asks for a version
+/// that, into `version`. None if it asks for nothing: it is defined, or local, or has no name, or an empty
+/// one. After None or a fault they hold any bytes.
 ///
 /// # Errors
 /// At the symbol: those of its name, as [`Names::read`] has them, and `TooLong` where that has more than
@@ -78,6 +78,9 @@ pub(crate) fn reference_symbol<S: Source>(
     }
     let place = symbols.table.place(index);
     whole_name(src, symbols.names, u64::from(symbol.st_name), place, name)?;
+    if name.bytes().is_empty() {
+        return Ok(None);
+    }
     let asked = reference_version(src, symbols, index, version)?;
     Ok(Some(SymbolReference {
         weak: is_weak(&symbol),

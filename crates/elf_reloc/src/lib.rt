@@ -22,7 +22,9 @@ mod walk;
 mod windows;
 
 pub use apply_section::{Applied, apply, apply_with};
+pub use elf_layout::{Item, Layout, LayoutFault};
 pub use elf_model::{Formula, RelocationBase, RelocationType, ValueRange};
+pub use elf_table::RunFault as ApplyFault;
 pub use explanation::explain;
 pub use patch::Patch;
 pub use relocation_types::{relocation_type, takes_place};

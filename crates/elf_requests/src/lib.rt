@@ -28,6 +28,8 @@ pub use checks::{
     ApplyWithLayout, ArchiveRequest, CheckRequest, FilteredRequest, ListRequest, NameArgs,
     NeedsRequest, ParsedCommand, PathArgs, TraitsRequest,
 };
+pub use elf_cli::{RequestFault, outcome};
+pub use elf_table::RunFault;
 pub use names::{checked_name, checked_symbol};
 pub use requests::{LookupName, LookupSymbol, Request, Task};
 pub use run_request::run;

@@ -31,7 +31,7 @@ pub use offset_reader::FileReader;
 pub use opened::opened_path;
 pub use output::{Out, give};
 pub use range_source::RangeSource;
-pub use reader::Reader;
+pub use reader::ReadAt;
 pub use seek_reader::SeekReader;
 pub use sink::Sink;
 pub use slice_sink::SliceSink;

@@ -3,7 +3,7 @@ ghost use Rattle.std.specs.Prelude.{◌≡◌, ◌≤◌, pos, length, IfOk};
 ghost use Rattle.std.specs.Io.Seek.{SeekMoves};
 
 use crate::faults::ReadAtFault;
-use crate::reader::Reader;
+use crate::reader::ReadAt;
 use crate::seek_reader::why;
 use std::io::{Seek, SeekFrom};
 use std::os::unix::fs::FileExt;
@@ -24,7 +24,7 @@ impl<F> FileReader<F> {
     }
 }
 
-impl<F: FileExt + Seek> Reader for FileReader<F> {
+impl<F: FileExt + Seek> ReadAt for FileReader<F> {
     ghost use Rattle.std.specs.Prelude.{None};
 
     ghost file = { λ _. None };

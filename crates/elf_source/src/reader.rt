@@ -9,7 +9,7 @@ use crate::faults::ReadAtFault;
 ///
 /// A reader in memory knows its file, and then each turn gives the bytes of that file. One of the
 /// system knows none.
-pub trait Reader {
+pub trait ReadAt {
     /// The file that it gives, where it is known.
     ghost file: { Self → Option (List ℕ) };
 

@@ -5,7 +5,7 @@ ghost use Rattle.std.specs.Io.Seek.{MovesTo, SeekMoves};
 ghost use Rattle.elf_source.specs.Reader.{StandsAfter, SeeksAndReads};
 
 use crate::faults::ReadAtFault;
-use crate::reader::Reader;
+use crate::reader::ReadAt;
 use std::io::{Error, ErrorKind, Read, Seek, SeekFrom};
 
 /// A reader over anything that reads and seeks. It keeps the place where that stands, and seeks only
@@ -48,7 +48,7 @@ impl<R: Seek> SeekReader<R> {
     }
 }
 
-impl<R: Read + Seek> Reader for SeekReader<R> {
+impl<R: Read + Seek> ReadAt for SeekReader<R> {
     ghost file = { λ _. None };
 
     /// Nothing is known of which turns of what is below are interrupted.

@@ -4,7 +4,7 @@ ghost use Rattle.elf_source.specs.Reader.{TurnsWithin};
 ghost use Rattle.elf_source.specs.Source.{KeepsSource, IsSourceFault};
 
 use crate::faults::{INTERRUPTED_TURNS, ReadAtFault, SourceFault};
-use crate::reader::Reader;
+use crate::reader::ReadAt;
 use crate::seek_reader::SeekReader;
 use crate::source::Source;
 use std::io::{Read, Seek};
@@ -13,7 +13,7 @@ use std::marker::Model;
 /// A source over a reader. Its file is the reader's: it is honest where its reader's file is known and
 /// its count of failures has not come to 2^64 - 1. Of a reader of the system no file is known.
 #[derive(Drop)]
-pub struct StreamSource<R: Reader> {
+pub struct StreamSource<R: ReadAt> {
     reader: R,
     size: u64,
     failures: u64,
@@ -21,7 +21,7 @@ pub struct StreamSource<R: Reader> {
     ghost sized: { (bytes : List ℕ) → R.file reader ≡ Some bytes → length bytes ≡ size },
 }
 
-impl<R: Reader> Model for StreamSource<R> {
+impl<R: ReadAt> Model for StreamSource<R> {
     ghost use Rattle.std.specs.Prelude.{None};
     ghost use Rattle.elf_source.specs.Source.{SourceState};
     ghost use Rattle.elf_source.specs.Reader.{Stream};
@@ -54,7 +54,7 @@ impl<R: Read + Seek + Drop> StreamSource<SeekReader<R>> {
     }
 }
 
-impl<R: Reader + Drop> StreamSource<R> {
+impl<R: ReadAt + Drop> StreamSource<R> {
     /// Finds the length of a reader, once.
     ///
     /// # Errors
@@ -75,7 +75,7 @@ impl<R: Reader + Drop> StreamSource<R> {
     }
 }
 
-impl<R: Reader> Source for StreamSource<R> {
+impl<R: ReadAt> Source for StreamSource<R> {
     ghost seen = { λ s. s.seen };
 
     /// A read adds at most one to the failures.
@@ -117,7 +117,7 @@ impl<R: Reader> Source for StreamSource<R> {
 }
 
 // The length of a reader.
-fn find_end<R: Reader>(reader: &mut R) -> Result<u64, SourceFault>
+fn find_end<R: ReadAt>(reader: &mut R) -> Result<u64, SourceFault>
     ensures same { R.file reader.new ≡ R.file reader.old }
     ensures few { R.interrupted reader.new ≤ R.interrupted reader.old + 64 }
     ensures value { (bytes : List ℕ) → R.file reader.old ≡ Some bytes → IfOk result
@@ -135,7 +135,7 @@ fn find_end<R: Reader>(reader: &mut R) -> Result<u64, SourceFault>
 }
 
 // Fills `out` from the offset `at` on. Each turn gets a byte, ends, or is interrupted.
-fn read_all<R: Reader>(reader: &mut R, at: u64, out: &mut [u8]) -> Result<(), SourceFault>
+fn read_all<R: ReadAt>(reader: &mut R, at: u64, out: &mut [u8]) -> Result<(), SourceFault>
     requires { at + length out.old < 2 ^ 64 }
     ensures turns { TurnsWithin R.one_turn reader.old reader.new at (length out.old) }
     ensures same { R.file reader.new ≡ R.file reader.old }

@@ -17,6 +17,7 @@ mod hash_sections;
 mod header_buffer;
 mod header_buffer_memory;
 mod loaded;
+mod loaded_tables;
 mod located_read;
 mod name_buf;
 mod name_search;

@@ -12,7 +12,7 @@ ghost use Rattle.elf_table.specs.Versions.{CountsVersions, LinksToSymbols, Versi
 ghost use Rattle.elf_table.specs.Store.{row};
 ghost use Rattle.elf_table.specs.Tables.{TableInBounds, Spans, StringsInBounds, SymbolTableInBounds, size_of};
 
-use crate::checks::{checked_bytes, checked_strings, checked_table, holds_symbols};
+use crate::checks::{checked_strings, checked_table, holds_symbols};
 use crate::fault::{Fault, refused};
 use crate::file::SectionView;
 use crate::names::Names;
@@ -20,8 +20,7 @@ use crate::ranges::is_out_of_bounds;
 use crate::table::Table;
 use elf_record::gnu_numbers::SHT_GNU_VERSYM;
 use elf_record::sizes::{
-    PROGRAM_HEADER_BYTES, RELOCATION_BYTES, SECTION_HEADER_BYTES, SYMBOL_BYTES,
-    SYMBOL_VERSION_BYTES,
+    RELOCATION_BYTES, SECTION_HEADER_BYTES, SYMBOL_BYTES, SYMBOL_VERSION_BYTES,
 };
 use elf_record::{Cause, Shdr};
 
@@ -51,11 +50,7 @@ impl SectionView<'_> {
         ensures few { result.count ≤ 65279 }
         ensures within { TableInBounds self.now.loaded.size result }
     {
-        Table::new(
-            self.loaded.header().e_phoff,
-            u64::from(self.loaded.header().e_phnum),
-            PROGRAM_HEADER_BYTES,
-        )
+        self.loaded.segments()
     }
 
     /// `size` bytes of the file from `offset` on, as rows of one byte; none are not checked. A
@@ -67,7 +62,7 @@ impl SectionView<'_> {
         ensures value { result ≡ byte_rows self.now.loaded.size offset size at }
         ensures within { IfOk result (TableInBounds self.now.loaded.size) }
     {
-        checked_bytes(offset, size, self.loaded.size(), at)
+        self.loaded.bytes(offset, size, at)
     }
 
     /// The section as a table of rows of `entry` bytes, 1 to 4,096. One of size 0 is not checked. No

@@ -2,7 +2,7 @@
 ghost use Rattle.std.specs.Prelude.{◌≡◌, IfErr};
 ghost use Rattle.elf_source.specs.Reader.{IsTurn};
 
-use elf_source::{ReadAtFault, Reader};
+use elf_source::{ReadAt, ReadAtFault};
 
 /// A reader of bytes in memory that tells its file. It gives at most seven bytes at a turn, and each
 /// third turn is interrupted.
@@ -41,7 +41,7 @@ impl<'a> ChunkedReader<'a> {
     }
 }
 
-impl<'a> Reader for ChunkedReader<'a> {
+impl<'a> ReadAt for ChunkedReader<'a> {
     ghost use Rattle.std.specs.Prelude.{Some};
 
     ghost file = { λ r. Some r.bytes.now };

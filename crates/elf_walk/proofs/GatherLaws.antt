@@ -6,9 +6,9 @@ use Rattle.std.proofs.lemmas.List.{take_all, drop_all, drop-drop}
 use Rattle.std.specs.Io.KnownBytes.{Consumes, IsAtEnd, Keeps}
 use Rattle.std.specs.List.{flat_map}
 use Rattle.elf_walk.specs.Prelude.{AreNamesOf, GathersNames, IsNameable, KeepsFirstNames, KeptNames, PutsNames, is_dot_entry, last_entry, list_entries, rest_from, saturated, unnamed_count, whole_entries}
+use Rattle.elf_walk.specs.declared.batch.Insertion.{Insertion}
+use Rattle.elf_walk.specs.declared.batch.Insertion.TheVariants.{Placed, Unnamed}
 use Rattle.std.specs.Prelude.{Option, None, Some, IfSome}
-use Rattle.elf_walk.specs.declared.batch.Put.TheVariants.{Placed, Unnamed}
-use Rattle.elf_walk.specs.declared.batch.Put.{Put}
 use Rattle.elf_walk.proofs.EntryLaws.{all_left, first_ends, none_ends}
 
 -- entries, and then others
@@ -34,25 +34,25 @@ other_sorted : (entry : List ℕ) → is_dot_entry entry ≡ false → ¬ (IsNam
 other_sorted entry isnt is = inr (inr (0, isnt, is, refl, (refl, refl)))
 
 -- an entry that was put
-pub record PutOne (entry : List ℕ) (put : Put) (old new : KeptNames) : Type 0 where
+pub record PutOne (entry : List ℕ) (put : Insertion) (old new : KeptNames) : Type 0 where
   pub names : List (List ℕ)
   pub sorted : AreNamesOf (entry ∷ []) names (unnamed_count put)
   pub keeps : (before : List (List ℕ)) → KeepsFirstNames before old → KeepsFirstNames (before ++ names) new
 
-ok_same : {E : Type 0} (a b : Put) (result : Result Put E) → result ≡ Ok a → result ≡ Ok b → a ≡ b
+ok_same : {E : Type 0} (a b : Insertion) (result : Result Insertion E) → result ≡ Ok a → result ≡ Ok b → a ≡ b
 ok_same a b result p q = cc
 
 keeps_still : (old new : KeptNames) → new ≡ old → (before : List (List ℕ)) → KeepsFirstNames before old → KeepsFirstNames (before ++ []) new
 keeps_still old new same before h = subst (λ names. KeepsFirstNames names new) (sym (append-nil before)) (subst (KeepsFirstNames before) (sym same) h)
 
-put_dots : (entry : List ℕ) (put : Put) (old new : KeptNames) → is_dot_entry entry ≡ true → put ≡ Placed → new ≡ old → PutOne entry put old new
+put_dots : (entry : List ℕ) (put : Insertion) (old new : KeptNames) → is_dot_entry entry ≡ true → put ≡ Placed → new ≡ old → PutOne entry put old new
 put_dots entry put old new dot is same = record {
   names = [];
   sorted = subst (λ p. AreNamesOf (entry ∷ []) [] (unnamed_count p)) (sym is) (dots_sorted entry dot);
   keeps = keeps_still old new same;
 }
 
-put_named : {E : Type 0} (entry : List ℕ) (put : Put) (old new : KeptNames) (result : Result Put E) → result ≡ Ok put → is_dot_entry entry ≡ false
+put_named : {E : Type 0} (entry : List ℕ) (put : Insertion) (old new : KeptNames) (result : Result Insertion E) → result ≡ Ok put → is_dot_entry entry ≡ false
     → (¬ (IsNameable entry) → (result ≡ Ok Unnamed) × (new ≡ old)) → (IsNameable entry → OnOk result (result ≡ Ok Placed)) → (result ≡ Ok Placed → IsNameable entry)
     → (IsNameable entry → OnOk result ((names : List (List ℕ)) → KeepsFirstNames names old → KeepsFirstNames (names ++ entry ∷ []) new)) → PutOne entry put old new
 put_named {E} entry Placed old new result is isnt unnamed placed named keeps =
@@ -60,15 +60,15 @@ put_named {E} entry Placed old new result is isnt unnamed placed named keeps =
     record {
       names = entry ∷ [];
       sorted = name_sorted entry isnt can;
-      keeps = (subst (λ (r : Result Put E). OnOk r ((names : List (List ℕ)) → KeepsFirstNames names old → KeepsFirstNames (names ++ entry ∷ []) new)) is (keeps can));
+      keeps = (subst (λ (r : Result Insertion E). OnOk r ((names : List (List ℕ)) → KeepsFirstNames names old → KeepsFirstNames (names ++ entry ∷ []) new)) is (keeps can));
     }
 put_named {E} entry Unnamed old new result is isnt unnamed placed named keeps =
     let cannot : ¬ (IsNameable entry) = λ can.
-    let e : result ≡ Ok Placed = subst (λ (r : Result Put E). OnOk r (result ≡ Ok Placed)) is (placed can) in
+    let e : result ≡ Ok Placed = subst (λ (r : Result Insertion E). OnOk r (result ≡ Ok Placed)) is (placed can) in
     let f : Unnamed ≡ Placed = ok_same Unnamed Placed result is e in cc in
     record { names = []; sorted = other_sorted entry isnt cannot; keeps = keeps_still old new (unnamed cannot).1 }
 
-pub put_one : {E : Type 0} (entry : List ℕ) (put : Put) (old new : KeptNames) (result : Result Put E) → result ≡ Ok put
+pub put_one : {E : Type 0} (entry : List ℕ) (put : Insertion) (old new : KeptNames) (result : Result Insertion E) → result ≡ Ok put
     → (is_dot_entry entry ≡ true → (result ≡ Ok Placed) × (new ≡ old))
     → (is_dot_entry entry ≡ false → ¬ (IsNameable entry) → (result ≡ Ok Unnamed) × (new ≡ old))
     → (is_dot_entry entry ≡ false → IsNameable entry → OnOk result (result ≡ Ok Placed))
@@ -148,7 +148,7 @@ put_more bytes at end next unnamed count names n old mid new so first is sorted 
     }
 
 -- one step over them
-pub put_step : (bytes : List ℕ) (at end next unnamed count : ℕ) (put : Put) (old mid new : KeptNames) → PutSoFar bytes at unnamed old mid → at < length bytes
+pub put_step : (bytes : List ℕ) (at end next unnamed count : ℕ) (put : Insertion) (old mid new : KeptNames) → PutSoFar bytes at unnamed old mid → at < length bytes
     → end ≤ length (take (length bytes - at) (drop at bytes))
     → (end < length (take (length bytes - at) (drop at bytes)) → get_or (take (length bytes - at) (drop at bytes)) end 0 ≡ 0)
     → ((k : ℕ) → k < end → get_or (take (length bytes - at) (drop at bytes)) k 0 ≢ 0)

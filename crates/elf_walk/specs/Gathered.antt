@@ -2,8 +2,8 @@
 use Rattle.std.specs.Prelude.{ℕ, suc, ◌≡◌, ◌-◌, ◌^◌, ◌⊎◌, true, false, List, [], ◌∷◌, ◌++◌, min, Option, IfSome}
 use Rattle.std.specs.List.{flat_map}
 use Rattle.elf_walk.specs.Entries.{list_entries}
-use Rattle.elf_walk.specs.declared.batch.Put.{Put}
-use Rattle.elf_walk.specs.declared.batch.Put.TheVariants.{Placed, Unnamed}
+use Rattle.elf_walk.specs.declared.batch.Insertion.{Insertion}
+use Rattle.elf_walk.specs.declared.batch.Insertion.TheVariants.{Placed, Unnamed}
 use Rattle.elf_walk.specs.Kept.{IsNameable, KeptNames, KeepsFirstNames, is_dot_entry}
 
 -- the names of a folder among its entries, in the order in which they came, and how many entries are none that can be named;
@@ -20,7 +20,7 @@ abbrev pub saturated : ℕ → ℕ
 saturated n = min n (2 ^ 64 - 1)
 
 -- how many that is of one entry
-abbrev pub unnamed_count : Put → ℕ
+abbrev pub unnamed_count : Insertion → ℕ
 unnamed_count Placed = 0
 unnamed_count Unnamed = 1
 

@@ -46,7 +46,7 @@ impl Model for NameBatch {
 
 /// What becomes of a name that is put.
 #[derive(Clone, Copy)]
-pub enum Put {
+pub enum Insertion {
     /// It has its place in this pass or another, or had it before, or it is `.` or `..`.
     Placed,
     /// It is not UTF-8, or longer than 255 bytes.
@@ -94,14 +94,14 @@ impl NameBatch {
     ///
     /// # Errors
     /// Where memory is refused.
-    pub fn put(&mut self, name: &[u8]) -> Result<Put, AllocError>
+    pub fn put(&mut self, name: &[u8]) -> Result<Insertion, AllocError>
         ensures dots { is_dot_entry name.now ≡ true →
-            (result ≡ Ok Put.Placed) × (self.new ≡ self.old) }
+            (result ≡ Ok Insertion.Placed) × (self.new ≡ self.old) }
         ensures unnamed { is_dot_entry name.now ≡ false → ¬ (IsNameable name.now) →
-            (result ≡ Ok Put.Unnamed) × (self.new ≡ self.old) }
+            (result ≡ Ok Insertion.Unnamed) × (self.new ≡ self.old) }
         ensures placed { is_dot_entry name.now ≡ false → IsNameable name.now →
-            OnOk result (result ≡ Ok Put.Placed) }
-        ensures named { result ≡ Ok Put.Placed → is_dot_entry name.now ≡ false →
+            OnOk result (result ≡ Ok Insertion.Placed) }
+        ensures named { result ≡ Ok Insertion.Placed → is_dot_entry name.now ≡ false →
             IsNameable name.now }
         ensures keeps { is_dot_entry name.now ≡ false → IsNameable name.now →
             OnOk result ((names : List (List ℕ)) → KeepsFirstNames names self.old →
@@ -110,13 +110,13 @@ impl NameBatch {
         ensures after { self.new.after ≡ self.old.after }
     {
         if is_dot_entry(name) {
-            return Ok(Put::Placed);
+            return Ok(Insertion::Placed);
         }
         if !is_nameable(name) {
-            return Ok(Put::Unnamed);
+            return Ok(Insertion::Unnamed);
         }
         self.hold(name)?;
-        Ok(Put::Placed)
+        Ok(Insertion::Placed)
     }
 
     /// Puts a name among those that are kept, if it has its place there.

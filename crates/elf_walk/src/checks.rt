@@ -63,7 +63,7 @@ impl<'a> FileVisitor for CheckFiles<'a> {
 
     ghost tells = { λ rule path. ReturnsState rule.members rule.caps rule.parts.0 path };
 
-    fn tell<S: Source, W: Sink>(
+    fn visit<S: Source, W: Sink>(
         &mut self,
         src: &mut Counted<RangeSource<S>>,
         path: &[u8],

@@ -3,7 +3,7 @@ ghost use Rattle.std.specs.Prelude.{◌≡◌, IfOk, List, ℕ, []};
 ghost use Rattle.elf_walk.specs.Gathered.{GathersDir, GathersNames, PutsNames, unnamed_count};
 ghost use Rattle.elf_walk.specs.Kept.{KeepsFirstNames};
 
-use crate::batch::{NameBatch, Put};
+use crate::batch::{Insertion, NameBatch};
 use crate::dir_entries::ends_at;
 use crate::open_failure::unopened;
 use elf_model::FileStatus;
@@ -101,11 +101,11 @@ fn put_all(names: &[u8], batch: &mut NameBatch) -> Result<u64, AllocError>
 }
 
 /// How many names can't be named, of one that was put.
-fn unnamed_of(put: Put) -> u64
+fn unnamed_of(put: Insertion) -> u64
     ensures { result ≡ unnamed_count put }
 {
     match put {
-        Put::Placed => 0,
-        Put::Unnamed => 1,
+        Insertion::Placed => 0,
+        Insertion::Unnamed => 1,
     }
 }

@@ -24,7 +24,7 @@ pub trait FileVisitor {
     ///
     /// # Errors
     /// A fault of the output, with a front of what there is to tell written.
-    fn tell<S: Source, W: Sink>(
+    fn visit<S: Source, W: Sink>(
         &mut self,
         src: &mut Counted<RangeSource<S>>,
         path: &[u8],

@@ -51,7 +51,7 @@ impl<'a> FileVisitor for ListFiles<'a> {
 
     ghost tells = { ReturnsListing };
 
-    fn tell<S: Source, W: Sink>(
+    fn visit<S: Source, W: Sink>(
         &mut self,
         src: &mut Counted<RangeSource<S>>,
         path: &[u8],

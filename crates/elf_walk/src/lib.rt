@@ -38,7 +38,7 @@ mod statuses;
 mod trait_lines;
 mod walk;
 
-pub use batch::{DirEntryName, NameBatch, Put};
+pub use batch::{DirEntryName, Insertion, NameBatch};
 pub use check_file::{check, check_elf};
 pub use checks::{CheckFiles, CheckOptions};
 pub use dir_entries::{ends_at, entry_end};
@@ -62,7 +62,7 @@ pub use required::lacking;
 pub use short::{UNDECIDED, refused_state, short_file_status, short_state};
 pub use sorted::check_sorted;
 pub use sorts::list_by_type;
-pub use stack::{STACK_BYTES, Stack, count_fitting};
+pub use stack::{NameStack, STACK_BYTES, count_fitting};
 pub use statuses::status;
 pub use trait_lines::{TraitOptions, TraitReport};
 pub use walk::{DEPTH, DirWalk};

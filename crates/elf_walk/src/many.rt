@@ -74,7 +74,7 @@ impl<W: Sink, E: Write + Drop, A: FileVisitor + Drop> FileRun<W, E, A> {
         ensures { ReturnsSource (A.tells self.old.rule path.now src.old src.new)
             result self.old self.new }
     {
-        let found = self.each.tell(src, path, &mut self.out)?;
+        let found = self.each.visit(src, path, &mut self.out)?;
         self.count_file(found);
         Ok(())
     }

@@ -13,11 +13,11 @@ pub const STACK_BYTES: usize = 2_097_152;
 /// Names that wait, in memory that is taken once: each with its length behind it, so that the last one is
 /// found.
 #[derive(Drop)]
-pub struct Stack {
+pub struct NameStack {
     bytes: Vec<u8>,
 }
 
-impl Model for Stack {
+impl Model for NameStack {
     ghost use Rattle.std.specs.Prelude.{ℕ, List};
 
     ghost Value = { List ℕ };
@@ -25,15 +25,15 @@ impl Model for Stack {
     ghost view = { λ s. s.bytes.items };
 }
 
-impl Stack {
+impl NameStack {
     /// No name. The memory is taken from `alloc` here.
     ///
     /// # Errors
     /// Where memory is refused.
-    pub fn new(alloc: Global) -> Result<Stack, AllocError>
+    pub fn new(alloc: Global) -> Result<NameStack, AllocError>
         ensures { IfOk result (λ stack. stack ≡ []) }
     {
-        Ok(Stack {
+        Ok(NameStack {
             bytes: Vec::with_capacity(alloc, STACK_BYTES)?,
         })
     }

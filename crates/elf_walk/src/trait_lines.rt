@@ -63,7 +63,7 @@ impl<'a> FileVisitor for TraitReport<'a> {
 
     ghost tells = { ReturnsTraits };
 
-    fn tell<S: Source, W: Sink>(
+    fn visit<S: Source, W: Sink>(
         &mut self,
         src: &mut Counted<RangeSource<S>>,
         path: &[u8],

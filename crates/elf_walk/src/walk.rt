@@ -6,7 +6,7 @@ use crate::many::FileRun;
 use crate::open_failure::unopened;
 use crate::open_file::visit_file;
 use crate::path::{PathText, join};
-use crate::stack::{STACK_BYTES, Stack, count_fitting};
+use crate::stack::{NameStack, STACK_BYTES, count_fitting};
 use elf_model::FileStatus;
 use elf_source::{OutFault, Sink};
 use std::alloc::{AllocError, Global};
@@ -30,7 +30,7 @@ const LEVEL_BYTES: usize = 4_096;
 pub struct DirWalk {
     batch: NameBatch,
     /// The names that wait, those of the innermost folder last.
-    stack: Stack,
+    stack: NameStack,
     levels: Vec<DirLevel>,
     depth: usize,
     path: PathText,
@@ -94,7 +94,7 @@ impl DirWalk {
         let room = vec![in alloc; 0u8; ROOM_BYTES]?;
         Ok(DirWalk {
             batch: NameBatch::new(alloc)?,
-            stack: Stack::new(alloc)?,
+            stack: NameStack::new(alloc)?,
             levels,
             depth: 0,
             path: PathText::new(),
@@ -239,7 +239,7 @@ impl DirWalk {
 fn keep(
     level: &mut DirLevel,
     batch: &NameBatch,
-    stack: &mut Stack,
+    stack: &mut NameStack,
     at: usize,
     gathered: Result<u64, FileStatus>,
 ) -> Result<u64, FileStatus> {
@@ -272,7 +272,7 @@ fn share(taken: usize, at: usize) -> usize {
 fn next_name(
     levels: &[DirLevel],
     innermost: usize,
-    stack: &mut Stack,
+    stack: &mut NameStack,
     path: &mut PathText,
 ) -> NextEntry {
     let Some(level) = levels.get(innermost) else {

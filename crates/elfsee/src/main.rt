@@ -18,7 +18,7 @@ ghost use Rattle.elfsee.specs.Ends.{EndsRunOver, EndsWithoutFile, EndsWithoutMem
 use archives::list_archive;
 use elf_cli::{
     ExitLine, OUT_OF_MEMORY, OUTPUT_BYTES, end_answer, exit, open, read_words, report_refused,
-    tell_version,
+    report_version,
 };
 use elf_fixtures::sample;
 use elf_layout::Layout;
@@ -90,7 +90,7 @@ where
         ParsedCommand::Traits(traits) => report_traits(rt, traits, terminal),
         ParsedCommand::Needs(asked) => report_needs(rt, asked),
         ParsedCommand::Archive(archiving) => list_archive(rt, archiving),
-        ParsedCommand::Version => tell_version(rt),
+        ParsedCommand::Version => report_version(rt),
     }
 }
 

@@ -35,13 +35,13 @@ pub fn report_missing_reason<S: Source>(
 {
     if asks_why(request) {
         if let Ok(errors) = BufWriter::with_capacity(alloc, ERROR_LINE_BYTES, errors) {
-            tell_into(request, refusal, src, store, errors);
+            report_into(request, refusal, src, store, errors);
         }
     }
 }
 
 /// Tells what would help where a request to apply was refused, within the rest of the read budget.
-fn tell_into<S: Source>(
+fn report_into<S: Source>(
     request: &Request<'_>,
     refusal: Refusal,
     src: &mut Counted<S>,
@@ -53,7 +53,7 @@ fn tell_into<S: Source>(
         (explain_bytes store.old.slots) }
 {
     let mut out = Out::new(WriteSink::new(errors));
-    let _ = tell_rest(request, refusal, src, store, &mut out);
+    let _ = report_rest(request, refusal, src, store, &mut out);
     let _ = write_rest(out.into_inner().into_inner(), true);
 }
 
@@ -63,7 +63,7 @@ fn tell_into<S: Source>(
 /// # Errors
 /// A refusal of the file, or because the budget is used up; a fault of the source or of the output. A
 /// front of the line was written.
-fn tell_rest<S: Source, W: Sink>(
+fn report_rest<S: Source, W: Sink>(
     request: &Request<'_>,
     refusal: Refusal,
     src: &mut Counted<S>,
@@ -78,7 +78,7 @@ fn tell_rest<S: Source, W: Sink>(
         WroteUpTo out.old out.new result (explanation (lack_in file request.now.task refusal)) }
 {
     limit_rest(src, request.limits.budget);
-    let told = tell_lack(request, refusal, src, store, out);
+    let told = report_missing(request, refusal, src, store, out);
     src.limit(None);
     told
 }
@@ -113,7 +113,7 @@ fn asks_why(request: &Request<'_>) -> bool
 /// # Errors
 /// As [`write_missing`].
 #[tactic(auto, unfolding(crate::specs::Explaining::lack_in))]
-fn tell_lack<S: Source, W: Sink>(
+fn report_missing<S: Source, W: Sink>(
     request: &Request<'_>,
     refusal: Refusal,
     src: &mut Counted<S>,

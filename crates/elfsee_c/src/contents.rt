@@ -2,7 +2,7 @@
 ghost use Rattle.elf_memory.specs.SectionBytes.{ReadsSectionBytes};
 ghost use Rattle.elf_capi.specs.Ends.{ReturnsRead};
 
-use elf_capi::{CallEnd, tell};
+use elf_capi::{CallEnd, report_row};
 use elf_memory::{ByteRange, section_bytes};
 
 /// Tells where the bytes of a section lie in a file that lies in memory. No other section header is
@@ -21,5 +21,5 @@ pub extern "C" fn elfsee_section_bytes(
 ) -> u32
     ensures { ReturnsRead (ReadsSectionBytes file.now section) result range.old range.new end.new }
 {
-    tell(section_bytes(file, section), range, end)
+    report_row(section_bytes(file, section), range, end)
 }

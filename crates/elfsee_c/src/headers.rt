@@ -2,7 +2,7 @@
 ghost use Rattle.elf_memory.specs.Headers.{ReadsHeader, ReadsSection, ReadsSegment};
 ghost use Rattle.elf_capi.specs.Ends.{ReturnsRead};
 
-use elf_capi::{CallEnd, tell};
+use elf_capi::{CallEnd, report_row};
 use elf_memory::{Header, Section, Segment, read_header, read_section, read_segment};
 
 /// Reads the file header of a file that lies in memory (gABI 4, ELF Header).
@@ -12,7 +12,7 @@ use elf_memory::{Header, Section, Segment, read_header, read_section, read_segme
 pub extern "C" fn elfsee_header(file: &[u8], header: &mut Header, end: &mut CallEnd) -> u32
     ensures { ReturnsRead (ReadsHeader file.now) result header.old header.new end.new }
 {
-    tell(read_header(file), header, end)
+    report_row(read_header(file), header, end)
 }
 
 /// Reads the section header of an index from a file that lies in memory. No other section header is
@@ -30,7 +30,7 @@ pub extern "C" fn elfsee_section(
 ) -> u32
     ensures { ReturnsRead (ReadsSection file.now index) result section.old section.new end.new }
 {
-    tell(read_section(file, index), section, end)
+    report_row(read_section(file, index), section, end)
 }
 
 /// Reads the program header of an index, as [`elfsee_section`] does a section header (gABI 5, Program
@@ -44,5 +44,5 @@ pub extern "C" fn elfsee_segment(
 ) -> u32
     ensures { ReturnsRead (ReadsSegment file.now index) result segment.old segment.new end.new }
 {
-    tell(read_segment(file, index), segment, end)
+    report_row(read_segment(file, index), segment, end)
 }

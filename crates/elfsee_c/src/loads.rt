@@ -2,7 +2,7 @@
 ghost use Rattle.elf_memory.specs.MappedBytes.{ReadsMapped};
 ghost use Rattle.elf_capi.specs.Prelude.{ReadsSegmentDynamic, ReturnsRead};
 
-use elf_capi::{CallEnd, RowPosition, segment_dynamic, tell};
+use elf_capi::{CallEnd, RowPosition, report_row, segment_dynamic};
 use elf_memory::{ByteRange, find_mapped};
 
 /// Checks the dynamic entries of a segment, and sets `rows` before the first: as many as up to and
@@ -20,7 +20,7 @@ pub extern "C" fn elfsee_segment_dynamic(
 ) -> u32
     ensures { ReturnsRead (ReadsSegmentDynamic file.now segment) result rows.old rows.new end.new }
 {
-    tell(segment_dynamic(file, segment), rows, end)
+    report_row(segment_dynamic(file, segment), rows, end)
 }
 
 /// Finds where the `size` bytes from an address on lie in the file: by the first LOAD program header
@@ -39,5 +39,5 @@ pub extern "C" fn elfsee_mapped(
 ) -> u32
     ensures { ReturnsRead (ReadsMapped file.now address size) result range.old range.new end.new }
 {
-    tell(find_mapped(file, address, size), range, end)
+    report_row(find_mapped(file, address, size), range, end)
 }

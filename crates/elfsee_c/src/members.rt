@@ -3,7 +3,7 @@ ghost use Rattle.elf_archive.specs.MemberRows.{OpensMembers, StepsMember};
 ghost use Rattle.elf_capi.specs.Ends.{ReturnsRead};
 
 use elf_archive::{MemberPosition, MemberRow, next_member, open_members};
-use elf_capi::{CallEnd, tell};
+use elf_capi::{CallEnd, report_row};
 
 /// Checks that a file that lies in memory is an archive, and sets `members` before its first member.
 ///
@@ -17,7 +17,7 @@ pub extern "C" fn elfsee_members(
 ) -> u32
     ensures { ReturnsRead (OpensMembers file.now) result members.old members.new end.new }
 {
-    tell(open_members(file), members, end)
+    report_row(open_members(file), members, end)
 }
 
 /// Reads the header of the next member and steps over the member.
@@ -35,5 +35,5 @@ pub extern "C" fn elfsee_next_member(
     ensures { ReturnsRead (StepsMember file.now members.old members.new)
         result member.old member.new end.new }
 {
-    tell(next_member(file, members), member, end)
+    report_row(next_member(file, members), member, end)
 }

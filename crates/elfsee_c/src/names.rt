@@ -3,7 +3,7 @@ ghost use Rattle.std.specs.Prelude.{length};
 ghost use Rattle.elf_memory.specs.Names.{FindsName};
 ghost use Rattle.elf_capi.specs.Prelude.{OpensNames, ReturnsOpened, ReturnsRead};
 
-use elf_capi::{CallEnd, CallerLimits, limits_of, names_in, report_opened, tell};
+use elf_capi::{CallEnd, CallerLimits, limits_of, names_in, report_opened, report_row};
 use elf_memory::{ByteRange, find_name};
 
 /// Finds where the name at an offset in a string table lies, without its NUL. The string table is
@@ -22,7 +22,7 @@ pub extern "C" fn elfsee_name(
 ) -> u32
     ensures { ReturnsRead (FindsName file.now strings.now offset) result name.old name.new end.new }
 {
-    tell(find_name(file, *strings, offset), name, end)
+    report_row(find_name(file, *strings, offset), name, end)
 }
 
 /// Tells where the string table of the section names lies. So many headers are permitted as the limits

@@ -2,7 +2,7 @@
 ghost use Rattle.elf_memory.specs.NoteRows.{ReadsSectionNotes, ReadsSegmentNotes, TakesNote};
 ghost use Rattle.elf_capi.specs.Ends.{ReturnsRead};
 
-use elf_capi::{CallEnd, tell};
+use elf_capi::{CallEnd, report_row};
 use elf_memory::{Note, NotePosition, next_note, section_notes, segment_notes};
 
 /// Checks that the notes of a section lie within the file, and sets `notes` before the first. No
@@ -20,7 +20,7 @@ pub extern "C" fn elfsee_notes(
 ) -> u32
     ensures { ReturnsRead (ReadsSectionNotes file.now section) result notes.old notes.new end.new }
 {
-    tell(section_notes(file, section), notes, end)
+    report_row(section_notes(file, section), notes, end)
 }
 
 /// Sets `notes` before the first note of a segment, as [`elfsee_notes`] does for a section (gABI 5,
@@ -34,7 +34,7 @@ pub extern "C" fn elfsee_segment_notes(
 ) -> u32
     ensures { ReturnsRead (ReadsSegmentNotes file.now segment) result notes.old notes.new end.new }
 {
-    tell(segment_notes(file, segment), notes, end)
+    report_row(segment_notes(file, segment), notes, end)
 }
 
 /// Reads the next note and steps over it (gABI 5, Note Section).
@@ -51,5 +51,5 @@ pub extern "C" fn elfsee_next_note(
     ensures { ReturnsRead (TakesNote file.now notes.old notes.new) result note.old note.new
         end.new }
 {
-    tell(next_note(file, notes), note, end)
+    report_row(next_note(file, notes), note, end)
 }

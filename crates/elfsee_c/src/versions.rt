@@ -4,7 +4,7 @@ ghost use Rattle.elf_capi.specs.Prelude.{OpensRecords, ReturnsOpened, ReturnsRea
 
 use elf_capi::{
     CallEnd, CallerLimits, RecordRow, VersionRecordPosition, limits_of, next_record, records_in,
-    report_opened, tell,
+    report_opened, report_row,
 };
 
 /// Checks the table of version definitions or needs that a section of a file is, and sets `records`
@@ -49,5 +49,5 @@ pub extern "C" fn elfsee_next_version_record(
     ensures { ReturnsRead (StepsRecord file.now records.old records.new)
         result row.old row.new end.new }
 {
-    tell(next_record(file, records), row, end)
+    report_row(next_record(file, records), row, end)
 }

@@ -6,7 +6,7 @@ ghost use Rattle.std.specs.Prelude.{◌≡◌};
 
 use elf_cli::{
     ExitLine, ListingRequest, OUT_OF_MEMORY, OUTPUT_BYTES, ShowRequest, end_answer, exit, open,
-    parse_show, read_words, report_refused, tell_version,
+    parse_show, read_words, report_refused, report_version,
 };
 use elf_fixtures::sample;
 use elf_listing::show;
@@ -35,7 +35,7 @@ where
     let words = read_words(rt)?;
     match parse_show(rt.alloc(), words.as_slice()) {
         Ok(ShowRequest::Listed(listing)) => list(rt, &listing),
-        Ok(ShowRequest::Version) => tell_version(rt),
+        Ok(ShowRequest::Version) => report_version(rt),
         Err(fault) => Err(report_refused(rt.alloc(), &fault, words.as_slice(), errors)),
     }
 }

@@ -24,10 +24,10 @@ returns-then-known-eq0-clause-lists g c = record {
       rw none (record { takes = SinkTakes-nothing c.args.out.now; no_fault = refl });
 }
 
-pub returns-in_err-begins_elf-clause-lists : goal.returns-in_err-begins_elf-clause-lists
-returns-in_err-begins_elf-clause-lists g c =
+pub returns-in_err-has_elf_magic-clause-lists : goal.returns-in_err-has_elf_magic-clause-lists
+returns-in_err-has_elf_magic-clause-lists g c =
     let p = err_from_is_err_and c.from_residual.result c.from_residual.ensures.1 in
-    let fails = c.in_err-begins_elf.ensures in
+    let fails = c.in_err-has_elf_magic.ensures in
     record {
       slots = refl;
       grows = grows_not _;
@@ -41,7 +41,7 @@ returns-in_err-begins_elf-clause-lists g c =
 
 pub returns-then-not-branch-clause-lists : goal.returns-then-not-branch-clause-lists
 returns-then-not-branch-clause-lists g c =
-    let reads = c.in_ok-begins_elf.ensures.asks.0 in
+    let reads = c.in_ok-has_elf_magic.ensures.asks.0 in
     let asked : lists_members (style_of c.args.style) c.args.parts.0 ≡ true = search rules in
     record {
       slots = refl;
@@ -51,22 +51,22 @@ returns-then-not-branch-clause-lists g c =
           let cost = member_listed file c.args.store.now.slots (style_of c.args.style) c.args.parts.0 (member_at (extent_of c.args.extent)) asked in
           (ReadsUpTo-to reads (omega (arith, cost, reads.at_most)), tt);
       shows = λ file held.
-          let told = c.in_ok-begins_elf.ensures.read file held in
+          let told = c.in_ok-has_elf_magic.ensures.read file held in
           let none : is_elf (bytes_in file (extent_of c.args.extent)) ≡ false = search rules in
           rw (asked, none) (record { takes = SinkTakes-nothing c.args.out.now; no_fault = refl });
     }
 
 pub narrow-requires : goal.narrow-requires
 narrow-requires g c =
-    let reads = c.in_ok-begins_elf.ensures.asks.0 in
-    let lies : IsInBounds c.begins_elf.new.src.seen.size (extent_of c.args.extent) = rw reads.keeps.same_size c.requires.lies in
+    let reads = c.in_ok-has_elf_magic.ensures.asks.0 in
+    let lies : IsInBounds c.has_elf_magic.new.src.seen.size (extent_of c.args.extent) = rw reads.keeps.same_size c.requires.lies in
     lies_within _ _ _ (still_whole _ _ _ c.requires.whole reads) lies
 
 pub returns-clause-lists : goal.returns-clause-lists
 returns-clause-lists g c =
-    let reads = c.in_ok-begins_elf.ensures.asks.0 in
-    let whole : IsAll c.begins_elf.new.src = still_whole _ _ _ c.requires.whole reads in
-    let lies : IsInBounds c.begins_elf.new.src.seen.size (extent_of c.args.extent) = rw reads.keeps.same_size c.requires.lies in
+    let reads = c.in_ok-has_elf_magic.ensures.asks.0 in
+    let whole : IsAll c.has_elf_magic.new.src = still_whole _ _ _ c.requires.whole reads in
+    let lies : IsInBounds c.has_elf_magic.new.src.seen.size (extent_of c.args.extent) = rw reads.keeps.same_size c.requires.lies in
     let asked : lists_members (style_of c.args.style) c.args.parts.0 ≡ true = search rules in
     let same = ap (λ size. style_ceiling size c.args.store.now.slots (style_of c.args.style)) c.narrow.ensures.size_is in
     record {
@@ -76,7 +76,7 @@ returns-clause-lists g c =
           (part_consumes _ _ _ _ _ _ _ _ _ _ whole lies c.narrow.ensures c.list-listed.ensures.ceiling c.widen.ensures c.end_part.ensures);
       cost = λ file held.
           let now = reads.keeps.same_file ∙ held in
-          let told = c.in_ok-begins_elf.ensures.read file held in
+          let told = c.in_ok-has_elf_magic.ensures.read file held in
           let elf : is_elf (bytes_in file (extent_of c.args.extent)) ≡ true = search rules in
           let cost = member_elf file c.args.store.now.slots (style_of c.args.style) c.args.parts.0 (member_at (extent_of c.args.extent)) (extent_of c.args.extent) asked refl elf in
           let part = part_file _ _ file _ _ whole c.narrow.ensures now in
@@ -84,7 +84,7 @@ returns-clause-lists g c =
           (part_consumes _ _ _ _ _ _ _ _ _ _ whole lies c.narrow.ensures (c.list-listed.ensures.cost (bytes_in file (extent_of c.args.extent)) part) c.widen.ensures c.end_part.ensures);
       shows = λ file held.
           let now = reads.keeps.same_file ∙ held in
-          let told = c.in_ok-begins_elf.ensures.read file held in
+          let told = c.in_ok-has_elf_magic.ensures.read file held in
           let elf : is_elf (bytes_in file (extent_of c.args.extent)) ≡ true = search rules in
           let part = part_file _ _ file _ _ whole c.narrow.ensures now in
           rw (asked, elf) (lists_part _ _ _ _ _ _ (c.list-listed.ensures.text (bytes_in file (extent_of c.args.extent)) part) c.end_part.ensures);

@@ -9,7 +9,7 @@ unfolding dynamic_prefix
 returns-clause-front g c = λ file at is.
     let bits : c.cast_unsigned-tag.result ≡ d_tag file at = tag_bits c.args.entry.now.d_tag _ _ is.d_tag_bits is.d_tag_low c.cast_unsigned-tag.ensures in
     rw (
-      c.put_hexadecimal.ensures.items,
+      c.put_hex_field.ensures.items,
       c.put_name_or_hex.ensures.items,
       c.put_decimal.ensures.items,
       c.begin_named.ensures.items,

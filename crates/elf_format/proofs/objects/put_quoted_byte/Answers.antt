@@ -11,8 +11,8 @@ returns-in_default-clause-items c =
     elim c.in_default.branch [
       | in_default-via-then-byte-lt32 w ↦
           let low : c.args.byte < 32 = omega arith in
-          rw (c.put_hex.ensures.items, c.put-in_default.ensures.items, c.from.ensures, string_low c.args.byte low) regroup
+          rw (c.write_hex.ensures.items, c.put-in_default.ensures.items, c.from.ensures, string_low c.args.byte low) regroup
       | in_default-via-else-byte-lt32+else-byte-lt127 w ↦
           let high : 127 ≤ c.args.byte = omega arith in
-          rw (c.put_hex.ensures.items, c.put-in_default.ensures.items, c.from.ensures, string_high c.args.byte high) regroup
+          rw (c.write_hex.ensures.items, c.put-in_default.ensures.items, c.from.ensures, string_high c.args.byte high) regroup
     ]

@@ -3,8 +3,8 @@ use Rattle.std.proofs.Common.{◌<◌, ◌+◌, [], drop, get_or, length, refl, 
 use Rattle.std.proofs.lemmas.Result.{err_from_is_err_and}
 use Rattle.elf_table.proofs.Absent.{none-of}
 use Rattle.elf_model.specs.BoundSymbols.{bound_items, object_items, objects_items}
-use Rattle.elf_needs.specs.Bound.{IsLimited, bound_among}
-use Rattle.elf_needs.proofs.AskLaws.{are_kept, as_many, asks_none, asks_then, limited_from}
+use Rattle.elf_needs.specs.Bound.{IsBudgetShort, bound_among}
+use Rattle.elf_needs.proofs.AskLaws.{are_kept, as_many, asks_none, asks_then}
 use Rattle.elf_needs.proofs.WriteLaws.{ends_cut, ends_fault, failing_none, failing_some, objects_next, objects_none, so_far_all, so_far_more, so_far_none}
 use Rattle.elf_needs.proofs.bindings.bind_all.Goals as goal
 
@@ -21,7 +21,7 @@ returns-in_err-came-clause-known g c =
     let objects = bound_among headers files c.args.among.now in
     let low : l.place < length files = omega (arith, as_many headers c.args.objects.now files are, i.end, c.loop-place-test.true) in
     ends_fault (objects_items objects l.place (drop l.place files)) (object_items objects l.place (get_or files l.place [])) (objects_items objects (l.place + 1) (drop (l.place + 1) files))
-    c.bind_object.new.out (IsLimited l.left) (IsLimited c.args.left.now) (limited_from i.asks) (i.known headers files are) (objects_next objects l.place files low) _ (c.in_err-came.ensures.known headers files (are_kept headers files i.asks are)))
+    c.bind_object.new.out (IsBudgetShort c.bind_object.new.objects c.bind_object.new.left) (i.known headers files are) (objects_next objects l.place files low) _ (c.in_err-came.ensures.known headers files (are_kept headers files i.asks are)))
 
 pub returns-in_default-clause-asks : goal.returns-in_default-clause-asks
 returns-in_default-clause-asks g c = asks_then c.loop-place.invariant.asks c.bind_object.ensures.asks
@@ -35,7 +35,7 @@ returns-in_default-clause-known g c =
     let objects = bound_among headers files c.args.among.now in
     let low : l.place < length files = omega (arith, as_many headers c.args.objects.now files are, i.end, c.loop-place-test.true) in
     ends_cut (objects_items objects l.place (drop l.place files)) (object_items objects l.place (get_or files l.place [])) (objects_items objects (l.place + 1) (drop (l.place + 1) files))
-    c.bind_object.new.out (IsLimited l.left) (IsLimited c.args.left.now) (limited_from i.asks) (i.known headers files are) (objects_next objects l.place files low) (rw cut at (c.in_ok-came.ensures.known headers files (are_kept headers files i.asks are)))
+    c.bind_object.new.out (IsBudgetShort c.bind_object.new.objects c.bind_object.new.left) (i.known headers files are) (objects_next objects l.place files low) (rw cut at (c.in_ok-came.ensures.known headers files (are_kept headers files i.asks are)))
 
 pub loop-place-preserved : goal.loop-place-preserved
 loop-place-preserved g c =
@@ -46,7 +46,7 @@ loop-place-preserved g c =
       known = λ headers files are.
           let objects = bound_among headers files c.args.among.now in
           let low : l.place < length files = omega (arith, as_many headers c.args.objects.now files are, i.end, c.loop-place-test.true) in
-          let writes = failing_some c.args.among.now.format (object_items objects l.place (get_or files l.place [])) (IsLimited l.left) l.out c.bind_object.new.out c.in_ok-came.came c.in-Some.more (c.in_ok-came.ensures.known headers files (are_kept headers files i.asks are)) (sym c.failing.ensures ∙ c.in-Some.is) in
+          let writes = failing_some c.args.among.now.format (object_items objects l.place (get_or files l.place [])) (IsBudgetShort c.bind_object.new.objects c.bind_object.new.left) l.out c.bind_object.new.out c.in_ok-came.came c.in-Some.more (c.in_ok-came.ensures.known headers files (are_kept headers files i.asks are)) (sym c.failing.ensures ∙ c.in-Some.is) in
           rw c.either-fails.ensures
           (so_far_more (objects_items objects l.place (drop l.place files)) (object_items objects l.place (get_or files l.place [])) (objects_items objects (l.place + 1) (drop (l.place + 1) files))
           c.in-Some.more (i.known headers files are) (objects_next objects l.place files low) writes.0 writes.1);
@@ -60,7 +60,7 @@ returns-clause-known g c =
     λ headers files are.
     let objects = bound_among headers files c.args.among.now in
     let none = objects_none objects l.place files (omega (arith, as_many headers c.args.objects.now files are, i.end, c.loop-place-test.false)) in
-    so_far_all (IsLimited c.args.left.now) (rw none at (i.known headers files are))
+    so_far_all (IsBudgetShort l.objects l.left) (rw none at (i.known headers files are))
 
 pub loop-place-init : goal.loop-place-init
 loop-place-init g c = record {

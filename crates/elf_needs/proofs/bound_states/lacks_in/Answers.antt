@@ -3,7 +3,7 @@ use Rattle.std.proofs.Common.{◌<◌, [], length, get_or, Ok, sym, ap, ◌∙�
 use Rattle.elf_table.proofs.Absent.{none-of}
 use Rattle.elf_model.specs.LoaderScope.{lookup_tables_of}
 use Rattle.elf_needs.specs.Bound.{bound_among}
-use Rattle.elf_needs.proofs.AskLaws.{as_many, asks_one, file_here, limited_of, spends_same}
+use Rattle.elf_needs.proofs.AskLaws.{as_many, asks_one, file_here, short_one, spends_same}
 use Rattle.elf_needs.proofs.StateLaws.{lacks_it, lacks_refused, not_called, not_placed, not_there}
 use Rattle.elf_needs.proofs.bound_states.lacks_in.Goals as goal
 
@@ -44,8 +44,10 @@ returns-in-Err-clause-asks g c =
     let e = c.lacks_version.ensures in
     asks_one c.args.objects.now c.in-Some-place_of.place c.index-objects-place.result c.lacks_version.new.self (omega (arith, c.if-place-objects.false)) (spends_same e.costs e.same_headers) e.pays
 
-pub returns-in-Err-clause-limited : goal.returns-in-Err-clause-limited
-returns-in-Err-clause-limited g c = limited_of _ _ c.args.left.now _ c.in-Err.fault (rw c.in-Err.is at c.lacks_version.ensures.costs.says)
+pub returns-in-Err-clause-short : goal.returns-in-Err-clause-short
+returns-in-Err-clause-short g c =
+    let costs = rw c.in-Err.is at c.lacks_version.ensures.costs in
+    short_one c.args.objects.now c.in-Some-place_of.place c.index-objects-place.result c.lacks_version.new.self c.in-Err.fault (omega (arith, c.if-place-objects.false)) costs c.lacks_version.ensures.pays
 
 pub returns-in-Err-2-clause-asks : goal.returns-in-Err-2-clause-asks
 returns-in-Err-2-clause-asks g c =

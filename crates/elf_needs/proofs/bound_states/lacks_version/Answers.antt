@@ -4,7 +4,7 @@ use Rattle.std.proofs.lemmas.Result.{err_from_is_err_and}
 use Rattle.elf_table.proofs.Absent.{none-of}
 use Rattle.elf_model.specs.LoaderScope.{lookup_tables_of}
 use Rattle.elf_needs.specs.Bound.{bound_among}
-use Rattle.elf_needs.proofs.AskLaws.{are_kept, asks_one, asks_then, file_here, spends_same}
+use Rattle.elf_needs.proofs.AskLaws.{are_kept, asks_one, asks_then, file_here, short_one, spends_same}
 use Rattle.elf_needs.proofs.StateLaws.{lacks_fileless, lacks_named, lacks_unnamed, lacks_unversioned, lacks_weak}
 use Rattle.elf_needs.proofs.bound_states.lacks_version.Goals as goal
 
@@ -56,3 +56,8 @@ returns-clause-known g c =
     let named = lacks_named (bound_among headers files c.args.among.now) (get_or files c.args.at.place []) told.symbols c.args.at.symbol c.args.names.now.version c.args.sought.now.versioned c.args.sought.now.weak
     c.if-not-sought.false weak c.if-sought.false c.in-Some.file c.args.sought.now.file is c.in-Some.is c.needed_file.new.name tells in
     rw named (rw (c.bytes.ensures.value, c.bytes-2.ensures.value) at (c.lacks_in.ensures.known headers files (are_kept headers files asks are)))
+
+pub returns-in_err-needed_file-clause-short : goal.returns-in_err-needed_file-clause-short
+returns-in_err-needed_file-clause-short g c =
+    let p = err_from_is_err_and c.from_residual.result c.from_residual.ensures.1 in
+    rw (p.1, p.2) (short_one c.args.objects.now c.args.at.place c.index-objects-at.result c.needed_file.new.self _ (omega (arith, c.requires)) c.in_err-needed_file.ensures.costs c.in_err-needed_file.ensures.pays)

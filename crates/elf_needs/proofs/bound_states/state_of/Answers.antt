@@ -3,7 +3,7 @@ use Rattle.std.proofs.Common.{[], get_or}
 use Rattle.std.proofs.lemmas.Result.{err_from_is_err_and}
 use Rattle.elf_needs.specs.Prelude.{asked_if, bound_among}
 use Rattle.elf_options.specs.Wants.{query_of}
-use Rattle.elf_needs.proofs.AskLaws.{are_kept, asks_bind, asks_then, limited_bind}
+use Rattle.elf_needs.proofs.AskLaws.{are_kept, asks_bind, asks_then, short_bind}
 use Rattle.elf_needs.proofs.StateLaws.{state_bound, state_fault, state_none, state_refused, wanted_is}
 use Rattle.elf_needs.proofs.bound_states.state_of.Goals as goal
 
@@ -13,7 +13,7 @@ returns-in_err-lacks-in-Ok-Unbound-clause-asks g c = asks_then (asks_bind c.bind
 pub returns-in_err-lacks-in-Ok-Unbound-clause-known : goal.returns-in_err-lacks-in-Ok-Unbound-clause-known
 returns-in_err-lacks-in-Ok-Unbound-clause-known g c =
     let p = err_from_is_err_and c.from_residual.result c.from_residual.ensures.1 in
-    let w = wanted_is (query_of c.wanted-wanted.result) c.args.names.now.name (asked_if c.args.sought.now.versioned c.args.names.now.version) c.wanted-wanted.ensures.name c.wanted-wanted.ensures.asked in
+    let w = wanted_is (query_of c.wanted-wanted.result) c.args.names.now.name (asked_if c.args.sought.now.versioned c.args.names.now.version) c.wanted-wanted.ensures.name (rw c.requires.versioned at c.wanted-wanted.ensures.asked) in
     rw (p.1, p.2)
     (λ headers files told are found some weak is.
     state_fault (bound_among headers files c.args.among.now) (get_or files c.args.at.place []) told.symbols c.args.at.symbol _ _
@@ -23,15 +23,15 @@ returns-in_err-lacks-in-Ok-Unbound-clause-known g c =
 pub returns-then-is_reported_alone-clause-asks : goal.returns-then-is_reported_alone-clause-asks
 returns-then-is_reported_alone-clause-asks g c = asks_bind c.bind.ensures
 
-pub returns-then-is_reported_alone-clause-limited : goal.returns-then-is_reported_alone-clause-limited
-returns-then-is_reported_alone-clause-limited g c = limited_bind c.in-Err.field-0 c.args.at.place c.requires (rw c.in-Err.is at c.bind.ensures)
+pub returns-then-is_reported_alone-clause-short : goal.returns-then-is_reported_alone-clause-short
+returns-then-is_reported_alone-clause-short g c = short_bind c.in-Err.field-0 (rw c.in-Err.is at c.bind.ensures)
 
 pub returns-in-Ok-Bound-clause-asks : goal.returns-in-Ok-Bound-clause-asks
 returns-in-Ok-Bound-clause-asks g c = asks_bind c.bind.ensures
 
 pub returns-in-Ok-Bound-clause-known : goal.returns-in-Ok-Bound-clause-known
 returns-in-Ok-Bound-clause-known g c =
-    let w = wanted_is (query_of c.wanted-wanted.result) c.args.names.now.name (asked_if c.args.sought.now.versioned c.args.names.now.version) c.wanted-wanted.ensures.name c.wanted-wanted.ensures.asked in
+    let w = wanted_is (query_of c.wanted-wanted.result) c.args.names.now.name (asked_if c.args.sought.now.versioned c.args.names.now.version) c.wanted-wanted.ensures.name (rw c.requires.versioned at c.wanted-wanted.ensures.asked) in
     λ headers files told are found some weak is.
     rw (c.index_at.ensures)
     (state_bound (bound_among headers files c.args.among.now) (get_or files c.args.at.place []) told.symbols c.args.at.symbol _ c.in-Ok-Bound.object c.in-Ok-Bound.symbol
@@ -42,7 +42,7 @@ returns-in_ok-lacks-in-Ok-Unbound-clause-asks g c = asks_then (asks_bind c.bind.
 
 pub returns-in_ok-lacks-in-Ok-Unbound-clause-known : goal.returns-in_ok-lacks-in-Ok-Unbound-clause-known
 returns-in_ok-lacks-in-Ok-Unbound-clause-known g c =
-    let w = wanted_is (query_of c.wanted-wanted.result) c.args.names.now.name (asked_if c.args.sought.now.versioned c.args.names.now.version) c.wanted-wanted.ensures.name c.wanted-wanted.ensures.asked in
+    let w = wanted_is (query_of c.wanted-wanted.result) c.args.names.now.name (asked_if c.args.sought.now.versioned c.args.names.now.version) c.wanted-wanted.ensures.name (rw c.requires.versioned at c.wanted-wanted.ensures.asked) in
     λ headers files told are found some weak is.
     rw (c.unbound_state.ensures, weak)
     (state_none (bound_among headers files c.args.among.now) (get_or files c.args.at.place []) told.symbols c.args.at.symbol _ c.in_ok-lacks-in-Ok-Unbound.lacks
@@ -54,7 +54,7 @@ returns-else-is_reported_alone-clause-asks g c = asks_bind c.bind.ensures
 
 pub returns-else-is_reported_alone-clause-known : goal.returns-else-is_reported_alone-clause-known
 returns-else-is_reported_alone-clause-known g c =
-    let w = wanted_is (query_of c.wanted-wanted.result) c.args.names.now.name (asked_if c.args.sought.now.versioned c.args.names.now.version) c.wanted-wanted.ensures.name c.wanted-wanted.ensures.asked in
+    let w = wanted_is (query_of c.wanted-wanted.result) c.args.names.now.name (asked_if c.args.sought.now.versioned c.args.names.now.version) c.wanted-wanted.ensures.name (rw c.requires.versioned at c.wanted-wanted.ensures.asked) in
     λ headers files told are found some weak is.
     rw (c.index_at-in-Err.ensures)
     (state_refused (bound_among headers files c.args.among.now) (get_or files c.args.at.place []) told.symbols c.args.at.symbol _ c.in-Err.field-0 (rw c.if-is_reported_alone.false at c.is_reported_alone.ensures)

@@ -17,8 +17,8 @@ loop-got-preserved-in-Ok g c =
       same = e.same ∙ i.same;
       counted = omega (arith, e.turn, i.counted);
       turned =
-          turns_more g.R.Reader.one_turn c.args.reader.now c.read_at.new.self c.args.at (c.args.at + l.got) (c.args.at + (l.got + c.in-Ok.count)) (c.args.at + length c.args.out.now) _ _
-          (turn_after g.R.Reader.one_turn c.args.reader.now l.reader c.read_at.new.self c.args.at l.got (length c.args.out.now) (l.got + l.interrupted) (c.args.at + l.got) l.out i.within l.auto.out (omega arith) i.turned e.once)
+          turns_more g.R.ReadAt.one_turn c.args.reader.now c.read_at.new.self c.args.at (c.args.at + l.got) (c.args.at + (l.got + c.in-Ok.count)) (c.args.at + length c.args.out.now) _ _
+          (turn_after g.R.ReadAt.one_turn c.args.reader.now l.reader c.read_at.new.self c.args.at l.got (length c.args.out.now) (l.got + l.interrupted) (c.args.at + l.got) l.out i.within l.auto.out (omega arith) i.turned e.once)
           (omega arith) (omega (arith, c.in-Ok.count-test.1));
       filled = λ file held.
           filled_then file l.out c.read_at.new.out c.args.at l.got c.in-Ok.count _ i.within (omega (arith, e.within, same)) (i.filled file held) (e.gives file (i.same ∙ held)).bytes;
@@ -36,8 +36,8 @@ loop-got-preserved g c =
       same = e.ensures.same ∙ i.same;
       counted = omega (arith, turn, i.counted);
       turned =
-          turns_more g.R.Reader.one_turn c.args.reader.now c.read_at.new.self c.args.at (c.args.at + l.got) (c.args.at + l.got) (c.args.at + length c.args.out.now) _ _
-          (turn_after g.R.Reader.one_turn c.args.reader.now l.reader c.read_at.new.self c.args.at l.got (length c.args.out.now) (l.got + l.interrupted) (c.args.at + l.got) l.out i.within l.auto.out (omega arith) i.turned e.ensures.once)
+          turns_more g.R.ReadAt.one_turn c.args.reader.now c.read_at.new.self c.args.at (c.args.at + l.got) (c.args.at + l.got) (c.args.at + length c.args.out.now) _ _
+          (turn_after g.R.ReadAt.one_turn c.args.reader.now l.reader c.read_at.new.self c.args.at l.got (length c.args.out.now) (l.got + l.interrupted) (c.args.at + l.got) l.out i.within l.auto.out (omega arith) i.turned e.ensures.once)
           (omega arith) (omega arith);
       filled = λ file held. take-put_mid_below l.got _ l.out c.read_at.new.out l.got (omega arith) i.within ∙ i.filled file held;
     }
@@ -51,23 +51,23 @@ pub returns-in-Ok-eq0-clause-turns : goal.returns-in-Ok-eq0-clause-turns
 returns-in-Ok-eq0-clause-turns g c =
     let l = c.loop-got in
     let i = l.invariant in
-    turned_at g.R.Reader.one_turn c.args.reader.now l.reader c.read_at.new.self c.args.at l.got (length c.args.out.now) l.interrupted l.out i.within l.auto.out i.few i.turned c.in-Ok-eq0.ensures.once (omega (arith, c.loop-got-test.true, l.auto.out))
+    turned_at g.R.ReadAt.one_turn c.args.reader.now l.reader c.read_at.new.self c.args.at l.got (length c.args.out.now) l.interrupted l.out i.within l.auto.out i.few i.turned c.in-Ok-eq0.ensures.once (omega (arith, c.loop-got-test.true, l.auto.out))
 
 pub returns-in-Err-clause-turns : goal.returns-in-Err-clause-turns
 returns-in-Err-clause-turns g c =
     let l = c.loop-got in
     let i = l.invariant in
-    turned_at g.R.Reader.one_turn c.args.reader.now l.reader c.read_at.new.self c.args.at l.got (length c.args.out.now) l.interrupted l.out i.within l.auto.out i.few i.turned c.in-Err.ensures.once (omega (arith, c.loop-got-test.true, l.auto.out))
+    turned_at g.R.ReadAt.one_turn c.args.reader.now l.reader c.read_at.new.self c.args.at l.got (length c.args.out.now) l.interrupted l.out i.within l.auto.out i.few i.turned c.in-Err.ensures.once (omega (arith, c.loop-got-test.true, l.auto.out))
 
 pub returns-in-Err-2-clause-turns : goal.returns-in-Err-2-clause-turns
 returns-in-Err-2-clause-turns g c =
     let l = c.loop-got in
     let i = l.invariant in
-    turned_at g.R.Reader.one_turn c.args.reader.now l.reader c.read_at.new.self c.args.at l.got (length c.args.out.now) l.interrupted l.out i.within l.auto.out i.few i.turned c.in-Err.ensures.once (omega (arith, c.loop-got-test.true, l.auto.out))
+    turned_at g.R.ReadAt.one_turn c.args.reader.now l.reader c.read_at.new.self c.args.at l.got (length c.args.out.now) l.interrupted l.out i.within l.auto.out i.few i.turned c.in-Err.ensures.once (omega (arith, c.loop-got-test.true, l.auto.out))
 
 pub returns-clause-turns : goal.returns-clause-turns
 returns-clause-turns g c =
     let l = c.loop-got in
     let i = l.invariant in
-    turns_more g.R.Reader.one_turn c.args.reader.now l.reader c.args.at (c.args.at + l.got) _ (c.args.at + length c.args.out.now) _ _ i.turned
+    turns_more g.R.ReadAt.one_turn c.args.reader.now l.reader c.args.at (c.args.at + l.got) _ (c.args.at + length c.args.out.now) _ _ i.turned
     (omega (arith, i.within, l.auto.out)) (omega (arith, i.within, l.auto.out, i.few))

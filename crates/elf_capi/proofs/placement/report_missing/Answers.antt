@@ -5,10 +5,10 @@ use Rattle.elf_table.specs.declared.fault.Fault.TheVariants.{Refused as Refuses}
 use Rattle.elf_capi.specs.LentLayouts.{ReturnsMissing}
 use Rattle.elf_capi.proofs.BudgetLaws.{rest_spent}
 use Rattle.elf_capi.proofs.LackLaws.{cannot_be_known, few_told}
-use Rattle.elf_capi.proofs.placement.tell_lack.Goals as goal
+use Rattle.elf_capi.proofs.placement.report_missing.Goals as goal
 
-pub tell-requires : goal.tell-requires
-tell-requires c =
+pub report-requires : goal.report-requires
+report-requires c =
     let known = ap (λ (s : SourceState). s.file) (c.limit.ensures.seen ∙ c.new-src.ensures.seen) ∙ ap Some c.new.ensures in
     let wanted = c.args.wanted.now in
     let found : c.explain-found.result ≡ Ok (Some (c.in-Ok-Some.lack, c.in-Ok-Some.end)) = search rules in
@@ -21,7 +21,7 @@ returns-in-Ok-Some-clause-explains c =
     let known = ap (λ (s : SourceState). s.file) (c.limit.ensures.seen ∙ c.new-src.ensures.seen) ∙ ap Some c.new.ensures in
     let found : c.explain-found.result ≡ Ok (Some (c.in-Ok-Some.lack, c.in-Ok-Some.end)) = search rules in
     let is = rw (found) at (c.explain-found.ensures.did.known c.args.file.now known) in
-    inl (subst (ReturnsMissing c.tell.new.self) is (rw (c.bytes.ensures.value) at c.tell.ensures))
+    inl (subst (ReturnsMissing c.report.new.self) is (rw (c.bytes.ensures.value) at c.report.ensures))
 
 pub returns-in-Ok-None-clause-explains : goal.returns-in-Ok-None-clause-explains
 returns-in-Ok-None-clause-explains c =

@@ -3,8 +3,8 @@ use Rattle.std.proofs.Common.{rules, ◌≡◌, None, Some, Ok, false, subst, �
 use Rattle.elf_walk.specs.Prelude.{ReturnsListing}
 use Rattle.elf_walk.specs.ToldListings.{is_unlisted}
 use Rattle.elf_walk.specs.declared.options.ListOptions.{ListOptions}
-use Rattle.elf_walk.proofs.ListingToldLaws.{end_fails, fault_after, fault_fails, file_told, front_within, nothing_told, sort_within}
-use Rattle.elf_walk.proofs.file_lists.ListFilesFileVisitor.tell.Goals as goal
+use Rattle.elf_walk.proofs.ListingToldLaws.{end_fails, fault_after, fault_fails, file_told, front_within, sort_within, nothing_told}
+use Rattle.elf_walk.proofs.file_lists.ListFilesFileVisitor.visit.Goals as goal
 
 pub returns-in-Err-clause-tells : goal.returns-in-Err-clause-tells
 returns-in-Err-clause-tells g c =

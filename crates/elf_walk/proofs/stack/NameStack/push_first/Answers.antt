@@ -5,7 +5,7 @@ use Rattle.std.proofs.lemmas.List.Elements.{All-nil}
 use Rattle.std.specs.Prelude.{slice_index_or}
 use Rattle.elf_walk.specs.Stacked.{pushed, stacked}
 use Rattle.elf_walk.proofs.StackedLaws.{more_put, none_left, none_put, short_put, starts_trans}
-use Rattle.elf_walk.proofs.stack.Stack.push_first.Goals as goal
+use Rattle.elf_walk.proofs.stack.NameStack.push_first.Goals as goal
 
 pub loop-left-init : goal.loop-left-init
 loop-left-init c = record {

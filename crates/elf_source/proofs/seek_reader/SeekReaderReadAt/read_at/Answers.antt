@@ -1,5 +1,5 @@
 use Rattle.std.proofs.Common.{rules}
-use Rattle.elf_source.proofs.seek_reader.SeekReaderReader.read_at.Goals as goal
+use Rattle.elf_source.proofs.seek_reader.SeekReaderReadAt.read_at.Goals as goal
 
 pub returns-in_err-go-clause-bytes : goal.returns-in_err-go-clause-bytes
 returns-in_err-go-clause-bytes g c = record {

@@ -1,6 +1,6 @@
 use Rattle.std.proofs.Common.{◌≡◌, ◌≤◌, All, length, take, drop}
 use Rattle.elf_walk.specs.Stacked.{stacked}
-use Rattle.elf_walk.proofs.stack.Stack.push_first.Given as goal
+use Rattle.elf_walk.proofs.stack.NameStack.push_first.Given as goal
 
 abbrev pub decreases-loop-left : goal.decreases-loop-left
 decreases-loop-left l = l.left

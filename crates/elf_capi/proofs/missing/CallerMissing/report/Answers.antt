@@ -2,7 +2,7 @@
 use Rattle.std.proofs.Common.{length, refl}
 use Rattle.elf_capi.proofs.LackLaws.{tells_symbol}
 use Rattle.elf_capi.specs.declared.missing.CallerMissing.{CallerMissing}
-use Rattle.elf_capi.proofs.missing.CallerMissing.tell.Goals as goal
+use Rattle.elf_capi.proofs.missing.CallerMissing.report.Goals as goal
 
 pub returns : goal.returns
 returns c =

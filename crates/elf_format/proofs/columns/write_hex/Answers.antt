@@ -2,7 +2,7 @@
 use Rattle.std.proofs.Common.{◌++◌, ◌/◌, ◌%◌, ◌∙◌, ap, ap₂, append_assoc}
 use Rattle.elf_model.specs.Text.{hex}
 use Rattle.elf_format.proofs.Pairs.{lower_eight, sixteen}
-use Rattle.elf_format.proofs.columns.put_hex.Goals as goal
+use Rattle.elf_format.proofs.columns.write_hex.Goals as goal
 
 pub returns-in-16-clause-items : goal.returns-in-16-clause-items
 returns-in-16-clause-items c =

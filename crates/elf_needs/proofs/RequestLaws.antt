@@ -1,0 +1,21 @@
+-- A line that was put in pieces ends in the name and the version that is asked for.
+use Rattle.std.proofs.Common.{◌≡◌, ℕ, List, ◌++◌, refl, sym, ap, ◌∙◌, append_assoc}
+use Rattle.std.specs.Prelude.{codes}
+use Rattle.elf_model.specs.BindingLines.{line_requested}
+use Rattle.elf_model.specs.Fields.{closing, member_key, quoted, string_text}
+use Rattle.elf_model.specs.Lines.{escaped, name_member, name_text}
+use Rattle.elf_model.specs.Names.DisplayedName.{Whole}
+use Rattle.elf_model.specs.Suffixes.{version_member}
+use Rattle.elf_model.specs.declared.formats.Format.{Format}
+use Rattle.elf_model.specs.declared.formats.Format.TheVariants.{Columns, Object}
+use Rattle.elf_format.specs.Named.{escaped_bytes, line_tailed}
+use Rattle.elf_needs.specs.Requests.{after_request, before_request}
+
+pub requested_is : (format : Format) (key text name version : List ℕ)
+    → line_tailed format key text (Whole name) (before_request format ++ (escaped_bytes format version ++ after_request format))
+    ≡ line_requested format key text name version
+unfolding line_tailed line_requested escaped_bytes name_text version_member closing member_key quoted before_request after_request
+requested_is Columns key text name version = refl
+requested_is Object key text name version =
+    ap (λ (rest : List ℕ). text ++ (name_member key (Whole name) ++ (codes ",\"version\":\"" ++ rest)))
+    (sym (append_assoc (string_text (escaped version)) (codes "\"") (codes "}\n")))
