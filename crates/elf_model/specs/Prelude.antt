@@ -22,7 +22,7 @@ pub use Rattle.elf_model.specs.Bytes.{IsBytes, slice}
 unfoldable pub use Rattle.elf_model.specs.Bytes.{field, little, number}
 unfoldable pub use Rattle.elf_model.specs.Causes.{cause_word}
 pub use Rattle.elf_model.specs.Chains.{Answers, ChainResult, HashTable, Last, NotThere, Untried, WalkEnd, end_of_match, nothing_tried, refused_walk}
-pub use Rattle.elf_model.specs.Checking.{IsStateOf, check_line, fault_fields, is_not_elf, listed_state, short_state, state_of}
+pub use Rattle.elf_model.specs.Checking.{IsStateOf, check_line, fault_fields, is_not_elf, state_of}
 unfoldable pub use Rattle.elf_model.specs.Checking.{check_front, file_status_name, unnamed_line}
 pub use Rattle.elf_model.specs.Checks.{Check, HeaderCounts, before_headers, early_checks, early_checks_of, first_refusal, has_section_names, header_checks, ident_checks, is_outside, is_section_outside, is_symbol_table, length_checks, load_checks, pass, range_checks, range_checks_of, refuse, section_name_checks, strings_checks, table_checks, table_checks_of, unless_empty, whole_checks_of}
 pub use Rattle.elf_model.specs.Choice.{EveryRow, NoSuffix, RowFilter, RowsOf, Suffix, Suffixed, chooses, is_named, is_whole, suits, wanted_text}

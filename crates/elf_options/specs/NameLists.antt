@@ -1,10 +1,10 @@
 -- The names of a list, which has one a line.
-use Rattle.std.specs.Prelude.{ℕ, Bool, true, ◌≡◌, ◌≤◌, ◌<◌, ◌+◌, ◌==◌, ⊤, nat_lt, List, [], ◌++◌, length, filter, All, Option, None, Some, Result, Ok, Err}
+use Rattle.std.specs.Prelude.{ℕ, Bool, true, ◌≡◌, ◌≤◌, ◌<◌, ◌+◌, ◌==◌, ⊤, nat_lt, List, [], length, filter, All, Option, None, Some, Result, Ok, Err}
 use Rattle.std.specs.Borrow.{Bor}
 use Rattle.std.specs.List.{slice_split}
 use Rattle.elf_model.specs.Prelude.{IsWanted, is_complete, parse_query}
 use Rattle.elf_options.specs.declared.names_fault.NamesFault.{NamesFault}
-use Rattle.elf_options.specs.declared.names_fault.NamesFault.TheVariants.{Read, TooLarge, BadName, NoNames, Memory}
+use Rattle.elf_options.specs.declared.names_fault.NamesFault.TheVariants.{Read, TooLarge, BadName, Memory}
 
 -- the lines of a text: what stands between its newlines, before the first and behind the last
 abbrev pub text_lines : List ℕ → List (List ℕ)
@@ -29,18 +29,12 @@ IsListText file text (Err TooLarge) = 67108864 < length file
 IsListText file text (Err Read) = ⊤
 IsListText file text (Err Memory) = ⊤
 IsListText file text (Err BadName) = ⊥
-IsListText file text (Err NoNames) = ⊥
 
 -- why there are none of some names of a list: one is none that can be looked for, or there is no memory
 abbrev pub IsNoNames : (versions : Bool) → List (List ℕ) → NamesFault → Type 0
 IsNoNames versions names BadName = All (IsRowName versions) names → ⊥
 IsNoNames versions names Memory = ⊤
 IsNoNames versions names _ = ⊥
-
--- why there are none of some words and a list: neither has one, or it is the list's
-abbrev pub AreNoNames : (versions : Bool) → (words listed : List (List ℕ)) → NamesFault → Type 0
-AreNoNames versions words listed NoNames = words ++ listed ≡ []
-AreNoNames versions words listed fault = IsNoNames versions listed fault
 
 -- the lines of what is left of a text; where none is left there is none
 abbrev pub after_lines : Option (Bor (List ℕ)) → List (List ℕ)

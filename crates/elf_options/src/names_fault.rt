@@ -9,8 +9,6 @@ pub enum NamesFault {
     TooLarge,
     /// A line of the list is no name that can be looked for.
     BadName,
-    /// Neither the words nor the list have a name.
-    NoNames,
     /// There was no memory.
     Memory,
 }

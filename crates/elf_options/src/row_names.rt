@@ -1,10 +1,10 @@
 //! The names of words and of a list together.
-ghost use Rattle.std.specs.Prelude.{◌≡◌, ◌<◌, ◌++◌, ◌∷◌, [], length, All, IfErr, IfOk, true, false};
+ghost use Rattle.std.specs.Prelude.{◌≡◌, ◌++◌, ◌∷◌, [], All, IfErr, IfOk, true, false};
 ghost use Rattle.std.specs.Prelude.{is_some};
 ghost use Rattle.std.specs.List.Sorted.{IsPermutation};
 ghost use Rattle.elf_model.specs.Names.{nul_in};
 ghost use Rattle.elf_options.specs.Names.{NeverDescend, texts_of};
-ghost use Rattle.elf_options.specs.NameLists.{AreNoNames, IsNoNames, IsRowName, listed_names, line_names};
+ghost use Rattle.elf_options.specs.NameLists.{IsNoNames, IsRowName, listed_names, line_names};
 ghost use Rattle.elf_options.specs.declared.names_fault.NamesFault.TheVariants.{Memory};
 
 use crate::list_lines::first_line;
@@ -23,7 +23,7 @@ const MOST_BYTES: usize = 4_096;
 ///
 /// # Errors
 /// `BadName` where a line of the list can't be looked for ([`is_valid_row_name`], by whether a name may have a
-/// version); `NoNames` if there is no name; `Memory` where there is none for the names.
+/// version); `Memory` where there is none for the names.
 pub fn gather_names<'a>(
     alloc: Global,
     words: &[&'a str],
@@ -34,16 +34,11 @@ pub fn gather_names<'a>(
         IsPermutation (texts_of words.now ++ listed_names list.now) (texts_of names.items)) }
     ensures sorted { IfOk result (λ names. NeverDescend names.items) }
     ensures each { IfOk result (λ _. All (IsRowName versions) (listed_names list.now)) }
-    ensures some { IfOk result (λ names. 0 < length names.items) }
-    ensures refused { IfErr result
-        (AreNoNames versions (texts_of words.now) (listed_names list.now)) }
+    ensures refused { IfErr result (IsNoNames versions (listed_names list.now)) }
 {
     let mut names = Vec::new(alloc);
     push_words(&mut names, words)?;
     push_lines(&mut names, list, versions)?;
-    if names.is_empty() {
-        return Err(NamesFault::NoNames);
-    }
     sort_strings(&mut names);
     Ok(names)
 }
