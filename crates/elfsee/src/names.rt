@@ -1,5 +1,5 @@
 //! The names of which the rows are shown, and the listing of a file by them.
-ghost use Rattle.std.specs.Prelude.{◌≡◌, ◌<◌, ◌++◌, [], length, IfErr, IfOk};
+ghost use Rattle.std.specs.Prelude.{◌≡◌, ◌++◌, [], IfErr, IfOk};
 ghost use Rattle.std.specs.List.Sorted.{IsPermutation};
 ghost use Rattle.elf_options.specs.Prelude.{NeverDescend, listed_names, texts_of};
 ghost use Rattle.elfsee.specs.Naming.{EndsNames, EndsWithoutNames, ShowsRowsOf};
@@ -64,7 +64,7 @@ pub fn read_list<R: Files>(rt: &R, asked: &NameArgs<'_>, text: &mut Vec<u8>) -> 
 /// of their bytes.
 ///
 /// # Errors
-/// A line of the list can't be looked for, there is no name, or there is no memory for the names.
+/// A line of the list can't be looked for, or there is no memory for the names.
 pub fn sorted_names<'a>(
     alloc: Global,
     asked: &NameArgs<'a>,
@@ -74,7 +74,6 @@ pub fn sorted_names<'a>(
         IsPermutation (texts_of asked.now.names.items ++ listed_names text.now)
         (texts_of names.items)) }
     ensures sorted { IfOk result (λ names. NeverDescend names.items) }
-    ensures some { IfOk result (λ names. 0 < length names.items) }
     ensures refused { IfErr result (λ ending. EndsWithoutNames ending.0 ending.1.now) }
 {
     match gather_names(alloc, &asked.names, text, asked.versions) {
@@ -110,7 +109,6 @@ fn lacking(fault: NamesFault) -> ExitLine
         NamesFault::Read => (2, "elfsee: cannot read names"),
         NamesFault::TooLarge => (2, "elfsee: names too large"),
         NamesFault::BadName => (2, "elfsee: bad name"),
-        NamesFault::NoNames => (2, "elfsee: no names"),
         NamesFault::Memory => OUT_OF_MEMORY,
     }
 }
