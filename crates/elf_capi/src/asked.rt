@@ -25,7 +25,7 @@ const NO_FLAGS: u16 = 0xffe2;
 /// None where there are fewer bytes than these, where one behind them is not 0, for a flag that is not
 /// known, for versions behind names without those of the GNU system, and for a part that such a listing
 /// has not.
-pub fn listing_of(asked: &[u8]) -> Option<CallerListing<'static>>
+pub fn caller_listing_of(asked: &[u8]) -> Option<CallerListing<'static>>
     ensures { GivesListing asked.now None result }
 {
     if asked.len() < KNOWN_BYTES || !are_zeros(&asked[KNOWN_BYTES..]) {
@@ -54,7 +54,7 @@ pub fn listing_of(asked: &[u8]) -> Option<CallerListing<'static>>
 pub fn named_listing_of<'n>(asked: &[u8], names: &'n [&'n [u8]]) -> Option<CallerListing<'n>>
     ensures { GivesListing asked.now (Some names.now) result }
 {
-    let every = listing_of(asked)?;
+    let every = caller_listing_of(asked)?;
     if !is_chosen_part(every.parts) {
         return None;
     }

@@ -35,7 +35,7 @@ pub fn budget_of(limits: &CallerLimits) -> Option<u64>
 
 /// What the limits permit with so many bytes of room: no more headers than the room holds. None where
 /// the number of headers is not permitted, or the room holds no header.
-pub fn limits_of(limits: &CallerLimits, room: usize) -> Option<elf_table::Limits>
+pub fn checked_limits(limits: &CallerLimits, room: usize) -> Option<elf_table::Limits>
     ensures { GivesLimits limits.now room result }
 {
     let given = elf_table::Limits::new(limits.headers, budget_of(limits))?;
@@ -52,6 +52,6 @@ pub fn caps_of<'n>(
     ensures { GivesCaps limits.now room listing.entry result }
 {
     let style = listing.style(NameLimit::new(limits.name)?);
-    let limits = limits_of(limits, room)?;
+    let limits = checked_limits(limits, room)?;
     Some(Caps { limits, style })
 }

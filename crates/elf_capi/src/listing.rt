@@ -20,7 +20,7 @@ pub struct CallOutcome {
 
 /// Lists a file to the front of some memory, and answers how many bytes were written. The store has a
 /// slot for each header that the caps permit.
-pub fn list(
+pub fn write_listing(
     file: &[u8],
     store: &mut HeaderStore,
     caps: Caps,

@@ -214,7 +214,7 @@ fn program<'a>(alloc: Global) -> Result<Command<'a>, AllocError>
 ///
 /// # Errors
 /// There is no memory for it; nothing of it is left then.
-pub fn show<'a>(alloc: Global, parts: &'a [&'a str]) -> Result<Command<'a>, AllocError>
+pub fn show_command<'a>(alloc: Global, parts: &'a [&'a str]) -> Result<Command<'a>, AllocError>
     ensures { IfOk result (IsBuilt (show_command parts.entry)) }
 {
     clap_command_of(alloc, &SHOW, ValueParser::Names(parts))
@@ -224,7 +224,7 @@ pub fn show<'a>(alloc: Global, parts: &'a [&'a str]) -> Result<Command<'a>, Allo
 ///
 /// # Errors
 /// There is no memory for it; nothing of it is left then.
-pub fn sample<'a>(alloc: Global, parts: &'a [&'a str]) -> Result<Command<'a>, AllocError>
+pub fn sample_command<'a>(alloc: Global, parts: &'a [&'a str]) -> Result<Command<'a>, AllocError>
     ensures { IfOk result (IsBuilt (sample_command parts.entry)) }
 {
     clap_command_of(alloc, &SAMPLE, ValueParser::Names(parts))
@@ -234,7 +234,7 @@ pub fn sample<'a>(alloc: Global, parts: &'a [&'a str]) -> Result<Command<'a>, Al
 ///
 /// # Errors
 /// There is no memory for it; nothing of it is left then.
-pub fn find<'a>(alloc: Global) -> Result<Command<'a>, AllocError>
+pub fn find_command<'a>(alloc: Global) -> Result<Command<'a>, AllocError>
     ensures { IfOk result (IsBuilt find_command) }
 {
     clap_command_of(alloc, &FIND, ValueParser::Names(&[]))
@@ -244,7 +244,7 @@ pub fn find<'a>(alloc: Global) -> Result<Command<'a>, AllocError>
 ///
 /// # Errors
 /// There is no memory for it; nothing of it is left then.
-pub fn check<'a>(alloc: Global, parts: &'a [&'a str]) -> Result<Command<'a>, AllocError>
+pub fn check_command<'a>(alloc: Global, parts: &'a [&'a str]) -> Result<Command<'a>, AllocError>
     ensures { IfOk result (IsBuilt (check_command parts.entry)) }
 {
     clap_command_of(alloc, &CHECK, ValueParser::Names(parts))
@@ -254,7 +254,7 @@ pub fn check<'a>(alloc: Global, parts: &'a [&'a str]) -> Result<Command<'a>, All
 ///
 /// # Errors
 /// There is no memory for it; nothing of it is left then.
-pub fn list<'a>(alloc: Global, parts: &'a [&'a str]) -> Result<Command<'a>, AllocError>
+pub fn list_command<'a>(alloc: Global, parts: &'a [&'a str]) -> Result<Command<'a>, AllocError>
     ensures { IfOk result (IsBuilt (list_command parts.entry)) }
 {
     clap_command_of(alloc, &LIST_FILES, ValueParser::Names(parts))
@@ -264,7 +264,7 @@ pub fn list<'a>(alloc: Global, parts: &'a [&'a str]) -> Result<Command<'a>, Allo
 ///
 /// # Errors
 /// There is no memory for it; nothing of it is left then.
-pub fn traits<'a>(alloc: Global) -> Result<Command<'a>, AllocError>
+pub fn traits_command<'a>(alloc: Global) -> Result<Command<'a>, AllocError>
     ensures { IfOk result (IsBuilt traits_command) }
 {
     clap_command_of(alloc, &TRAITS, ValueParser::Names(&[]))
@@ -274,7 +274,7 @@ pub fn traits<'a>(alloc: Global) -> Result<Command<'a>, AllocError>
 ///
 /// # Errors
 /// There is no memory for it; nothing of it is left then.
-pub fn needs<'a>(alloc: Global) -> Result<Command<'a>, AllocError>
+pub fn needs_command<'a>(alloc: Global) -> Result<Command<'a>, AllocError>
     ensures { IfOk result (IsBuilt needs_command) }
 {
     clap_command_of(alloc, &NEEDS, ValueParser::Names(&[]))
@@ -284,7 +284,7 @@ pub fn needs<'a>(alloc: Global) -> Result<Command<'a>, AllocError>
 ///
 /// # Errors
 /// There is no memory for it; nothing of it is left then.
-pub fn archive<'a>(alloc: Global, parts: &'a [&'a str]) -> Result<Command<'a>, AllocError>
+pub fn archive_command<'a>(alloc: Global, parts: &'a [&'a str]) -> Result<Command<'a>, AllocError>
     ensures { IfOk result (IsBuilt (archive_command parts.entry)) }
 {
     clap_command_of(alloc, &ARCHIVE, ValueParser::Names(parts))

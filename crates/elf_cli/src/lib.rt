@@ -23,7 +23,10 @@ mod row_names;
 mod texts;
 mod version;
 
-pub use commands::{archive, check, command_line, find, list, needs, sample, show, traits};
+pub use commands::{
+    archive_command, check_command, command_line, find_command, list_command, needs_command,
+    sample_command, show_command, traits_command,
+};
 pub use exit_lines::{CANNOT_OPEN, ExitLine, OUT_OF_MEMORY, READ_FAULT, exit, outcome};
 pub use faults::RequestFault;
 pub use files::open;

@@ -4,7 +4,10 @@ ghost use Rattle.clap.specs.Values.{kind_of};
 ghost use Rattle.clap.specs.declared.error.kind.ErrorKind.TheVariants.{Format};
 ghost use Rattle.elf_cli.specs.Faults.{IsUnasked};
 
-use crate::commands::{archive, check, find, list, sample, show, traits};
+use crate::commands::{
+    archive_command, check_command, find_command, list_command, sample_command, show_command,
+    traits_command,
+};
 use crate::faults::RequestFault;
 use crate::option_values::{find_without_gnu, has_gnu_option, text_of, versions_without_gnu};
 use crate::parser::{MEMBER_PARTS, PARTS};
@@ -90,12 +93,12 @@ fn gnu_option_is_missing(options: &ArgMatches<'_>) -> bool {
 fn named<'a>(alloc: Global, command: &str) -> Result<Command<'a>, AllocError> {
     let parts = PARTS.as_slice();
     match command {
-        "find" => find(alloc)?.bin_name("elfsee find"),
-        "sample" => sample(alloc, parts)?.bin_name("elfsee sample"),
-        "check" => check(alloc, parts)?.bin_name("elfsee check"),
-        "list" => list(alloc, parts)?.bin_name("elfsee list"),
-        "traits" => traits(alloc)?.bin_name("elfsee traits"),
-        "archive" => archive(alloc, MEMBER_PARTS.as_slice())?.bin_name("elfsee archive"),
-        _ => show(alloc, parts)?.bin_name("elfsee show"),
+        "find" => find_command(alloc)?.bin_name("elfsee find"),
+        "sample" => sample_command(alloc, parts)?.bin_name("elfsee sample"),
+        "check" => check_command(alloc, parts)?.bin_name("elfsee check"),
+        "list" => list_command(alloc, parts)?.bin_name("elfsee list"),
+        "traits" => traits_command(alloc)?.bin_name("elfsee traits"),
+        "archive" => archive_command(alloc, MEMBER_PARTS.as_slice())?.bin_name("elfsee archive"),
+        _ => show_command(alloc, parts)?.bin_name("elfsee show"),
     }
 }

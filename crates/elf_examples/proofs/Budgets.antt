@@ -1,4 +1,5 @@
--- What a budget allows, by the number of lines and the offset of the read; and what is shown, by what a budget allows.
+-- What a budget allows, by the number of lines and the offset of the read; and what is shown, by
+-- what a budget allows.
 use Rattle.elf_model.specs.Prelude.{Answer, IsBudgetRefusal, IsBudgeted, IsCut, IsShown, ListingItem, fault_of, items, lines_of, refusal_line, report, report_fault, show_answer, standard, status_of}
 use Rattle.elf_model.specs.declared.formats.Format.TheVariants.{Columns}
 use Rattle.elf_model.specs.declared.causes.Refusal.{Refusal}
@@ -63,7 +64,7 @@ pub nothing_else : NothingElseIsAllowed
 nothing_else file headers cap parts text fault =
     (λ is. (is.text_is, is.fault_is), λ budget is. allowed file headers cap parts budget text fault is)
 
--- an answer by its text and the fault that it answers
+-- a result by its text and the fault that it returns
 abbrev answer_by : List ℕ → Option Refusal → Answer
 answer_by text fault = record { text = text; status = status_of fault }
 
@@ -78,7 +79,7 @@ pub allowed_shown : (budget : Option ℕ) (file : List ℕ) (headers cap parts :
     → IsBudgeted budget file headers (standard cap) parts text fault → IsShown budget file headers (standard cap) parts (answer_by text fault)
 allowed_shown budget file headers cap parts text fault is = record { fault = fault; listed = is; status_is = refl }
 
--- what is shown a budget allows, and its status is that of its fault
+-- what is shown is allowed by a budget, and its status is that of its fault
 abbrev Allowed : Option ℕ → List ℕ → ℕ → ℕ → ℕ → Answer → Type 0
 Allowed budget file headers cap parts answer =
     (fault : Option Refusal) × IsBudgeted budget file headers (standard cap) parts answer.text fault × (answer.status ≡ status_of fault)
@@ -103,7 +104,7 @@ answers_shown file headers cap parts = (
       (after_cut file headers cap parts budget count at text ends),
 )
 
--- an answer with the status of its fault
+-- a result with the status of its fault
 answered : (answer : Answer) (fault : Option Refusal) → answer.status ≡ status_of fault → answer ≡ answer_by answer.text fault
 answered answer fault status = ap (λ s. record { text = answer.text; status = s }) status
 
@@ -113,7 +114,7 @@ shown_whole : (file : List ℕ) (headers cap parts : ℕ) (answer : Answer) (fau
 shown_whole file headers cap parts answer fault status is =
     answered answer fault status ∙ whole_answer file headers cap parts answer.text fault is.0 is.1
 
--- an answer that is cut short
+-- a result that is cut short
 abbrev pub EndsEarly : List ℕ → ℕ → ℕ → ℕ → ℕ → Answer → Type 0
 EndsEarly file headers cap parts budget answer =
     (answer.status ≡ 1) × ((count : ℕ) × (at : ℕ) × EndsAfter file headers cap parts budget count at answer.text)

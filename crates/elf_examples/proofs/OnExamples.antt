@@ -1,4 +1,4 @@
--- What opens the words of the examples, beside those of the definitions.
+-- What unfolds the words of the examples, besides those of the definitions.
 use Rattle.elf_model.specs.Checking.{file_status_name, check_front, unnamed_line}
 use Rattle.elf_examples.specs.ListedOrder.{with_counts, every_table}
 

@@ -1,4 +1,4 @@
--- What opens the words of the examples, beside those of the definitions.
+-- What unfolds the words of the examples, besides those of the definitions.
 use Rattle.elf_examples.specs.Prelude.{counting, note_head, places_as_bytes}
 
 unfoldable pub on_examples : Unit {0}

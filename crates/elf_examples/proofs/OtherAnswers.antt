@@ -1,4 +1,4 @@
--- Answers that are not shown, one by one.
+-- Results that are not shown, one by one.
 use Rattle.std.proofs.Common.{◌≡◌, ◌<◌, ◌⊎◌, ℕ, List, [], length, None, Some, refl, ap, sym, inl, inr, arith}
 use Rattle.elf_model.specs.Prelude.{ALL, Answer, HEADER, one_symbol_table, report, show_answer}
 use Rattle.elf_model.proofs.OnLiterals.{on_literals}
@@ -6,11 +6,11 @@ use Rattle.elf_examples.specs.ListedBudgets.{EndsAfter, OtherAnswersAreNotShown,
 use Rattle.elf_examples.proofs.Budgets.{EndsEarly, answers_shown, nothing_shown}
 use Rattle.elf_examples.proofs.OtherTexts.{clash, same_byte}
 
--- an answer about one symbol table
+-- a result for one symbol table
 abbrev answer : List ℕ → ℕ → Answer
 answer text status = record { text = text; status = status }
 
--- what is shown within a budget, or without one, is the whole answer or ends early
+-- what is shown within a budget, or without one, is the whole result or ends early
 abbrev IsWhole : ℕ → List ℕ → ℕ → Type 0
 IsWhole parts text status = answer text status ≡ show_answer one_symbol_table 3 63 parts
 
@@ -21,7 +21,7 @@ within : (budget parts : ℕ) (text : List ℕ) (status : ℕ) → ShowsWithin (
     → IsWhole parts text status ⊎ EndsEarly one_symbol_table 3 63 parts budget (answer text status)
 within budget parts text status shown = (nothing_shown one_symbol_table 3 63 parts (answer text status)).1 budget shown
 
--- the whole answers have status 0, and these lengths
+-- the whole results have status 0, and these lengths
 whole_status : (text : List ℕ) → (IsWhole ALL text 1 → ⊥) × (IsWhole HEADER text 1 → ⊥)
 unfolding on_literals
 whole_status text = (λ is. clash 0 1 (omega arith) (sym (ap (λ a. a.status) is)), λ is. clash 0 1 (omega arith) (sym (ap (λ a. a.status) is)))

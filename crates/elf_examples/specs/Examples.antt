@@ -1,4 +1,4 @@
--- Worked examples: what the definitions give for files that are written out.
+-- Worked examples: the results of the definitions for files given byte by byte.
 use Rattle.std.specs.Prelude.{◌≡◌, codes}
 use Rattle.elf_model.specs.Prelude.{HEADER, bare_header, file_header_items, one_symbol_table, report_of}
 use Rattle.elf_model.specs.declared.formats.Format.TheVariants.{Columns}

@@ -4,12 +4,12 @@ use Rattle.elf_model.specs.Prelude.{find_answer, hash_file, hash_with_cycle, has
 use Rattle.elf_model.specs.declared.formats.Format.TheVariants.{Columns, Object}
 use Rattle.elf_examples.specs.ExamplesHash.{hash_comes_last}
 
--- the answer of a lookup
+-- the result of a lookup
 abbrev pub LookupGives : List ℕ → List ℕ → List ℕ → ℕ → Type 0
 LookupGives file wanted text status = find_answer Columns file 4 wanted ≡ record { text = text; status = status }
 
--- names that are found, also where the index of the symbol is not the number of names compared, and in a section of symbols
--- that is the first
+-- names that are found, also if the index of the symbol is not the number of names compared, and in
+-- a section of symbols that is the first
 abbrev pub FoundIsWritten : Type 0
 FoundIsWritten =
     LookupGives hash_with_cycle (codes "a")
@@ -25,7 +25,7 @@ FoundIsWritten =
 abbrev pub AbsentIsWritten : Type 0
 AbsentIsWritten = LookupGives hash_with_end (codes "c") (codes "F absent          2\n") 1
 
--- what is refused, also a file with more headers than are permitted
+-- what is refused, also a file with more headers than are allowed
 abbrev pub RefusalIsWritten : Type 0
 RefusalIsWritten =
     LookupGives hash_with_cycle (codes "c") (codes "! 0000000000000048 hash-cycle\n") 1

@@ -4,7 +4,7 @@ use Rattle.elf_model.specs.Prelude.{Layout, applied, apply_answer, defined_layou
 use Rattle.elf_model.specs.declared.causes.Cause.TheVariants.{BadLink, EntrySize, NameOutside, NotRel, Overflow, PlaceOutside, SymbolIndex, TableOutside, Undefined, Unplaced, Unsupported}
 use Rattle.elf_model.specs.declared.causes.Cause.{Cause}
 
--- the bytes of section 1 with its relocations applied, with five headers permitted
+-- the bytes of section 1 with its relocations applied, with five headers allowed
 abbrev pub WritesSection : List ℕ → Layout → List ℕ → Type 0
 WritesSection file layout bytes = applied file 5 1 layout ≡ Ok bytes
 
@@ -16,7 +16,7 @@ RefusesSection section file layout at cause = applied file 5 section layout ≡ 
 abbrev pub RefusesToApply : List ℕ → Layout → ℕ → Cause → Type 0
 RefusesToApply file layout at cause = RefusesSection 1 file layout at cause
 
--- of two entries that overlap the later one stands
+-- of two entries that overlap the later one wins
 abbrev pub LaterStands : Type 0
 LaterStands =
     WritesSection overlapping_relocations empty_layout (0x44 ∷ 0x33 ∷ 0xff ∷ 0xff ∷ zeros 4)
@@ -36,7 +36,8 @@ abbrev pub EitherOrderIsApplied : Type 0
 EitherOrderIsApplied =
     WritesSection rising_relocations empty_layout FourEntries × WritesSection falling_relocations empty_layout FourEntries
 
--- a call goes to the procedure linkage table entry, else to the definition, else to 0 where the symbol is weak
+-- a call goes to the procedure linkage table entry, otherwise to the definition, otherwise to 0 if
+-- the symbol is weak
 abbrev pub CallIsApplied : Type 0
 CallIsApplied =
     WritesSection one_call entry_layout (0xe8 ∷ 0xfb ∷ 0x0f ∷ 0 ∷ 0 ∷ [])
@@ -56,7 +57,8 @@ CallIsRefused =
     × RefusesToApply (with_entries_header 40 (little 4 5) ++ section_header 2 0 0x60 0x30 4 1 0 24) entry_layout 0x48 BadLink
     × RefusesToApply (with_symbol 0 (little 4 3)) entry_layout 0x78 NameOutside
 
--- a symbol's value: its own where it is absolute, the section's address and its own where it has a section
+-- a symbol's value: its own if it is absolute, the section's address and its own if it has a
+-- section
 abbrev pub SymbolsAreValued : Type 0
 SymbolsAreValued =
     WritesSection (with_symbol 6 (little 2 0xfff1 ++ little 8 0x3000)) placed_layout (0xe8 ∷ 0xfb ∷ 0x1f ∷ 0 ∷ 0 ∷ [])
@@ -72,7 +74,8 @@ NothingIsChecked =
     × WritesSection (relocated (1 ∷ zeros 7) (relocation 0 10 0)) empty_layout (zeros 8)
     × WritesSection (with_bytes 0x54 (little 4 0) (with_entries_header 40 (little 4 9))) placed_layout (0xe8 ∷ 0xfb ∷ 0xef ∷ 0xff ∷ 0xff ∷ [])
 
--- what the request is refused for, in this order; section 0 is refused by itself, and the last section is not
+-- what the request is refused for, in this order; section 0 is refused by itself, and the last
+-- section is not
 abbrev pub RequestInOrder : Type 0
 RequestInOrder =
     RefusesSection 0 (with_bytes 16 (little 2 3 ++ little 2 183) one_call) empty_layout 0x10 NotRel
@@ -82,7 +85,7 @@ RequestInOrder =
     × (applied one_call 5 4 empty_layout ≡ Ok (0 ∷ 102 ∷ 0 ∷ []))
     × RefusesToApply (with_bytes 0xf0 (little 8 0x1000) one_call) empty_layout 0xd8 TableOutside
 
--- a section without bytes in the file is empty, wherever it is to stand; those of other types have bytes
+-- a section without bytes in the file is empty, at any offset; those of other types have bytes
 abbrev pub NoBytesAreApplied : Type 0
 NoBytesAreApplied =
     (applied (with_bytes 0xdc (little 4 8) (with_bytes 0xf0 (little 8 0x1000) (with_entries_header 44 (little 4 2)))) 5 1 empty_layout ≡ Ok [])
@@ -90,7 +93,7 @@ NoBytesAreApplied =
     × WritesSection (with_bytes 0xdc (little 4 14) one_call) entry_layout (0xe8 ∷ 0xfb ∷ 0x0f ∷ 0 ∷ 0 ∷ [])
     × WritesSection (with_bytes 0xdc (little 4 7) one_call) entry_layout (0xe8 ∷ 0xfb ∷ 0x0f ∷ 0 ∷ 0 ∷ [])
 
--- a link of 0 from relocation entries counts, where section 0 is a symbol table
+-- a link of 0 from relocation entries counts, if section 0 is a symbol table
 abbrev pub LinkZeroCounts : Type 0
 LinkZeroCounts =
     WritesSection linked_to_zero entry_layout (0xe8 ∷ 0xfb ∷ 0x0f ∷ 0 ∷ 0 ∷ [])
@@ -114,7 +117,7 @@ FaultsInterleave =
     × RefusesToApply (two_relocation_sections 10 23) empty_layout 0x138 EntrySize
     × WritesSection (two_relocation_sections 10 24) empty_layout (2 ∷ zeros 7)
 
--- a name is looked at only where the layout has names to compare it with
+-- a name is read only if the layout has names to compare it with
 abbrev pub NamesAreLookedAtLate : Type 0
 NamesAreLookedAtLate =
     RefusesToApply (with_symbol 0 (little 4 0xffffffff)) placed_layout 0x48 Undefined
@@ -127,7 +130,8 @@ WeakCommonIsUndefined =
     RefusesToApply (with_symbol 4 (little 1 0x20 ++ zeros 1 ++ little 2 0xfff2)) placed_layout 0x48 Undefined
     × WritesSection (with_symbol 4 (little 1 0x20 ++ zeros 1 ++ little 2 0xfff2)) defined_layout (0xe8 ∷ 0xfb ∷ 0x1f ∷ 0 ∷ 0 ∷ [])
 
--- a symbol without a definition is refused at the entry, whatever the type, also in a section without an address
+-- a symbol without a definition is refused at the entry, for any type, also in a section without an
+-- address
 abbrev pub UndefinedBeforeUnplaced : Type 0
 UndefinedBeforeUnplaced =
     RefusesToApply one_call empty_layout 0x48 Undefined
@@ -136,7 +140,8 @@ UndefinedBeforeUnplaced =
     × RefusesToApply (with_bytes 0x50 (little 4 10) one_call) placed_layout 0x48 Undefined
     × RefusesToApply (with_bytes 0x50 (little 4 10) (with_symbol 6 (little 2 2))) placed_layout 0x48 Unplaced
 
--- the text and the status of `apply`: relocations applied, and refused, also a file with more headers than are permitted
+-- the text and the status of `apply`: relocations applied, and refused, also a file with more
+-- headers than are allowed
 abbrev pub AppliedIsWritten : Type 0
 AppliedIsWritten =
     (apply_answer overlapping_relocations 3 1 empty_layout

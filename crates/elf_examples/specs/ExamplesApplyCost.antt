@@ -8,8 +8,8 @@ CostsOfWindows =
     (apply_cost overlapping_relocations 3 1 empty_layout ≡ 456) × (apply_cost one_call 5 1 entry_layout ≡ 613)
     × (apply_cost one_call 5 1 full_layout ≡ 741)
 
--- names that are searched for cost the longest of each sort, in whole pieces of 64 bytes with its NUL: of 63 bytes one, of 64 two.
--- Compared, each costs its own
+-- names that are searched for cost the longest of each kind, in pieces of 64 bytes with its NUL: of
+-- 63 bytes one, of 64 two. Compared, each costs its own
 abbrev pub CostsOfNames : Type 0
 CostsOfNames =
     let definitions : List (List ℕ × ℕ) = (replicate 63 97, 1) ∷ (codes "f", 2) ∷ (codes "g", 3) ∷ [] in
@@ -26,8 +26,8 @@ CostsOfLastWindows =
     × (apply_cost (relocated (zeros 128) (relocation 0 14 1)) 3 1 empty_layout ≡ 64 + 192 + (1 + 2) * 48 + 128)
     × (apply_cost (relocated (zeros 129) (relocation 0 14 1)) 3 1 empty_layout ≡ 64 + 192 + (1 + 3) * 48 + 129)
 
--- in order one pass applies all entries; else each window of 64 bytes takes one, also where an offset falls by 1. With fewer
--- headers permitted than there are the file header alone is asked for
+-- in order one pass applies all entries; otherwise each window of 64 bytes takes one, also if an
+-- offset decreases by 1. With fewer headers allowed than there are, only the file header is read
 abbrev pub CostsByOrder : Type 0
 CostsByOrder =
     (apply_cost_by_order rising_relocations 3 1 empty_layout ≡ 768)
@@ -46,7 +46,8 @@ EntriesThatCount =
     × (apply_cost (two_relocation_sections 9 23) 4 1 empty_layout ≡ 64 + 256 + 2 * 1 * 48 + 8)
     × (apply_cost (two_relocation_sections 9 24) 4 1 empty_layout ≡ 64 + 256 + 2 * 2 * 48 + 8)
 
--- an entry that changes nothing has no part in the order, whatever its symbol is, and those behind it have theirs
+-- an entry that changes nothing has no part in the order, for any symbol, and those after it have
+-- theirs
 abbrev pub OrderLeavesOutNone : Type 0
 OrderLeavesOutNone =
     (offsets_never_fall (relocated (zeros 8) (relocation 4 10 0 ++ relocation 0 0 0 ++ relocation 4 12 0)) 1 ≡ true)
@@ -55,9 +56,9 @@ OrderLeavesOutNone =
     × (offsets_never_fall (relocated (zeros 8) (relocation 4 10 0 ++ relocation 0 10 0)) 1 ≡ false)
     × (offsets_never_fall (relocated (zeros 8) (relocation 4 12 0 ++ relocation 3 12 0)) 1 ≡ false)
 
--- what is refused before the entries costs no entries: section 0 and one past the last, also where there are entries for
--- them, a file that is not relocatable or for another machine, a section outside the file; and what is refused before the
--- section headers costs those neither
+-- what is refused before the entries costs no entries: section 0 and one past the last, also if
+-- there are entries for them, a file that is not relocatable or for another machine, a section
+-- outside the file; and what is refused before the section headers does not cost those either
 abbrev pub CostsOfRefusals : Type 0
 CostsOfRefusals =
     (apply_cost one_call 5 0 entry_layout ≡ 64 + 320)

@@ -2,7 +2,8 @@
 use Rattle.std.specs.Prelude.{◌≡◌, [], ◌++◌, None, Some}
 use Rattle.elf_model.specs.Prelude.{dynamic_count, dynamic_value, listed_value, repeated_tags, tagged, zeros}
 
--- the entries up to and with the first DT_NULL are listed, also where it is not at the table's start in the file
+-- the entries up to and with the first DT_NULL are listed, also if it is not at the table's start
+-- in the file
 abbrev pub DynamicEndsAtNull : Type 0
 DynamicEndsAtNull =
     (dynamic_count (tagged 1 1 ++ tagged 0 0 ++ tagged 1 99) 0 3 ≡ 2)

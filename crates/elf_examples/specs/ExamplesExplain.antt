@@ -1,4 +1,4 @@
--- Worked examples of what a layout lacks where the entry of a call, at 0x48, is refused.
+-- Worked examples of what a layout lacks if the entry of a call, at 0x48, is refused.
 use Rattle.std.specs.Prelude.{◌≡◌, ◌+◌, ℕ, List, [], ◌∷◌, ◌++◌, Option, None, Some, Ok, codes, replicate}
 use Rattle.elf_model.specs.Prelude.{Cut, Layout, empty_layout, explained, explanation, little, missing, missing_line, one_call, placed_layout, refused_in, resolved_symbol_name, two_relocation_sections, with_bytes, with_symbol}
 use Rattle.elf_model.specs.declared.causes.Cause.{Cause}
@@ -9,11 +9,12 @@ use Rattle.elf_model.specs.declared.missing.LayoutAddress.TheVariants.{Named, Pl
 use Rattle.elf_model.specs.declared.causes.Cause.TheVariants.{Overflow, Undefined, Unplaced, Unsupported}
 use Rattle.elf_model.specs.Names.DisplayedName.{Whole}
 
--- what is missing at the entry of the call in a layout, whose section of entries has its header at 0x118
+-- what is missing at the entry of the call in a layout, whose section of entries has its header at
+-- 0x118
 abbrev pub MissesInCall : List ℕ → Layout → Cause → Option MissingAddress → Type 0
 MissesInCall file layout cause answer = missing file 0x118 layout 1 (record { at = 0x48; cause = cause }) ≡ answer
 
--- a type, a symbol's name and what is wanted
+-- a type, a symbol's name and what is missing
 abbrev pub lacks : ℕ → ℕ → LayoutAddress → Option MissingAddress
 lacks kind name wanted = Some (record { kind = kind; name = name; wanted = wanted })
 
@@ -21,29 +22,29 @@ lacks kind name wanted = Some (record { kind = kind; name = name; wanted = wante
 abbrev pub typed_call : ℕ → List ℕ
 typed_call kind = with_bytes 0x50 (little 4 kind) one_call
 
--- the name where a definition, or an entry of a table, is missing; nothing for want of one for symbol 0
+-- the name if a definition, or an entry of a table, is missing; nothing if symbol 0 lacks one
 abbrev pub NamesAreMissing : Type 0
 NamesAreMissing =
     MissesInCall one_call placed_layout Undefined (lacks 4 1 (Named Linkage))
     × MissesInCall (typed_call 9) placed_layout Unsupported (lacks 9 1 (Named Table))
     × MissesInCall (with_bytes 0x54 (little 4 0) (typed_call 9)) placed_layout Unsupported None
 
--- the section that is relocated, then that of the symbol, where it is one
+-- the section that is relocated, then that of the symbol, if it is one
 abbrev pub SectionsAreMissing : Type 0
 SectionsAreMissing =
     MissesInCall one_call empty_layout Unplaced (lacks 4 1 (Place 1))
     × MissesInCall (with_symbol 6 (little 2 2)) placed_layout Unplaced (lacks 4 1 (Place 2))
     × MissesInCall (with_symbol 6 (little 2 0xff00)) placed_layout Unplaced None
 
--- nothing would help where the type is not applied, or the value is out of range
+-- nothing would help if the type is not applied, or the value is out of range
 abbrev pub NothingIsMissing : Type 0
 NothingIsMissing =
     MissesInCall (typed_call 5) placed_layout Unsupported None
     × MissesInCall one_call placed_layout Overflow None
     × MissesInCall (with_bytes 0x54 (little 4 2) one_call) placed_layout Undefined None
 
--- the first section of entries for a section that has one at an offset: none where it has the offset inside an entry, is for
--- another section, or its checks fail
+-- the first section of entries for a section that has one at an offset: none if the offset is
+-- inside an entry, if it is for another section, or if its checks fail
 abbrev pub SectionsOfEntries : Type 0
 SectionsOfEntries =
     (refused_in (two_relocation_sections 10 24) 1 0x48 ≡ Some 2)
@@ -56,7 +57,8 @@ SectionsOfEntries =
 abbrev pub ExplainsAs : List ℕ → Layout → Cause → List ℕ → Type 0
 ExplainsAs file layout cause line = explanation (explained file 1 layout (record { at = 0x48; cause = cause })) ≡ line
 
--- a definition or an entry of a name, an entry alone, a section; a name that has a fault; nothing is missing
+-- a definition or an entry of a name, an entry alone, a section; a name that has a fault; nothing
+-- is missing
 abbrev pub TellsOfCall : Type 0
 TellsOfCall =
     ExplainsAs one_call placed_layout Undefined (codes "elfsee: PLT32 to f: plt:f=ADDR or def:f=ADDR would help\n")

@@ -1,10 +1,11 @@
--- Worked examples of fields and names: records whose bytes all differ, and each number that has a name.
+-- Worked examples of fields and names: records whose bytes all differ, and each number that has a
+-- name.
 use Rattle.std.specs.Prelude.{◌≡◌, ℕ, false, List, [], ◌∷◌, codes, map}
 use Rattle.elf_model.specs.Prelude.{bindings, cause_word, d_tag, d_un, dynamic_prefix, dynamic_tag_text, e_entry, e_flags, e_machine, e_phentsize, e_phnum, e_phoff, e_shentsize, e_shnum, e_shoff, e_shstrndx, e_type, escaped, file_type_text, header_line, n_descsz, n_namesz, n_type, name_or_number, numbers_from, p_align, p_filesz, p_flags, p_memsz, p_offset, p_paddr, p_type, p_vaddr, places, r_addend, r_info, r_offset, relocation_prefix, relocation_type_text, section_flags_text, section_prefix, section_type_text, segment_flags_text, segment_line, segment_type_text, sh_addr, sh_addralign, sh_entsize, sh_flags, sh_info, sh_link, sh_name, sh_offset, sh_size, sh_type, st_info, st_name, st_other, st_shndx, st_size, st_value, symbol_prefix, symbol_types, visibilities}
 use Rattle.elf_model.specs.declared.causes.Cause.TheVariants.{BadClass, BadData, BadLink, BadVersion, Budget, EntrySize, ExtendedNumbering, HashCycle, HashIndex, HashShape, MemberCut, NameOutside, NameUnended, NoHash, NotArchive, NotElf, NotRel, NotStrings, NoteCut, Overflow, PlaceOutside, Short, SizeNotWhole, SymbolIndex, TableOutside, Thin, TooLong, TooManyHeaders, Undefined, Unmapped, Unplaced, Unsupported, VersionCut, VersionIndex}
 use Rattle.elf_model.specs.declared.formats.Format.TheVariants.{Columns}
 
--- 128 bytes, each of which is its own place
+-- 128 bytes, each of which is its own offset
 unfoldable pub places_as_bytes : List ℕ
 places_as_bytes = numbers_from 0 128
 
@@ -44,7 +45,7 @@ RelocationFieldsStand =
     (relocation_prefix Columns false 62 places_as_bytes 0x40 3).text
     ≡ codes "R     3 4746454443424140 #1263159624 4f4e4d4c +5756555453525150 "
 
--- the fields of a dynamic entry and of a note's head; an entry's index may be wider than its column
+-- the fields of a dynamic entry and of a note header; an entry's index may be wider than its column
 abbrev pub OtherFieldsStand : Type 0
 OtherFieldsStand =
     ((dynamic_prefix Columns false places_as_bytes 0x40 123456).text ≡ codes "D 123456 4746454443424140 4f4e4d4c4b4a4948 ")
@@ -52,7 +53,7 @@ OtherFieldsStand =
     × (n_descsz places_as_bytes 0x40 ≡ 0x47464544)
     × (n_type places_as_bytes 0x40 ≡ 0x4b4a4948)
 
--- each field is as wide as it is, and no wider, also where a line shows fewer digits of it or a name
+-- each field is as wide as it is, and no wider, also if a line shows fewer digits of it or a name
 abbrev pub FieldsHaveWidths : Type 0
 FieldsHaveWidths =
     (map (λ read. read places_as_bytes) (e_type ∷ e_machine ∷ e_entry ∷ e_phoff ∷ e_shoff ∷ e_flags ∷ e_phnum ∷ e_shnum ∷ e_shstrndx ∷ [])
@@ -67,13 +68,13 @@ FieldsHaveWidths =
     × (map (λ read. read places_as_bytes 0x40) (r_offset ∷ r_info ∷ r_addend ∷ d_tag ∷ d_un ∷ [])
     ≡ 0x4746454443424140 ∷ 0x4f4e4d4c4b4a4948 ∷ 0x5756555453525150 ∷ 0x4746454443424140 ∷ 0x4f4e4d4c4b4a4948 ∷ [])
 
--- each file type, and the number behind the last
+-- each file type, and the number after the last
 abbrev pub FileTypesHaveNames : Type 0
 FileTypesHaveNames =
     map file_type_text (numbers_from 0 6)
     ≡ codes "NONE" ∷ codes "REL" ∷ codes "EXEC" ∷ codes "DYN" ∷ codes "CORE" ∷ codes "0005" ∷ []
 
--- each section type, the numbers between them, and the number behind the last
+-- each section type, the numbers between them, and the number after the last
 abbrev pub SectionTypesHaveNames : Type 0
 SectionTypesHaveNames =
     map (section_type_text false 62) (numbers_from 0 20)
@@ -90,7 +91,7 @@ SectionFlagsHaveLetters =
     ≡ [] ∷ codes "W" ∷ codes "A" ∷ codes "X" ∷ codes "?" ∷ codes "M" ∷ codes "S" ∷ codes "I" ∷ codes "L" ∷ codes "O"
     ∷ codes "G" ∷ codes "T" ∷ codes "C" ∷ codes "?" ∷ codes "?" ∷ []
 
--- each segment type, and the number behind the last
+-- each segment type, and the number after the last
 abbrev pub SegmentTypesHaveNames : Type 0
 SegmentTypesHaveNames =
     map (segment_type_text false) (numbers_from 0 9)
@@ -104,7 +105,7 @@ PermissionsHaveLetters =
     ≡ codes "---" ∷ codes "--X" ∷ codes "-W-" ∷ codes "-WX" ∷ codes "R--" ∷ codes "R-X" ∷ codes "RW-" ∷ codes "RWX"
     ∷ codes "---" ∷ []
 
--- the types, bindings, visibilities and places of symbols, each in its column
+-- the types, bindings, visibilities and section indices of symbols, each in its column
 abbrev pub SymbolNumbersHaveNames : Type 0
 SymbolNumbersHaveNames =
     (map (name_or_number (symbol_types false) 7) (numbers_from 0 8)
@@ -126,7 +127,7 @@ RelocationTypesHaveNames =
     × (map (relocation_type_text false 62) (numbers_from 23 3) ≡ codes "#23" ∷ codes "PC64" ∷ codes "#25" ∷ [])
     × (map (relocation_type_text false 61) (numbers_from 0 3) ≡ codes "#0" ∷ codes "#1" ∷ codes "#2" ∷ [])
 
--- each dynamic tag, and the number behind the last
+-- each dynamic tag, and the number after the last
 abbrev pub DynamicTagsHaveNames : Type 0
 DynamicTagsHaveNames =
     map (dynamic_tag_text false) (numbers_from 0 32)
@@ -153,7 +154,7 @@ CausesHaveWords =
     ∷ codes "thin" ∷ codes "not-archive" ∷ codes "member-cut" ∷ codes "version-cut"
     ∷ codes "version-index" ∷ []
 
--- the first and the last printing character and their neighbours, and those of the backslash
+-- the first and the last printing character and their neighbors, and those of the backslash
 abbrev pub BytesAreEscaped : Type 0
 BytesAreEscaped =
     escaped (0 ∷ 0x1f ∷ 0x20 ∷ 0x5b ∷ 0x5c ∷ 0x5d ∷ 0x7e ∷ 0x7f ∷ 0xff ∷ []) ≡ codes "\\x00\\x1f [\\\\]~\\x7f\\xff"

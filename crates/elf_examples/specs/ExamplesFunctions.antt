@@ -1,4 +1,5 @@
--- Worked examples of symbols whose type is specific to the system, indirect functions first, and of sections that are compressed.
+-- Worked examples of symbols whose type is specific to the system, indirect functions first, and of
+-- compressed sections.
 use Rattle.std.specs.Prelude.{◌≡◌, ℕ, ◌++◌, ◌+◌, List, [], ◌∷◌, codes, None}
 use Rattle.elf_model.specs.Prelude.{Compared, Layout, Searched, apply_cost, defined_layout, empty_layout, entry_layout, full_layout, little, one_call, placed_layout, table_layout, unplaced_layout, with_bytes, with_entries_header, with_symbol, zeros}
 use Rattle.elf_model.specs.declared.causes.Cause.TheVariants.{BadLink, NameOutside, NotRel, Overflow, PlaceOutside, Undefined, Unplaced, Unsupported}
@@ -15,12 +16,13 @@ symbol_of type index value = little 1 (0x10 + type) ++ zeros 1 ++ little 2 index
 abbrev pub call_of : ℕ → ℕ → List ℕ
 call_of type kind = with_bytes 0x50 (little 4 kind) (with_symbol 4 (symbol_of type 1 0x30))
 
--- the same where the entry relocates the eight bytes of its section
+-- the same if the entry relocates the eight bytes of its section
 abbrev pub eight_of : ℕ → ℕ → List ℕ
 eight_of type kind = with_bytes 0x48 (little 8 0 ++ little 4 kind) (with_bytes 0xf8 (little 8 8) (with_symbol 4 (symbol_of type 1 0x30)))
 
--- calls and pointers to an indirect function go to its procedure linkage table entry: R_X86_64_PC32, PLT32, 32, 32S, 16, 64
--- and PC64; where its value is absolute, or its section has no address, as well
+-- calls and pointers to an indirect function go to its procedure linkage table entry:
+-- R_X86_64_PC32, PLT32, 32, 32S, 16, 64 and PC64; also if its value is absolute, or its section has
+-- no address
 abbrev pub FunctionsAreEntries : Type 0
 FunctionsAreEntries =
     WritesSection (call_of 10 2) entry_layout (0xe8 ∷ 0xfb ∷ 0x0f ∷ 0 ∷ 0 ∷ [])
@@ -33,7 +35,8 @@ FunctionsAreEntries =
     × WritesSection (with_bytes 0x50 (little 4 10) (with_symbol 4 (symbol_of 10 0xfff1 0x30))) unplaced_layout (0xe8 ∷ 0xfc ∷ 0x1f ∷ 0 ∷ 0 ∷ [])
     × WritesSection (with_bytes 0x50 (little 4 10) (with_symbol 4 (symbol_of 10 0xfeff 0x30))) unplaced_layout (0xe8 ∷ 0xfc ∷ 0x1f ∷ 0 ∷ 0 ∷ [])
 
--- without such an entry they are refused, by the types that take it too; no definition and no address of a section helps
+-- without such an entry they are refused, by the types that take it too; no definition and no
+-- address of a section helps
 abbrev pub FunctionsWithoutEntries : Type 0
 FunctionsWithoutEntries =
     let other : Layout = record { lookup = Compared; sections = (1, 0x1000) ∷ []; definitions = (codes "f", 0x3000) ∷ []; linkage = (codes "g", 0x2000) ∷ (codes "ff", 0x2000) ∷ []; table = []; thread = [] } in
@@ -47,8 +50,8 @@ FunctionsWithoutEntries =
     × RefusesToApply (eight_of 10 1) placed_layout 0x48 Unsupported
     × RefusesToApply (with_symbol 4 (symbol_of 10 0xfff1 0x30)) placed_layout 0x48 Unsupported
 
--- S of the other types that are specific to the system is not known, so that only a type that takes L is applied, where there is
--- one; the types before them have their own value
+-- S of the other types that are specific to the system is not known, so that only a type that takes
+-- L is applied, if there is one; the types before them have their own value
 abbrev pub OtherTypesAreRefused : Type 0
 OtherTypesAreRefused =
     RefusesToApply (call_of 11 2) full_layout 0x48 Unsupported
@@ -60,8 +63,8 @@ OtherTypesAreRefused =
     × WritesSection (call_of 9 2) full_layout (0xe8 ∷ 0x2b ∷ 0 ∷ 0 ∷ 0 ∷ [])
     × WritesSection (call_of 2 2) full_layout (0xe8 ∷ 0x2b ∷ 0 ∷ 0 ∷ 0 ∷ [])
 
--- the type says nothing of an undefined or a common symbol, of one at another reserved index, nor where an entry takes one
--- of the global offset table's
+-- the type does not matter for an undefined or a common symbol, for one at another reserved index,
+-- or if an entry uses one of the global offset table
 abbrev pub OthersAreAsBefore : Type 0
 OthersAreAsBefore =
     WritesSection (with_symbol 4 (symbol_of 10 0 0)) defined_layout (0xe8 ∷ 0xfb ∷ 0x1f ∷ 0 ∷ 0 ∷ [])
@@ -73,8 +76,8 @@ OthersAreAsBefore =
     × WritesSection (call_of 11 22) table_layout (0xe8 ∷ 0xfb ∷ 0x3f ∷ 0 ∷ 0 ∷ [])
     × RefusesToApply (call_of 10 9) full_layout 0x48 Unsupported
 
--- the place, the name, the symbol's type, the section's address, the value: each entry here fails the next check as well; the
--- name is looked at only where there are names of such entries
+-- the place, the name, the symbol's type, the section's address, the value: each entry here fails
+-- the next check as well; the name is read only if there are names of such entries
 abbrev pub FunctionsInOrder : Type 0
 FunctionsInOrder =
     let high : Layout = record { lookup = Searched; sections = (1, 0) ∷ []; definitions = []; linkage = (codes "f", 0x80000004) ∷ []; table = []; thread = [] } in
@@ -88,8 +91,8 @@ FunctionsInOrder =
     × RefusesToApply (call_of 10 11) high 0x48 Overflow
     × WritesSection (call_of 10 10) high (0xe8 ∷ 0 ∷ 0 ∷ 0 ∷ 0x80 ∷ [])
 
--- what helps with an indirect function is the item of its procedure linkage table entry alone, with the other types where the
--- entry takes L
+-- what helps with an indirect function is only the item of its procedure linkage table entry, with
+-- the other types if the entry takes L
 abbrev pub EntriesWouldHelp : Type 0
 EntriesWouldHelp =
     MissesInCall (call_of 10 2) placed_layout Unsupported (lacks 2 1 Entry)
@@ -102,12 +105,13 @@ EntriesWouldHelp =
     × ExplainsAs (with_bytes 0x78 (little 4 0) (call_of 10 2)) placed_layout Unsupported (codes "elfsee: PC32: no item can name it\n")
     × ExplainsAs (call_of 12 2) placed_layout Unsupported []
 
--- the call where section 1 has these flags
+-- the call if section 1 has these flags
 abbrev pub flagged : ℕ → List ℕ
 flagged flags = with_bytes 0xe0 (little 8 flags) one_call
 
--- a section that is compressed is refused at its header, whatever other flags it has; behind the index and before its range,
--- with bytes in the file or without; no entry is looked at, and the section that the entries stand in may have the flag
+-- a compressed section is refused at its header, with any other flags; after the index and before
+-- its range, with bytes in the file or without; no entry is read, and the section that the entries
+-- are in may have the flag
 abbrev pub CompressedIsRefused : Type 0
 CompressedIsRefused =
     RefusesToApply (flagged 0x800) entry_layout 0xd8 Unsupported

@@ -1,8 +1,8 @@
--- Worked examples of the names of numbers of the GNU system: each number that has one, and its neighbours.
+-- Worked examples of the names of GNU numbers: each number that has one, and its neighbors.
 use Rattle.std.specs.Prelude.{◌≡◌, [], ◌∷◌, codes, map, true, false}
 use Rattle.elf_model.specs.Prelude.{bindings, dynamic_tag_text, name_or_number, places, relocation_type_text, section_flags_text, section_type_text, segment_type_text, symbol_types}
 
--- each further section type on x86-64, and its neighbours
+-- each further section type on x86-64, and its neighbors
 abbrev pub SectionTypesOfGnu : Type 0
 SectionTypesOfGnu =
     map (section_type_text true 62)
@@ -12,14 +12,14 @@ SectionTypesOfGnu =
     codes "GNU_HASH" ∷ codes "GNU_LIBLIST" ∷ codes "6ffffff8" ∷ codes "6ffffffc" ∷ codes "VERDEF" ∷
     codes "VERNEED" ∷ codes "VERSYM" ∷ codes "70000000" ∷ codes "X86_64_UNWIND" ∷ codes "70000002" ∷ []
 
--- on another machine what x86-64 alone has is a number
+-- on another machine what only x86-64 has is a number
 abbrev pub SectionTypesElsewhere : Type 0
 SectionTypesElsewhere =
     map (section_type_text true 183)
     (0x6ffffff6 ∷ 0x70000001 ∷ [])
     ≡ codes "GNU_HASH" ∷ codes "70000001" ∷ []
 
--- each further segment type, and its neighbours
+-- each further segment type, and its neighbors
 abbrev pub SegmentTypesOfGnu : Type 0
 SegmentTypesOfGnu =
     map (segment_type_text true)
@@ -27,7 +27,7 @@ SegmentTypesOfGnu =
     ≡ codes "6474e54f" ∷ codes "EH_FRAME" ∷ codes "STACK" ∷ codes "RELRO" ∷ codes "PROPERTY" ∷ codes "SFRAME" ∷
     codes "6474e555" ∷ []
 
--- each further relocation type of x86-64, and its neighbours
+-- each further relocation type of x86-64, and its neighbors
 abbrev pub RelocationTypesOfGnu : Type 0
 RelocationTypesOfGnu =
     map (relocation_type_text true 62)
@@ -49,7 +49,7 @@ RelocationTypesElsewhere =
     (42 ∷ 9 ∷ 250 ∷ [])
     ≡ codes "#42" ∷ codes "#9" ∷ codes "#250" ∷ []
 
--- each further tag, and its neighbours: the first half
+-- each further tag, and its neighbors: the first half
 abbrev pub DynamicTagsOfGnu : Type 0
 DynamicTagsOfGnu =
     map (dynamic_tag_text true)
@@ -92,7 +92,7 @@ BindingsOfGnu =
     (9 ∷ 10 ∷ 11 ∷ [])
     ≡ codes "     9" ∷ codes "UNIQUE" ∷ codes "    11" ∷ []
 
--- the further place, in its column
+-- the further special section index, in its column
 abbrev pub PlacesOfGnu : Type 0
 PlacesOfGnu =
     map (name_or_number (places true 62) 5)
@@ -122,7 +122,7 @@ FlagsElsewhere =
     (0x90000002 ∷ 0x10000000 ∷ 0x80000000 ∷ [])
     ≡ codes "AE?" ∷ codes "?" ∷ codes "E" ∷ []
 
--- without the names of the GNU system none of them has
+-- without the GNU names none of them has
 abbrev pub FlagsWithoutGnu : Type 0
 FlagsWithoutGnu =
     map (section_flags_text false 62)

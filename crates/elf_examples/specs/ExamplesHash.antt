@@ -13,8 +13,8 @@ KnownHashes =
     × (sysv_hash (codes "printf") ≡ 0x077905a6)
     × (sysv_hash (codes "syscall") ≡ 0x0b09985c)
 
--- a lookup with four headers permitted finds a symbol: its section, its index there and where it stands, and how many
--- names are compared
+-- a lookup with four headers allowed finds a symbol: its section, its index there, its offset in
+-- the file, and how many names are compared
 abbrev pub FindsSymbol : List ℕ → List ℕ → ℕ → ℕ → ℕ → ℕ → Type 0
 FindsSymbol file wanted section index symbol compared =
     looked file 4 wanted ≡ record { answer = Found section index symbol; compared = compared }
@@ -27,26 +27,27 @@ FindsNothing file wanted compared = looked file 4 wanted ≡ record { answer = A
 abbrev pub RefusesLookup : List ℕ → List ℕ → ℕ → Cause → Type 0
 RefusesLookup file wanted at cause = (looked file 4 wanted).answer ≡ Refused (record { at = at; cause = cause })
 
--- it compares so many names
+-- it compares this many names
 abbrev pub ComparesNames : List ℕ → List ℕ → ℕ → Type 0
 ComparesNames file wanted compared = (looked file 4 wanted).compared ≡ compared
 
--- the symbols in section 1, their strings in section 2, the hash table in section 3, which is the last
+-- the symbols in section 1, their strings in section 2, the hash table in section 3, which is the
+-- last
 abbrev pub hash_comes_last : List ℕ
 hash_comes_last =
     let headers = section_header 11 0 0x58 0x48 2 1 0 24 ++ section_header 3 0 0xa0 5 0 0 0 0 ++ section_header 5 0 0x40 0x18 1 0 0 4 in
     with_bytes 0xe8 headers hash_with_cycle
 
--- a name that stands first in its chain
+-- a name that is first in its chain
 abbrev pub FirstIsFound : Type 0
 FirstIsFound =
     FindsSymbol hash_with_cycle (codes "a") 2 1 0x70 1 × (find_cost hash_with_cycle 4 (codes "a") ≡ 424)
 
--- a name that stands second, after as many steps as the table has no buckets for
+-- a name that is second, after as many steps as the table has no buckets for
 abbrev pub SecondIsFound : Type 0
 SecondIsFound = FindsSymbol hash_with_cycle (codes "b") 2 2 0x88 2
 
--- a name that is not there, in a chain that comes back to itself
+-- a name that is not there, in a chain with a cycle
 abbrev pub CycleIsRefused : Type 0
 CycleIsRefused =
     RefusesLookup hash_with_cycle (codes "c") 0x48 HashCycle
@@ -60,7 +61,8 @@ EndIsAbsent =
     FindsNothing hash_with_end (codes "c") 2
     × FindsNothing (hash_file (1 ∷ 3 ∷ 0 ∷ 0 ∷ 2 ∷ 1 ∷ [])) (codes "a") 0
 
--- words that are no index, in a chain and in a bucket; a chain's word stands at the symbol's index, whichever step comes to it
+-- words that are no index, in a chain and in a bucket; a chain's word is at the symbol's index, at
+-- any step
 abbrev pub WrongWordIsRefused : Type 0
 WrongWordIsRefused =
     RefusesLookup (hash_file (1 ∷ 3 ∷ 1 ∷ 0 ∷ 9 ∷ 0 ∷ [])) (codes "c") 0x50 HashIndex
@@ -70,7 +72,7 @@ WrongWordIsRefused =
     × RefusesLookup (hash_file (1 ∷ 3 ∷ 2 ∷ 0 ∷ 9 ∷ 1 ∷ [])) (codes "c") 0x50 HashIndex
     × ComparesNames (hash_file (1 ∷ 3 ∷ 2 ∷ 0 ∷ 9 ∷ 1 ∷ [])) (codes "c") 2
 
--- counts that do not fit the section, also where four times a count fits modulo 2^32
+-- counts that do not fit the section, also if four times a count fits modulo 2^32
 abbrev pub WrongCountsAreRefused : Type 0
 WrongCountsAreRefused =
     RefusesLookup (hash_file (0 ∷ 3 ∷ 1 ∷ 0 ∷ 2 ∷ 1 ∷ [])) (codes "c") 0xe8 HashShape
@@ -86,8 +88,8 @@ abbrev pub NoTableIsRefused : Type 0
 NoTableIsRefused =
     RefusesLookup one_symbol_table (codes "main") 0x28 NoHash × (find_cost one_symbol_table 4 (codes "main") ≡ 268)
 
--- what the hash table's section is refused for, in this order: it ends past the file; it has no room for its counts;
--- its link
+-- what the hash table's section is refused for, in this order: it ends past the file; it has no
+-- room for its counts; its link
 abbrev pub HashSectionInOrder : Type 0
 HashSectionInOrder =
     RefusesLookup (with_hash_header 24 (little 8 0x1000 ++ little 8 7 ++ little 4 0)) (codes "a") 0xe8 TableOutside
@@ -118,7 +120,8 @@ NameFaultsAreRefused =
     × RefusesLookup (with_bytes 0x70 (little 4 5) (hash_file (2 ∷ 2 ∷ 0 ∷ 1 ∷ 0 ∷ 0 ∷ []))) (codes "a") 0x70 NameOutside
     × RefusesLookup (with_bytes 0x70 (little 4 5) (hash_file (2 ∷ 2 ∷ 1 ∷ 0 ∷ 0 ∷ 0 ∷ []))) (codes "b") 0x70 NameOutside
 
--- under a symbol table of no bytes neither it nor its strings are checked, and no word but 0 is an index
+-- under a symbol table of no bytes neither it nor its strings are checked, and no word except 0 is
+-- an index
 abbrev pub EmptySymbolTable : Type 0
 EmptySymbolTable =
     RefusesLookup (with_symbols_header 24 (little 8 0x1000 ++ zeros 8 ++ zeros 4)) (codes "a") 0x48 HashIndex
@@ -131,11 +134,11 @@ SectionZeroAsHash =
     RefusesLookup (with_bytes 0xac (little 4 5) hash_with_cycle) (codes "a") 0xa8 HashShape
     × RefusesLookup (with_bytes 0xac (little 4 11) (with_hash_header 40 (little 4 0))) (codes "a") 0xe8 BadLink
 
--- where the section headers are not read the file header alone is asked for
+-- if the section headers are not read, only the file header is read
 abbrev pub FindCostsAtLeast : Type 0
 FindCostsAtLeast = (find_cost hash_with_cycle 3 (codes "a") ≡ 64) × (find_cost [] 3 (codes "a") ≡ 64)
 
--- two buckets: the chains stand behind both, and a word is below the number of chains
+-- two buckets: the chains are after both, and a word is below the number of chains
 abbrev pub TwoBuckets : Type 0
 TwoBuckets =
     FindsSymbol (hash_file (2 ∷ 2 ∷ 0 ∷ 1 ∷ 9 ∷ 0 ∷ [])) (codes "a") 2 1 0x70 1

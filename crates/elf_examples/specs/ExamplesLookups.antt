@@ -1,4 +1,5 @@
--- Worked examples of lookups: longer hashes, tables with other counts, and what comes before a walk.
+-- Worked examples of lookups: longer hashes, tables with other counts, and what comes before a
+-- walk.
 use Rattle.std.specs.Prelude.{◌≡◌, ℕ, ◌+◌, List, ◌++◌, [], ◌∷◌, codes, flat_map, replicate, take}
 use Rattle.elf_model.specs.Prelude.{find_answer, find_cost, hash_file, hash_with_cycle, little, looked, numbers_from, one_symbol_table, section_header, symbol, sysv_hash, with_bytes, with_hash_header, with_strings_header, with_symbols_header, words, zeros}
 use Rattle.elf_model.specs.declared.causes.Cause.TheVariants.{BadClass, BadLink, EntrySize, HashCycle, HashIndex, HashShape, NoHash, NotStrings, Short, TableOutside, TooManyHeaders}
@@ -6,8 +7,8 @@ use Rattle.elf_model.specs.declared.formats.Format.TheVariants.{Columns}
 use Rattle.elf_model.specs.Hash.{Refused}
 use Rattle.elf_examples.specs.ExamplesHash.{hash_comes_last, FindsSymbol, FindsNothing, RefusesLookup, ComparesNames}
 
--- names whose hash has each of its top four bits set on the way, one whose hash has all lower bits and none of these, and
--- bytes above 127
+-- names whose hash has each of its top four bits set on the way, one whose hash has all lower bits
+-- and none of these, and bytes above 127
 abbrev pub LongerHashes : Type 0
 LongerHashes =
     (sysv_hash (codes "_Unwind_Resume") ≡ 0x08d2aad5)
@@ -17,8 +18,8 @@ LongerHashes =
     × (sysv_hash (replicate 8 0x80) ≡ 0x08888000)
     × (sysv_hash (replicate 7 0x0f) ≡ 0x0fffffff)
 
--- one bucket, whose chain goes from symbol 19 down to symbol 1 and ends; the words stand at 0x1a8, the symbols at 0x204,
--- the first of which is `a` and all others are `b`
+-- one bucket, whose chain goes from symbol 19 down to symbol 1 and ends; the words are at 0x1a8,
+-- the symbols at 0x204, the first of which is `a` and all others are `b`
 abbrev pub long_chain : List ℕ
 long_chain =
     with_bytes 0x100 (little 8 0x1a8 ++ little 8 0x5c) (with_symbols_header 24 (little 8 0x204 ++ little 8 0x1e0))
@@ -33,13 +34,13 @@ LongChainsAreWalked =
     × RefusesLookup (with_bytes 0x1b8 (little 4 19) long_chain) (codes "c") 0x1b0 HashCycle
     × ComparesNames (with_bytes 0x1b8 (little 4 19) long_chain) (codes "c") 20
 
--- four chains and three symbols: a word below the chains alone is no index
+-- four chains and three symbols: a word below only the chains is no index
 abbrev pub MoreChainsThanSymbols : Type 0
 MoreChainsThanSymbols =
     RefusesLookup (with_bytes 0x108 (little 8 28) (hash_file (1 ∷ 4 ∷ 3 ∷ 0 ∷ 2 ∷ 1 ∷ []))) (codes "a") 0x48 HashIndex
     × FindsSymbol (with_bytes 0x108 (little 8 28) (hash_file (1 ∷ 4 ∷ 2 ∷ 0 ∷ 2 ∷ 1 ∷ []))) (codes "b") 2 2 0x88 1
 
--- a cycle that starts in the second of two buckets, and names no word but the bucket's
+-- a cycle that starts in the second of two buckets, and has no word except the bucket's
 abbrev pub CycleInTheSecondBucket : Type 0
 CycleInTheSecondBucket =
     RefusesLookup (hash_file (2 ∷ 2 ∷ 0 ∷ 1 ∷ 0 ∷ 1 ∷ [])) (codes "c") 0x4c HashCycle
@@ -53,7 +54,7 @@ WordsHaveFourBytes =
     × RefusesLookup (hash_file (0x01000001 ∷ 3 ∷ 1 ∷ 0 ∷ 2 ∷ 0 ∷ [])) (codes "a") 0xe8 HashShape
     × RefusesLookup (hash_file (1 ∷ 0x01000003 ∷ 1 ∷ 0 ∷ 2 ∷ 0 ∷ [])) (codes "a") 0xe8 HashShape
 
--- a table without chains: no word but 0 is an index
+-- a table without chains: no word except 0 is an index
 abbrev pub NoChains : Type 0
 NoChains =
     FindsNothing (hash_file (1 ∷ 0 ∷ 0 ∷ 0 ∷ 0 ∷ 0 ∷ [])) (codes "a") 0
@@ -76,7 +77,7 @@ LookupsCheckTheFile =
     × RefusesLookup (with_bytes 0x3e (little 2 4) hash_with_cycle) (codes "a") 0x3e BadLink
     × RefusesLookup (with_bytes 0x3e (little 2 1) hash_with_cycle) (codes "a") 0xe8 NotStrings
 
--- behind a refusal no name is compared
+-- after a refusal no name is compared
 abbrev pub RefusalsCompareNothing : Type 0
 RefusalsCompareNothing =
     ComparesNames (with_bytes 4 (little 1 1) hash_with_cycle) (codes "a") 0
@@ -88,7 +89,7 @@ RefusalsCompareNothing =
     × (find_cost (with_symbols_header 56 (little 8 25)) 4 (codes "a") ≡ 76 + 256)
     × (find_cost (hash_file (1 ∷ 4 ∷ 1 ∷ 0 ∷ 2 ∷ 1 ∷ [])) 4 (codes "a") ≡ 76 + 256)
 
--- the name that was wanted is written whole, and spelt as in a listing
+-- the wanted name is written whole, and escaped as in a listing
 abbrev pub WantedNameIsWritten : Type 0
 WantedNameIsWritten =
     (find_answer Columns (with_strings_header 24 (little 8 0x1a8 ++ little 8 302) ++ (0 ∷ replicate 300 97 ++ zeros 1)) 4 (replicate 300 97)
@@ -106,7 +107,8 @@ WantedNameIsWritten =
       status = 0;
     })
 
--- a hash table of another kind, of type 0x6ffffff6, is none; nor is a section whose type has other bits
+-- a hash table of another kind, of type 0x6ffffff6, is none; nor is a section whose type has other
+-- bits
 abbrev pub OtherHashIsNone : Type 0
 OtherHashIsNone =
     RefusesLookup (with_hash_header 4 (little 4 0x6ffffff6)) (codes "a") 0x28 NoHash
@@ -119,7 +121,7 @@ UndefinedIsFound =
     FindsSymbol (with_bytes 0x76 (zeros 2) hash_with_cycle) (codes "a") 2 1 0x70 1
     × FindsSymbol (with_bytes 0x74 (zeros 4) hash_with_cycle) (codes "a") 2 1 0x70 1
 
--- behind the last section there is none
+-- after the last section there is none
 abbrev pub HashPastTheLastSection : Type 0
 HashPastTheLastSection = RefusesLookup (one_symbol_table ++ section_header 5 0 0x40 0x18 1 0 0 4) (codes "main") 0x28 NoHash
 
@@ -131,7 +133,7 @@ HashInTheLastSection =
     × RefusesLookup (with_bytes 0x40 (little 4 0) hash_comes_last) (codes "a") 0x168 HashShape
     × RefusesLookup (with_bytes 0x120 (little 8 25) hash_comes_last) (codes "a") 0xe8 EntrySize
 
--- three buckets: the hash, all of it, is taken modulo their number, which is no power of 2
+-- three buckets: the whole hash is taken modulo their number, which is not a power of 2
 abbrev pub ThreeBuckets : Type 0
 ThreeBuckets =
     RefusesLookup (hash_file (3 ∷ 1 ∷ 9 ∷ 9 ∷ 9 ∷ 0 ∷ [])) (codes "a") 0x4c HashIndex
@@ -143,14 +145,15 @@ ThreeBuckets =
 abbrev pub HashLinkBeforeCounts : Type 0
 HashLinkBeforeCounts = RefusesLookup (with_hash_header 32 (little 8 8 ++ little 4 0)) (codes "a") 0xe8 BadLink
 
--- the size of an entry in a hash table's header is not checked but in files of Alpha, and bytes may stand behind its words
+-- the size of an entry in a hash table's header is checked only in files of Alpha, and bytes may
+-- follow its words
 abbrev pub HashEntriesAreNotChecked : Type 0
 HashEntriesAreNotChecked =
     FindsSymbol (with_hash_header 56 (little 8 8)) (codes "a") 2 1 0x70 1
     × FindsSymbol (with_hash_header 32 (little 8 25)) (codes "a") 2 1 0x70 1
 
--- in a file of Alpha a hash table with entries of 8 bytes is refused, behind its range and before its link; with entries of 4
--- bytes it is one like any other
+-- in a file of Alpha a hash table with entries of 8 bytes is refused, after its range and before
+-- its link; with entries of 4 bytes it is one like any other
 abbrev pub WideWordsAreRefused : Type 0
 WideWordsAreRefused =
     RefusesLookup (with_bytes 18 (little 2 0x9026) (with_hash_header 56 (little 8 8))) (codes "a") 0xe8 HashShape
@@ -160,6 +163,6 @@ WideWordsAreRefused =
     × RefusesLookup (with_bytes 18 (little 2 0x9026) (with_hash_header 24 (little 8 0x1000 ++ little 8 0x18 ++ little 4 2 ++ zeros 12 ++ little 8 8))) (codes "a") 0xe8 TableOutside
     × RefusesLookup (with_bytes 18 (little 2 0x9026) (with_hash_header 40 (zeros 16 ++ little 8 8))) (codes "a") 0xe8 HashShape
 
--- the symbols are those of the linked table, also where an earlier section is one
+-- the symbols are those of the linked table, also if an earlier section is one
 abbrev pub LinkedSymbolsCount : Type 0
 LinkedSymbolsCount = FindsSymbol (with_bytes 0xac (little 4 11) hash_with_cycle) (codes "a") 2 1 0x70 1

@@ -3,7 +3,7 @@ use Rattle.std.specs.Prelude.{◌≡◌, ℕ, List, [], ◌∷◌, ◌++◌, cod
 use Rattle.elf_model.specs.Prelude.{Cut, Note, NoteScan, aligned_note, build_note, little, note_align, note_rows, note_shown, walked, zeros}
 use Rattle.elf_model.specs.Names.DisplayedName.{Whole}
 
--- a note's head: the sizes of its name and its descriptor, its type
+-- a note header: the sizes of its name and its descriptor, its type
 unfoldable pub note_head : ℕ → ℕ → ℕ → List ℕ
 note_head namesz descsz type = little 4 namesz ++ little 4 descsz ++ little 4 type
 
@@ -15,7 +15,7 @@ counting = 0 ∷ 1 ∷ 2 ∷ 3 ∷ 4 ∷ 5 ∷ 6 ∷ 7 ∷ 8 ∷ 9 ∷ 10 ∷ 11
 abbrev pub note : ℕ → List ℕ → List ℕ → Note
 note kind name descriptor = record { kind = kind; name = name; descriptor = descriptor }
 
--- notes to the table's end, and notes up to a place where the table is cut
+-- notes to the table's end, and notes up to the offset at which the table is cut
 abbrev pub uncut : List Note → NoteScan
 uncut notes = record { notes = notes; cut = None }
 
@@ -33,7 +33,7 @@ NoteFills =
     × (note_rows 4 0 (build_id ∷ []) ≡ record { at = 0; note = build_id; descriptor_at = 16 } ∷ [])
     × (note_shown 63 build_id ≡ Whole (codes "GNU"))
 
--- fewer than 12 zero bytes behind it are the end; with another byte among them there is a cut
+-- fewer than 12 zero bytes after it are the end; with another byte among them there is a cut
 abbrev pub NoteTail : Type 0
 NoteTail =
     (walked 4 (build_note ++ zeros 4) ≡ uncut (build_id ∷ []))
@@ -60,7 +60,8 @@ NotePastEnd =
     × (walked 4 (note_head 4 21 3 ++ codes "GNU" ++ zeros 1 ++ counting) ≡ cut_note_at [] 0)
     × (walked 4 (build_note ++ note_head 4 1 3 ++ codes "GNU" ++ zeros 1) ≡ cut_note_at (build_id ∷ []) 36)
 
--- of 28 bytes that both alignments read: aligned to 8 the descriptor starts at 24, and the last padding is missing
+-- of 28 bytes that both alignments read: aligned to 8 the descriptor starts at 24, and the last
+-- padding is missing
 abbrev pub NoteAlignedToEight : Type 0
 NoteAlignedToEight =
     let last = note 1 (codes "ABCD" ++ 0 ∷ []) (1 ∷ 2 ∷ 3 ∷ 4 ∷ []) in
@@ -69,7 +70,7 @@ NoteAlignedToEight =
     × (walked 8 (aligned_note ++ zeros 4) ≡ uncut (last ∷ []))
     × (walked 8 (aligned_note ++ (9 ∷ 9 ∷ 9 ∷ 9 ∷ []) ++ build_note) ≡ uncut (last ∷ note 3 (codes "GNU" ++ 0 ∷ []) counting ∷ []))
 
--- aligned to 4 the descriptor starts at 20, and behind it the table is cut
+-- aligned to 4 the descriptor starts at 20, and after it the table is cut
 abbrev pub NoteAlignedToFour : Type 0
 NoteAlignedToFour =
     let first = note 1 (codes "ABCD" ++ 0 ∷ []) (0 ∷ 0 ∷ 0 ∷ 0 ∷ []) in
@@ -89,7 +90,8 @@ NoteNames =
     × (note_shown 2 (note 1 (codes "abc" ++ 0 ∷ codes "de") []) ≡ Cut (codes "ab"))
     × (note_shown 1 (note 1 [] []) ≡ Whole [])
 
--- a type of four bytes, a name of no bytes, a name without a NUL, a descriptor of 33 bytes, and padding of any values
+-- a type of four bytes, a name of no bytes, a name without a NUL, a descriptor of 33 bytes, and
+-- padding of any values
 abbrev pub NoteShapes : Type 0
 NoteShapes =
     (walked 4 (note_head 0 0 0x01020304) ≡ uncut (note 0x01020304 [] [] ∷ []))
@@ -99,7 +101,7 @@ NoteShapes =
     × (walked 4 (note_head 3 33 7 ++ codes "abc" ++ (5 ∷ []) ++ counting ++ zeros 13)
     ≡ uncut (note 7 (codes "abc") (counting ++ zeros 13) ∷ []))
 
--- where the descriptor is empty the note ends at its name's end
+-- if the descriptor is empty the note ends at its name's end
 abbrev pub NoteEmptyDescriptor : Type 0
 NoteEmptyDescriptor =
     let first = note 7 (codes "abcde") [] in
@@ -107,7 +109,7 @@ NoteEmptyDescriptor =
     × (note_rows 8 0 (first ∷ []) ≡ record { at = 0; note = first; descriptor_at = 17 } ∷ [])
     × (walked 8 (note_head 5 0 7 ++ codes "abcde" ++ (6 ∷ 6 ∷ 6 ∷ 6 ∷ 6 ∷ 6 ∷ 6 ∷ []) ++ zeros 12) ≡ uncut (first ∷ note 0 [] [] ∷ []))
 
--- a note stands behind the padding of the one before it
+-- a note follows the padding of the one before it
 abbrev pub LaterNotesStand : Type 0
 LaterNotesStand =
     let first = note 1 (codes "ABCD" ++ zeros 1) (1 ∷ 2 ∷ 3 ∷ 4 ∷ []) in

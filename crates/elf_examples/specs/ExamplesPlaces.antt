@@ -1,5 +1,5 @@
--- Worked examples of entries in other places: for another section, of another symbol, at the end of a section, beside other
--- tables of symbols.
+-- Worked examples of entries elsewhere: for another section, of another symbol, at the end of a
+-- section, next to other tables of symbols.
 use Rattle.std.specs.Prelude.{◌≡◌, ◌+◌, ◌*◌, ℕ, List, ◌++◌, [], ◌∷◌, codes, Ok}
 use Rattle.elf_model.specs.Prelude.{Compared, Layout, applied, apply_cost, apply_cost_in_order, entry_layout, full_layout, little, one_call, overlapping_relocations, placed_layout, relocated, relocation, symbol, with_bytes, with_entries_header, zeros}
 use Rattle.elf_model.specs.declared.causes.Cause.TheVariants.{NameOutside, PlaceOutside, SymbolIndex, Undefined, Unplaced}
@@ -10,7 +10,8 @@ use Rattle.elf_examples.specs.ExamplesApplyOrder.{eight_relocated}
 abbrev pub two_sections : Layout
 two_sections = record { lookup = Compared; sections = (1, 0x1000) ∷ (4, 0x5000) ∷ []; definitions = []; linkage = (codes "f", 0x2000) ∷ []; table = []; thread = [] }
 
--- the call's entry for section 4, of eight bytes: the place is in that section, and section 1 has no entries
+-- the call's entry for section 4, of eight bytes: the place is in that section, and section 1 has
+-- no entries
 abbrev pub OtherSectionIsApplied : Type 0
 OtherSectionIsApplied =
     let file = with_bytes 0x1b8 (little 8 8) (with_entries_header 44 (little 4 4)) in
@@ -18,7 +19,8 @@ OtherSectionIsApplied =
     × RefusesSection 4 file entry_layout 0x48 Unplaced
     × WritesSection file two_sections (0xe8 ∷ zeros 4)
 
--- the call with three symbols, which stand behind its section headers: symbol 0, `f`, which is not defined, and an absolute one
+-- the call with three symbols, which follow its section headers: symbol 0, `f`, which is not
+-- defined, and an absolute one
 abbrev pub three_symbols : ℕ → List ℕ
 three_symbols named =
     with_bytes 0x54 (little 4 named) (with_bytes 0x170 (little 8 0x1d8 ++ little 8 0x48) one_call)
@@ -52,11 +54,12 @@ EntriesEndInside =
     × RefusesToApply (one_entry 14 8) placed_layout 0x48 PlaceOutside
     × RefusesToApply (one_entry 24 1) placed_layout 0x48 PlaceOutside
 
--- the symbols are those of the linked table, also where an earlier section is one
+-- the symbols are those of the linked table, also if an earlier section is one
 abbrev pub LinkedSymbolsApply : Type 0
 LinkedSymbolsApply = WritesSection (with_bytes 0x9c (little 4 2) one_call) entry_layout (0xe8 ∷ 0xfb ∷ 0x0f ∷ 0 ∷ 0 ∷ [])
 
--- a type that takes no procedure linkage table entry does not look for one: the name of an absolute symbol is not looked at
+-- a type that takes no procedure linkage table entry does not search for one: the name of an
+-- absolute symbol is not read
 abbrev pub CallsAloneTakeEntries : Type 0
 CallsAloneTakeEntries =
     let absolute = little 4 0xffffffff ++ little 2 0x10 ++ little 2 0xfff1 ++ little 8 0x2000 in
@@ -64,8 +67,8 @@ CallsAloneTakeEntries =
     × WritesSection (eight_relocated 2 0 absolute) entry_layout (0xfc ∷ 0x0f ∷ zeros 6)
     × RefusesToApply (eight_relocated 4 0 absolute) entry_layout 0x78 NameOutside
 
--- the section headers that there are cost their bytes, and not those that are permitted; and for each entry the layout's
--- names may be compared
+-- the section headers that there are cost their bytes, and not those that are allowed; and for each
+-- entry the layout's names may be compared
 abbrev pub HeadersAndNamesCost : Type 0
 HeadersAndNamesCost =
     (apply_cost one_call 9 1 entry_layout ≡ 613)

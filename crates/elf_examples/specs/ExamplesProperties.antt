@@ -15,8 +15,8 @@ IsCut descriptor properties offset = properties_in descriptor ≡ record { prope
 abbrev one : Property
 one = record { kind = 1; content = 7 ∷ 0 ∷ 0 ∷ 0 ∷ [] }
 
--- no property; one, whose padding is there or not; two; data of no byte; then less than a head is left; less than the data; sizes
--- of 2^32 - 1, which no file has
+-- no property; one, whose padding is there or not; two; data of no byte; then less than a header is
+-- left; less than the data; sizes of 2^32 - 1, which no file has
 abbrev pub PropertyLists : Type 0
 PropertyLists =
     Lists [] []
@@ -29,8 +29,8 @@ PropertyLists =
     × IsCut (property 1 4 (little 8 7) ++ property 1 (2 ^ 32 - 1) (little 8 7)) (one ∷ []) 16
     × IsCut (property 1 (2 ^ 32 - 1) []) [] 0
 
--- the word of the features: each bit; none; another type; data of another size; another machine, whose properties have the same
--- numbers; the first of the type counts
+-- the word of the features: each bit; none; another type; data of another size; another machine,
+-- whose properties have the same numbers; the first of the type counts
 abbrev pub FeatureRows : Type 0
 FeatureRows =
     TraitsAre (with_bytes 0x230 (little 4 1) program_with_traits) (codes "T pie    full    nx    w^x   fixed ibt       canary fortify -       p\n")
@@ -44,8 +44,8 @@ FeatureRows =
 abbrev FeaturesAre : List ℕ → Result ℕ Refusal → Type 0
 FeaturesAre bytes word = features_in (record { place = 0x100; bytes = bytes }) ≡ word
 
--- the first property of the type counts, wherever it stands, also where it has another size; a list that is cut behind it is
--- refused at the place
+-- the first property of the type counts, in any position, also if it has another size; a list that
+-- is cut after it is refused at that offset
 abbrev pub FirstFeaturesCount : Type 0
 FirstFeaturesCount =
     FeaturesAre [] (Ok 0)
@@ -54,15 +54,17 @@ FirstFeaturesCount =
     × FeaturesAre (property 0xc0000002 8 (little 8 3) ++ property 0xc0000002 4 (little 8 1)) (Ok 0)
     × FeaturesAre (property 0xc0000002 4 (little 8 1) ++ 0 ∷ []) (Err (record { at = 0x110; cause = NoteCut }))
 
--- the note is one of the GNU system of the type, in a segment of notes: not by its name, not by its type, no such segment
+-- the note is a GNU note of the type, in a segment of notes: not by its name, not by its type, no
+-- such segment
 abbrev pub NoteRows : Type 0
 NoteRows =
     TraitsAre (with_bytes 0x224 (codes "gnu") program_with_traits) (codes "T pie    full    nx    w^x   fixed -         canary fortify -       p\n")
     × TraitsAre (with_bytes 0x220 (little 4 3) program_with_traits) (codes "T pie    full    nx    w^x   fixed -         canary fortify -       p\n")
     × TraitsAre (with_bytes 0x158 (little 4 0x6474e553) program_with_traits) (codes "T pie    full    nx    w^x   fixed -         canary fortify -       p\n")
 
--- hostile: a size of 2^32 - 1, refused at its property; a note that is cut; notes past the end of the file; two segments of notes
--- over each other, of which the first counts, whether it reads the list as a note or has the list's note itself
+-- hostile: a size of 2^32 - 1, refused at its property; a note that is cut; notes past the end of
+-- the file; two overlapping segments of notes, of which the first counts, whether it reads the list
+-- as a note or has the list's note itself
 abbrev pub HostileNotes : Type 0
 HostileNotes =
     TraitsAre (with_bytes 0x22c (little 4 0xffffffff) program_with_traits) (codes "C refused      0000000000000228 note-cut p\n")
@@ -71,8 +73,8 @@ HostileNotes =
     × TraitsAre (with_bytes 0x78 (program_header 4 4 0x228 0 0x10 8) program_with_traits) (codes "C refused      0000000000000228 note-cut p\n")
     × TraitsAre (with_bytes 0x78 (program_header 4 4 0x218 0 0x20 8) (with_bytes 0x160 (little 8 0x228) program_with_traits)) (codes "T static full    nx    w^x   fixed ibt+shstk canary fortify -       p\n")
 
--- a list counts that stands before the place where the notes of its segment are cut; a segment of no bytes has no notes, wherever
--- it would begin
+-- a list before the offset at which the notes of its segment are cut counts; a segment of no bytes
+-- has no notes, at any offset
 abbrev pub ListsBeforeCuts : Type 0
 ListsBeforeCuts =
     TraitsAre (with_bytes 0x178 (little 8 0x21) program_with_traits) (codes "T pie    full    nx    w^x   fixed ibt+shstk canary fortify -       p\n")

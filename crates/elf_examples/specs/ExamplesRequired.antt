@@ -1,4 +1,4 @@
--- Worked examples of words that are required.
+-- Worked examples of required traits.
 use Rattle.std.specs.Prelude.{◌≡◌, [], ◌∷◌, ◌++◌, codes, true, false, Some}
 use Rattle.elf_model.specs.Prelude.{Required, lacking_text, traits_status, traits_text}
 use Rattle.elf_model.specs.declared.formats.Format.TheVariants.{Columns, Object}
@@ -30,7 +30,8 @@ nx = record { column = column.Stack; word = codes "nx" }
 abbrev rpath : Required
 rpath = record { column = column.Path; word = codes "rpath" }
 
--- a program that lacks no word has its line alone; else the first word that it lacks has a line, and the status is 1
+-- a program that lacks no word has only its line; otherwise the first word that it lacks has a
+-- line, and the status is 1
 abbrev pub RequiredRows : Type 0
 RequiredRows =
     (traits_text Columns (weak kind.Pie) [] (codes "p") ≡ codes "T pie    partial exec  w^x   fixed -         -      fortify rpath   p\n")
@@ -43,7 +44,7 @@ RequiredRows =
     × (traits_text Columns (weak kind.Pie) (nx ∷ full ∷ []) (codes "p")
     ≡ codes "T pie    partial exec  w^x   fixed -         -      fortify rpath   p\n! stack=exec\n")
 
--- nothing is required of files that are no programs and no libraries
+-- nothing is required of files that are neither programs nor libraries
 abbrev pub NothingRequired : Type 0
 NothingRequired =
     (traits_text Columns (weak kind.Core) (full ∷ []) (codes "p") ≡ codes "T core   partial exec  w^x   fixed -         -      fortify rpath   p\n")
@@ -54,7 +55,7 @@ NothingRequired =
     × (traits_status (weak kind.Static) (full ∷ []) ≡ 1)
     × (traits_status (weak kind.Exec) (full ∷ []) ≡ 1)
 
--- a front of a word is not it, nor is a word with more behind it
+-- a prefix of a word is not it, nor is a word with more after it
 abbrev pub WordsAreWhole : Type 0
 WordsAreWhole =
     (traits_status (weak kind.Pie) (record { column = column.Relro; word = codes "partial" } ∷ []) ≡ 0)

@@ -4,17 +4,18 @@ use Rattle.elf_model.specs.Prelude.{Compared, Layout, applied, apply_cost, empty
 use Rattle.elf_model.specs.declared.causes.Cause.TheVariants.{BadLink, NameOutside, Overflow, PlaceOutside, SymbolIndex, Undefined, Unplaced, Unsupported}
 use Rattle.elf_examples.specs.ExamplesApply.{WritesSection, RefusesToApply}
 
--- the call with another type in the place of R_X86_64_PLT32
+-- the call with another type in place of R_X86_64_PLT32
 abbrev pub of_type : ℕ → List ℕ
 of_type type = with_bytes 0x50 (little 4 type) one_call
 
--- section 1 at 0x1000, with such global offset table entries and such of offsets from the thread pointer
+-- section 1 at 0x1000, with such global offset table entries and such of offsets from the thread
+-- pointer
 abbrev pub tables : List (List ℕ × ℕ) → List (List ℕ × ℕ) → Layout
 tables table thread =
     record { lookup = Compared; sections = (1, 0x1000) ∷ []; definitions = []; linkage = []; table = table; thread = thread }
 
--- R_X86_64_GOTPCREL, GOTPCRELX and REX_GOTPCRELX take the symbol's entry, R_X86_64_GOTTPOFF that of its offset from the
--- thread pointer; the byte before them stays
+-- R_X86_64_GOTPCREL, GOTPCRELX and REX_GOTPCRELX take the symbol's entry, R_X86_64_GOTTPOFF that of
+-- its offset from the thread pointer; the byte before them is unchanged
 abbrev pub EntriesAreTaken : Type 0
 EntriesAreTaken =
     WritesSection (of_type 9) table_layout (0xe8 ∷ 0xfb ∷ 0x2f ∷ 0 ∷ 0 ∷ [])
@@ -22,7 +23,8 @@ EntriesAreTaken =
     × WritesSection (of_type 42) table_layout (0xe8 ∷ 0xfb ∷ 0x2f ∷ 0 ∷ 0 ∷ [])
     × WritesSection (of_type 22) table_layout (0xe8 ∷ 0xfb ∷ 0x3f ∷ 0 ∷ 0 ∷ [])
 
--- the entry is one of the symbol in any place, with any value and any binding, and its section needs no address
+-- the entry is one of the symbol with any section index, any value and any binding, and its section
+-- needs no address
 abbrev pub EntriesAreOfAnySymbol : Type 0
 EntriesAreOfAnySymbol =
     let absolute = with_bytes 0x50 (little 4 9) (with_symbol 6 (little 2 0xfff1 ++ little 8 0x9000)) in
@@ -32,7 +34,8 @@ EntriesAreOfAnySymbol =
     × WritesSection elsewhere table_layout (0xe8 ∷ 0xfb ∷ 0x2f ∷ 0 ∷ 0 ∷ [])
     × WritesSection weak table_layout (0xe8 ∷ 0xfb ∷ 0x3f ∷ 0 ∷ 0 ∷ [])
 
--- the value is a number in two's complement of 32 bits, of the entry's address and of nothing else of the symbol
+-- the value is a number in two's complement of 32 bits, of the entry's address and of nothing else
+-- of the symbol
 abbrev pub EntriesAreSigned : Type 0
 EntriesAreSigned =
     (value 9 0x7fffffff 7 (pos 0) 0 ≡ Ok (0xff ∷ 0xff ∷ 0xff ∷ 0x7f ∷ []))
@@ -43,8 +46,8 @@ EntriesAreSigned =
     × (value 22 0x402000 7 (negsuc 3) 0x401005 ≡ Ok (0xf7 ∷ 0x0f ∷ 0 ∷ 0 ∷ []))
     × (value 22 0 7 (negsuc 0) 0x80000000 ≡ Err Overflow)
 
--- where a layout has no such entries their types are refused before all else, as those that are not applied: a place
--- outside the section, a symbol that is none
+-- if a layout has no such entries their types are refused before all else, as those that are not
+-- applied: a place outside the section, a symbol that is none
 abbrev pub TypesWithoutEntries : Type 0
 TypesWithoutEntries =
     RefusesToApply (of_type 9) full_layout 0x48 Unsupported
@@ -63,7 +66,8 @@ SymbolsWithoutEntries =
     × RefusesToApply (with_bytes 0x54 (little 4 0) (of_type 22)) table_layout 0x48 Unsupported
     × WritesSection (of_type 9) (tables ((codes "g", 0x9000) ∷ (codes "f", 0x4000) ∷ (codes "f", 0x9000) ∷ []) []) (0xe8 ∷ 0xfb ∷ 0x2f ∷ 0 ∷ 0 ∷ [])
 
--- the place, the symbol, its name, its entry, the section's address, the value: each entry here fails the next check as well
+-- the place, the symbol, its name, its entry, the section's address, the value: each entry here
+-- fails the next check as well
 abbrev pub EntryChecksInOrder : Type 0
 EntryChecksInOrder =
     let unplaced : Layout = record { lookup = Compared; sections = []; definitions = []; linkage = []; table = (codes "f", 2 ^ 63) ∷ []; thread = [] } in

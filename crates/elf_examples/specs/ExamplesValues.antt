@@ -22,7 +22,8 @@ CallTakesEntry =
     (value 4 7 0x2000 (negsuc 3) 0x1001 ≡ Ok (0xfb ∷ 0x0f ∷ 0 ∷ 0 ∷ []))
     × (value 4 7 0x80000000 (pos 0) 0 ≡ Err Overflow)
 
--- R_X86_64_32 is a number without a sign, R_X86_64_32S one in two's complement; both of the value modulo 2^64
+-- R_X86_64_32 is an unsigned number, R_X86_64_32S one in two's complement; both of the value modulo
+-- 2^64
 abbrev pub Bits32 : Type 0
 Bits32 =
     Overflows 10 0xffffffff (pos 1) 0
@@ -41,7 +42,7 @@ Bits64 =
     × Stores 24 0 (negsuc 0) (2 ^ 63) (replicate 7 0xff ++ (0x7f ∷ []))
     × Stores 24 0 (negsuc (2 ^ 63 - 1)) (2 ^ 64 - 1) ((1 ∷ []) ++ replicate 6 0 ++ (0x80 ∷ []))
 
--- R_X86_64_16 fits as a number without a sign or in two's complement
+-- R_X86_64_16 fits as an unsigned number or in two's complement
 abbrev pub Bits16 : Type 0
 Bits16 =
     Stores 12 0xffff (pos 0) 0 (0xff ∷ 0xff ∷ [])

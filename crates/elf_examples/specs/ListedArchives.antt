@@ -3,7 +3,8 @@ use Rattle.std.specs.Prelude.{◌≡◌, ◌+◌, ◌*◌, [], ◌∷◌, ◌++�
 use Rattle.elf_model.specs.Prelude.{ALL, EveryRow, HEADER, any_refused, archive, archive_ceiling, archive_cost, archive_items, archive_of, bare_header, fault_of, library, member, member_header, one_symbol_table, report, short_name, standard}
 use Rattle.elf_model.specs.declared.formats.Format.TheVariants.{Columns}
 
--- the members alone: an index of symbols, a table of names, an odd size with its padding, a long name
+-- the members alone: an index of symbols, a table of names, an odd size with its padding, a long
+-- name
 abbrev pub MembersList : Type 0
 MembersList =
     archive library 3 63 0
@@ -13,7 +14,7 @@ MembersList =
     ++ codes "A     3 000000000000012a 0000000000000138 one_symbol_table.o\n"
     ++ codes "A     4 000000000000029e 0000000000000040 b.o\n"
 
--- and behind each that is an ELF file its listing, with offsets from its own first byte
+-- and after each that is an ELF file its listing, with offsets from its own first byte
 abbrev pub ArchiveOfNamesLists : Type 0
 ArchiveOfNamesLists =
     archive library 3 63 ALL
@@ -23,7 +24,7 @@ ArchiveOfNamesLists =
     ++ codes "A     3 000000000000012a 0000000000000138 one_symbol_table.o\n" ++ report one_symbol_table 3 63 ALL
     ++ codes "A     4 000000000000029e 0000000000000040 b.o\n" ++ report bare_header 3 63 ALL
 
--- the end of a member's listing is no end of the archive's: the next member follows
+-- the end of a member's listing does not end the archive's: the next member follows
 abbrev pub RefusedMembersEndAlone : Type 0
 RefusedMembersEndAlone =
     let cut = archive_of (member (codes "a.o/") (127 ∷ 69 ∷ 76 ∷ 70 ∷ 2 ∷ []) ++ member (codes "b.o/") bare_header) in
@@ -37,7 +38,7 @@ abbrev pub ThreeBytesAreNoElf : Type 0
 ThreeBytesAreNoElf =
     archive (archive_of (member (codes "a.o/") (127 ∷ 69 ∷ 76 ∷ []))) 3 63 ALL ≡ codes "A     0 0000000000000044 0000000000000003 a.o\n"
 
--- what is no archive
+-- what is not an archive
 abbrev pub WhatIsNoArchiveIsRefused : Type 0
 WhatIsNoArchiveIsRefused =
     (archive (codes "!<arch>") 3 63 0 ≡ codes "! 0000000000000000 short\n")
@@ -45,7 +46,7 @@ WhatIsNoArchiveIsRefused =
     × (archive (codes "!<arch>\r") 3 63 0 ≡ codes "! 0000000000000000 not-archive\n")
     × (archive (codes "!<arch>\n") 3 63 0 ≡ [])
 
--- where no member stands
+-- where there is no member
 abbrev pub CutMembersAreRefused : Type 0
 CutMembersAreRefused =
     (archive (codes "!<arch>\nx") 3 63 0 ≡ codes "! 0000000000000008 member-cut\n")
@@ -71,8 +72,8 @@ MemberNames =
     × (archive (archive_of (member (codes "/1x") [])) 3 63 0 ≡ codes "A     0 0000000000000044 0000000000000000 /1x\n")
     × (archive (archive_of (member (codes "abcd/") [])) 3 3 0 ≡ codes "A     0 0000000000000044 0000000000000000 abc\\+\n")
 
--- long names: whole with as many bytes as are shown and a slash, cut with one byte more; without a table, behind its end,
--- without a newline
+-- long names: whole with as many bytes as are shown and a slash, cut with one byte more; without a
+-- table, after its end, without a newline
 abbrev pub LongNames : Type 0
 LongNames =
     (archive (archive_of (member (codes "//") (codes "abc/\n\n") ++ member (codes "/0") [])) 3 3 0
@@ -92,7 +93,8 @@ ArchivesCost =
     × (archive_cost (codes "!<arch>\n") 3 (standard 63) ALL ≡ 8)
     × (archive_cost (codes "!<thin>\n") 3 (standard 63) ALL ≡ 8)
 
--- a member that is cut costs its header where that is whole, to the last byte, and its name where that stands elsewhere
+-- a member that is cut costs its header if that is whole, to the last byte, and its name if that is
+-- elsewhere
 abbrev pub CutMembersCost : Type 0
 CutMembersCost =
     (archive_cost (codes "!<arch>\nx") 3 (standard 63) ALL ≡ 8)
@@ -101,7 +103,8 @@ CutMembersCost =
     × (archive_cost (archive_of (member_header (codes "/5") (codes "1"))) 3 (standard 63) ALL ≡ 8 + 60 + 128)
     × (archive_cost (archive_of (member_header (codes "#1/5") (codes "1"))) 3 (standard 63) ALL ≡ 8 + 60 + 128)
 
--- what none passes with versions behind names: 59 bytes have room for two symbols, two definitions and three needs
+-- the upper bound with versions after names: 59 bytes have room for two symbols, two definitions
+-- and three needs
 abbrev pub CeilingsWithVersions : Type 0
 CeilingsWithVersions =
     archive_ceiling 59 1 (record { cap = 63; gnu = true; by_segments = false; format = Columns; choice = EveryRow; versions = true })

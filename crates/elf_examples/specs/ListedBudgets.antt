@@ -5,11 +5,12 @@ use Rattle.elf_model.specs.declared.formats.Format.TheVariants.{Columns}
 use Rattle.elf_model.specs.declared.causes.Refusal.{Refusal}
 use Rattle.std.specs.Prelude.{ℕ, ◌≡◌, ◌<◌, ◌⊎◌, ◌++◌, List, [], ◌∷◌, length, take, Option, None, Some, codes}
 
--- the refusal of a read at an offset, for want of budget
+-- the refusal of a read at an offset, when the budget is exhausted
 abbrev pub spent_at : ℕ → Refusal
 spent_at at = record { at = at; cause = Budget }
 
--- a text is so many items of a listing that costs more than a budget, and the line of a read at an offset of the file
+-- a text is this many items of a listing that costs more than a budget, and the line of a read at
+-- an offset of the file
 abbrev pub EndsAfter : (file : List ℕ) (headers cap parts budget count at : ℕ) (text : List ℕ) → Type 0
 EndsAfter file headers cap parts budget count at text =
     (budget < cost file headers cap parts)
@@ -24,7 +25,8 @@ BudgetMayEndAListing =
     → EndsAfter file headers cap parts budget count at text
     → IsBudgeted (Some budget) file headers (standard cap) parts text (Some (spent_at at))
 
--- nothing else is: without a budget the report and its fault, with one these or such a text and the refusal of its read
+-- nothing else is: without a budget the report and its fault, with one these or such a text and the
+-- refusal of its read
 abbrev pub NothingElseIsAllowed : Type 0
 NothingElseIsAllowed =
     (file : List ℕ) (headers cap parts : ℕ) (text : List ℕ) (fault : Option Refusal)
@@ -35,8 +37,8 @@ NothingElseIsAllowed =
     → ((text ≡ report file headers cap parts) × (fault ≡ report_fault file headers cap parts))
     ⊎ ((count : ℕ) × (at : ℕ) × (fault ≡ Some (spent_at at)) × EndsAfter file headers cap parts budget count at text))
 
--- no cut of a file of 64 bytes: an offset at the file's length, another cause, no fault, the fault of another offset, a line that
--- is not the first, the fault's line before the budget's
+-- not a cut of a file of 64 bytes: an offset at the file's length, another cause, no fault, the
+-- fault of another offset, a line that is not the first, the fault's line before the budget's
 abbrev pub OtherTextsAreNoCuts : Type 0
 OtherTextsAreNoCuts =
     (IsCut Columns 64 [] (codes "! 0000000000000040 budget\n") (Some (spent_at 64)) → ⊥)
@@ -49,7 +51,8 @@ OtherTextsAreNoCuts =
     (codes "! 0000000000000000 short\n! 0000000000000000 budget\n") (Some (spent_at 0))
     → ⊥)
 
--- a whole answer is shown within every budget, and without one; what a budget allows is shown with status 1
+-- a whole result is shown within every budget, and without one; what a budget allows is shown with
+-- status 1
 abbrev pub AllowedAnswersAreShown : Type 0
 AllowedAnswersAreShown =
     (file : List ℕ) (headers cap parts : ℕ)
@@ -68,13 +71,13 @@ NothingElseIsShown =
     → (answer ≡ show_answer file headers cap parts)
     ⊎ ((answer.status ≡ 1) × ((count : ℕ) × (at : ℕ) × EndsAfter file headers cap parts budget count at answer.text)))
 
--- what is listed behind the file header's line where the section headers can't be read any more
+-- what is listed after the file header's line if the section headers can't be read any more
 abbrev pub header_and_budget : List ℕ
 header_and_budget =
     codes "H REL     62 0000000000000000 0000000000000000 0000000000000078 00000000     0     3     0\n! 0000000000000078 budget\n"
 
--- budgets of less than the file header end a listing at once, one of the file header ends it before the section headers,
--- and one byte too few ends it before the last name
+-- budgets of less than the file header end a listing at once, one of the file header ends it before
+-- the section headers, and one byte too few ends it before the last name
 abbrev pub BudgetsThatEnd : Type 0
 BudgetsThatEnd =
     EndsAfter one_symbol_table 3 63 ALL 0 0 0 (codes "! 0000000000000000 budget\n")
@@ -83,14 +86,15 @@ BudgetsThatEnd =
     × EndsAfter one_symbol_table 3 63 ALL 431 5 0x71
     (lines_of (take 5 (items one_symbol_table 3 63 ALL)) ++ refusal_line Columns (spent_at 0x71))
 
--- a budget of the cost allows the report alone: of a whole listing, and of the file header's line
+-- a budget of the cost allows only the report: of a whole listing, and of the file header's line
 abbrev pub BudgetsThatSuffice : Type 0
 BudgetsThatSuffice =
     (text : List ℕ) (fault : Option Refusal)
     → (IsBudgeted (Some 432) one_symbol_table 3 (standard 63) ALL text fault → text ≡ report one_symbol_table 3 63 ALL)
     × (IsBudgeted (Some 64) one_symbol_table 3 (standard 63) HEADER text fault → text ≡ report one_symbol_table 3 63 HEADER)
 
--- a listing without a fault that ends in one was cut short for want of budget, at a read below the file's length
+-- a listing without a fault that ends in one was cut short by the budget, at a read below the
+-- file's length
 abbrev pub CutsAreForBudget : Type 0
 CutsAreForBudget =
     (text : List ℕ) (refusal : Refusal)
@@ -108,8 +112,8 @@ EmptyFileIsShort =
 abbrev pub ShowsWithin : Option ℕ → ℕ → List ℕ → ℕ → Type 0
 ShowsWithin budget parts text status = IsShown budget one_symbol_table 3 (standard 63) parts (record { text = text; status = status })
 
--- a cut is shown where the budget is below the cost, and not with status 0, within a budget of the cost or without a budget; a
--- whole listing is shown with its own text and status alone
+-- a cut is shown if the budget is below the cost, and not with status 0, within a budget of the
+-- cost or without a budget; a whole listing is shown only with its own text and status
 abbrev pub OtherAnswersAreNotShown : Type 0
 OtherAnswersAreNotShown =
     ShowsWithin (Some 64) ALL header_and_budget 1

@@ -15,7 +15,7 @@ whole_state file = state_of None file (report_fault file 3 63 ALL)
 abbrev pub refused : Refusal → FileStatus
 refused refusal = state.Refused refusal
 
--- files without a fault, with one, and of another kind
+-- files without a fault, with one, and of another type
 abbrev pub StatesOfFiles : Type 0
 StatesOfFiles =
     (whole_state one_symbol_table ≡ state.Ok)
@@ -24,7 +24,7 @@ StatesOfFiles =
     × (whole_state (take 100 one_symbol_table) ≡ refused (record { at = 0x28; cause = TableOutside }))
     × (whole_state (with_bytes 0x3 (little 1 0x47) bare_header) ≡ state.NoElf)
 
--- each front of a file header is refused once the magic number is whole, and is of another kind before
+-- each prefix of a file header is refused once the magic number is whole, and is not ELF before
 abbrev pub StatesOfFronts : Type 0
 StatesOfFronts =
     (map (λ n. whole_state (take n bare_header)) (numbers_from 0 4) ≡ map (λ n. state.NoElf) (numbers_from 0 4))
@@ -40,7 +40,8 @@ StateIs budget file found = state_of (Some budget) file (report_fault file 3 63 
 abbrev over_budget : FileStatus
 over_budget = refused (record { at = 0; cause = Budget })
 
--- what a short file is is decided by four bytes within the budget, of one that has fewer by none; of a longer file by the file header
+-- what a short file is is decided by four bytes within the budget, or by none if it has fewer; a
+-- longer file by its file header
 abbrev pub StatesWithinBudgets : Type 0
 StatesWithinBudgets =
     StateIs 4 (codes "text\n") state.NoElf × StateIs 63 (codes "text\n") state.NoElf
@@ -48,7 +49,7 @@ StatesWithinBudgets =
     × StateIs 4 (take 10 bare_header) (refused (record { at = 10; cause = Short })) × StateIs 3 (take 10 bare_header) over_budget
     × (state_of (Some 63) bare_header (Some (record { at = 0; cause = Budget })) ≡ over_budget)
 
--- a line each: the states' words in their column, where and why, and the path as names are spelt
+-- a line each: the states' words in their column, where and why, and the path escaped as names are
 abbrev pub LinesOfStates : Type 0
 LinesOfStates =
     (check_line Columns state.Ok (codes "/usr/bin/ls") ≡ codes "C ok           - /usr/bin/ls\n")
@@ -60,7 +61,7 @@ LinesOfStates =
     × (check_line Columns state.Ok [] ≡ codes "C ok           - \n")
     × (check_line Columns state.Ok (27 ∷ 91 ∷ 10 ∷ 92 ∷ 0xc3 ∷ 0xa9 ∷ []) ≡ codes "C ok           - \\x1b[\\x0a\\\\\\xc3\\xa9\n")
 
--- the last line, where paths could not be named
+-- the last line, if paths could not be named
 abbrev pub LinesOfTheUnnamed : Type 0
 LinesOfTheUnnamed =
     (unnamed_line Columns 3 ≡ codes "C unnamed               3\n")

@@ -1,4 +1,4 @@
--- What listings ask for at most, and what they never pass.
+-- What listings read at most, and their upper bounds.
 use Rattle.std.specs.Prelude.{ℕ, ◌≡◌, ◌+◌, ◌-◌, ◌*◌, ◌++◌, []}
 use Rattle.elf_model.specs.Prelude.{ALL, DYNAMIC, HEADER, NOTES, RELOCS, SECTIONS, SEGMENTS, SYMBOLS, bare_header, build_note, ceiling, cost, hash_with_cycle, little, named_section, needed_library, note_segment, one_call, one_load, one_symbol_table, one_table, overlapping_relocations, tables_over_headers, with_bytes}
 
@@ -33,8 +33,8 @@ CostsOfParts =
     × (cost needed_library 3 63 DYNAMIC ≡ 496)
     × (cost (one_table 7 4 0 build_note []) 3 63 NOTES ≡ 292)
 
--- files without sections: the program headers are read once, for the segments and for the tables that they describe, and
--- for no other part; there are none whatever the size of a section header is
+-- files without sections: the program headers are read once, for the segments and for the tables
+-- that they describe, and for no other part; there are none for any size of a section header
 abbrev pub CostsWithoutSections : Type 0
 CostsWithoutSections =
     (cost one_load 1 63 SEGMENTS ≡ 120)
@@ -62,7 +62,7 @@ CostsOfTheHeaderAlone =
     × (cost one_symbol_table 2 63 ALL ≡ 64)
     × (cost [] 1 63 ALL ≡ 64)
 
--- a table counts where its own checks pass, wherever the first fault is
+-- a table counts if its own checks pass, for any position of the first fault
 abbrev pub CostsOfTablesThatFail : Type 0
 CostsOfTablesThatFail =
     (cost (with_bytes 0xe0 (little 4 0x0) one_symbol_table) 3 63 ALL ≡ 432)
@@ -70,8 +70,9 @@ CostsOfTablesThatFail =
     × (cost (with_bytes 0xe0 (little 4 0x9) (with_bytes 0xf0 (little 8 0x5) (with_bytes 0xd8 (little 8 0x0) one_symbol_table))) 3 63 ALL ≡ 256)
     × (cost (with_bytes 0x58 (little 4 0xffffffff) one_symbol_table) 3 63 ALL ≡ 432)
 
--- a table that ends at the end of the file counts, and one that ends one byte past it does not, nor one that starts past it:
--- notes of a section and of a segment, symbols, relocation entries and dynamic entries
+-- a table that ends at the end of the file counts, and one that ends one byte past it does not, nor
+-- one that starts past it: notes of a section and of a segment, symbols, relocation entries and
+-- dynamic entries
 abbrev pub CostsAtTheEnd : Type 0
 CostsAtTheEnd =
     (cost (with_bytes 0xbc (little 8 (292 - 36)) (one_table 7 4 0 build_note [])) 3 63 NOTES ≡ 64 + 192 + 36)
@@ -86,8 +87,9 @@ CostsAtTheEnd =
     × (cost (with_bytes 0xd3 (little 8 (315 - 48)) needed_library) 3 63 DYNAMIC ≡ 64 + 192 + 3 * 80)
     × (cost (with_bytes 0xd3 (little 8 (315 - 47)) needed_library) 3 63 DYNAMIC ≡ 64 + 192)
 
--- relocation entries count where their own table's checks pass, whatever they link to; and where a later check of the
--- section of the section names fails they count, since the section headers are read before it
+-- relocation entries count if their own table's checks pass, no matter what they link to; and if a
+-- later check of the section of the section names fails they count, since the section headers are
+-- read before it
 abbrev pub CostsOfRelocations : Type 0
 CostsOfRelocations =
     (cost (with_bytes 0x54 (little 4 0x0) one_call) 5 63 RELOCS ≡ 64 + 320 + 112)

@@ -1,4 +1,5 @@
--- Many files listed, and archives checked: the line of a path, what a file is by its first bytes, and the fault of an archive.
+-- Many files listed, and archives checked: the line of a path, what a file is by its first bytes,
+-- and the fault of an archive.
 use Rattle.std.specs.Prelude.{ℕ, ◌≡◌, ◌^◌, ◌-◌, List, [], ◌∷◌, ◌++◌, codes, true, false, take, Option, None, Some}
 use Rattle.elf_model.specs.Prelude.{EveryRow, RowsOf, SYMBOLS, archive_fault, archive_of, bare_header, budget_after, file_magic, headed, library, list_status, little, member, members_alone, one_symbol_table, path_line, placed_after, standard, with_bytes}
 use Rattle.elf_model.specs.declared.states.FileMagic.TheVariants.{Archive, Elf, Foreign}
@@ -8,7 +9,7 @@ use Rattle.elf_model.specs.declared.causes.Cause.TheVariants.{MemberCut, NameOut
 use Rattle.elf_model.specs.declared.causes.Refusal.{Refusal}
 use Rattle.elf_model.specs.declared.states.FileMagic.TheVariants.{Thin as ThinArchive, Undecided}
 
--- the line of a path: spelt as names are, empty, and as an object
+-- the line of a path: escaped as names are, empty, and as an object
 abbrev pub PathLines : Type 0
 PathLines =
     (path_line Columns (codes "/bin/ls") ≡ codes "@ /bin/ls\n")
@@ -16,7 +17,7 @@ PathLines =
     × (path_line Columns [] ≡ codes "@ \n")
     × (path_line Object (codes "a\"b") ≡ codes "{\"line\":\"@\",\"path\":\"a\\\"b\"}\n")
 
--- what is listed behind the line of a path; of some names, something or nothing
+-- what is listed after the line of a path; of some names, something or nothing
 abbrev pub HeadedListings : Type 0
 HeadedListings =
     (headed EveryRow (codes "@ a\n") (codes "H\n") ≡ codes "@ a\nH\n") × (headed EveryRow (codes "@ a\n") [] ≡ codes "@ a\n")
@@ -44,13 +45,13 @@ FileSorts =
     × (file_magic true (Some 8) (codes "!<thin>\n") ≡ ThinArchive) × (file_magic true (Some 7) (codes "!<thin>\n") ≡ Undecided)
     × (file_magic false None (codes "!<thin>\n") ≡ Foreign)
 
--- what is left of a budget behind them
+-- what is left of a budget after them
 abbrev pub BudgetsAfter : Type 0
 BudgetsAfter =
     (budget_after None 4 ≡ None) × (budget_after (Some 100) 4 ≡ Some 96) × (budget_after (Some 4) 4 ≡ Some 0)
     × (budget_after (Some 3) 4 ≡ Some 3)
 
--- the fault of an archive of some members, with three headers permitted
+-- the fault of an archive of some members, with three headers allowed
 abbrev FaultIs : List ℕ → Option Refusal → Type 0
 FaultIs file fault = archive_fault file 3 (standard 63) SYMBOLS ≡ fault
 
@@ -60,7 +61,8 @@ at_fault at cause = Some (record { at = at; cause = cause })
 abbrev faulty : List ℕ
 faulty = with_bytes 0x40 (little 4 9) one_symbol_table
 
--- none; what is no archive; the first fault in order, of a member from the archive's first byte on, then that of the walk
+-- none; what is no archive; the first fault in order, of a member from the archive's first byte on,
+-- then that of the walk
 abbrev pub ArchiveFaults : Type 0
 ArchiveFaults =
     FaultIs library None × FaultIs (archive_of []) None
@@ -71,12 +73,12 @@ ArchiveFaults =
     × FaultIs (archive_of (member (codes "a.o/") faulty ++ member (codes "b.o/") (take 70 faulty))) (at_fault 0x84 NameOutside)
     × (placed_after 8 (record { at = 2 ^ 64 - 4; cause = Short }) ≡ record { at = 2 ^ 64 - 1; cause = Short })
 
--- the lines of members stand alone where all rows are shown, and not where some names choose them
+-- the lines of members are listed alone if all rows are shown, and not if some names select them
 abbrev pub MembersAlone : Type 0
 MembersAlone = (members_alone EveryRow ≡ true) × (members_alone (RowsOf []) ≡ false)
 
--- a fault of a member is counted from where its data begin behind a name of four bytes; a member that is no ELF file has none, nor
--- has one of which no part is listed
+-- a fault of a member is counted from where its data begin after a name of four bytes; a member
+-- that is no ELF file has none, nor has one of which no part is listed
 abbrev pub FaultsAfterNames : Type 0
 FaultsAfterNames =
     FaultIs (archive_of (member (codes "#1/4") (codes "ab.o" ++ faulty))) (at_fault 0x88 NameOutside)

@@ -45,7 +45,8 @@ LongFilesAreRefused =
     × (first_refusal (length_checks (2 ^ 63 - 1)) ≡ None)
     × (refusal_line Columns (record { at = 2 ^ 63; cause = TooLong }) ≡ codes "! 8000000000000000 too-long\n")
 
--- magic number, class, data encoding and version; the bytes behind the version, and e_version and e_ehsize, may be any
+-- magic number, class, data encoding and version; the bytes after the version, and e_version and
+-- e_ehsize, may be any
 abbrev pub IdentChecksInOrder : Type 0
 IdentChecksInOrder =
     (report (with_bytes 0x4 (little 1 0x1) bare_header) 1 63 ALL
@@ -65,7 +66,7 @@ IdentChecksInOrder =
     × (report (with_bytes 0x9 (replicate 7 0x3) (with_bytes 0x14 (little 4 0x3) (with_bytes 0x34 (little 2 0x3) bare_header))) 1 63 ALL
     ≡ codes "H REL     62 0000000000000000 0000000000000000 0000000000000000 00000000     0     0     0\n")
 
--- counts and indices that stand in section 0
+-- counts and indices that are stored in section 0
 abbrev pub ExtendedNumberingIsRefused : Type 0
 ExtendedNumberingIsRefused =
     (report (with_bytes 0x38 (little 2 0xffff) bare_header) 1 63 ALL
@@ -80,7 +81,7 @@ ExtendedNumberingIsRefused =
     ≡ codes "H REL     62 0000000000000000 0000000000000000 0000000000000040 00000000     0     0     0\n"
     ++ codes "! 000000000000003c extended-numbering\n")
 
--- more section headers or program headers than are permitted
+-- more section headers or program headers than are allowed
 abbrev pub MoreHeadersThanPermitted : Type 0
 MoreHeadersThanPermitted =
     (report one_symbol_table 2 63 ALL
@@ -100,8 +101,8 @@ HeaderSizesAreChecked =
     ≡ codes "H REL     62 0000000000000000 0000000000000000 0000000000000078 00000000     1     3     0\n"
     ++ codes "! 0000000000000036 entry-size\n")
 
--- section headers or program headers past the end of the file, in whole numbers; program headers also where there are
--- no sections
+-- section headers or program headers past the end of the file, without wrapping; program headers
+-- also if there are no sections
 abbrev pub HeadersOutsideTheFile : Type 0
 HeadersOutsideTheFile =
     (report (take 311 one_symbol_table) 3 63 ALL
@@ -117,7 +118,8 @@ HeadersOutsideTheFile =
     ≡ codes "H EXEC    62 0000000000000000 0000000000000041 0000000000000000 00000000     1     0     0\n"
     ++ codes "! 0000000000000020 table-outside\n")
 
--- the section of the section names: its index, its type and its range; without sections its index may be any
+-- the section of the section names: its index, its type and its range; without sections its index
+-- may be any
 abbrev pub SectionOfTheNamesIsChecked : Type 0
 SectionOfTheNamesIsChecked =
     (report (with_bytes 0x3e (little 2 0x3) one_symbol_table) 3 63 ALL

@@ -6,7 +6,7 @@ use Rattle.elf_model.specs.declared.causes.Refusal.{Refusal}
 use Rattle.elf_examples.specs.ListedBudgets.{spent_at}
 use Rattle.elf_examples.specs.ListedBsdNames.{listed}
 
--- decimal numbers of the digits up to 9 and of ten of them, and the bytes beside the digits
+-- decimal numbers of the digits up to 9 and of ten of them, and the bytes next to the digits
 abbrev pub DigitsAreDecimal : Type 0
 DigitsAreDecimal =
     (padded_number (codes "9         ") ≡ Some 9)
@@ -23,7 +23,7 @@ MarksEndHeaders =
     × (parsed_member_size (with_bytes 59 (0x0d ∷ []) (member_header (codes "a") (codes "1"))) 0 ≡ None)
     × (listed 63 (with_bytes 59 (0x0d ∷ []) (member (codes "a/") [])) ≡ codes "! 0000000000000008 member-cut\n")
 
--- the table of names is known by all 16 bytes of its name
+-- the table of names is recognized by all 16 bytes of its name
 abbrev pub NameTablesAreTold : Type 0
 NameTablesAreTold =
     (is_name_table (codes "//              ") 0 ≡ true)
@@ -49,7 +49,7 @@ FirstTablesDecide =
     ≡ codes "A     0 0000000000000044 0000000000000000 //\n" ++ codes "A     1 0000000000000080 0000000000000002 //\n"
     ++ codes "! 0000000000000082 name-outside\n")
 
--- a member is known for an ELF file by its first four bytes, whatever the fifth is
+-- a member is recognized as an ELF file by its first four bytes, for any fifth
 abbrev pub FirstFourBytesTell : Type 0
 FirstFourBytesTell =
     (is_elf (127 ∷ 69 ∷ 76 ∷ 70 ∷ []) ≡ true) × (is_elf (127 ∷ 69 ∷ 76 ∷ 70 ∷ 9 ∷ []) ≡ true)
@@ -59,7 +59,8 @@ FirstFourBytesTell =
 abbrev pub of_one : List ℕ → List ℕ
 of_one content = archive_of (member (codes "a.o/") content)
 
--- a style is that of the members' listings: the GNU system's names, and tables by the program headers, of which there are none
+-- a style is that of the members' listings: the GNU names, and tables by the program headers, of
+-- which there are none
 abbrev pub StylesAreTheMembers : Type 0
 StylesAreTheMembers =
     (report_of Columns
@@ -71,13 +72,13 @@ StylesAreTheMembers =
     × (report_of Columns (archive_items true (of_one one_symbol_table) 3 (record { cap = 63; gnu = false; by_segments = true; format = Columns; choice = EveryRow; versions = false }) SYMBOLS)
     ≡ codes "A     0 0000000000000044 0000000000000138 a.o\n")
 
--- as many headers as are permitted are a member's too
+-- as many headers as are allowed are a member's too
 abbrev pub HeadersAreTheMembers : Type 0
 HeadersAreTheMembers =
     archive (of_one one_symbol_table) 2 63 SYMBOLS
     ≡ codes "A     0 0000000000000044 0000000000000138 a.o\n" ++ codes "! 000000000000003c too-many-headers\n"
 
--- a fault ends the listing of its member, before the symbol behind it, and the next member follows
+-- a fault ends the listing of its member, before the symbol after it, and the next member follows
 abbrev pub FaultsEndTheirMember : Type 0
 FaultsEndTheirMember =
     let faulty = with_bytes 0x40 (little 4 9) one_symbol_table in
@@ -88,36 +89,38 @@ FaultsEndTheirMember =
     ++ codes "A     2 0000000000000234 0000000000000040 c.o\n" ++ report bare_header 3 63 HEADER)
     × (any_refused all 3 (standard 63) SYMBOLS ≡ true)
 
--- all parts: five headers, a long name, the first four bytes of each member but the second, which they are not past, and two listings
+-- all parts: five headers, a long name, the first four bytes of each member except the second,
+-- which they are not past, and two listings
 abbrev pub AllPartsCost : Type 0
 AllPartsCost =
     (archive_cost library 3 (standard 63) ALL ≡ 8 + 5 * 60 + 128 + 5 * 4 + 432 + 64)
     × (archive_cost (of_one bare_header) 3 (standard 63) VERSIONS ≡ 8 + 60)
 
--- what no archive of so many bytes costs more than
+-- the upper bound of archives of this many bytes
 abbrev pub CeilingsOfArchives : Type 0
 CeilingsOfArchives =
     (archive_ceiling 59 1 (standard 63) ≡ 8 + (64 + (184 + 59 + 3 * 96)))
     × (archive_ceiling 60 1 (standard 63) ≡ 8 + (64 + 128 + (64 + 184)) + (64 + (184 + 60 + 3 * 96)))
     × (archive_ceiling 734 3 (standard 62) ≡ 8 + 12 * (64 + 64 + (64 + 3 * 184)) + (64 + 3 * (184 + 734 + 45 * 96)))
 
--- an archive of one member without data, and what is allowed of its members' lines within a budget, or without one
+-- an archive of one member without data, and what is allowed of its members' lines within a budget,
+-- or without one
 abbrev pub Allows : Option ℕ → List ℕ → Option Refusal → Type 0
 Allows budget text fault = IsArchiveBudgeted true budget (archive_of (member (codes "a/") [])) 3 (standard 63) 0 text fault
 
--- it costs 68 bytes: a budget of these allows the listing alone, and so does none
+-- it costs 68 bytes: a budget of these allows only the listing, and so does none
 abbrev pub BudgetsThatCarryArchives : Type 0
 BudgetsThatCarryArchives =
     (text : List ℕ) (fault : Option Refusal)
     → (Allows (Some 68) text fault → text ≡ codes "A     0 0000000000000044 0000000000000000 a\n")
     × (Allows None text fault → text ≡ codes "A     0 0000000000000044 0000000000000000 a\n")
 
--- and every budget of less one that ends before the member's line for want of it too, at a read in the file
+-- and every smaller budget also one that ends before the member's line, at a read in the file
 abbrev pub BudgetsThatEndArchives : Type 0
 BudgetsThatEndArchives =
     (budget at : ℕ) → budget < 68 → at < 68 → Allows (Some budget) (refusal_line Columns (spent_at at)) (Some (spent_at at))
 
--- and nothing but its want ends it
+-- and nothing else ends it
 abbrev pub CutsOfArchivesAreForBudget : Type 0
 CutsOfArchivesAreForBudget =
     (text : List ℕ) (refusal : Refusal) → Allows (Some 40) text (Some refusal) → IsBudgetRefusal refusal × (refusal.at < 68)

@@ -10,7 +10,7 @@ OneNoteLists =
     × (report (one_table 7 4 0 build_note []) 3 2 NOTES
     ≡ codes "N     1 00000003 00000004 00000014 GN\\+ 000102030405060708090a0b0c0d0e0f10111213\n")
 
--- fewer than 12 zero bytes behind a note are the end; with another byte among them the table is cut
+-- fewer than 12 zero bytes after a note are the end; with another byte among them the table is cut
 abbrev pub ZerosAfterANote : Type 0
 ZerosAfterANote =
     (report (one_table 7 4 0 (build_note ++ zeros 4) []) 3 63 NOTES
@@ -59,7 +59,7 @@ NotesOutsideTheFile =
     × (report (with_bytes 0xc4 (little 8 0xffffffffffffffff) (one_table 7 4 0 build_note [])) 3 63 NOTES
     ≡ codes "! 00000000000000a4 table-outside\n")
 
--- what stands behind a table of notes is not looked at, in a section and in a segment
+-- what follows a table of notes is not read, in a section and in a segment
 abbrev pub BytesAfterNotes : Type 0
 BytesAfterNotes =
     (report (one_table 7 4 0 build_note (1 ∷ [])) 3 63 NOTES

@@ -7,7 +7,7 @@ use Rattle.elf_model.specs.declared.causes.Cause.TheVariants.{Short, TableOutsid
 use Rattle.elf_model.specs.Names.DisplayedName.{Whole}
 use Rattle.elf_model.specs.declared.states.FileStatus.TheVariants as state
 
--- objects, with so many bytes of a name
+-- objects, with this many bytes of a name
 abbrev pub objects : ℕ → ListingStyle
 objects cap = record { cap = cap; gnu = false; by_segments = false; format = Object; choice = EveryRow; versions = false }
 
@@ -31,7 +31,8 @@ ObjectsOfFaults =
     × (report_of Object (listing one_symbol_table 2 (objects 63) SYMBOLS) ≡ codes "{\"line\":\"!\",\"place\":60,\"cause\":\"too-many-headers\"}\n")
     × (refusal_line Object (record { at = 2 ^ 63; cause = Short }) ≡ codes "{\"line\":\"!\",\"place\":9223372036854775808,\"cause\":\"short\"}\n")
 
--- a name as it is spelt in columns, in a string: a quotation mark, and each backslash of the spelling, have one before them
+-- a name as it is escaped in columns, in a string: a quotation mark, and each backslash of the
+-- escapes, have one before them
 abbrev pub ObjectsOfNames : Type 0
 ObjectsOfNames =
     (check_line Object state.Ok (34 ∷ 92 ∷ 10 ∷ 0xc3 ∷ 47 ∷ [])

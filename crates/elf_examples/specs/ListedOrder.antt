@@ -4,13 +4,14 @@ use Rattle.elf_model.specs.Prelude.{ALL, DYNAMIC, NOTES, RELOCS, SYMBOLS, aligne
 use Rattle.elf_model.specs.declared.causes.Cause.TheVariants.{BadClass, BadData, BadLink, BadVersion, EntrySize, ExtendedNumbering, NotElf, NotStrings, SizeNotWhole, TableOutside, TooManyHeaders}
 use Rattle.elf_model.specs.declared.causes.Cause.{Cause}
 
--- one symbol table with other bytes at 0x38: the program headers' number, the size and the number of section headers,
--- and the section of the section names
+-- one symbol table with other bytes at 0x38: the program headers' number, the size and the number
+-- of section headers, and the section of the section names
 unfoldable pub with_counts : ℕ → ℕ → ℕ → ℕ → List ℕ
 with_counts phnum shentsize shnum shstrndx =
     with_bytes 0x38 (little 2 phnum ++ little 2 shentsize ++ little 2 shnum ++ little 2 shstrndx) one_symbol_table
 
--- the first check of a file header that fails, and the first load check with so many headers permitted
+-- the first check of a file header that fails, and the first load check with this many headers
+-- allowed
 abbrev pub HeaderStops : List ℕ → ℕ → Cause → Type 0
 HeaderStops file at cause = first_refusal (header_checks file) ≡ Some (record { at = at; cause = cause })
 
@@ -21,7 +22,7 @@ LoadStops file headers at cause = first_refusal (load_checks file headers) ≡ S
 abbrev pub LoadPasses : List ℕ → ℕ → Type 0
 LoadPasses file headers = first_refusal (load_checks file headers) ≡ None
 
--- a byte of the identification that is one less or one more than it is to be
+-- a byte of the identification that is one less or one more than it must be
 abbrev NeighboursStop : (place byte at : ℕ) → Cause → Type 0
 NeighboursStop place byte at cause =
     HeaderStops (with_bytes place (little 1 (byte - 1)) bare_header) at cause
@@ -55,7 +56,8 @@ LoadFaultsInOrder =
     × LoadStops (with_bytes 0x20 (little 8 (2 ^ 64 - 1)) (with_bytes 0x36 (little 2 56) (with_counts 1 64 3 3))) 3 0x20 TableOutside
     × LoadStops (with_bytes 0xd8 (little 8 0x1000) (with_counts 0 64 3 1)) 3 0xb8 NotStrings
 
--- section headers and program headers have one size each, and where there are none their size may be any
+-- section headers and program headers have one size each, and if there are none their size may be
+-- any
 abbrev pub HeaderSizesAreOne : Type 0
 HeaderSizesAreOne =
     LoadStops (with_counts 0 65 3 0) 3 0x3a EntrySize
@@ -70,7 +72,8 @@ HeaderSizesAreOne =
 abbrev one_header : List ℕ
 one_header = file_header 1 0x40 1 0 ++ zeros 64
 
--- whether there are section headers their number decides, which may be 1, and neither their size nor their offset, which may be 0
+-- whether there are section headers is decided by their number, which may be 1, and not by their
+-- size or their offset, which may be 0
 abbrev pub SectionsAreCounted : Type 0
 SectionsAreCounted =
     LoadPasses one_header 1
@@ -95,7 +98,8 @@ SegmentsEndInside =
     × LoadStops (object 3 (zeros 167)) 3 0x20 TableOutside
     × LoadStops (with_bytes 0x20 (zeros 8) (object 2 [])) 2 0x20 TableOutside
 
--- of the checks of a symbol table that fail the earliest decides: each file here fails the next check as well
+-- of the checks of a symbol table that fail the earliest decides: each file here fails the next
+-- check as well
 abbrev pub SymbolFaultsInOrder : Type 0
 SymbolFaultsInOrder =
     (first_refusal (symbol_table_checks (with_bytes 0xd8 (little 8 0x1001) (with_bytes 0xf0 (little 8 16) one_symbol_table)) 0xb8)
@@ -117,7 +121,8 @@ LinkFaultsComeLater =
     × (first_refusal (dynamic_table_checks (with_bytes 0xdb (little 8 0x1000 ++ little 4 0) needed_library) 0xbb)
     ≡ Some (record { at = 0xbb; cause = TableOutside }))
 
--- one segment of notes, and in this order sections of dynamic entries, notes, relocation entries, symbols and strings
+-- one segment of notes, and in this order sections of dynamic entries, notes, relocation entries,
+-- symbols and strings
 unfoldable pub every_table : List ℕ
 every_table =
     with_bytes 0x36 (little 2 56 ++ little 2 1) (with_bytes 0x20 (little 8 0x40) (file_header 1 0xe8 6 0))
@@ -134,8 +139,8 @@ every_table =
     ++ section_header 2 0 0x88 48 5 1 8 24
     ++ section_header 3 0 0xe0 3 0 0 1 0
 
--- the kinds of tables stand in their order, whatever the order of the sections; where there are sections, the notes of
--- the segments are neither listed nor counted
+-- the kinds of tables are in their order, for any order of the sections; if there are sections, the
+-- notes of the segments are neither listed nor counted
 abbrev pub EveryTableIsListed : Type 0
 EveryTableIsListed =
     (report every_table 6 63 ALL
@@ -155,8 +160,8 @@ EveryTableIsListed =
     × (cost every_table 6 63 ALL ≡ 888)
     × (cost every_table 127 63 SYMBOLS ≡ 64 + 6 * 64 + 2 * 88)
 
--- the alignment of notes is counted from their table's start and not from the file's; a segment's notes are aligned and
--- cut as a section's are
+-- the alignment of notes is counted from their table's start and not from the file's; a segment's
+-- notes are aligned and cut as a section's are
 abbrev pub NotesAlignFromTheirTable : Type 0
 NotesAlignFromTheirTable =
     (report (one_segment (program_header 4 0 0x7c 0 28 8) (zeros 4 ++ aligned_note)) 1 63 NOTES

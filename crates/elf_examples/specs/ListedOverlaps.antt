@@ -1,4 +1,4 @@
--- Listings by the program headers of files whose LOAD segments lie over each other.
+-- Listings by the program headers of files whose LOAD segments overlap.
 use Rattle.std.specs.Prelude.{◌≡◌, ℕ, ◌+◌, ◌-◌, ◌^◌, true, false, List, [], ◌++◌, None, codes}
 use Rattle.elf_model.specs.Prelude.{ALL, DYNAMIC, EveryRow, ListingStyle, NOTES, SECTIONS, SEGMENTS, SYMBOLS, fault_of, listing, listing_cost, little, object, object_with, program_header, report, report_of, section_header, with_bytes}
 use Rattle.elf_model.specs.declared.formats.Format.TheVariants.{Columns}
@@ -6,7 +6,8 @@ use Rattle.elf_model.specs.declared.formats.Format.TheVariants.{Columns}
 abbrev by_segments : ListingStyle
 by_segments = record { cap = 63; gnu = false; by_segments = true; format = Columns; choice = EveryRow; versions = false }
 
--- a segment that is loaded at an address, of so many bytes in memory, with none of them in the file
+-- a segment that is loaded at an address, of this many bytes in memory, with none of them in the
+-- file
 abbrev load : (address size : ℕ) → List ℕ
 load address size = with_bytes 0x20 (little 8 0) (program_header 1 6 0 address size 0x1000)
 
@@ -17,8 +18,9 @@ Refused count headers line = report_of Columns (listing (object count headers) 8
 abbrev Listed : ℕ → List ℕ → Type 0
 Listed count headers = fault_of (listing (object count headers) 8 by_segments SEGMENTS) ≡ None
 
--- two over one page, the second on the last byte of it, on its first, and where the first begins; one that ends with a page,
--- and one that ends a byte behind it, with another on the next page, and on the one behind that
+-- two over one page, the second on the last byte of it, on its first, and where the first begins;
+-- one that ends with a page, and one that ends a byte after it, with another on the next page, and
+-- on the one after that
 abbrev pub PagesAreShared : Type 0
 PagesAreShared =
     Refused 2 (load 0x400000 1 ++ load 0x400fff 1) (codes "! 0000000000000078 load-overlap\n")
@@ -29,7 +31,8 @@ PagesAreShared =
     × Listed 2 (load 0x400fff 1 ++ load 0x401000 1)
     × Listed 2 (load 0x400000 0x1001 ++ load 0x402000 1)
 
--- none that takes up no memory, and none of another type, is looked at, nor ends what the one before it takes up
+-- none that takes up no memory, and none of another type, is checked, nor ends what the one before
+-- it takes up
 abbrev pub OthersTakeNoPages : Type 0
 OthersTakeNoPages =
     Listed 3 (load 0x400000 0x1000 ++ load 0x400800 0 ++ load 0x401000 1)
@@ -39,8 +42,8 @@ OthersTakeNoPages =
     × Refused 3 (load 0x400000 0x1001 ++ with_bytes 0 (little 4 6) (load 0x402000 1) ++ load 0x401000 1)
     (codes "! 00000000000000b0 load-overlap\n")
 
--- the order is that of the program headers: one that stands at a lower address than the one before it is refused, and the first
--- of several is
+-- the order is that of the program headers: one that is at a lower address than the one before it
+-- is refused, and the first of several is
 abbrev pub AddressesRise : Type 0
 AddressesRise =
     Refused 2 (load 0x402000 1 ++ load 0x400000 1) (codes "! 0000000000000078 load-overlap\n")
@@ -48,7 +51,7 @@ AddressesRise =
     × Refused 3 (load 0x402000 1 ++ load 0x401000 1 ++ load 0x400000 1) (codes "! 0000000000000078 load-overlap\n")
     × Refused 2 (load 0 1 ++ load 0 1) (codes "! 0000000000000078 load-overlap\n")
 
--- pages are counted in whole numbers, also where a segment ends at 2^64 or behind
+-- page numbers do not wrap, also if a segment ends at 2^64 or after
 abbrev pub PagesDoNotWrap : Type 0
 PagesDoNotWrap =
     Refused 2 (load (2 ^ 64 - 0x1000) 0x2000 ++ load 0x1000 1) (codes "! 0000000000000078 load-overlap\n")
@@ -65,8 +68,8 @@ covered_lines =
     codes "P     0 LOAD     RW- 0000000000000000 0000000000400000 0000000000400000 0000000000000000 0000000000001000 0000000000001000\n"
     ++ codes "P     1 LOAD     RW- 0000000000000000 0000000000400800 0000000000400800 0000000000000000 0000000000000010 0000000000001000\n"
 
--- the refusal stands behind the file header, in each part that needs the program headers and in no other, also of a file
--- with sections; and a listing that is not by the program headers has none
+-- the refusal follows the file header, in each part that needs the program headers and in no other,
+-- also of a file with sections; and a listing that is not by the program headers has none
 abbrev pub OverlapsBySegmentsAlone : Type 0
 OverlapsBySegmentsAlone =
     (report_of Columns (listing covered 8 by_segments ALL)
@@ -80,7 +83,7 @@ OverlapsBySegmentsAlone =
     × (report covered 8 63 SEGMENTS ≡ covered_lines)
     × (report covered 8 63 NOTES ≡ [])
 
--- the file's own checks stand before it, and it asks for nothing more
+-- the file's own checks come before it, and it reads nothing more
 abbrev pub OverlapsAfterTheLoad : Type 0
 OverlapsAfterTheLoad =
     (report_of Columns (listing covered 1 by_segments SEGMENTS) ≡ codes "! 0000000000000038 too-many-headers\n")

@@ -55,12 +55,12 @@ AnswersHaveAStatus =
     × (show_answer (take 63 bare_header) 1 63 ALL ≡ record { text = codes "! 000000000000003f short\n"; status = 1 })
     × (show_answer one_symbol_table 4096 256 ALL ≡ record { text = report one_symbol_table 3 63 ALL; status = 0 })
 
--- one symbol, whose name is some bytes with no NUL behind them
+-- one symbol, whose name is some bytes with no NUL after them
 abbrev open_symbol : List ℕ → List ℕ
 open_symbol name = one_table 2 8 24 (symbol 1 0 0 0 0) (0 ∷ name)
 
--- the text and the status are of the same listing: of the names that are asked for, cut or refused, of the parts and of the
--- headers
+-- the text and the status are of the same listing: of the requested names, cut or refused, of the
+-- parts and of the headers
 abbrev pub AnswersAreOfOneListing : Type 0
 AnswersAreOfOneListing =
     (show_answer (open_symbol (codes "abc")) 3 2 SYMBOLS

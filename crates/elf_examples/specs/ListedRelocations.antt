@@ -13,7 +13,7 @@ OverlappingRelocationsList =
     ++ codes "R     2 0000000000000000 32         00000000 +0000000011223344 \n"
     ++ codes "R     2 0000000000000002 16         00000000 +000000000000ffff \n"
 
--- a symbol where the section has no symbol table
+-- a symbol if the section has no symbol table
 abbrev pub RelocationWithoutSymbols : Type 0
 RelocationWithoutSymbols =
     report (with_bytes 0x54 (little 4 0x1) overlapping_relocations) 3 63 RELOCS
@@ -45,7 +45,7 @@ RelocationSymbolsAreChecked =
     × (report (with_bytes 0x78 (little 4 0x3) one_call) 5 63 RELOCS
     ≡ codes "! 0000000000000078 name-outside\n")
 
--- a symbol's name is cut to as many bytes as are asked for: the call's symbol is named `abcdef`
+-- a symbol's name is cut to as many bytes as are requested: the call's symbol is named `abcdef`
 abbrev pub RelocationNamesAreCut : Type 0
 RelocationNamesAreCut =
     let file = with_bytes 0x1b8 (little 8 8) (with_bytes 0x91 (codes "abcdef") one_call) in
@@ -111,7 +111,8 @@ LinkToDynamicSymbols =
     report (with_bytes 0x15c (little 4 0xb) one_call) 5 63 RELOCS
     ≡ codes "R     2 0000000000000001 PLT32      00000001 -0000000000000004 f\n"
 
--- links to no symbol table: no section, section 0 that is none, the entries themselves, the string table
+-- links to no symbol table: no section, section 0 that is none, the entries themselves, the string
+-- table
 abbrev pub LinksToNoSymbols : Type 0
 LinksToNoSymbols =
     (report (with_bytes 0x140 (little 4 0x5) one_call) 5 63 RELOCS
@@ -125,7 +126,8 @@ LinksToNoSymbols =
     × (report (with_bytes 0x140 (little 4 0x4) one_call) 5 63 RELOCS
     ≡ codes "! 0000000000000048 bad-link\n")
 
--- an entry without a symbol has no name: it is listed whatever its section links to, as long as that passes its checks
+-- an entry without a symbol has no name: it is listed no matter what its section links to, as long
+-- as that passes its checks
 abbrev pub EntryWithoutSymbolLists : Type 0
 EntryWithoutSymbolLists =
     (report (with_bytes 0x54 (little 4 0x0) one_call) 5 63 RELOCS
@@ -135,7 +137,8 @@ EntryWithoutSymbolLists =
     × (report (with_bytes 0x60 (little 4 0x3) (with_bytes 0x54 (little 4 0x0) one_call)) 5 63 RELOCS
     ≡ codes "R     2 0000000000000001 PLT32      00000000 -0000000000000004 \n")
 
--- the linked symbol table and its string table are checked before the first entry, also where no entry has a symbol
+-- the linked symbol table and its string table are checked before the first entry, also if no entry
+-- has a symbol
 abbrev pub LinkedSymbolsAreCheckedFirst : Type 0
 LinkedSymbolsAreCheckedFirst =
     (report (with_bytes 0x190 (little 8 0x10) (with_bytes 0x54 (little 4 0x0) one_call)) 5 63 RELOCS
@@ -158,7 +161,8 @@ EarlierRelocationsAreListed =
     ≡ codes "R     2 0000000000000000 32         00000000 +0000000000000001 \n"
     ++ codes "! 0000000000000138 entry-size\n"
 
--- relocation entries of size 0 are not checked: a link to no section, to symbols whose string table is none, a table past the end
+-- relocation entries of size 0 are not checked: a link to no section, to symbols whose string table
+-- is none, a table past the end
 abbrev pub EmptyRelocationsHaveNoLink : Type 0
 EmptyRelocationsHaveNoLink =
     (report (with_bytes 0x138 (little 8 0x0 ++ little 4 0x5) one_call) 5 63 RELOCS
@@ -168,7 +172,8 @@ EmptyRelocationsHaveNoLink =
     × (report (with_bytes 0x130 (little 8 0xffffffffffffffff ++ little 8 0x0) one_call) 5 63 RELOCS
     ≡ [])
 
--- with a symbol table of size 0, whose own link names no section, an entry without a symbol is listed, and no other
+-- with a symbol table of size 0, whose own link names no section, an entry without a symbol is
+-- listed, and no other
 abbrev pub EmptySymbolsHaveNoLink : Type 0
 EmptySymbolsHaveNoLink =
     (report (with_bytes 0x7c (little 4 0x0) (linked_to_first 0 5)) 3 63 RELOCS

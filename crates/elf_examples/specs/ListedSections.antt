@@ -14,8 +14,8 @@ SectionNamesList =
     ++ codes "S     1 SYMTAB                     0000000000000000 0000000000000040 0000000000000030 00000002 00000001 ma\\+\n"
     ++ codes "S     2 STRTAB                     0000000000000000 0000000000000070 0000000000000006 00000000 00000000 \n")
 
--- a section name past the end of its string table, or without an end; without a section of the section names none is
--- looked at
+-- a section name past the end of its string table, or without an end; without a section of the
+-- section names none is read
 abbrev pub SectionNamesAreChecked : Type 0
 SectionNamesAreChecked =
     (report (with_bytes 0xb8 (little 4 0x6) named_section) 3 63 SECTIONS

@@ -1,4 +1,5 @@
--- Listings of notes and dynamic entries in files without sections: the program headers describe the tables.
+-- Listings of notes and dynamic entries in files without sections: the program headers describe the
+-- tables.
 use Rattle.std.specs.Prelude.{◌≡◌, ℕ, ◌+◌, ◌-◌, ◌*◌, ◌^◌, true, false, List, [], ◌∷◌, ◌++◌, codes, take}
 use Rattle.elf_model.specs.Prelude.{ALL, DYNAMIC, EveryRow, ListingStyle, NOTES, SEGMENTS, SYMBOLS, aligned_note, ceiling, cost, library_strings, library_without_sections, listing, listing_cost, little, loaded, loaded_at, needed_with, object, object_with, one_segment, one_symbol_table, plain_note, program_header, report, report_of, section_header, tagged, with_bytes, zeros}
 use Rattle.elf_model.specs.declared.formats.Format.TheVariants.{Columns}
@@ -10,7 +11,8 @@ needed_lines =
     ++ codes "D     2 STRSZ            000000000000000b \n"
     ++ codes "D     3 NULL             0000000000000000 \n"
 
--- dynamic entries of a segment, with their strings where a segment loads them, also one that loads just these
+-- dynamic entries of a segment, with their strings if a segment loads them, also one that loads
+-- just these
 abbrev pub SegmentEntriesList : Type 0
 SegmentEntriesList =
     (report library_without_sections 2 63 DYNAMIC ≡ needed_lines)
@@ -21,8 +23,8 @@ SegmentEntriesList =
     ++ codes "P     1 DYNAMIC  RW- 00000000000000b0 00000000004000b0 00000000004000b0 0000000000000040 0000000000000040 0000000000000008\n"
     ++ needed_lines)
 
--- the program headers are read once, and each entry is gone through twice; a table whose own checks fail costs nothing, and one
--- that ends early counts whole
+-- the program headers are read once, and each entry is read twice; a table whose own checks fail
+-- costs nothing, and one that ends early counts whole
 abbrev pub SegmentEntriesCost : Type 0
 SegmentEntriesCost =
     (cost library_without_sections 2 63 DYNAMIC ≡ 560)
@@ -36,8 +38,9 @@ SegmentEntriesCost =
     × (cost (loaded 0xfb 0x40 (needed_with (tagged 0 0) (tagged 10 11))) 2 63 DYNAMIC ≡ 560)
     × (cost (loaded 0xfb 0 (needed_with (tagged 5 0x4000f0) (tagged 10 11))) 2 63 DYNAMIC ≡ 64 + 112)
 
--- more strings than a segment loads, and no entry that locates them: refused at the entry that shows a string.
--- Strings that a segment loads from past the end of the file: refused at that segment
+-- more strings than a segment loads, and no entry that locates them: refused at the entry that
+-- shows a string. Strings that a segment loads from past the end of the file: refused at that
+-- segment
 abbrev pub UnmappedStringsAreRefused : Type 0
 UnmappedStringsAreRefused =
     (report (loaded 0xfb 0x40 (needed_with (tagged 5 0x4000f0) (tagged 10 12))) 2 63 DYNAMIC ≡ codes "! 00000000000000b0 unmapped\n")
@@ -69,8 +72,8 @@ StringsAreSoughtLate =
     ≡ codes "D     0 DEBUG            0000000000000007 \n"
     ++ codes "! 00000000000000c0 unmapped\n")
 
--- the entries that locate the strings may come in either order, and behind the entry that shows one; of two the first
--- counts, and none behind the end
+-- the entries that locate the strings may come in either order, and after the entry that shows one;
+-- of two the first counts, and none after the end
 abbrev pub FirstTagsCount : Type 0
 FirstTagsCount =
     (report (loaded 0xfb 0x40 (needed_with (tagged 10 11) (tagged 5 0x4000f0))) 2 63 DYNAMIC
@@ -98,7 +101,8 @@ FirstTagsCount =
     × (report (loaded 0xfb 0x40 (tagged 1 1 ++ tagged 5 0x4000f0 ++ tagged 0 0 ++ tagged 10 11)) 2 63 DYNAMIC
     ≡ codes "! 00000000000000b0 unmapped\n")
 
--- addresses are added in whole numbers: a segment may load bytes up to and past 2^64, and strings past its end are not mapped
+-- addresses do not wrap: a segment may load bytes up to and past 2^64, and strings past its end are
+-- not mapped
 abbrev pub AddressesDoNotWrap : Type 0
 AddressesDoNotWrap =
     (report (loaded_at (2 ^ 64 - 0xf8) 0xfb 0x40 (needed_with (tagged 5 (2 ^ 64 - 8)) (tagged 10 11))) 2 63 DYNAMIC
@@ -115,8 +119,8 @@ AddressesDoNotWrap =
 abbrev entries_at_the_end : List ℕ
 entries_at_the_end = object 1 (program_header 2 6 0x78 0 0x20 8 ++ tagged 24 0 ++ tagged 0 0)
 
--- a table of dynamic entries that is not whole, or lies half or a byte outside the file: refused at its program header. One of
--- size 0 has no rows and is not checked
+-- a table of dynamic entries that is not whole, or lies half or a byte outside the file: refused at
+-- its program header. One of size 0 has no rows and is not checked
 abbrev pub SegmentEntriesAreChecked : Type 0
 SegmentEntriesAreChecked =
     (report (loaded 0xfb 0x3f (needed_with (tagged 5 0x4000f0) (tagged 10 11))) 2 63 DYNAMIC ≡ codes "! 0000000000000078 size-not-whole\n")
@@ -132,14 +136,15 @@ SegmentEntriesAreChecked =
     × (cost entries_at_the_end 1 63 DYNAMIC ≡ 64 + 56 + 2 * 96)
     × (cost (take 151 entries_at_the_end) 1 63 DYNAMIC ≡ 64 + 56)
 
--- two segments that load the strings, and one that is not loaded, before the dynamic entries at 0x120
+-- two segments that load the strings, and one that is not loaded, before the dynamic entries at
+-- 0x120
 abbrev three_loads : (offset : ℕ) → List ℕ
 three_loads offset =
     object 4
     (program_header 6 4 0 0x400000 0x1000 8 ++ program_header 1 5 offset 0x400000 0x16b 0x1000 ++ program_header 1 5 0 0x400000 0x16b 0x1000
     ++ program_header 2 6 0x120 0x400120 0x40 8 ++ needed_with (tagged 5 0x400160) (tagged 10 11) ++ library_strings)
 
--- of the segments that load the strings the first decides, also where its bytes lie outside the file
+-- of the segments that load the strings the first decides, also if its bytes lie outside the file
 abbrev pub FirstLoadDecides : Type 0
 FirstLoadDecides =
     (report (three_loads 0) 4 63 DYNAMIC
@@ -154,8 +159,8 @@ FirstLoadDecides =
     ++ codes "D     2 STRSZ            000000000000000b \n"
     ++ codes "D     3 NULL             0000000000000000 \n")
 
--- a segment that is loaded, and one of dynamic entries, count by their sizes in the file and by virtual addresses, and not by
--- their sizes in memory or physical addresses
+-- a segment that is loaded, and one of dynamic entries, count by their sizes in the file and by
+-- virtual addresses, and not by their sizes in memory or physical addresses
 abbrev pub SegmentsByFileSize : Type 0
 SegmentsByFileSize =
     (report (with_bytes 0x68 (little 8 0x1000) (loaded 0xfb 0x40 (needed_with (tagged 5 0x4000f0) (tagged 10 12)))) 2 63 DYNAMIC
@@ -171,15 +176,16 @@ segment_apart type offset virtual physical file_size memory_size =
     little 4 type ++ little 4 6 ++ little 8 offset ++ little 8 virtual ++ little 8 physical ++ little 8 file_size
     ++ little 8 memory_size ++ little 8 8
 
--- a segment that is loaded and one of dynamic entries, whose physical addresses are higher than the virtual ones: the sizes
--- of the first in the file and in memory, those of the second, and how many bytes of strings by the entries
+-- a segment that is loaded and one of dynamic entries, whose physical addresses are higher than the
+-- virtual ones: the sizes of the first in the file and in memory, those of the second, and how many
+-- bytes of strings by the entries
 abbrev loaded_apart : (load_size load_memory dynamic_size dynamic_memory size : ℕ) → List ℕ
 loaded_apart load_size load_memory dynamic_size dynamic_memory size =
     object 2
     (segment_apart 1 0 0x400000 0x800000 load_size load_memory ++ segment_apart 2 0xb0 0x4000b0 0x8000b0 dynamic_size dynamic_memory
     ++ needed_with (tagged 5 0x4000f0) (tagged 10 size) ++ library_strings)
 
--- the two addresses and the two sizes are told apart in each place
+-- the two addresses and the two sizes are reported apart in each place
 abbrev pub SegmentsHaveFourNumbers : Type 0
 SegmentsHaveFourNumbers =
     (report (loaded_apart 0xfb 0xfa 0x40 0x3f 11) 2 63 DYNAMIC
@@ -203,13 +209,14 @@ loaded_later phnum =
     (program_header 2 6 0xb0 0x4000b0 0x40 8 ++ program_header 1 5 0 0x400000 0xfb 0x1000
     ++ needed_with (tagged 5 0x4000f0) (tagged 10 11) ++ library_strings)
 
--- a later segment may load the strings, and behind the last program header there is none
+-- a later segment may load the strings, and after the last program header there is none
 abbrev pub NoSegmentPastTheLast : Type 0
 NoSegmentPastTheLast =
     (report (loaded_later 2) 2 63 DYNAMIC ≡ needed_lines)
     × (report (loaded_later 1) 2 63 DYNAMIC ≡ codes "! 00000000000000b0 unmapped\n")
 
--- all notes are listed before all dynamic entries, and the tables of each in the order of the program headers
+-- all notes are listed before all dynamic entries, and the tables of each in the order of the
+-- program headers
 abbrev pub SegmentTablesInOrder : Type 0
 SegmentTablesInOrder =
     report (object 3
@@ -237,7 +244,7 @@ NoHeadersNoTables =
     ≡ codes "H DYN     62 0000000000000000 0000000000000040 0000000000000000 00000000     0     0     0\n")
     × (cost (object 0 []) 1 63 ALL ≡ 64)
 
--- a segment of dynamic entries and one of notes, and behind them sections of others and of strings
+-- a segment of dynamic entries and one of notes, and after them sections of others and of strings
 abbrev both_views : List ℕ
 both_views =
     object_with 0x117 4 2
@@ -247,7 +254,7 @@ both_views =
     ++ zeros 64
     ++ section_header 6 0 0xe4 0x20 3 0 8 16 ++ section_header 7 0 0x104 16 0 0 4 0 ++ section_header 3 0 0x114 3 0 0 1 0)
 
--- where there are sections they decide, whatever the program headers describe
+-- if there are sections they decide, no matter what the program headers describe
 abbrev pub SectionsDecide : Type 0
 SectionsDecide =
     (report both_views 4 63 (NOTES + DYNAMIC)
@@ -261,7 +268,8 @@ SectionsDecide =
 abbrev pub StringsInsideTheFile : Type 0
 StringsInsideTheFile = report (loaded 0x1000 0x40 (needed_with (tagged 5 0x4000f0) (tagged 10 11))) 2 63 DYNAMIC ≡ needed_lines
 
--- no strings at all may be at a segment's end, and not behind it; they have the empty string at 0 alone
+-- no strings at all may be at a segment's end, and not after it; they have the empty string only at
+-- 0
 abbrev pub EmptyStringsAtTheEnd : Type 0
 EmptyStringsAtTheEnd =
     (report (loaded 0xfb 0x40 (tagged 1 0 ++ tagged 5 0x4000fb ++ tagged 10 0 ++ tagged 0 0)) 2 63 DYNAMIC
@@ -278,13 +286,13 @@ FirstStringsAreSought =
     report (loaded 0xfb 0x40 (tagged 1 0 ++ tagged 99 0x4000f0 ++ tagged 10 11 ++ tagged 0 0)) 2 63 DYNAMIC
     ≡ codes "! 00000000000000b0 unmapped\n"
 
--- offsets are added in whole numbers
+-- offsets do not wrap
 abbrev pub OffsetsDoNotWrap : Type 0
 OffsetsDoNotWrap =
     report (with_bytes 0x48 (little 8 (2 ^ 64 - 1)) (loaded 0xfc 0x40 (needed_with (tagged 5 0x4000f1) (tagged 10 11)))) 2 63 DYNAMIC
     ≡ codes "! 0000000000000040 table-outside\n"
 
--- the file with a segment of another type in the place of the one that is loaded
+-- the file with a segment of another type in place of the one that is loaded
 abbrev typed : ℕ → List ℕ
 typed type = with_bytes 0x40 (little 4 type) library_without_sections
 
@@ -314,14 +322,15 @@ EachTableHasItsStrings =
     ++ codes "D     2 STRSZ            0000000000000003 \n"
     ++ codes "D     3 NULL             0000000000000000 \n"
 
--- sections are there by their number, also where their headers stand at the file's start
+-- whether there are sections is decided by their number, also if their headers are at the file's
+-- start
 abbrev pub SectionsByTheirNumber : Type 0
 SectionsByTheirNumber =
     (report (with_bytes 0x3a (little 2 64 ++ little 2 1) library_without_sections) 2 63 DYNAMIC ≡ [])
     × (cost (with_bytes 0x3a (little 2 64 ++ little 2 1) library_without_sections) 2 63 DYNAMIC ≡ 64 + 64)
 
--- a file whose header locates section headers that are no such, listed by its program headers: its own H line, and behind it
--- what the file without sections lists, at the same cost
+-- a file whose header locates section headers that are none, listed by its program headers: its own
+-- H line, and after it what the file without sections lists, at the same cost
 abbrev hidden : List ℕ
 hidden = with_bytes 0x28 (little 8 0x1000) (with_bytes 0x3c (little 2 3 ++ little 2 7) library_without_sections)
 

@@ -75,7 +75,7 @@ HashFileLists =
     ++ codes "Y     2          1 0000000000000010 0000000000000000 FUNC    GLOBAL DEFAULT   ABS   a\n"
     ++ codes "Y     2          2 0000000000000020 0000000000000000 FUNC    GLOBAL DEFAULT   ABS   b\n"
 
--- a symbol table that ends past the end of the file, in whole numbers
+-- a symbol table that ends past the end of the file, without wrapping
 abbrev pub SymbolsOutsideTheFile : Type 0
 SymbolsOutsideTheFile =
     report (with_bytes 0xd8 (little 8 0x18) (with_bytes 0xd0 (little 8 0xfffffffffffffff8) one_symbol_table)) 3 63 ALL
@@ -117,7 +117,7 @@ SymbolTableChecksInOrder =
     × (report (with_bytes 0x118 (little 8 0xc9) one_symbol_table) 3 63 SYMBOLS
     ≡ codes "! 00000000000000f8 table-outside\n")
 
--- sizes near 2^64: the lines before the fault stand
+-- sizes near 2^64: the lines before the fault are listed
 abbrev pub HostileSizesKeepTheLinesBefore : Type 0
 HostileSizesKeepTheLinesBefore =
     report (with_bytes 0xd8 (little 8 0xfffffffffffffff0) one_symbol_table) 3 63 ALL
@@ -144,7 +144,7 @@ SymbolNamesAreChecked =
     ≡ codes "Y     1          0 0000000000000000 0000000000000000 NOTYPE  LOCAL  DEFAULT   UND   \n"
     ++ codes "Y     1          1 0000000000001000 0000000000000010 FUNC    GLOBAL DEFAULT   ABS   mai\\+\n")
 
--- special places, and numbers that have no name
+-- special section indices, and numbers that have no name
 abbrev pub SpecialPlacesList : Type 0
 SpecialPlacesList =
     report special_places 3 63 SYMBOLS
@@ -154,7 +154,7 @@ SpecialPlacesList =
     ++ codes "Y     1          3 0000000000000000 0000000000000000 TLS     GLOBAL DEFAULT   COM   \n"
     ++ codes "Y     1          4 0000000000000000 0000000000000000      13      9 PROTECTED 65285 \n"
 
--- a backslash is doubled, a byte that is no printing character is spelt
+-- a backslash is doubled, a byte that is no printing character is escaped
 abbrev pub OddBytesAreEscaped : Type 0
 OddBytesAreEscaped =
     (report odd_name 3 63 SYMBOLS

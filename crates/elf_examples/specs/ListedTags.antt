@@ -2,7 +2,8 @@
 use Rattle.std.specs.Prelude.{◌≡◌, ◌+◌, List, ◌∷◌, ◌++◌, ℕ, [], codes, flat_map}
 use Rattle.elf_model.specs.Prelude.{DYNAMIC, NOTES, build_note, cost, file_header, little, needed_library, numbers_from, one_table, plain_note, program_header, report, section_header, tagged, with_bytes, zeros}
 
--- a table of dynamic entries with these tags, each with the value 99, which is past the end of its string table
+-- a table of dynamic entries with these tags, each with the value 99, which is past the end of its
+-- string table
 abbrev pub tags : List ℕ → List ℕ
 tags numbers = one_table 6 8 16 (flat_map (λ tag. tagged tag 99) numbers) (zeros 1)
 
@@ -48,7 +49,7 @@ UnnamedTagsHaveNoString =
     ++ codes "D     4 000000010000000e 0000000000000063 \n"
     ++ codes "D     5 800000000000000f 0000000000000063 \n"
 
--- a file with two program headers, of these types, the second of a note behind them
+-- a file with two program headers, of these types, the second of a note after them
 abbrev pub two_segments : ℕ → ℕ → List ℕ
 two_segments first second =
     with_bytes 0x36 (little 2 56 ++ little 2 2) (with_bytes 0x20 (little 8 0x40) (file_header 2 0 0 0))
@@ -80,7 +81,7 @@ StringsByTheWholeValue =
     report (one_table 6 8 16 (tagged 1 1 ++ tagged 1 0x100000001) (0 ∷ codes "a" ++ zeros 1)) 3 63 DYNAMIC
     ≡ codes "D     0 NEEDED           0000000000000001 a\n" ++ codes "! 0000000000000050 name-outside\n"
 
--- behind the last section and the last program header there are no tables
+-- after the last section and the last program header there are no tables
 abbrev pub NothingPastTheLastHeader : Type 0
 NothingPastTheLastHeader =
     (report (needed_library ++ section_header 6 0 0x50 16 2 0 8 16) 3 63 DYNAMIC
@@ -97,7 +98,7 @@ EndByTheWholeTag =
     report (tags (0x100000000 ∷ 2 ∷ [])) 3 63 DYNAMIC
     ≡ codes "D     0 0000000100000000 0000000000000063 \n" ++ codes "D     1 PLTRELSZ         0000000000000063 \n"
 
--- a table that is cut behind its second note
+-- a table that is cut after its second note
 abbrev pub NotesCutLater : Type 0
 NotesCutLater =
     report (one_table 7 4 0 (build_note ++ build_note ++ 1 ∷ []) []) 3 63 NOTES

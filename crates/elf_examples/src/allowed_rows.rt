@@ -1,4 +1,4 @@
-//! What a budget allows of an answer, of a file's state, and of what a search for a NUL keeps.
+//! What a budget allows of a result, of a file's state, and of what a search for a NUL keeps.
 ghost use Rattle.elf_examples.specs.ExamplesAllowed.{TheCostSuffices, LessMayEndAnAnswer, StatesOfReports, StatesWithinABudget};
 ghost use Rattle.elf_examples.specs.ExamplesAllowed.{BytesBeforeANul, BytesAreSmall};
 

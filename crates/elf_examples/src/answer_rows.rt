@@ -1,4 +1,4 @@
-//! Worked answers of lookups, each a theorem about the definitions that the prover computes.
+//! Worked results of lookups, each a theorem about the definitions that the prover computes.
 ghost use Rattle.elf_examples.specs.ExamplesAnswers.{FoundIsWritten, AbsentIsWritten, AnswersAreObjects};
 ghost use Rattle.elf_examples.specs.ExamplesAnswers.{RefusalIsWritten};
 

@@ -1,4 +1,5 @@
-//! The order of a relocation entry's faults, the terms of its type, and the costs of longer names, each computed by the prover.
+//! The order of a relocation entry's faults, the terms of its type, and the costs of longer names,
+//! each computed by the prover.
 ghost use Rattle.elf_examples.specs.ExamplesApplyOrder.{EntryFaultsInOrder, TypesTakeTheirTerms, AddressesAreWhole, TypesWithoutASymbol, LaterItemsAreFound, LongNamesCost, LaterFaultsCost, SectionZeroIsApplied};
 
 /// The order of an entry's faults.
@@ -37,7 +38,7 @@ pub fn long_names_cost()
     ensures { LongNamesCost }
 {}
 
-/// The costs past a fault that comes once the section headers are read.
+/// The costs past a fault that comes after the section headers are read.
 #[tactic(auto, unfolding(elf_model::proofs::OnLiterals::on_literals, crate::proofs::OnApplyExamples::on_examples))]
 pub fn later_faults_cost()
     ensures { LaterFaultsCost }

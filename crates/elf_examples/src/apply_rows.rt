@@ -1,7 +1,7 @@
 //! Worked relocations, each a theorem about the definitions that the prover computes.
 ghost use Rattle.elf_examples.specs.ExamplesApply.{LaterStands, OverflowRefusesAll, EitherOrderIsApplied, CallIsApplied, CallIsRefused, SymbolsAreValued, NothingIsChecked, RequestInOrder, NoBytesAreApplied, LinkZeroCounts, EmptySymbolsApply, EmptyTablesApply, FaultsInterleave, NamesAreLookedAtLate, WeakCommonIsUndefined, UndefinedBeforeUnplaced, AppliedIsWritten};
 
-/// Of two entries that overlap the later one stands.
+/// Of two entries that overlap the later one wins.
 #[tactic(auto, unfolding(elf_model::proofs::OnLiterals::on_literals, crate::proofs::OnApplyExamples::on_examples))]
 pub fn later_stands()
     ensures { LaterStands }

@@ -20,13 +20,13 @@ pub fn nothing_is_missing()
     ensures { NothingIsMissing }
 {}
 
-/// Where the section of entries is that a refusal points into.
+/// The section of entries that a refusal points into.
 #[tactic(auto, unfolding(elf_model::proofs::OnLiterals::on_literals, crate::proofs::OnApplyExamples::on_examples))]
 pub fn sections_of_entries()
     ensures { SectionsOfEntries }
 {}
 
-/// Lines that tell what would help.
+/// Lines that say what would help.
 #[tactic(auto, unfolding(elf_model::proofs::OnLiterals::on_literals, crate::proofs::OnApplyExamples::on_examples))]
 pub fn tells_of_call()
     ensures { TellsOfCall }

@@ -31,7 +31,7 @@ pub fn relocation_fields_stand()
     ensures { RelocationFieldsStand }
 {}
 
-/// The fields of a dynamic entry and of a note's head.
+/// The fields of a dynamic entry and of a note header.
 #[tactic(auto, unfolding(elf_model::proofs::OnLiterals::on_literals, crate::proofs::OnTableExamples::on_examples))]
 pub fn other_fields_stand()
     ensures { OtherFieldsStand }
@@ -73,7 +73,7 @@ pub fn permissions_have_letters()
     ensures { PermissionsHaveLetters }
 {}
 
-/// The names of symbol types, bindings, visibilities and places.
+/// The names of symbol types, bindings, visibilities and section indices.
 #[tactic(auto, unfolding(elf_model::proofs::OnLiterals::on_literals, crate::proofs::OnTableExamples::on_examples))]
 pub fn symbol_numbers_have_names()
     ensures { SymbolNumbersHaveNames }
@@ -97,7 +97,7 @@ pub fn causes_have_words()
     ensures { CausesHaveWords }
 {}
 
-/// The spelling of the bytes of a name.
+/// How the bytes of a name are escaped.
 #[tactic(auto, unfolding(elf_model::proofs::OnLiterals::on_literals, crate::proofs::OnTableExamples::on_examples))]
 pub fn bytes_are_escaped()
     ensures { BytesAreEscaped }

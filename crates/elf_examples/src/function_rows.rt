@@ -1,4 +1,5 @@
-//! Symbols whose type is specific to the system, and sections that are compressed, each computed by the prover.
+//! Symbols whose type is specific to the system, and compressed sections, each computed by the
+//! prover.
 ghost use Rattle.elf_examples.specs.ExamplesFunctions.{FunctionsAreEntries, FunctionsWithoutEntries, OtherTypesAreRefused, OthersAreAsBefore, FunctionsInOrder, EntriesWouldHelp, CompressedIsRefused, FunctionsCost};
 
 /// Calls and pointers to indirect functions.
@@ -37,7 +38,7 @@ pub fn entries_would_help()
     ensures { EntriesWouldHelp }
 {}
 
-/// Sections that are compressed.
+/// Compressed sections.
 #[tactic(auto, unfolding(elf_model::proofs::OnLiterals::on_literals, crate::proofs::OnApplyExamples::on_examples))]
 pub fn compressed_is_refused()
     ensures { CompressedIsRefused }

@@ -7,19 +7,19 @@ pub fn known_hashes()
     ensures { KnownHashes }
 {}
 
-/// A name that stands first in its chain.
+/// A name that is first in its chain.
 #[tactic(auto, unfolding(elf_model::proofs::OnLiterals::on_literals, crate::proofs::OnTableExamples::on_examples))]
 pub fn first_is_found()
     ensures { FirstIsFound }
 {}
 
-/// A name that stands second in its chain.
+/// A name that is second in its chain.
 #[tactic(auto, unfolding(elf_model::proofs::OnLiterals::on_literals, crate::proofs::OnTableExamples::on_examples))]
 pub fn second_is_found()
     ensures { SecondIsFound }
 {}
 
-/// A chain that comes back to itself.
+/// A chain with a cycle.
 #[tactic(auto, unfolding(elf_model::proofs::OnLiterals::on_literals, crate::proofs::OnTableExamples::on_examples))]
 pub fn cycle_is_refused()
     ensures { CycleIsRefused }
@@ -79,7 +79,7 @@ pub fn section_zero_as_hash()
     ensures { SectionZeroAsHash }
 {}
 
-/// The cost where the section headers are not read.
+/// The cost if the section headers are not read.
 #[tactic(auto, unfolding(elf_model::proofs::OnLiterals::on_literals, crate::proofs::OnTableExamples::on_examples))]
 pub fn find_costs_at_least()
     ensures { FindCostsAtLeast }

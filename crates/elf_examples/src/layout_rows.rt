@@ -1,4 +1,5 @@
-//! Worked symbols in layouts and requests to apply, each a theorem about the definitions that the prover computes.
+//! Worked symbols in layouts and requests to apply, each a theorem about the definitions that the
+//! prover computes.
 ghost use Rattle.elf_examples.specs.ExamplesLayouts.{WeakAloneIsZero, ReservedIndicesAreUnplaced, DefinitionsAreForUndefined, EntriesAreForAll, SectionBytesAreChecked, RequestsCheckTheFile, PlacesAreWhole, BadHeadersCost, OrderOverSections, NoBytesCost, OrderHasEachType, EntriesWithoutAddends, EntriesOfTheSection, OtherTypesAreUnsupported, WeakIsDefined, EntriesPastTheLastSection, AddressesMayBeZero, FirstItemStands, LaterNamesAreCompared, DefinitionsStandAlone, OtherMachinesAreRefused};
 
 /// Undefined symbols by their binding.
@@ -13,19 +14,19 @@ pub fn reserved_indices_are_unplaced()
     ensures { ReservedIndicesAreUnplaced }
 {}
 
-/// Definitions of symbols that have a place.
+/// Definitions of symbols that have a section.
 #[tactic(auto, unfolding(elf_model::proofs::OnLiterals::on_literals, crate::proofs::OnApplyExamples::on_examples))]
 pub fn definitions_are_for_undefined()
     ensures { DefinitionsAreForUndefined }
 {}
 
-/// Procedure linkage table entries of symbols that have a place.
+/// Procedure linkage table entries of symbols that have a section.
 #[tactic(auto, unfolding(elf_model::proofs::OnLiterals::on_literals, crate::proofs::OnApplyExamples::on_examples))]
 pub fn entries_are_for_all()
     ensures { EntriesAreForAll }
 {}
 
-/// Where a section's bytes may stand.
+/// Where a section's bytes may be.
 #[tactic(auto, unfolding(elf_model::proofs::OnLiterals::on_literals, crate::proofs::OnApplyExamples::on_examples))]
 pub fn section_bytes_are_checked()
     ensures { SectionBytesAreChecked }
@@ -91,7 +92,7 @@ pub fn weak_is_defined()
     ensures { WeakIsDefined }
 {}
 
-/// Entries behind the last section.
+/// Entries after the last section.
 #[tactic(auto, unfolding(elf_model::proofs::OnLiterals::on_literals, crate::proofs::OnApplyExamples::on_examples))]
 pub fn entries_past_the_last_section()
     ensures { EntriesPastTheLastSection }
@@ -109,7 +110,7 @@ pub fn first_item_stands()
     ensures { FirstItemStands }
 {}
 
-/// Names behind the first that cannot be compared.
+/// Names after the first that cannot be compared.
 #[tactic(auto, unfolding(elf_model::proofs::OnLiterals::on_literals, crate::proofs::OnApplyExamples::on_examples))]
 pub fn later_names_are_compared()
     ensures { LaterNamesAreCompared }

@@ -1,15 +1,13 @@
-//! Worked examples of the definitions: whole listings, their order, their costs and their budgets, of files
-//! that are written out. Each is the contract of a function with an empty body, and the prover computes
-//! it.
+//! Worked examples of the definitions, on files given byte by byte. Each is the contract of a
+//! function with an empty body, and the prover computes it.
 //!
-//! Worked examples of the definitions: what stands in tables, that is fields, names, notes, dynamic entries
-//! and hash tables, the answers of lookups, and the traits of a file: what it is, what its segments, dynamic
-//! entries, properties and symbols say of how it is hardened, and what is required of it. Each is the
-//! contract of a function with an empty body, and the prover computes it.
-//!
-//! Worked examples of the definitions: relocation entries as they are listed, the values that they store,
-//! symbols and places in layouts, applied sections and their costs. Each is the contract of a function
-//! with an empty body, and the prover computes it.
+//! - Whole listings, their order, their costs and their budgets.
+//! - The contents of tables: fields, names, notes, dynamic entries and hash tables; and the results
+//!   of lookups.
+//! - The traits of a file: its kind, what its segments, dynamic entries, properties and symbols say
+//!   of its hardening, and what is required of it.
+//! - Relocation entries as they are listed, the values that they store, symbols and places in
+//!   layouts, applied sections and their costs.
 #![tactic(auto)]
 
 mod allowed_rows;

@@ -13,7 +13,7 @@ pub fn library_lists()
     ensures { ArchiveOfNamesLists }
 {}
 
-/// A member whose listing is refused, and the one behind it.
+/// A member whose listing is refused, and the one after it.
 #[tactic(auto, unfolding(elf_model::proofs::OnLiterals::on_literals))]
 pub fn refused_members_end_alone()
     ensures { RefusedMembersEndAlone }
@@ -25,13 +25,13 @@ pub fn three_bytes_are_no_elf()
     ensures { ThreeBytesAreNoElf }
 {}
 
-/// Files that are no archive, and one without members.
+/// Files that are not archives, and one without members.
 #[tactic(auto, unfolding(elf_model::proofs::OnLiterals::on_literals))]
 pub fn other_files_are_refused()
     ensures { WhatIsNoArchiveIsRefused }
 {}
 
-/// Places where no member stands: a cut header, sizes past the end and sizes that are no number.
+/// Offsets without a member: a cut header, sizes past the end and sizes that are not numbers.
 #[tactic(auto, unfolding(elf_model::proofs::OnLiterals::on_literals))]
 pub fn cut_members_are_refused()
     ensures { CutMembersAreRefused }
@@ -43,7 +43,7 @@ pub fn last_padding_may_miss()
     ensures { LastPaddingMayMiss }
 {}
 
-/// Names that stand in their field.
+/// Names that are in their field.
 #[tactic(auto, unfolding(elf_model::proofs::OnLiterals::on_literals))]
 pub fn member_names()
     ensures { MemberNames }
@@ -61,13 +61,13 @@ pub fn archives_cost()
     ensures { ArchivesCost }
 {}
 
-/// What members cost that are cut.
+/// What cut members cost.
 #[tactic(auto, unfolding(elf_model::proofs::OnLiterals::on_literals))]
 pub fn cut_members_cost()
     ensures { CutMembersCost }
 {}
 
-/// What no archive with versions behind names passes.
+/// The upper bound of archives with versions after names.
 #[tactic(auto, unfolding(elf_model::proofs::OnLiterals::on_literals, elf_model::specs::Cost::style_ceiling))]
 pub fn ceilings_with_versions()
     ensures { CeilingsWithVersions }

@@ -10,13 +10,13 @@ ghost use Rattle.elf_examples.specs.ListedBsdNames.{
   OtherFieldsAreShort,
 };
 
-/// A name at the front of the data, even and odd in size.
+/// A name at the start of the data, even and odd in size.
 #[tactic(auto, unfolding(elf_model::proofs::OnLiterals::on_literals))]
 pub fn bsd_names_are_shown()
     ensures { BsdNamesAreShown }
 {}
 
-/// An ELF file behind its name.
+/// An ELF file after its name.
 #[tactic(auto, unfolding(elf_model::proofs::OnLiterals::on_literals))]
 pub fn bsd_members_list()
     ensures { BsdMembersList }
@@ -28,7 +28,7 @@ pub fn nuls_end_bsd_names()
     ensures { NulsEndBsdNames }
 {}
 
-/// Names longer than what is shown, and than what is looked at.
+/// Names longer than what is shown, and than what is read.
 #[tactic(auto, unfolding(elf_model::proofs::OnLiterals::on_literals))]
 pub fn long_bsd_names_are_cut()
     ensures { LongBsdNamesAreCut }
@@ -46,7 +46,7 @@ pub fn other_fields_are_short()
     ensures { OtherFieldsAreShort }
 {}
 
-/// An index of symbols, and names that mean something in their field alone.
+/// An index of symbols, and names that have a meaning only in their field.
 #[tactic(auto, unfolding(elf_model::proofs::OnLiterals::on_literals))]
 pub fn bsd_names_are_names_alone()
     ensures { BsdNamesAreNamesAlone }

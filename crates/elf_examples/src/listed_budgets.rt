@@ -12,7 +12,7 @@ ghost use Rattle.elf_examples.specs.ListedBudgets.{
   OtherTextsAreNoCuts,
 };
 
-/// Lines of a listing that costs more than a budget, and the line of a read that it can't pay.
+/// Lines of a listing that costs more than a budget, and the line of a read that exceeds it.
 pub fn budget_may_end_a_listing()
     ensures { BudgetMayEndAListing }
 {}
@@ -51,17 +51,17 @@ pub fn other_texts_are_no_cuts()
     ensures { OtherTextsAreNoCuts }
 {}
 
-/// A whole answer, and one that is cut short.
+/// A whole result, and one that is cut short.
 pub fn allowed_answers_are_shown()
     ensures { AllowedAnswersAreShown }
 {}
 
-/// No other answer.
+/// No other result.
 pub fn nothing_else_is_shown()
     ensures { NothingElseIsShown }
 {}
 
-/// Answers within a budget below the cost, within one of the cost and without one.
+/// Results within a budget below the cost, within one of the cost and without one.
 pub fn other_answers_are_not_shown()
     ensures { OtherAnswersAreNotShown }
 {}

@@ -7,13 +7,13 @@ ghost use Rattle.elf_examples.specs.ListedChecks.{
   StatesWithinBudgets,
 };
 
-/// Files without a fault, with one, and of another kind.
+/// Files without a fault, with one, and of another type.
 #[tactic(auto, unfolding(elf_model::proofs::OnLiterals::on_literals))]
 pub fn states_of_files()
     ensures { StatesOfFiles }
 {}
 
-/// Fronts of a file header, and other files that are as short.
+/// Prefixes of a file header, and other files that are as short.
 #[tactic(auto, unfolding(elf_model::proofs::OnLiterals::on_literals))]
 pub fn states_of_fronts()
     ensures { StatesOfFronts }

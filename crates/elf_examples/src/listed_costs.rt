@@ -1,4 +1,4 @@
-//! What listings ask for at most, and what they never pass, each computed by the prover.
+//! What listings read at most, and their upper bounds, each computed by the prover.
 ghost use Rattle.elf_examples.specs.ListedCosts.{CostsOfWholeListings, CostsOfParts, CostsWithoutSections, CostsOfTheHeaderAlone, CostsOfTablesThatFail, CostsAtTheEnd, CostsOfRelocations, CostsOfLongerNames, ListingCeilings};
 
 /// The costs of whole listings.
@@ -25,7 +25,7 @@ pub fn costs_of_the_header_alone()
     ensures { CostsOfTheHeaderAlone }
 {}
 
-/// A table counts where its own checks pass, wherever the first fault is.
+/// A table counts if its own checks pass, for any position of the first fault.
 #[tactic(auto, unfolding(elf_model::proofs::OnLiterals::on_literals))]
 pub fn costs_of_tables_that_fail()
     ensures { CostsOfTablesThatFail }
@@ -37,7 +37,8 @@ pub fn costs_at_the_end()
     ensures { CostsAtTheEnd }
 {}
 
-/// The costs of relocation entries, alone, with faults before them, in them and in what they link to.
+/// The costs of relocation entries, alone, with faults before them, in them and in what they link
+/// to.
 #[tactic(auto, unfolding(elf_model::proofs::OnLiterals::on_literals))]
 pub fn costs_of_relocations()
     ensures { CostsOfRelocations }

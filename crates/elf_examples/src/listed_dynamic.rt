@@ -7,7 +7,8 @@ pub fn dynamic_entries_list()
     ensures { DynamicEntriesList }
 {}
 
-/// Without a null entry all entries are listed, and a string past the string table is a fault at its entry.
+/// Without a null entry all entries are listed, and a string past the string table is a fault at
+/// its entry.
 #[tactic(auto, unfolding(elf_model::proofs::OnLiterals::on_literals))]
 pub fn dynamic_entries_without_an_end()
     ensures { DynamicEntriesWithoutAnEnd }

@@ -7,7 +7,7 @@ pub fn path_lines()
     ensures { PathLines }
 {}
 
-/// What is listed behind the line of a path.
+/// What is listed after the line of a path.
 #[tactic(auto, unfolding(elf_model::proofs::OnLiterals::on_literals))]
 pub fn headed_listings()
     ensures { HeadedListings }
@@ -25,7 +25,7 @@ pub fn file_sorts()
     ensures { FileSorts }
 {}
 
-/// What is left of a budget behind the bytes that tell what a file is.
+/// What is left of a budget after the bytes that decide what a file is.
 #[tactic(auto, unfolding(elf_model::proofs::OnLiterals::on_literals))]
 pub fn budgets_after()
     ensures { BudgetsAfter }
@@ -37,13 +37,13 @@ pub fn archive_faults()
     ensures { ArchiveFaults }
 {}
 
-/// Whether the lines of members stand alone.
+/// Whether the lines of members are alone.
 #[tactic(auto, unfolding(elf_model::proofs::OnLiterals::on_literals))]
 pub fn members_stand_alone()
     ensures { MembersAlone }
 {}
 
-/// Faults of members behind a name in their data, and members without one.
+/// Faults of members after a name in their data, and members without one.
 #[tactic(auto, unfolding(elf_model::proofs::OnLiterals::on_literals))]
 pub fn faults_after_names()
     ensures { FaultsAfterNames }

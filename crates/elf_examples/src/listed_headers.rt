@@ -37,13 +37,13 @@ pub fn ident_checks_in_order()
     ensures { IdentChecksInOrder }
 {}
 
-/// Counts and indices that stand in section 0 are refused; the file header alone is listed.
+/// Counts and indices that are stored in section 0 are refused; only the file header is listed.
 #[tactic(auto, unfolding(elf_model::proofs::OnLiterals::on_literals))]
 pub fn extended_numbering_is_refused()
     ensures { ExtendedNumberingIsRefused }
 {}
 
-/// More section headers or program headers than are permitted.
+/// More section headers or program headers than are allowed.
 #[tactic(auto, unfolding(elf_model::proofs::OnLiterals::on_literals))]
 pub fn more_headers_than_permitted()
     ensures { MoreHeadersThanPermitted }
@@ -55,7 +55,7 @@ pub fn header_sizes_are_checked()
     ensures { HeaderSizesAreChecked }
 {}
 
-/// Section headers or program headers past the end of the file, in whole numbers.
+/// Section headers or program headers past the end of the file, without wrapping.
 #[tactic(auto, unfolding(elf_model::proofs::OnLiterals::on_literals))]
 pub fn headers_outside_the_file()
     ensures { HeadersOutsideTheFile }

@@ -16,7 +16,7 @@ ghost use Rattle.elf_examples.specs.ListedMembers.{
   StylesAreTheMembers,
 };
 
-/// Numbers in a header, and what is none.
+/// Numbers in a header, and what is not one.
 #[tactic(auto, unfolding(elf_model::proofs::OnLiterals::on_literals))]
 pub fn digits_are_decimal()
     ensures { DigitsAreDecimal }
@@ -34,7 +34,7 @@ pub fn name_tables_are_told()
     ensures { NameTablesAreTold }
 {}
 
-/// Long names behind the first.
+/// Long names after the first.
 #[tactic(auto, unfolding(elf_model::proofs::OnLiterals::on_literals))]
 pub fn second_long_names()
     ensures { SecondLongNames }
@@ -58,7 +58,7 @@ pub fn styles_are_the_members()
     ensures { StylesAreTheMembers }
 {}
 
-/// A member with more headers than are permitted.
+/// A member with more headers than are allowed.
 #[tactic(auto, unfolding(elf_model::proofs::OnLiterals::on_literals))]
 pub fn headers_are_the_members()
     ensures { HeadersAreTheMembers }

@@ -7,7 +7,8 @@ pub fn one_note_lists()
     ensures { OneNoteLists }
 {}
 
-/// Fewer than 12 zero bytes behind a note are the end; with another byte among them the table is cut.
+/// Fewer than 12 zero bytes after a note are the end; with another byte among them the table is
+/// cut.
 #[tactic(auto, unfolding(elf_model::proofs::OnLiterals::on_literals))]
 pub fn zeros_after_a_note()
     ensures { ZerosAfterANote }
@@ -37,13 +38,14 @@ pub fn segment_notes_list()
     ensures { SegmentNotesList }
 {}
 
-/// A table of notes that ends past the end of the file: the fault is at its section header or its program header.
+/// A table of notes that ends past the end of the file: the fault is at its section header or its
+/// program header.
 #[tactic(auto, unfolding(elf_model::proofs::OnLiterals::on_literals))]
 pub fn notes_outside_the_file()
     ensures { NotesOutsideTheFile }
 {}
 
-/// What stands behind a table of notes.
+/// What follows a table of notes.
 #[tactic(auto, unfolding(elf_model::proofs::OnLiterals::on_literals))]
 pub fn bytes_after_notes()
     ensures { BytesAfterNotes }

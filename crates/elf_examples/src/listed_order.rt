@@ -1,4 +1,5 @@
-//! Which of several faults comes first, and a listing with a table of each kind, each computed by the prover.
+//! Which of several faults comes first, and a listing with a table of each kind, each computed by
+//! the prover.
 ghost use Rattle.elf_examples.specs.ListedOrder.{IdentFaultsInOrder, LoadFaultsInOrder, SymbolFaultsInOrder, LinkFaultsComeLater, EveryTableIsListed, NotesAlignFromTheirTable, SectionZeroIsATable, SegmentNotesByFileSize, IdentHasOneValue, HeaderSizesAreOne, SectionsAreCounted, SegmentsEndInside, OtherSegmentsHaveNoRows};
 
 /// The order of the identification's checks.
@@ -31,7 +32,7 @@ pub fn every_table_is_listed()
     ensures { EveryTableIsListed }
 {}
 
-/// Notes whose table starts at no multiple of their alignment.
+/// Notes whose table does not start at a multiple of their alignment.
 #[tactic(auto, unfolding(elf_model::proofs::OnLiterals::on_literals, crate::proofs::OnExamples::on_examples))]
 pub fn notes_align_from_their_table()
     ensures { NotesAlignFromTheirTable }
@@ -49,7 +50,7 @@ pub fn segment_notes_by_file_size()
     ensures { SegmentNotesByFileSize }
 {}
 
-/// Bytes beside those of the identification.
+/// Bytes next to those of the identification.
 #[tactic(auto, unfolding(elf_model::proofs::OnLiterals::on_literals, crate::proofs::OnExamples::on_examples))]
 pub fn ident_has_one_value()
     ensures { IdentHasOneValue }
@@ -73,7 +74,7 @@ pub fn segments_end_inside()
     ensures { SegmentsEndInside }
 {}
 
-/// Segments of types beside those that have tables.
+/// Segments of types next to those that have tables.
 #[tactic(auto, unfolding(elf_model::proofs::OnLiterals::on_literals, crate::proofs::OnExamples::on_examples))]
 pub fn other_segments_have_no_rows()
     ensures { OtherSegmentsHaveNoRows }

@@ -73,13 +73,13 @@ pub fn links_to_no_symbols()
     ensures { LinksToNoSymbols }
 {}
 
-/// An entry without a symbol, whatever its section links to.
+/// An entry without a symbol, no matter what its section links to.
 #[tactic(auto, unfolding(elf_model::proofs::OnLiterals::on_literals))]
 pub fn entry_without_symbol_lists()
     ensures { EntryWithoutSymbolLists }
 {}
 
-/// The checks of the linked tables, where no entry has a symbol.
+/// The checks of the linked tables, if no entry has a symbol.
 #[tactic(auto, unfolding(elf_model::proofs::OnLiterals::on_literals))]
 pub fn linked_symbols_are_checked_first()
     ensures { LinkedSymbolsAreCheckedFirst }
@@ -91,13 +91,13 @@ pub fn earlier_relocations_are_listed()
     ensures { EarlierRelocationsAreListed }
 {}
 
-/// Relocation entries of size 0, whatever they link to.
+/// Relocation entries of size 0, no matter what they link to.
 #[tactic(auto, unfolding(elf_model::proofs::OnLiterals::on_literals))]
 pub fn empty_relocations_have_no_link()
     ensures { EmptyRelocationsHaveNoLink }
 {}
 
-/// A symbol table of size 0, whatever it links to.
+/// A symbol table of size 0, no matter what it links to.
 #[tactic(auto, unfolding(elf_model::proofs::OnLiterals::on_literals))]
 pub fn empty_symbols_have_no_link()
     ensures { EmptySymbolsHaveNoLink }

@@ -7,7 +7,8 @@ pub fn section_names_list()
     ensures { SectionNamesList }
 {}
 
-/// A section name past the end of its string table, or without an end: the fault is at the section header.
+/// A section name past the end of its string table, or without an end: the fault is at the section
+/// header.
 #[tactic(auto, unfolding(elf_model::proofs::OnLiterals::on_literals))]
 pub fn section_names_are_checked()
     ensures { SectionNamesAreChecked }

@@ -1,19 +1,22 @@
-//! Listings of the notes and dynamic entries that program headers describe, each computed by the prover.
+//! Listings of the notes and dynamic entries that program headers describe, each computed by the
+//! prover.
 ghost use Rattle.elf_examples.specs.ListedSegments.{SegmentEntriesList, SegmentEntriesCost, UnmappedStringsAreRefused, SegmentStringsAreNames, StringsAreSoughtLate, FirstTagsCount, AddressesDoNotWrap, SegmentEntriesAreChecked, FirstLoadDecides, SegmentsByFileSize, NoSegmentPastTheLast, SegmentTablesInOrder, TwoNotesOfASegment, NoHeadersNoTables, SectionsDecide, StringsInsideTheFile, EmptyStringsAtTheEnd, FirstStringsAreSought, OffsetsDoNotWrap, OtherTypesLoadNothing, EachTableHasItsStrings, SectionsByTheirNumber, SegmentsHaveFourNumbers, SegmentsDespiteSections};
 
-/// Dynamic entries of a segment, with their strings where a segment loads them.
+/// Dynamic entries of a segment, with their strings if a segment loads them.
 #[tactic(auto, unfolding(elf_model::proofs::OnLiterals::on_literals))]
 pub fn segment_entries_list()
     ensures { SegmentEntriesList }
 {}
 
-/// The program headers are read once, each entry is gone through twice, and a table counts whole where its own checks pass.
+/// The program headers are read once, each entry is read twice, and a table counts whole if its own
+/// checks pass.
 #[tactic(auto, unfolding(elf_model::proofs::OnLiterals::on_literals))]
 pub fn segment_entries_cost()
     ensures { SegmentEntriesCost }
 {}
 
-/// Strings that no segment loads, or that the entries do not tell of, are refused at the entry, and strings that are loaded from past the end of the file at the segment.
+/// Strings that no segment loads, or that the entries do not locate, are refused at the entry, and
+/// strings that are loaded from past the end of the file at the segment.
 #[tactic(auto, unfolding(elf_model::proofs::OnLiterals::on_literals))]
 pub fn unmapped_strings_are_refused()
     ensures { UnmappedStringsAreRefused }
@@ -31,19 +34,21 @@ pub fn strings_are_sought_late()
     ensures { StringsAreSoughtLate }
 {}
 
-/// The entries that tell of the strings come in any order, the first of two counts, and none behind the end.
+/// The entries that locate the strings come in any order, the first of two counts, and none after
+/// the end.
 #[tactic(auto, unfolding(elf_model::proofs::OnLiterals::on_literals))]
 pub fn first_tags_count()
     ensures { FirstTagsCount }
 {}
 
-/// Addresses are added in whole numbers.
+/// Addresses do not wrap.
 #[tactic(auto, unfolding(elf_model::proofs::OnLiterals::on_literals))]
 pub fn addresses_do_not_wrap()
     ensures { AddressesDoNotWrap }
 {}
 
-/// A table of dynamic entries is refused at its program header; one of size 0 has no rows and is not checked.
+/// A table of dynamic entries is refused at its program header; one of size 0 has no rows and is
+/// not checked.
 #[tactic(auto, unfolding(elf_model::proofs::OnLiterals::on_literals))]
 pub fn segment_entries_are_checked()
     ensures { SegmentEntriesAreChecked }
@@ -61,7 +66,7 @@ pub fn segments_by_file_size()
     ensures { SegmentsByFileSize }
 {}
 
-/// A later segment may load the strings, and none behind the last program header.
+/// A later segment may load the strings, and none after the last program header.
 #[tactic(auto, unfolding(elf_model::proofs::OnLiterals::on_literals))]
 pub fn no_segment_past_the_last()
     ensures { NoSegmentPastTheLast }
@@ -79,13 +84,13 @@ pub fn two_notes_of_a_segment()
     ensures { TwoNotesOfASegment }
 {}
 
-/// Without sections and program headers the file header alone is listed.
+/// Without sections and program headers only the file header is listed.
 #[tactic(auto, unfolding(elf_model::proofs::OnLiterals::on_literals))]
 pub fn no_headers_no_tables()
     ensures { NoHeadersNoTables }
 {}
 
-/// Where there are sections they decide, whatever the program headers describe.
+/// If there are sections they decide, no matter what the program headers describe.
 #[tactic(auto, unfolding(elf_model::proofs::OnLiterals::on_literals))]
 pub fn sections_decide()
     ensures { SectionsDecide }
@@ -97,7 +102,7 @@ pub fn strings_inside_the_file()
     ensures { StringsInsideTheFile }
 {}
 
-/// No strings at all may be at a segment's end, and not behind it.
+/// No strings at all may be at a segment's end, and not after it.
 #[tactic(auto, unfolding(elf_model::proofs::OnLiterals::on_literals))]
 pub fn empty_strings_at_the_end()
     ensures { EmptyStringsAtTheEnd }
@@ -109,7 +114,7 @@ pub fn first_strings_are_sought()
     ensures { FirstStringsAreSought }
 {}
 
-/// Offsets are added in whole numbers.
+/// Offsets do not wrap.
 #[tactic(auto, unfolding(elf_model::proofs::OnLiterals::on_literals))]
 pub fn offsets_do_not_wrap()
     ensures { OffsetsDoNotWrap }
@@ -121,13 +126,14 @@ pub fn other_types_load_nothing()
     ensures { OtherTypesLoadNothing }
 {}
 
-/// Each table of dynamic entries tells of its own strings.
+/// Each table of dynamic entries locates its own strings.
 #[tactic(auto, unfolding(elf_model::proofs::OnLiterals::on_literals))]
 pub fn each_table_has_its_strings()
     ensures { EachTableHasItsStrings }
 {}
 
-/// Sections are there by their number, also where their headers stand at the file's start.
+/// Whether there are sections is decided by their number, also if their headers are at the file's
+/// start.
 #[tactic(auto, unfolding(elf_model::proofs::OnLiterals::on_literals))]
 pub fn sections_by_their_number()
     ensures { SectionsByTheirNumber }
@@ -139,7 +145,7 @@ pub fn segments_have_four_numbers()
     ensures { SegmentsHaveFourNumbers }
 {}
 
-/// A file whose header tells of section headers that are none, by its program headers.
+/// A file whose header locates section headers that are none, by its program headers.
 #[tactic(auto, unfolding(elf_model::proofs::OnLiterals::on_literals))]
 pub fn segments_despite_sections()
     ensures { SegmentsDespiteSections }

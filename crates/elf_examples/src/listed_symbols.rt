@@ -19,7 +19,7 @@ pub fn hash_file_lists()
     ensures { HashFileLists }
 {}
 
-/// A symbol table that ends past the end of the file, in whole numbers.
+/// A symbol table that ends past the end of the file, without wrapping.
 #[tactic(auto, unfolding(elf_model::proofs::OnLiterals::on_literals))]
 pub fn symbols_outside_the_file()
     ensures { SymbolsOutsideTheFile }
@@ -37,7 +37,7 @@ pub fn symbol_table_checks_in_order()
     ensures { SymbolTableChecksInOrder }
 {}
 
-/// Sizes near 2^64: the lines before the fault stand.
+/// Sizes near 2^64: the lines before the fault are listed.
 #[tactic(auto, unfolding(elf_model::proofs::OnLiterals::on_literals))]
 pub fn hostile_sizes_keep_the_lines_before()
     ensures { HostileSizesKeepTheLinesBefore }
@@ -49,13 +49,13 @@ pub fn symbol_names_are_checked()
     ensures { SymbolNamesAreChecked }
 {}
 
-/// Special places, and numbers that have no name.
+/// Special section indices, and numbers that have no name.
 #[tactic(auto, unfolding(elf_model::proofs::OnLiterals::on_literals))]
 pub fn special_places_list()
     ensures { SpecialPlacesList }
 {}
 
-/// A backslash is doubled, and a byte that is no printing character is spelt.
+/// A backslash is doubled, and a byte that is no printing character is escaped.
 #[tactic(auto, unfolding(elf_model::proofs::OnLiterals::on_literals))]
 pub fn odd_bytes_are_escaped()
     ensures { OddBytesAreEscaped }
@@ -67,7 +67,8 @@ pub fn empty_symbol_table_is_not_checked()
     ensures { EmptySymbolTableIsNotChecked }
 {}
 
-/// The lines of a lookup: the symbol with the wanted name, whole, and the number of symbols compared.
+/// The lines of a lookup: the symbol with the wanted name, whole, and the number of symbols
+/// compared.
 #[tactic(auto, unfolding(elf_model::proofs::OnLiterals::on_literals))]
 pub fn lookup_lines_list()
     ensures { LookupLinesList }

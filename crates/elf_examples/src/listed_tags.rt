@@ -1,4 +1,5 @@
-//! Listings of dynamic entries by their tags, of later notes and of notes in later segments, each computed by the prover.
+//! Listings of dynamic entries by their tags, of later notes and of notes in later segments, each
+//! computed by the prover.
 ghost use Rattle.elf_examples.specs.ListedTags.{OtherTagsHaveNoString, UnnamedTagsHaveNoString, LaterSegmentsList, LaterSegmentsCost, StringsByTheWholeValue, NothingPastTheLastHeader, EndByTheWholeTag, NotesCutLater};
 
 /// The tags with a name whose value is no string.
@@ -31,7 +32,7 @@ pub fn strings_by_the_whole_value()
     ensures { StringsByTheWholeValue }
 {}
 
-/// What would be headers behind the last one.
+/// What would be headers after the last one.
 #[tactic(auto, unfolding(elf_model::proofs::OnLiterals::on_literals))]
 pub fn nothing_past_the_last_header()
     ensures { NothingPastTheLastHeader }
@@ -43,7 +44,7 @@ pub fn end_by_the_whole_tag()
     ensures { EndByTheWholeTag }
 {}
 
-/// A table of notes that is cut behind its second note.
+/// A table of notes that is cut after its second note.
 #[tactic(auto, unfolding(elf_model::proofs::OnLiterals::on_literals))]
 pub fn notes_cut_later()
     ensures { NotesCutLater }

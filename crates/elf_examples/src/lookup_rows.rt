@@ -49,13 +49,13 @@ pub fn lookups_check_the_file()
     ensures { LookupsCheckTheFile }
 {}
 
-/// What is compared where a lookup is refused before its walk.
+/// What is compared if a lookup is refused before its walk.
 #[tactic(auto, unfolding(elf_model::proofs::OnLiterals::on_literals, crate::proofs::OnTableExamples::on_examples))]
 pub fn refusals_compare_nothing()
     ensures { RefusalsCompareNothing }
 {}
 
-/// The name in a lookup's answer.
+/// The name in a lookup's result.
 #[tactic(auto, unfolding(elf_model::proofs::OnLiterals::on_literals, crate::proofs::OnTableExamples::on_examples))]
 pub fn wanted_name_is_written()
     ensures { WantedNameIsWritten }
@@ -73,7 +73,7 @@ pub fn undefined_is_found()
     ensures { UndefinedIsFound }
 {}
 
-/// A hash table behind the last section.
+/// A hash table after the last section.
 #[tactic(auto, unfolding(elf_model::proofs::OnLiterals::on_literals, crate::proofs::OnTableExamples::on_examples))]
 pub fn hash_past_the_last_section()
     ensures { HashPastTheLastSection }
@@ -85,13 +85,13 @@ pub fn hash_in_the_last_section()
     ensures { HashInTheLastSection }
 {}
 
-/// A number of buckets that is no power of 2.
+/// A number of buckets that is not a power of 2.
 #[tactic(auto, unfolding(elf_model::proofs::OnLiterals::on_literals, crate::proofs::OnTableExamples::on_examples))]
 pub fn three_buckets()
     ensures { ThreeBuckets }
 {}
 
-/// The link of a hash table with room for its counts alone.
+/// The link of a hash table with room only for its counts.
 #[tactic(auto, unfolding(elf_model::proofs::OnLiterals::on_literals, crate::proofs::OnTableExamples::on_examples))]
 pub fn hash_link_before_counts()
     ensures { HashLinkBeforeCounts }

@@ -7,7 +7,7 @@ pub fn note_fills()
     ensures { NoteFills }
 {}
 
-/// Fewer than 12 zero bytes behind it are the end; with another byte among them there is a cut.
+/// Fewer than 12 zero bytes after it are the end; with another byte among them there is a cut.
 #[tactic(auto, unfolding(elf_model::proofs::OnLiterals::on_literals, crate::proofs::OnTableExamples::on_examples))]
 pub fn note_tail()
     ensures { NoteTail }
@@ -31,7 +31,7 @@ pub fn note_aligned_to_eight()
     ensures { NoteAlignedToEight }
 {}
 
-/// Aligned to 4 the descriptor starts at 20, and behind it the table is cut.
+/// Aligned to 4 the descriptor starts at 20, and after it the table is cut.
 #[tactic(auto, unfolding(elf_model::proofs::OnLiterals::on_literals, crate::proofs::OnTableExamples::on_examples))]
 pub fn note_aligned_to_four()
     ensures { NoteAlignedToFour }
@@ -55,13 +55,13 @@ pub fn note_shapes()
     ensures { NoteShapes }
 {}
 
-/// Where the descriptor is empty the note ends at its name's end.
+/// If the descriptor is empty the note ends at its name's end.
 #[tactic(auto, unfolding(elf_model::proofs::OnLiterals::on_literals, crate::proofs::OnTableExamples::on_examples))]
 pub fn note_empty_descriptor()
     ensures { NoteEmptyDescriptor }
 {}
 
-/// Where a note behind another stands.
+/// A note after another.
 #[tactic(auto, unfolding(elf_model::proofs::OnLiterals::on_literals))]
 pub fn later_notes_stand()
     ensures { LaterNotesStand }

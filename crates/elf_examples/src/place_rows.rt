@@ -1,4 +1,5 @@
-//! Entries for other sections, of other symbols and at the end of a section, each computed by the prover.
+//! Entries for other sections, of other symbols and at the end of a section, each computed by the
+//! prover.
 ghost use Rattle.elf_examples.specs.ExamplesPlaces.{OtherSectionIsApplied, SymbolsByTheirIndex, EntriesEndInside, LinkedSymbolsApply, CallsAloneTakeEntries, HeadersAndNamesCost};
 
 /// Relocations for a section that is not the first.
@@ -7,7 +8,7 @@ pub fn other_section_is_applied()
     ensures { OtherSectionIsApplied }
 {}
 
-/// Symbols of three.
+/// One of three symbols.
 #[tactic(auto, unfolding(elf_model::proofs::OnLiterals::on_literals, crate::proofs::OnApplyExamples::on_examples))]
 pub fn symbols_by_their_index()
     ensures { SymbolsByTheirIndex }
@@ -31,7 +32,7 @@ pub fn calls_alone_take_entries()
     ensures { CallsAloneTakeEntries }
 {}
 
-/// The costs where more headers are permitted than there are, and of two entries with names.
+/// The costs if more headers are allowed than there are, and of two entries with names.
 #[tactic(auto, unfolding(elf_model::proofs::OnLiterals::on_literals, crate::proofs::OnApplyExamples::on_examples))]
 pub fn headers_and_names_cost()
     ensures { HeadersAndNamesCost }

@@ -7,7 +7,7 @@ pub fn property_lists()
     ensures { PropertyLists }
 {}
 
-/// The word of the features of x86.
+/// The word of x86 features.
 #[tactic(auto, unfolding(elf_model::proofs::OnLiterals::on_literals, elf_model::proofs::OnLoader::on_loader, crate::proofs::OnTraits::on_traits))]
 pub fn feature_rows()
     ensures { FeatureRows }
@@ -19,7 +19,7 @@ pub fn note_rows()
     ensures { NoteRows }
 {}
 
-/// Notes and properties that are cut, that lie over each other, or past the end of the file.
+/// Notes and properties that are cut, that overlap, or past the end of the file.
 #[tactic(auto, unfolding(elf_model::proofs::OnLiterals::on_literals, elf_model::proofs::OnLoader::on_loader, crate::proofs::OnTraits::on_traits))]
 pub fn hostile_notes()
     ensures { HostileNotes }
@@ -31,7 +31,7 @@ pub fn first_features_count()
     ensures { FirstFeaturesCount }
 {}
 
-/// Notes that are cut behind their list, and a segment of no notes.
+/// Notes that are cut after their list, and a segment of no notes.
 #[tactic(auto, unfolding(elf_model::proofs::OnLiterals::on_literals, elf_model::proofs::OnLoader::on_loader, crate::proofs::OnTraits::on_traits))]
 pub fn lists_before_cuts()
     ensures { ListsBeforeCuts }

@@ -1,4 +1,4 @@
-//! Worked examples of words that are required, each computed by the prover.
+//! Worked examples of required traits, each computed by the prover.
 ghost use Rattle.elf_examples.specs.ExamplesRequired.{ColumnsAreNamed, NothingRequired, RequiredRows, TraitsAreObjects, WordsAreWhole};
 
 /// The first word that a program lacks has a line.
@@ -13,7 +13,7 @@ pub fn nothing_required()
     ensures { NothingRequired }
 {}
 
-/// Words that begin as the one that is required.
+/// Words that begin like the required one.
 #[tactic(auto, unfolding(elf_model::proofs::OnLiterals::on_literals, elf_model::proofs::OnLoader::on_loader, crate::proofs::OnTraits::on_traits))]
 pub fn words_are_whole()
     ensures { WordsAreWhole }

@@ -1,13 +1,13 @@
-//! Worked examples of what program headers and dynamic entries tell, each computed by the prover.
+//! Worked examples of what program headers and dynamic entries show, each computed by the prover.
 ghost use Rattle.elf_examples.specs.ExamplesSegments.{EntryRows, PagesRows, RelroHostile, RelroRows, StackRows, TwoLoads};
 
-/// All is bound at once by either entry of flags, or by one of its own.
+/// All is bound before the program starts by either entry of flags, or by one of its own.
 #[tactic(auto, unfolding(elf_model::proofs::OnLiterals::on_literals, elf_model::proofs::OnLoader::on_loader, crate::proofs::OnTraits::on_traits))]
 pub fn relro_rows()
     ensures { RelroRows }
 {}
 
-/// Without its segment nothing is read-only; entries behind the first NULL are none.
+/// Without its segment nothing is read-only; entries after the first NULL are none.
 #[tactic(auto, unfolding(elf_model::proofs::OnLiterals::on_literals, elf_model::proofs::OnLoader::on_loader, crate::proofs::OnTraits::on_traits))]
 pub fn relro_hostile()
     ensures { RelroHostile }
@@ -25,7 +25,7 @@ pub fn pages_rows()
     ensures { PagesRows }
 {}
 
-/// Text that is relocated, and where libraries are looked for first.
+/// Text that is relocated, and where libraries are searched for first.
 #[tactic(auto, unfolding(elf_model::proofs::OnLiterals::on_literals, elf_model::proofs::OnLoader::on_loader, crate::proofs::OnTraits::on_traits))]
 pub fn entry_rows()
     ensures { EntryRows }

@@ -1,25 +1,25 @@
-//! Worked examples of what dynamic symbols tell, each computed by the prover.
+//! Worked examples of what dynamic symbols show, each computed by the prover.
 ghost use Rattle.elf_examples.specs.ExamplesSymbols.{CanaryRows, CountRows, EmptyTableRows, FirstSymbolIsNone, FortifyRows, LongNamesMarkNothing, NameFaults};
 
-/// Symbols of guards, and others.
+/// Symbols of stack protectors, and others.
 #[tactic(auto, unfolding(elf_model::proofs::OnLiterals::on_literals, elf_model::proofs::OnLoader::on_loader, crate::proofs::OnTraits::on_traits))]
 pub fn canary_rows()
     ensures { CanaryRows }
 {}
 
-/// Calls that are checked, and others.
+/// Fortify calls, and others.
 #[tactic(auto, unfolding(elf_model::proofs::OnLiterals::on_literals, elf_model::proofs::OnLoader::on_loader, crate::proofs::OnTraits::on_traits))]
 pub fn fortify_rows()
     ensures { FortifyRows }
 {}
 
-/// How many symbols a hash table knows of.
+/// How many symbols a hash table has.
 #[tactic(auto, unfolding(elf_model::proofs::OnLiterals::on_literals, elf_model::proofs::OnLoader::on_loader, crate::proofs::OnTraits::on_traits))]
 pub fn count_rows()
     ensures { CountRows }
 {}
 
-/// How many symbols there are where a hash table does not say.
+/// How many symbols there are if a hash table does not say so.
 #[tactic(auto, unfolding(elf_model::proofs::OnLiterals::on_literals, elf_model::proofs::OnLoader::on_loader, crate::proofs::OnTraits::on_traits))]
 pub fn empty_table_rows()
     ensures { EmptyTableRows }
@@ -37,7 +37,7 @@ pub fn first_symbol_is_none()
     ensures { FirstSymbolIsNone }
 {}
 
-/// Names of as many bytes as are looked at, and of one more.
+/// Names of as many bytes as are compared, and of one more.
 #[tactic(auto, unfolding(elf_model::proofs::OnLiterals::on_literals, elf_model::proofs::OnLoader::on_loader, crate::proofs::OnTraits::on_traits))]
 pub fn long_names_mark_nothing()
     ensures { LongNamesMarkNothing }

@@ -13,7 +13,7 @@ pub fn call_takes_entry()
     ensures { CallTakesEntry }
 {}
 
-/// The two types of 32 bits, with and without a sign.
+/// The two types of 32 bits, unsigned and signed.
 #[tactic(auto, unfolding(elf_model::proofs::OnLiterals::on_literals, crate::proofs::OnApplyExamples::on_examples))]
 pub fn bits_32()
     ensures { Bits32 }

@@ -2,8 +2,8 @@
 ghost use Rattle.std.specs.Prelude.{◌≡◌};
 ghost use Rattle.elf_model.specs.Prelude.{library_without_sections, repeated_tags};
 
-/// A shared object without sections. Two program headers stand at 0x40: a segment to load, of the whole
-/// file at the address 0x400000, and four dynamic entries, at 0xb0: a library that is needed, the
+/// Returns a shared object without sections. Two program headers are at 0x40: a segment to load, of
+/// the whole file at the address 0x400000, and four dynamic entries, at 0xb0: a needed library, the
 /// address and the size of the eleven bytes of strings at 0xf0, and the end.
 #[tactic(auto, unfolding(elf_model::proofs::OnLiterals::on_literals))]
 pub fn library_without_sections() -> &'static [u8; 251]
@@ -31,8 +31,8 @@ static LIBRARY_WITHOUT_SECTIONS: [u8; 251] = [
     0x00, 0x6c, 0x69, 0x62, 0x63, 0x2e, 0x73, 0x6f, 0x2e, 0x36, 0x00,
 ];
 
-/// Five dynamic entries with the tags DT_NEEDED, DT_STRTAB, DT_STRTAB, DT_NULL and DT_STRSZ, each with
-/// its place, counted from 1 on, for a value.
+/// Returns five dynamic entries with the tags DT_NEEDED, DT_STRTAB, DT_STRTAB, DT_NULL and
+/// DT_STRSZ, each with its position, counted from 1, as its value.
 #[tactic(auto, unfolding(elf_model::proofs::OnLiterals::on_literals))]
 pub fn repeated_tags() -> &'static [u8; 80]
     ensures { result.now ≡ repeated_tags }

@@ -1,8 +1,8 @@
-//! Files with other bytes at a place.
+//! Files with other bytes at an offset.
 ghost use Rattle.std.specs.Prelude.{◌≡◌, ◌+◌, ◌≤◌, length};
 ghost use Rattle.elf_model.specs.Fixtures.{with_bytes};
 
-/// A file with other bytes at an offset.
+/// Returns a file with other bytes at an offset.
 #[tactic(auto, unfolding(elf_model::specs::Fixtures::with_bytes))]
 pub fn with_bytes<const N: usize>(file: &[u8; N], at: usize, bytes: &[u8]) -> [u8; N]
     requires { at + length bytes.now ≤ N }

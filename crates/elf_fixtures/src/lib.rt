@@ -1,5 +1,5 @@
-//! The files that worked examples and tests are over, byte by byte, and which of them the program
-//! carries. Each is proved to be the file that the definitions spell by its fields.
+//! The files of worked examples and tests, byte by byte, and the one that the program contains.
+//! Each is proved to be the file that the definitions build from its fields.
 #![tactic(auto)]
 
 mod carried;

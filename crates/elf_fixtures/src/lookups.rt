@@ -4,8 +4,8 @@ ghost use Rattle.elf_model.specs.FixturesHash.{hash_with_cycle, hash_with_end};
 
 use crate::with_bytes;
 
-/// A shared object with a hash table of one bucket, at 0x40, whose chain goes from symbol 1 to symbol
-/// 2 and back. Three symbols stand at 0x58, their five bytes of names at 0xa0.
+/// Returns a shared object with a hash table of one bucket, at 0x40, whose chain goes from symbol 1
+/// to symbol 2 and back. Three symbols are at 0x58, their five bytes of names at 0xa0.
 #[tactic(auto, unfolding(elf_model::proofs::OnLiterals::on_literals))]
 pub fn hash_with_cycle() -> &'static [u8; 424]
     ensures { result.now ≡ hash_with_cycle }
@@ -43,7 +43,7 @@ static HASH_WITH_CYCLE: [u8; 424] = [
     0x00, 0x00, 0x00, 0x00, 0x00, 0x00, 0x00, 0x00,
 ];
 
-/// The same with a chain that ends behind symbol 2.
+/// Returns the same with a chain that ends after symbol 2.
 #[tactic(auto, unfolding(elf_model::proofs::OnLiterals::on_literals))]
 pub fn hash_with_end() -> [u8; 424]
     ensures { result ≡ hash_with_end }

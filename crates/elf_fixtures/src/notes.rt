@@ -2,7 +2,7 @@
 ghost use Rattle.std.specs.Prelude.{◌≡◌};
 ghost use Rattle.elf_model.specs.FixturesTables.{aligned_note, build_note};
 
-/// A note of the type 3 with the name `GNU`, at 12, and a descriptor of twenty bytes, at 16.
+/// Returns a note of type 3 with the name `GNU`, at 12, and a descriptor of twenty bytes, at 16.
 #[tactic(auto, unfolding(elf_model::proofs::OnLiterals::on_literals))]
 pub fn build_note() -> &'static [u8; 36]
     ensures { result.now ≡ build_note }
@@ -16,8 +16,8 @@ static BUILD_NOTE: [u8; 36] = [
     0x10, 0x11, 0x12, 0x13,
 ];
 
-/// A note of the type 1 with the name `ABCD`, at 12, and a descriptor of four bytes, at 24, aligned to
-/// 8, without its last padding.
+/// Returns a note of type 1 with the name `ABCD`, at 12, and a descriptor of four bytes, at 24,
+/// aligned to 8, without its last padding.
 #[tactic(auto, unfolding(elf_model::proofs::OnLiterals::on_literals))]
 pub fn aligned_note() -> &'static [u8; 28]
     ensures { result.now ≡ aligned_note }

@@ -4,10 +4,10 @@ ghost use Rattle.elf_model.specs.FixturesApply.{falling_relocations, linked_to_z
 
 use crate::with_bytes;
 
-/// A call of `f`, which is not defined. Five section headers stand at 0x98: none, the five bytes of
-/// the call at 0x40, their one relocation entry at 0x48, two symbols at 0x60, their three bytes of
-/// names at 0x90. The headers of the entries, the symbols and the names stand at 0x118, 0x158 and
-/// 0x198.
+/// Returns a call of `f`, which is not defined. Five section headers are at 0x98: none, the five
+/// bytes of the call at 0x40, their one relocation entry at 0x48, two symbols at 0x60, their three
+/// bytes of names at 0x90. The headers of the entries, the symbols and the names are at 0x118,
+/// 0x158 and 0x198.
 #[tactic(auto, unfolding(elf_model::proofs::OnLiterals::on_literals))]
 pub fn one_call() -> &'static [u8; 472]
     ensures { result.now ≡ one_call }
@@ -48,7 +48,7 @@ static ONE_CALL: [u8; 472] = [
     0x00, 0x00, 0x00, 0x00, 0x00, 0x00, 0x00, 0x00,
 ];
 
-/// The same with its symbols' header in the place of section 0, to which its entry links.
+/// Returns the same with its symbols' header in the place of section 0, to which its entry links.
 #[tactic(auto, unfolding(elf_model::proofs::OnLiterals::on_literals))]
 pub fn linked_to_zero() -> [u8; 472]
     ensures { result ≡ linked_to_zero }
@@ -57,7 +57,8 @@ pub fn linked_to_zero() -> [u8; 472]
     with_bytes(&with_bytes(one_call(), 0x140, &[0]), 0x98, symbols)
 }
 
-/// Two relocation entries at 0x48, of four bytes at 0 and of two at 2, for a section of eight bytes.
+/// Returns two relocation entries at 0x48, of four bytes at 0 and of two at 2, for a section of
+/// eight bytes.
 #[tactic(auto, unfolding(elf_model::proofs::OnLiterals::on_literals))]
 pub fn overlapping_relocations() -> &'static [u8; 312]
     ensures { result.now ≡ overlapping_relocations }
@@ -88,7 +89,7 @@ static OVERLAPPING_RELOCATIONS: [u8; 312] = [
     0x18, 0x00, 0x00, 0x00, 0x00, 0x00, 0x00, 0x00,
 ];
 
-/// The same two entries in the other order.
+/// Returns the same two entries in the other order.
 #[tactic(auto, unfolding(elf_model::proofs::OnLiterals::on_literals))]
 pub fn overlapping_in_other_order() -> [u8; 312]
     ensures { result ≡ overlapping_in_other_order }
@@ -102,7 +103,7 @@ pub fn overlapping_in_other_order() -> [u8; 312]
     with_bytes(overlapping_relocations(), 0x48, &entries)
 }
 
-/// The same two entries and a third, at 0x78, whose value does not fit.
+/// Returns the same two entries and a third, at 0x78, whose value does not fit.
 #[tactic(auto, unfolding(elf_model::proofs::OnLiterals::on_literals))]
 pub fn third_overflows() -> &'static [u8; 336]
     ensures { result.now ≡ third_overflows }
@@ -134,8 +135,8 @@ static THIRD_OVERFLOWS: [u8; 336] = [
     0x00, 0x00, 0x00, 0x00, 0x00, 0x00, 0x00, 0x00, 0x18, 0x00, 0x00, 0x00, 0x00, 0x00, 0x00, 0x00,
 ];
 
-/// Four relocation entries, at 0xc0, of two bytes each, for a section of 128 bytes. Their offsets
-/// rise.
+/// Returns four relocation entries, at 0xc0, of two bytes each, for a section of 128 bytes. Their
+/// offsets ascend.
 #[tactic(auto, unfolding(elf_model::proofs::OnLiterals::on_literals))]
 pub fn rising_relocations() -> &'static [u8; 480]
     ensures { result.now ≡ rising_relocations }
@@ -176,7 +177,7 @@ static RISING_RELOCATIONS: [u8; 480] = [
     0x00, 0x00, 0x00, 0x00, 0x00, 0x00, 0x00, 0x00, 0x18, 0x00, 0x00, 0x00, 0x00, 0x00, 0x00, 0x00,
 ];
 
-/// The same four, the last two in the other order.
+/// Returns the same four, the last two in the other order.
 #[tactic(auto, unfolding(elf_model::proofs::OnLiterals::on_literals))]
 pub fn falling_relocations() -> [u8; 480]
     ensures { result ≡ falling_relocations }

@@ -4,7 +4,7 @@ ghost use Rattle.elf_model.specs.Prelude.{bare_header, named_section, needed_lib
 
 use crate::with_bytes;
 
-/// The file header of a relocatable file for x86-64 with nothing behind it.
+/// Returns the file header of a relocatable file for x86-64 with nothing after it.
 #[tactic(auto, unfolding(elf_model::proofs::OnLiterals::on_literals))]
 pub fn bare_header() -> &'static [u8; 64]
     ensures { result.now ≡ bare_header }
@@ -19,8 +19,8 @@ static BARE_HEADER: [u8; 64] = [
     0x00, 0x00, 0x00, 0x00, 0x00, 0x00, 0x00, 0x00, 0x00, 0x00, 0x00, 0x00, 0x00, 0x00, 0x00, 0x00,
 ];
 
-/// A relocatable file with one symbol table of two symbols, the second named `main`. Three section
-/// headers stand at 0x78: none, the symbols at 0x40, their six bytes of names at 0x70.
+/// Returns a relocatable file with one symbol table of two symbols, the second named `main`. Three
+/// section headers are at 0x78: none, the symbols at 0x40, their six bytes of names at 0x70.
 #[tactic(auto, unfolding(elf_model::proofs::OnLiterals::on_literals))]
 pub fn one_symbol_table() -> &'static [u8; 312]
     ensures { result.now ≡ one_symbol_table }
@@ -51,7 +51,8 @@ static ONE_SYMBOL_TABLE: [u8; 312] = [
     0x00, 0x00, 0x00, 0x00, 0x00, 0x00, 0x00, 0x00,
 ];
 
-/// The same, where the symbols' names are those of the sections too: section 1 is named `main`.
+/// Returns the same, but the symbols' names are those of the sections too: section 1 is named
+/// `main`.
 #[tactic(auto, unfolding(elf_model::proofs::OnLiterals::on_literals))]
 pub fn named_section() -> [u8; 312]
     ensures { result ≡ named_section }
@@ -59,8 +60,8 @@ pub fn named_section() -> [u8; 312]
     with_bytes(&with_bytes(one_symbol_table(), 0x3e, &[2]), 0xb8, &[1])
 }
 
-/// Five section headers at 0x40: none, three symbol tables that stand over the section headers, and
-/// a string table over them too.
+/// Returns five section headers at 0x40: none, three symbol tables that are over the section
+/// headers, and a string table over them too.
 #[tactic(auto, unfolding(elf_model::proofs::OnLiterals::on_literals))]
 pub fn tables_over_headers() -> &'static [u8; 384]
     ensures { result.now ≡ tables_over_headers }
@@ -95,7 +96,7 @@ static TABLES_OVER_HEADERS: [u8; 384] = [
     0x00, 0x00, 0x00, 0x00, 0x00, 0x00, 0x00, 0x00, 0x00, 0x00, 0x00, 0x00, 0x00, 0x00, 0x00, 0x00,
 ];
 
-/// An executable file with one program header, at 0x40: a segment to load.
+/// Returns an executable file with one program header, at 0x40: a segment to load.
 #[tactic(auto, unfolding(elf_model::proofs::OnLiterals::on_literals))]
 pub fn one_load() -> &'static [u8; 120]
     ensures { result.now ≡ one_load }
@@ -114,7 +115,7 @@ static ONE_LOAD: [u8; 120] = [
     0x00, 0x10, 0x00, 0x00, 0x00, 0x00, 0x00, 0x00,
 ];
 
-/// An executable file with one program header, at 0x40: a segment of one note, at 0x78.
+/// Returns an executable file with one program header, at 0x40: a segment of one note, at 0x78.
 #[tactic(auto, unfolding(elf_model::proofs::OnLiterals::on_literals))]
 pub fn note_segment() -> &'static [u8; 140]
     ensures { result.now ≡ note_segment }
@@ -134,8 +135,8 @@ static NOTE_SEGMENT: [u8; 140] = [
     0x01, 0x00, 0x00, 0x00, 0x47, 0x4e, 0x55, 0x00, 0x2a, 0x00, 0x00, 0x00,
 ];
 
-/// A file with three dynamic entries, at 0x40: a library that is needed, the end, and an entry behind
-/// it. Their names stand at 0x70.
+/// Returns a file with three dynamic entries, at 0x40: a needed library, the end, and an entry
+/// after it. Their names are at 0x70.
 #[tactic(auto, unfolding(elf_model::proofs::OnLiterals::on_literals))]
 pub fn needed_library() -> &'static [u8; 315]
     ensures { result.now ≡ needed_library }
@@ -166,7 +167,7 @@ static NEEDED_LIBRARY: [u8; 315] = [
     0x00, 0x00, 0x00, 0x00, 0x00, 0x00, 0x00, 0x00, 0x00, 0x00, 0x00,
 ];
 
-/// A symbol table of five symbols, at 0x40, in special places and in others.
+/// Returns a symbol table of five symbols, at 0x40, in special sections and in others.
 #[tactic(auto, unfolding(elf_model::proofs::OnLiterals::on_literals))]
 pub fn special_places() -> &'static [u8; 376]
     ensures { result.now ≡ special_places }
@@ -201,7 +202,7 @@ static SPECIAL_PLACES: [u8; 376] = [
     0x00, 0x00, 0x00, 0x00, 0x00, 0x00, 0x00, 0x00,
 ];
 
-/// One symbol, at 0x40, whose name has a backslash and a byte that is no character.
+/// Returns one symbol, at 0x40, whose name has a backslash and a byte that is no character.
 #[tactic(auto, unfolding(elf_model::proofs::OnLiterals::on_literals))]
 pub fn odd_name() -> &'static [u8; 286]
     ensures { result.now ≡ odd_name }

@@ -2,9 +2,10 @@
 ghost use Rattle.std.specs.Prelude.{◌≡◌};
 ghost use Rattle.elf_model.specs.FixturesVersions.{hostile_library, versioned_library, versioned_without_sections};
 
-/// A small library that defines two versions of `f` and needs one of `puts`: the GNU hash table stands at
-/// 0xb0, the symbols at 0xe0, their strings at 0x170, their versions at 0x1a0, the definitions at 0x1b0,
-/// the needs at 0x210, the dynamic entries at 0x230 and the section headers at 0x2f0.
+/// Returns a small library that defines two versions of `f` and needs one of `puts`: the GNU hash
+/// table is at 0xb0, the symbols at 0xe0, their strings at 0x170, their versions at 0x1a0, the
+/// definitions at 0x1b0, the needs at 0x210, the dynamic entries at 0x230 and the section headers
+/// at 0x2f0.
 #[tactic(auto, unfolding(elf_model::proofs::OnLiterals::on_literals))]
 pub fn versioned_library() -> &'static [u8; 1264]
     ensures { result.now ≡ versioned_library }
@@ -94,7 +95,7 @@ static VERSIONED_LIBRARY: [u8; 1264] = [
     0x08, 0x00, 0x00, 0x00, 0x00, 0x00, 0x00, 0x00, 0x10, 0x00, 0x00, 0x00, 0x00, 0x00, 0x00, 0x00,
 ];
 
-/// The same library without section headers.
+/// Returns the same library without section headers.
 #[tactic(auto, unfolding(elf_model::proofs::OnLiterals::on_literals))]
 pub fn versioned_without_sections() -> &'static [u8; 752]
     ensures { result.now ≡ versioned_without_sections }
@@ -152,8 +153,9 @@ static VERSIONED_WITHOUT_SECTIONS: [u8; 752] = [
     0x00, 0x00, 0x00, 0x00, 0x00, 0x00, 0x00, 0x00, 0x00, 0x00, 0x00, 0x00, 0x00, 0x00, 0x00, 0x00,
 ];
 
-/// The same library with section headers, and hostile: a full filter, a chain of symbols that does not
-/// end, a definition and a need that lead on, and a symbol whose version no record names.
+/// Returns the same library with section headers, and hostile: a full filter, a chain of symbols
+/// that does not end, a definition and a need with a next record, and a symbol whose version no
+/// record names.
 #[tactic(auto, unfolding(elf_model::proofs::OnLiterals::on_literals))]
 pub fn hostile_library() -> &'static [u8; 1264]
     ensures { result.now ≡ hostile_library }

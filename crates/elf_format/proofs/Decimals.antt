@@ -20,7 +20,7 @@ drop_spaces (suc from) zero text few = absurd (omega (arith, few))
 drop_spaces (suc from) (suc count) text few =
     let less : suc count - suc from ≡ count - from = omega arith in rw less (drop_spaces from count text (omega (arith, few)))
 
--- a cell from a place on is the number at the right of a column
+-- a cell from an index on is the number, right-aligned in a column
 pub cell_from : (from start width end n : ℕ) → from ≤ start → start - from ≡ width - length (decimal n)
     → drop from (spaces start ++ (decimal n ++ end ∷ [])) ≡ right_in width (decimal n) ++ end ∷ []
 unfolding right_in
@@ -33,14 +33,14 @@ take_spaces zero count within = refl
 take_spaces (suc few) zero within = absurd (omega (arith, within))
 take_spaces (suc few) (suc count) within = ap (λ xs. 32 ∷ xs) (take_spaces few count (omega (arith, within)))
 
--- a byte is set behind a text
+-- a byte is set after a text
 set_behind : (text more : List ℕ) (n byte end : ℕ) → length text ≡ n → take (suc n) (set (text ++ byte ∷ more) n end) ≡ text ++ end ∷ []
 set_behind [] more zero byte end is = refl
 set_behind [] more (suc n) byte end is = absurd (omega (arith, is))
 set_behind (x ∷ text) more zero byte end is = absurd (omega (arith, is))
 set_behind (x ∷ text) more (suc n) byte end is = ap (λ xs. x ∷ xs) (set_behind text more n byte end (omega (arith, is)))
 
--- the number and the byte behind it, in a cell of spaces
+-- the number and the byte after it, in a cell of spaces
 pub cell_text : (cell : List ℕ) (start n end : ℕ) → start + length (decimal n) ≡ 20
     → take start cell ≡ take start (spaces 24) → drop start cell ≡ decimal n ++ drop 20 (spaces 24)
     → take 21 (set cell 20 end) ≡ spaces start ++ (decimal n ++ end ∷ [])
@@ -52,7 +52,7 @@ cell_text cell start n end is before written =
     sym (take-append-drop start cell) ∙ ap₂ (λ xs ys. xs ++ ys) (before ∙ take_spaces start 24 few) written ∙ sym (append_assoc (spaces start) (decimal n) (spaces 4)) in
     rw whole (set_behind text (spaces 3) 20 32 end long ∙ append_assoc (spaces start) (decimal n) (end ∷ []))
 
--- a part of the cell is the number at the right of a column
+-- a part of the cell is the number, right-aligned in a column
 pub cell_part : (cell : List ℕ) (from start width end n : ℕ) → take 21 cell ≡ spaces start ++ (decimal n ++ end ∷ [])
     → from ≤ start → start ≤ 20 → start - from ≡ width - length (decimal n)
     → take (21 - from) (drop from cell) ≡ right_in width (decimal n) ++ end ∷ []

@@ -1,4 +1,4 @@
--- Hexadecimal digits as shifts give them.
+-- Hexadecimal digits as shifts compute them.
 use Rattle.std.proofs.Common.{◌≡◌, ℕ, zero, suc, ◌+◌, ◌-◌, ◌*◌, ◌/◌, ◌%◌, ◌^◌, ◌<◌, ◌≤◌, List, [], ◌∷◌, ◌++◌, length, refl, ap, arith, append_assoc, append-nil}
 use Rattle.std.proofs.Math.Nat.{pow-suc}
 use Rattle.std.proofs.lemmas.Nat.{pow-add}
@@ -22,7 +22,7 @@ unfolding hex
 length_hex zero n = refl
 length_hex (suc k) n = rw (length_hex k n) refl
 
--- a digit that is put is the first of those that were left
+-- a digit that is appended is the first of those that were left
 pub digit_put : (front items : List ℕ) (k n d : ℕ) → 0 < k → d ≡ digit (n / 2 ^ (4 * (k - 1)) % 16) → items ≡ front ++ d ∷ []
     → items ++ hex (k - 1) n ≡ front ++ hex k n
 digit_put front items k n d some is put =

@@ -1,4 +1,4 @@
--- The line of what a layout lacks, by whether the name was cut.
+-- The line of what a layout is missing, by whether the name was truncated.
 use Rattle.std.proofs.Common.{◌≡◌, ◌==◌, Bool, true, false, List, ◌++◌, length, codes, refl, append_assoc, ℕ}
 use Rattle.elf_model.specs.Prelude.{entry_item_text, entry_text, escaped, help_text, item_text, items_text, name_text, type_prefix, where_named}
 use Rattle.elf_model.specs.declared.missing.LayoutAddress.TheVariants.{Entry, Named}
@@ -13,7 +13,7 @@ unfolding entry_text
 entry_unnamed kind name true whole none = absurd (cc)
 entry_unnamed kind name false whole none = rw (none, entry_text) refl
 
--- with one, or the front of one
+-- with one, or the prefix of one
 pub entry_named : (kind : ℕ) (name : List ℕ) (is_cut : Bool) → (is_cut ≡ false → (length name == 0) ≡ false)
     → entry_text kind (shown_as is_cut name) ≡ (type_prefix kind ++ codes " to ") ++ (name_text (shown_as is_cut name) ++ codes ": ")
 unfolding entry_text
@@ -34,7 +34,7 @@ unfolding help_text name_text
 help_entry name true whole some = absurd (cc)
 help_entry name false whole some = rw (some, help_text, where_named) refl
 
--- an item of a name, by what stands around it
+-- an item of a name, by the texts around it
 pub item_around : (word name tail : List ℕ) → item_text word (escaped name) tail ≡ word ++ (name_text (Whole name) ++ tail)
 unfolding name_text
 item_around word name tail = append_assoc word (escaped name) tail

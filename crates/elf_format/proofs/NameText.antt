@@ -12,13 +12,13 @@ use Rattle.elf_source.specs.Output.{OutState}
 use Rattle.elf_format.specs.Prelude.{TakesBefore, byte_text, escaped_bytes, line_tailed, name_closing, name_start, shown_as, spelt}
 use Rattle.elf_format.proofs.Pieces.{TakesBefore-more, TakesBefore-then}
 
--- the bytes of two texts, one behind the other
+-- the bytes of two consecutive texts
 string_text-append : (xs ys : List ℕ) → string_text (xs ++ ys) ≡ string_text xs ++ string_text ys
 unfolding string_text
 string_text-append [] ys = refl
 string_text-append (x ∷ xs) ys = ap (λ zs. string_byte x ++ zs) (string_text-append xs ys) ∙ sym (append_assoc (string_byte x) (string_text xs) (string_text ys))
 
--- a byte that is no quotation mark and no backslash stands in a string as it is
+-- a byte that is no quotation mark and no backslash is unchanged in a string
 string_plain : (byte : ℕ) → byte ≢ 34 → byte ≢ 92 → string_byte byte ≡ byte ∷ []
 unfolding string_byte
 string_plain byte mark backslash = grind (arith, nat_tests)
@@ -38,7 +38,7 @@ unfolding string_text hex
 string_hex zero n = refl
 string_hex (suc k) n = rw (string_digit (n / 16 ^ k % 16) (omega arith), string_hex k n) refl
 
--- a byte that is spelt in digits, in a string
+-- a byte that is escaped in digits, in a string
 string_spelt : (byte : ℕ) → byte ≢ 92 → (nat_le 0x20 byte && nat_le byte 0x7e) ≡ false
     → string_text (name_byte_text byte) ≡ codes "\\\\x" ++ hex 2 byte
 unfolding name_byte_text string_text string_byte
@@ -59,13 +59,13 @@ string-none : (items text : List ℕ) (i : ℕ) → length text ≤ i → items 
 unfolding string_text
 string-none items text i over = rw (drop_all i text over) (append-nil items)
 
--- a byte more of a string is put
+-- one more byte of a string is appended
 pub string_put : (items put front text : List ℕ) (i : ℕ) → i < length text → items ++ string_text (drop i text) ≡ front
     → put ≡ items ++ string_byte (get_or text i 0) → put ++ string_text (drop (i + 1) text) ≡ front
 string_put items put front text i inside before is =
     rw is (append_assoc items (string_byte (get_or text i 0)) (string_text (drop (i + 1) text)) ∙ ap (λ xs. items ++ xs) (sym (string-next text i inside)) ∙ before)
 
--- a string is put, and its last quotation mark
+-- a string is appended, and its last quotation mark
 pub string_end : (items put line text : List ℕ) (i : ℕ) → length text ≤ i
     → items ++ string_text (drop i text) ≡ (line ++ 34 ∷ []) ++ string_text text → put ≡ items ++ 34 ∷ []
     → put ≡ line ++ 34 ∷ (string_text text ++ 34 ∷ [])
@@ -74,7 +74,7 @@ string_end items put line text i over before is =
     ∙ append_assoc (line ++ 34 ∷ []) (string_text text) (34 ∷ [])
     ∙ append_assoc line (34 ∷ []) (string_text text ++ 34 ∷ [])
 
--- the bytes that are left are the next byte and those behind it
+-- the bytes that are left are the next byte and those after it
 pub spelt-next : (format : Format) (name : List ℕ) (i : ℕ) → i < length name → spelt format (drop i name) ≡ byte_text format (get_or name i 0) ++ spelt format (drop (i + 1) name)
 unfolding spelt
 spelt-next format name i inside = rw (add-one, drop-cons name i 0 inside) refl
@@ -84,7 +84,7 @@ pub spelt-none : (format : Format) (items name : List ℕ) (i : ℕ) → length 
 unfolding spelt
 spelt-none format items name i over = rw (drop_all i name over) (append-nil items)
 
--- a byte is put behind a line that may have been begun anew
+-- a byte is appended to a line that may have been begun again
 pub TakesBefore-name_byte : {a b c : OutState} {text line room put : List ℕ} (format : Format) (name : List ℕ) (i : ℕ)
     → i < length name → TakesBefore a b text (line ++ spelt format (drop i name))
     → TakesBefore b c line room → put ≡ room ++ byte_text format (get_or name i 0)
@@ -98,26 +98,26 @@ TakesBefore-name_byte {a} {b} {c} {text} {line} {room} {put} format name i insid
     ∙ ap (λ xs. xs ++ rest) (sym is) in
     rw (sym same) (TakesBefore-then before (TakesBefore-more (spelt format (drop i name)) made))
 
--- a printing ASCII character that is no backslash stands in a name as it is
+-- a printing ASCII character that is no backslash is unchanged in a name
 name_plain : (byte : ℕ) → 32 ≤ byte → byte ≤ 126 → byte ≢ 92 → byte_text Columns byte ≡ byte ∷ []
 unfolding byte_text name_byte_text
 name_plain byte low high other =
     let no : (byte == 92) ≡ false = grind (arith, nat_tests) in
     let in_it : (nat_le 0x20 byte && nat_le byte 0x7e) ≡ true = grind (arith, nat_tests) in rw (no, in_it) refl
 
--- and where it is no quotation mark it stands so in a string
+-- and if it is no quotation mark it is so in a string
 object_plain : (byte : ℕ) → 32 ≤ byte → byte ≤ 126 → byte ≢ 34 → byte ≢ 92 → byte_text Object byte ≡ byte ∷ []
 unfolding byte_text name_byte_text string_text
 object_plain byte low high mark other =
     let no : (byte == 92) ≡ false = grind (arith, nat_tests) in
     let in_it : (nat_le 0x20 byte && nat_le byte 0x7e) ≡ true = grind (arith, nat_tests) in rw (no, in_it) (rw (string_plain byte mark other) refl)
 
--- so it stands in both
+-- so it is in both
 pub plain : (format : Format) (byte : ℕ) → 32 ≤ byte → byte ≤ 126 → byte ≢ 34 → byte ≢ 92 → byte_text format byte ≡ byte ∷ []
 plain Columns byte low high mark other = name_plain byte low high other
 plain Object byte low high mark other = object_plain byte low high mark other
 
--- sixteen bytes more that stand as they are
+-- sixteen more bytes that are unchanged
 pub stand_more : (format : Format) (name piece : List ℕ) (count : ℕ) → piece ≡ take 16 (drop count name)
     → ((k : ℕ) → k < count → byte_text format (get_or name k 0) ≡ get_or name k 0 ∷ [])
     → ((k : ℕ) → k < 16 → byte_text format (get_or piece k 0) ≡ get_or piece k 0 ∷ [])
@@ -132,7 +132,7 @@ stand_more format name piece count same before here k less = elim (cases_lt k co
       rw at at (here (k - count) few)
 ]
 
--- the bytes at the front of a name that stand as they are, and the others as they are spelt
+-- the bytes at the start of a name that are unchanged, and the others as they are escaped
 pub spelt-plain : (format : Format) (name : List ℕ) (n : ℕ) → n ≤ length name
     → ((k : ℕ) → k < n → byte_text format (get_or name k 0) ≡ get_or name k 0 ∷ [])
     → spelt format name ≡ take n name ++ spelt format (drop n name)
@@ -143,13 +143,13 @@ spelt-plain format (byte ∷ name) (suc n) within stand =
     let first = stand 0 (omega arith) in
     rw (first, spelt-plain format name n (omega arith) (λ k less. stand (suc k) (omega arith))) refl
 
--- in columns a name is spelt as in a listing
+-- in columns a name is escaped as in a listing
 pub spelt-columns : (name : List ℕ) → spelt Columns name ≡ escaped name
 unfolding spelt escaped byte_text
 spelt-columns [] = refl
 spelt-columns (byte ∷ name) = ap (λ xs. name_byte_text byte ++ xs) (spelt-columns name)
 
--- in an object that spelling stands in a string
+-- in an object the escaped name is a string
 pub spelt-object : (name : List ℕ) → spelt Object name ≡ string_text (escaped name)
 unfolding spelt escaped byte_text string_text
 spelt-object [] = refl
@@ -157,13 +157,13 @@ spelt-object (byte ∷ name) =
     ap (λ xs. string_text (name_byte_text byte) ++ xs) (spelt-object name)
     ∙ sym (string_text-append (name_byte_text byte) (escaped name))
 
--- so it is spelt in both
+-- so it is escaped in both
 pub spelt-all : (format : Format) (name : List ℕ) → spelt format name ≡ escaped_bytes format name
 unfolding escaped_bytes
 spelt-all Columns name = spelt-columns name
 spelt-all Object name = spelt-object name
 
--- a member with a string, between what stands before it and behind it
+-- a member with a string, between the texts before and after it
 member-whole : (a k q s : List ℕ) → a ++ ((k ++ (q ++ s ++ q)) ++ []) ≡ ((a ++ (k ++ q)) ++ s) ++ (q ++ [])
 member-whole a k q s = simp (append_assoc, append-nil)
 
@@ -181,14 +181,14 @@ named-pieces Object key line name true =
 named-pieces Object key line name false =
     rw (spelt-object name) (member-whole line (member_key key) (codes "\"") (string_text (escaped name)))
 
--- more stands behind a name
+-- more follows a name
 pub tailed-more : (format : Format) (key line : List ℕ) (name : DisplayedName) (tail more : List ℕ)
     → line_tailed format key line name tail ++ more ≡ line_tailed format key line name (tail ++ more)
 unfolding line_tailed
 tailed-more Columns key line name tail more = simp append_assoc
 tailed-more Object key line name tail more = simp append_assoc
 
--- so a text behind it
+-- so does a text
 pub tailed-pieces : (format : Format) (key line : List ℕ) (name : DisplayedName) (tail : List ℕ)
     → line_tailed format key line name tail ≡ line_tailed format key line name [] ++ tail
 tailed-pieces format key line name tail = sym (tailed-more format key line name [] tail)

@@ -1,11 +1,11 @@
--- Names of numbers in two tables, one behind the other.
+-- Names of numbers in two consecutive tables.
 use Rattle.std.proofs.Common.{◌≡◌, ℕ, ◌≤◌, ◌==◌, nat_le, if◌then◌else◌, Bool, true, false, List, [], ◌∷◌, ◌++◌, length, Bor, Option, None, Some, IfSome, option_copied, append_assoc, refl, arith}
 use Rattle.std.specs.Option.{option_or}
 use Rattle.std.proofs.lemmas.Bool.Decides.{nat_tests}
 use Rattle.elf_model.specs.Text.{name_of}
 use Rattle.elf_format.specs.Tables.{are_short}
 
--- the name of the first table, or else of the second
+-- the name in the first table, otherwise in the second
 abbrev pub first_of : Option (List ℕ) → Option (List ℕ) → Option (List ℕ)
 first_of (Some name) other = Some name
 first_of None other = other
@@ -20,7 +20,7 @@ name_of_both (entry ∷ names) more n = by_cases (n == entry.0) (name_of_both na
     by_cases true rest = refl
     by_cases false rest = rest
 
--- where the names of a table have at most so many bytes, each that is found in it has
+-- if the names of a table have at most a given number of bytes, each that is found in it has
 pub short_in : (most : ℕ) (names : List (ℕ × List ℕ)) (n : ℕ) → are_short most names ≡ true → IfSome (name_of names n) (λ name. length name ≤ most)
 unfolding name_of
 short_in most [] n short = tt

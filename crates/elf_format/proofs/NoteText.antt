@@ -1,4 +1,4 @@
--- The line of a note, by what stands behind its name.
+-- The line of a note, by the text after its name.
 use Rattle.std.proofs.Common.{◌≡◌, ℕ, nat_lt, List, length, take, refl}
 use Rattle.elf_model.specs.Prelude.{DisplayedName, SHOWN_DESCRIPTOR, descriptor_text, hex_bytes, line_described, note_tail}
 use Rattle.elf_model.specs.declared.formats.Format.TheVariants.{Columns, Object}

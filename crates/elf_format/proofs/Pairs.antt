@@ -1,4 +1,4 @@
--- The digits of each byte, as the table has them.
+-- The digits of each byte, as the table stores them.
 use Rattle.std.proofs.Common.{◌≡◌, ℕ, zero, suc, ◌+◌, ◌-◌, ◌*◌, ◌/◌, ◌%◌, ◌<◌, Bool, true, ◌&&◌, T, eqb, [], ◌∷◌, ◌++◌, get_or, refl, ◌^◌, inl, inr, arith, eq-zero-or-pos, eqb→eq}
 use lib.Ieee.Fits.{and_l, and_r}
 use Rattle.elf_model.specs.Text.{digit, hex}

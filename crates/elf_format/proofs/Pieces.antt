@@ -5,7 +5,7 @@ use Rattle.elf_source.specs.declared.faults.OutFault.{OutFault}
 use Rattle.elf_source.proofs.PutsLaws.{SinkTakes-then, SinkTakesPrefix-then}
 use Rattle.elf_format.specs.Pieces.{TakesBefore, PutsBefore}
 
--- more of the text stands behind the rest
+-- more of the text follows the rest
 pub TakesBefore-more : {a b : OutState} {text rest : List ℕ} (more : List ℕ)
     → TakesBefore a b text rest → TakesBefore a b (text ++ more) (rest ++ more)
 TakesBefore-more {a} {b} {text} {rest} more p = record {
@@ -29,7 +29,7 @@ pub TakesBefore-whole : {a b c : OutState} {text rest : List ℕ}
 TakesBefore-whole {a} {b} {c} {text} {rest} p q =
     rw p.split (SinkTakes-then p.front rest p.takes q)
 
--- a front of the rest was written
+-- a prefix of the rest was written
 pub TakesBefore-front : {a b c : OutState} {text rest : List ℕ}
     → TakesBefore a b text rest → SinkTakesPrefix b c rest → SinkTakesPrefix a c text
 TakesBefore-front {a} {b} {c} {text} {rest} p q =
@@ -42,7 +42,7 @@ pub OutPuts-rest : {X : Type 0} {a b : OutState} {text rest : List ℕ} (c : Out
 OutPuts-rest c (Ok x) p q = (TakesBefore-whole p q.0, q.1)
 OutPuts-rest c (Err fault) p q = (TakesBefore-front p q.0, q.1)
 
--- the rest was put, but for its own rest
+-- the rest was written, except its own rest
 pub PutsBefore-then : {X : Type 0} {a b : OutState} {text rest : List ℕ} (c : OutState) (less : List ℕ)
     → (result : Result X OutFault) → TakesBefore a b text rest
     → PutsBefore b c result rest less → PutsBefore a c result text less

@@ -1,4 +1,4 @@
--- A text as it is told, byte by byte, and what stands in it.
+-- A text as it is escaped for a terminal, byte by byte, and which bytes it has.
 use Rattle.std.proofs.Common.{◌≡◌, ◌≢◌, ℕ, ◌+◌, ◌/◌, ◌%◌, ◌^◌, ◌<◌, ◌≤◌, ◌==◌, ◌&&◌, nat_le, nat_lt, true, false, inl, inr, refl, sym}
 use Rattle.std.proofs.Common.{List, [], ◌∷◌, ◌++◌, length, drop, get_or, ap, ◌∙◌, arith}
 use Rattle.std.proofs.Common.{append_assoc, append-nil, add-one, drop-cons}
@@ -12,7 +12,7 @@ use Rattle.elf_source.specs.Output.{OutState}
 use Rattle.elf_format.specs.Prelude.{IsPlain, TakesBefore, reported_byte, reported_text}
 use Rattle.elf_format.proofs.Pieces.{TakesBefore-more, TakesBefore-then}
 
--- the bytes that are left are the next byte and those behind it
+-- the bytes that are left are the next byte and those after it
 told-next : (text : List ℕ) (i : ℕ) → i < length text → reported_text (drop i text) ≡ reported_byte (get_or text i 0) ++ reported_text (drop (i + 1) text)
 unfolding reported_text
 told-next text i inside = rw (add-one, drop-cons text i 0 inside) refl
@@ -22,7 +22,7 @@ pub told-none : (items text : List ℕ) (i : ℕ) → length text ≤ i → item
 unfolding reported_text
 told-none items text i over = rw (drop_all i text over) (append-nil items)
 
--- a byte is put behind a line that may have been begun anew
+-- a byte is appended to a line that may have been begun again
 pub told-more : {a b c : OutState} {whole line room put : List ℕ} (text : List ℕ) (i : ℕ)
     → i < length text → TakesBefore a b whole (line ++ reported_text (drop i text))
     → TakesBefore b c line room → put ≡ room ++ reported_byte (get_or text i 0)
@@ -52,7 +52,7 @@ digits-plain byte =
     All-cons IsPlain (digit (byte / 16 ^ 1 % 16)) (low ∷ []) (digit-plain (byte / 16 ^ 1 % 16) (omega arith))
     (All-cons IsPlain low [] (digit-plain (byte / 16 ^ 0 % 16) (omega arith)) (All-nil IsPlain))
 
--- each byte is told in plain bytes
+-- each byte is written in plain bytes
 byte-plain : (byte : ℕ) → All IsPlain (reported_byte byte)
 unfolding reported_byte name_byte_text
 byte-plain byte = elim (cases_Bool (byte == 10)) [
@@ -66,13 +66,13 @@ byte-plain byte = elim (cases_Bool (byte == 10)) [
   ])
 ]
 
--- a text is told in plain bytes
+-- a text is written in plain bytes
 pub told-plain : (text : List ℕ) → All IsPlain (reported_text text)
 unfolding reported_text
 told-plain [] = All-nil IsPlain
 told-plain (byte ∷ bytes) = All-append IsPlain (reported_byte byte) (reported_text bytes) (byte-plain byte) (told-plain bytes)
 
--- a plain byte that is no backslash stands as it is
+-- a plain byte that is no backslash is unchanged
 byte-stands : (byte : ℕ) → IsPlain byte → byte ≢ 0x5c → reported_byte byte ≡ byte ∷ []
 unfolding reported_byte name_byte_text
 byte-stands byte (inl is) other = rw is refl
@@ -83,7 +83,7 @@ byte-stands byte (inr prints) other =
     let d : nat_le byte 0x7e ≡ true = grind (arith, nat_tests) in
     rw (a, b, c, d) refl
 
--- a plain text without a backslash stands as it is
+-- a plain text without a backslash is unchanged
 pub told-stands : (text : List ℕ) → All IsPlain text → All (λ byte. byte ≢ 0x5c) text → reported_text text ≡ text
 unfolding reported_text
 told-stands [] plain others = refl

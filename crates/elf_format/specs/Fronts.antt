@@ -1,4 +1,4 @@
--- What stands before a line's name, as the definitions have it.
+-- The part of a line before its name, in the terms of the model.
 use Rattle.elf_model.specs.Fields.{LinePrefix}
 use Rattle.elf_format.specs.declared.fields.LinePrefix.{LinePrefix as Built}
 

@@ -1,4 +1,4 @@
--- What is known of a note's descriptor where its line is written.
+-- What is known of a note's descriptor when its line is written.
 use Rattle.std.specs.Prelude.{ℕ, ◌≡◌, if◌then◌else◌, Bool, List, [], ◌++◌, codes, length, take}
 use Rattle.elf_model.specs.Prelude.{SHOWN_DESCRIPTOR, closing, cut_mark, member_key, newline, quoted, space}
 use Rattle.elf_model.specs.declared.formats.Format.TheVariants.{Columns, Object}
@@ -9,7 +9,8 @@ pub record IsDescriptor (first : List ℕ) (size : ℕ) (descriptor : List ℕ) 
   pub first_is : first ≡ take SHOWN_DESCRIPTOR descriptor
   pub size_is : size ≡ length descriptor
 
--- what stands behind a note's name: the digits of the bytes that are shown, in columns marked where the descriptor has more
+-- the text after a note's name: the digits of the bytes that are shown, in columns marked if the
+-- descriptor has more
 unfoldable pub note_end : Format → List ℕ → Bool → List ℕ
 note_end Columns digits has_more = space ++ (digits ++ (if has_more then cut_mark else [])) ++ newline
 note_end Object digits has_more = member_key (codes "descriptor") ++ quoted digits ++ closing Object

@@ -1,4 +1,4 @@
--- What the texts of rows and the tables of names are, for the proofs that open them.
+-- The texts of rows and the tables of names, for the proofs that unfold them.
 unfoldable pub use Rattle.elf_model.specs.Text.{name_of}
 unfoldable pub use Rattle.elf_model.specs.Lines.{header_line, segment_line}
 unfoldable pub use Rattle.elf_model.specs.LineFronts.{section_prefix}

@@ -1,4 +1,4 @@
--- Tables of names, as the code has them.
+-- Tables of names, as the code stores them.
 use Rattle.std.specs.Prelude.{ℕ, ◌&&◌, nat_le, Bool, true, List, [], ◌∷◌, length, map}
 use Rattle.std.specs.Borrow.{Bor}
 
@@ -6,7 +6,7 @@ use Rattle.std.specs.Borrow.{Bor}
 abbrev pub entries : List (ℕ × Bor (List ℕ)) → List (ℕ × List ℕ)
 entries table = map (λ entry. (entry.0, entry.1.now)) table
 
--- the names of a table have at most so many bytes
+-- the names of a table have at most a given number of bytes
 abbrev pub are_short : ℕ → List (ℕ × List ℕ) → Bool
 are_short most [] = true
 are_short most (entry ∷ names) = nat_le (length entry.1) most && are_short most names

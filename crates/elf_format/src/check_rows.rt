@@ -1,4 +1,4 @@
-//! The lines of files among many.
+//! The lines of a check of many files.
 ghost use Rattle.std.specs.Prelude.{◌≡◌, ◌++◌, ◌≤◌, length};
 ghost use Rattle.arrayvec.specs.ArrayVec.{array_vec_len};
 ghost use Rattle.elf_model.specs.Prelude.{check_front, check_line, fault_fields, file_status_name, unnamed_line, with_fields};
@@ -15,7 +15,8 @@ use crate::rows::cause_word;
 use elf_model::{FileStatus, Format};
 use elf_source::{Out, OutFault, Sink};
 
-/// The `C` line of a file up to its path: its state, and where it is at fault and why.
+/// Returns the `C` line of a file up to its path: its state, and the offset and the cause of its
+/// refusal.
 #[tactic(auto, unfolding(elf_model::specs::Checking::check_front))]
 fn check_row<R: Render>(front: &mut LinePrefix, state: FileStatus)
     ensures front { front_of front.new ≡ check_front R.FORMAT state }
@@ -32,8 +33,8 @@ fn check_row<R: Render>(front: &mut LinePrefix, state: FileStatus)
     put_fault::<R>(&mut front.line, state);
 }
 
-/// Puts where a file is at fault and why; in columns a hyphen for a file that is not at fault. The line has
-/// at most 150 bytes before.
+/// Appends the offset and the cause of a file's refusal; in columns a hyphen for a file that is not
+/// refused. The line has at most 150 bytes before.
 #[tactic(auto, unfolding(elf_model::specs::Fields::with_field))]
 pub fn put_fault<R: Render>(line: &mut LineBuf, state: FileStatus)
     requires { array_vec_len line.old ≤ 150 }
@@ -56,7 +57,7 @@ pub fn put_fault<R: Render>(line: &mut LineBuf, state: FileStatus)
     }
 }
 
-/// The word of a state in a check's line.
+/// Returns the word for a state in a check's line.
 #[tactic(auto, unfolding(elf_model::specs::Checking::file_status_name))]
 fn file_status_name(state: FileStatus) -> &'static str
     ensures word { result.now ≡ file_status_name state }
@@ -71,11 +72,11 @@ fn file_status_name(state: FileStatus) -> &'static str
     }
 }
 
-/// Writes the line of a file: its state, the file offset and the cause of its refusal, and its path,
-/// spelt as names are.
+/// Writes the line of a file: its state, the file offset and the cause of its refusal, and its
+/// path, escaped as names are.
 ///
 /// # Errors
-/// A fault of the output, with a front of the line written.
+/// Returns a fault of the output; a prefix of the line was written.
 pub fn show_check<W: Sink>(
     state: FileStatus,
     path: &[u8],
@@ -92,10 +93,10 @@ pub fn show_check<W: Sink>(
     show_named(&mut front, path, false, out)
 }
 
-/// Writes the last line of a check: how many paths could not be named.
+/// Writes the last line of a check: the number of paths that could not be named.
 ///
 /// # Errors
-/// A fault of the output, with a front of the line written.
+/// Returns a fault of the output; a prefix of the line was written.
 pub fn show_unnamed<W: Sink>(count: u64, format: Format, out: &mut Out<W>) -> Result<(), OutFault>
     ensures puts { OutPuts out.old out.new result (unnamed_line format count) }
 {
@@ -105,7 +106,7 @@ pub fn show_unnamed<W: Sink>(count: u64, format: Format, out: &mut Out<W>) -> Re
     }
 }
 
-/// The last line of a check.
+/// Returns the last line of a check.
 #[tactic(auto, unfolding(elf_model::specs::Checking::unnamed_line))]
 fn unnamed_row<R: Render>(count: u64) -> LineBuf
     ensures { result.items ≡ unnamed_line R.FORMAT count }

@@ -1,4 +1,4 @@
-//! A line of a listing while it is put together, field by field.
+//! A line of a listing while it is built, field by field.
 ghost use Rattle.std.specs.Prelude.{◌≡◌, ◌+◌, ◌-◌, ◌<◌, ◌≤◌, ◌++◌, ◌∷◌, [], if◌then◌else◌, decimal, length, max, take};
 ghost use Rattle.arrayvec.specs.ArrayVec.{array_vec_len};
 ghost use Rattle.elf_model.specs.Prelude.{digit, hex, left_in, number_sign, right_in, spaces};
@@ -7,15 +7,15 @@ use crate::hexadecimal::hex8;
 use arrayvec::ArrayVec;
 use itoa::{Buffer, write_digits};
 
-/// The bytes that a line may have, but for its name.
+/// The largest size of a line in bytes, except its name.
 pub const LINE_BYTES: usize = 256;
-/// The bytes that the digits of a number are put in.
+/// The size in bytes of a buffer for the digits of a number.
 pub const DIGIT_BYTES: usize = 40;
 
-/// A line, or the front of one: at most 256 bytes.
+/// A line, or the prefix of one: at most 256 bytes.
 pub type LineBuf = ArrayVec<u8, 256>;
 
-/// Puts a text at the end.
+/// Appends a text.
 #[inline(always)]
 pub fn put(line: &mut LineBuf, text: &[u8])
     requires { array_vec_len line.old + length text.now ≤ 256 }
@@ -25,7 +25,7 @@ pub fn put(line: &mut LineBuf, text: &[u8])
     line.try_extend_from_slice(text).unwrap();
 }
 
-/// A line that begins with a text.
+/// Returns a line that begins with a text.
 pub fn line_of(text: &[u8]) -> LineBuf
     requires { length text.now ≤ 256 }
     ensures items { result.items ≡ text.now }
@@ -36,7 +36,7 @@ pub fn line_of(text: &[u8]) -> LineBuf
     line
 }
 
-/// Puts so many spaces at the end.
+/// Appends `count` spaces.
 pub(crate) fn put_spaces(line: &mut LineBuf, count: usize)
     requires { array_vec_len line.old + count ≤ 256 }
     ensures items { line.new.items ≡ line.old.items ++ spaces count }
@@ -47,8 +47,8 @@ pub(crate) fn put_spaces(line: &mut LineBuf, count: usize)
     }
 }
 
-/// Puts a text at the left of a column of this width, and the byte that ends the column. A longer
-/// text is not cut.
+/// Appends a text, left-aligned in a column of this width, and the byte that ends the column. A
+/// longer text is not truncated.
 #[inline(always)]
 #[tactic(auto, unfolding(elf_model::specs::Text::left_in))]
 pub(crate) fn put_left(line: &mut LineBuf, width: usize, text: &[u8], end: u8)
@@ -68,8 +68,8 @@ pub(crate) fn put_left(line: &mut LineBuf, width: usize, text: &[u8], end: u8)
     }
 }
 
-/// Fills the front of a cell of spaces: a text, which is no longer than the column, and behind the
-/// column the byte that ends it.
+/// Fills the start of a cell of spaces: with a text, which is no longer than the column, and after
+/// the column the byte that ends it.
 #[inline(always)]
 fn fill_cell(cell: &mut [u8; 16], width: usize, text: &[u8], end: u8)
     requires spaces { cell.old ≡ spaces 16 }
@@ -82,8 +82,8 @@ fn fill_cell(cell: &mut [u8; 16], width: usize, text: &[u8], end: u8)
     cell[width] = end;
 }
 
-/// Puts a decimal number at the right of a column of this width, and the byte that ends the column.
-/// A longer number is not cut.
+/// Appends a decimal number, right-aligned in a column of this width, and the byte that ends the
+/// column. A longer number is not truncated.
 #[inline(always)]
 pub(crate) fn put_right(line: &mut LineBuf, width: usize, number: u64, end: u8)
     requires width { width ≤ 20 }
@@ -103,8 +103,8 @@ pub(crate) fn put_right(line: &mut LineBuf, width: usize, number: u64, end: u8)
     }
 }
 
-/// Writes a decimal number into a cell of spaces so that it ends at the twentieth byte, and the byte
-/// that ends its column behind it. Answers where the number begins.
+/// Writes a decimal number into a cell of spaces so that it ends at the twentieth byte, and after
+/// it the byte that ends its column. Returns the index at which the number begins.
 #[inline(always)]
 fn write_cell(cell: &mut [u8; 24], number: u64, end: u8) -> usize
     requires { cell.old ≡ spaces 24 }
@@ -116,7 +116,7 @@ fn write_cell(cell: &mut [u8; 24], number: u64, end: u8) -> usize
     start
 }
 
-/// A number behind a sign of one.
+/// Returns `#` and a decimal number.
 #[tactic(auto, unfolding(elf_model::specs::NameTables::number_sign))]
 pub fn number_sign(number: u32) -> LineBuf
     ensures text { result.items ≡ number_sign number }
@@ -128,7 +128,7 @@ pub fn number_sign(number: u32) -> LineBuf
     line
 }
 
-/// Puts a text at the end where a condition holds, else nothing.
+/// Appends a text if a condition holds, otherwise nothing.
 pub fn put_where(line: &mut LineBuf, holds: bool, text: &[u8])
     requires { array_vec_len line.old + length text.now ≤ 256 }
     ensures items { line.new.items ≡ line.old.items ++ (if holds then text.now else []) }
@@ -139,7 +139,7 @@ pub fn put_where(line: &mut LineBuf, holds: bool, text: &[u8])
     }
 }
 
-/// Puts the last hexadecimal digits of a number, in lower case, with leading zeros.
+/// Appends the last hexadecimal digits of a number, in lower case, with leading zeros.
 #[inline(always)]
 pub(crate) fn write_hex(line: &mut LineBuf, digits: u32, number: u64)
     requires room { array_vec_len line.old + digits ≤ 256 }
@@ -157,7 +157,7 @@ pub(crate) fn write_hex(line: &mut LineBuf, digits: u32, number: u64)
     }
 }
 
-/// The same, digit by digit.
+/// Does the same, digit by digit.
 fn put_digits(line: &mut LineBuf, digits: u32, number: u64)
     requires room { array_vec_len line.old + digits ≤ 256 }
     requires digits { digits ≤ 16 }

@@ -23,9 +23,8 @@ use elf_record::numbers::{
     DT_SONAME, DT_STRSZ, DT_STRTAB, DT_SYMBOLIC, DT_SYMENT, DT_SYMTAB, DT_TEXTREL,
 };
 
-/// The `D` line of a dynamic entry up to the name, in place of what the front held: its index in its
-/// table, tag and value (gABI 5, Dynamic Section); `gnu` says whether tags of the GNU system have
-/// names.
+/// Fills the prefix with the `D` line of a dynamic entry up to the name: its index in its table,
+/// tag and value (gABI 5, Dynamic Section); `gnu` says whether GNU tags have names.
 pub fn dynamic_prefix<R: Render>(front: &mut LinePrefix, index: u64, entry: &Dyn, gnu: bool)
     // A tag is read as a signed number, and shown as its bits.
     ensures front { (file : List ℕ) (at : ℕ) → IsDyn file at entry.now →
@@ -40,7 +39,7 @@ pub fn dynamic_prefix<R: Render>(front: &mut LinePrefix, index: u64, entry: &Dyn
     put_hex_field::<R>(line, b"value", 16, entry.d_un, b' ');
 }
 
-/// The name of a dynamic array tag.
+/// Returns the name of a dynamic array tag.
 fn tag_name(tag: u64, gnu: bool) -> Option<&'static str>
     ensures name { option_copied result ≡ name_of (dynamic_tags gnu) tag }
     ensures short { IfSome result (λ name. length name.now ≤ 16) }
@@ -83,7 +82,7 @@ const STANDARD_TAGS: [(u64, &str); 31] = [
     (DT_FLAGS, "FLAGS"),
 ];
 
-/// The tags that came to the standard later, and those of the GNU system.
+/// The tags that came to the standard later, and GNU tags.
 const GNU_TAGS: [(u64, &str); 40] = [
     (DT_PREINIT_ARRAY, "PREINIT_ARRAY"),
     (DT_PREINIT_ARRAYSZ, "PREINIT_ARRAYSZ"),

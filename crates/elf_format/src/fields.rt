@@ -11,19 +11,19 @@ use crate::objects::{put_key, put_name_or_number, put_number, put_quoted};
 use crate::render::Render;
 use elf_model::Format;
 
-/// What stands before a line's name, how the line is written, and the key of the name.
+/// The part of a line before its name, the line's format, and the key of the name.
 #[derive(Drop)]
 pub struct LinePrefix {
     /// The line up to its name.
     pub line: LineBuf,
-    /// How it is written.
+    /// Its format.
     pub format: Format,
     /// The key of its name in an object.
     pub key: &'static [u8],
 }
 
 impl LinePrefix {
-    /// Room for the fronts of lines, one after another.
+    /// Creates a buffer for the prefixes of lines, one after another.
     pub fn new() -> LinePrefix {
         LinePrefix {
             line: LineBuf::new(),
@@ -33,7 +33,7 @@ impl LinePrefix {
     }
 }
 
-/// Begins a line anew that ends in a name of a key, with its letter.
+/// Begins a new line that ends in a name with a key, with its letter.
 pub fn begin_named<R: Render>(front: &mut LinePrefix, letter: &[u8], key: &'static [u8])
     requires { length letter.now ≤ 1 }
     ensures items { front.new.line.items ≡ begun R.FORMAT letter.now }
@@ -46,7 +46,7 @@ pub fn begin_named<R: Render>(front: &mut LinePrefix, letter: &[u8], key: &'stat
     front.key = key;
 }
 
-/// Begins a line anew, with its letter.
+/// Begins a new line, with its letter.
 #[tactic(auto, unfolding(elf_model::specs::Fields::begun))]
 pub fn begin<R: Render>(line: &mut LineBuf, letter: &[u8])
     requires { length letter.now ≤ 1 }
@@ -67,8 +67,8 @@ pub fn begin<R: Render>(line: &mut LineBuf, letter: &[u8])
     }
 }
 
-/// Puts a number that stands in decimal at the right of a column of this width, and the byte that
-/// ends the column. A longer number is not cut.
+/// Appends a number that is in decimal, right-aligned in a column of this width, and the byte that
+/// ends the column. A longer number is not truncated.
 #[tactic(auto, unfolding(elf_model::specs::Fields::with_field, elf_model::specs::Text::right_decimal))]
 #[inline(always)]
 pub fn put_decimal<R: Render>(line: &mut LineBuf, key: &[u8], width: usize, number: u64, end: u8)
@@ -84,8 +84,8 @@ pub fn put_decimal<R: Render>(line: &mut LineBuf, key: &[u8], width: usize, numb
     }
 }
 
-/// Puts a number of 16 bits, in decimal at the right of five columns, and the byte that ends the
-/// column.
+/// Appends a number of 16 bits, in decimal, right-aligned in five columns, and the byte that ends
+/// the column.
 #[tactic(auto, unfolding(elf_model::specs::Fields::with_field, elf_model::specs::Text::right_decimal))]
 #[inline(always)]
 pub fn put_half<R: Render>(line: &mut LineBuf, key: &[u8], number: u16, end: u8)
@@ -100,7 +100,7 @@ pub fn put_half<R: Render>(line: &mut LineBuf, key: &[u8], number: u16, end: u8)
     }
 }
 
-/// Puts a number in so many hexadecimal digits, and the byte that ends the column.
+/// Appends a number in a given count of hexadecimal digits, and the byte that ends the column.
 #[tactic(auto, unfolding(elf_model::specs::Fields::with_field))]
 #[inline(always)]
 pub fn put_hex_field<R: Render>(line: &mut LineBuf, key: &[u8], digits: u32, number: u64, end: u8)
@@ -119,7 +119,8 @@ pub fn put_hex_field<R: Render>(line: &mut LineBuf, key: &[u8], digits: u32, num
     }
 }
 
-/// Puts a number with its sign, and its absolute value in sixteen hexadecimal digits, and a space.
+/// Appends a number with its sign, and its absolute value in sixteen hexadecimal digits, and a
+/// space.
 #[tactic(auto, unfolding(elf_model::specs::Fields::with_field, elf_model::specs::Fields::signed_text))]
 #[inline(always)]
 pub fn put_signed<R: Render>(line: &mut LineBuf, key: &[u8], number: i64)
@@ -138,8 +139,8 @@ pub fn put_signed<R: Render>(line: &mut LineBuf, key: &[u8], number: i64)
     }
 }
 
-/// Puts a text at the left of a column of this width, and the byte that ends the column. A longer
-/// text is not cut.
+/// Appends a text, left-aligned in a column of this width, and the byte that ends the column. A
+/// longer text is not truncated.
 #[tactic(auto, unfolding(elf_model::specs::Fields::with_field))]
 pub fn put_text<R: Render>(line: &mut LineBuf, key: &[u8], width: usize, text: &[u8], end: u8)
     requires { array_vec_len line.old + text_room (length key.now) (max width (length text.now))
@@ -158,8 +159,8 @@ pub fn put_text<R: Render>(line: &mut LineBuf, key: &[u8], width: usize, text: &
     }
 }
 
-/// Puts a name at the left of a column of this width, or a decimal number that has none at the
-/// right of it, and a space.
+/// Appends a name, left-aligned in a column of this width, or a decimal number without a name,
+/// right-aligned in it, and a space.
 #[tactic(auto, unfolding(elf_model::specs::Fields::with_field, elf_model::specs::Text::right_decimal))]
 #[inline(always)]
 pub fn put_name_or_decimal<R: Render>(
@@ -186,8 +187,8 @@ pub fn put_name_or_decimal<R: Render>(
     }
 }
 
-/// Puts a name at the left of a column of this width, or the last hexadecimal digits of a number
-/// that has none, and a space.
+/// Appends a name, left-aligned in a column of this width, or the last hexadecimal digits of a
+/// number without a name, and a space.
 #[tactic(auto, using(crate::proofs::Digits::length_hex), unfolding(elf_model::specs::Fields::with_field, elf_model::specs::Text::left_in))]
 pub fn put_name_or_hex<R: Render>(
     line: &mut LineBuf,
@@ -219,8 +220,8 @@ pub fn put_name_or_hex<R: Render>(
     }
 }
 
-/// Puts a name at the left of a column of ten, or a number that has none behind a sign of one, and
-/// a space.
+/// Appends a name, left-aligned in a column of ten, or `#` and a number that has no name, and a
+/// space.
 #[tactic(auto, unfolding(elf_model::specs::Fields::with_field))]
 pub fn put_name_or_sign<R: Render>(
     line: &mut LineBuf,
@@ -244,7 +245,7 @@ pub fn put_name_or_sign<R: Render>(
     }
 }
 
-/// Puts what ends a line behind its last field, which in columns has a newline behind it.
+/// Appends the end of a line after its last field, which in columns is followed by a newline.
 #[tactic(auto, unfolding(elf_model::specs::Fields::closing))]
 pub fn put_closing<R: Render>(line: &mut LineBuf)
     requires { array_vec_len line.old + 2 ≤ 256 }

@@ -2,7 +2,7 @@
 ghost use Rattle.std.specs.Prelude.{◌≡◌, ◌/◌, ◌%◌, ◌<◌};
 ghost use Rattle.elf_model.specs.Text.{digit, hex};
 
-/// The last eight hexadecimal digits of a number, in lower case, with leading zeros.
+/// Returns the last eight hexadecimal digits of a number, in lower case, with leading zeros.
 #[inline(always)]
 pub(crate) fn hex8(number: u32) -> [u8; 8]
     ensures { result ≡ hex 8 number }
@@ -14,7 +14,7 @@ pub(crate) fn hex8(number: u32) -> [u8; 8]
     [a, b, c, d, e, f, g, h]
 }
 
-/// The two digits of a number of eight bits.
+/// Returns the two digits of a number of eight bits.
 #[inline(always)]
 fn hex_pair(byte: u32) -> (u8, u8)
     requires { byte < 256 }

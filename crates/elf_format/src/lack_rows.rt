@@ -1,4 +1,4 @@
-//! The line of what a layout lacks.
+//! The line of what a layout is missing.
 ghost use Rattle.std.specs.Prelude.{◌≡◌, ◌+◌, ◌≤◌, ◌++◌, true, codes, decimal, length};
 ghost use Rattle.arrayvec.specs.ArrayVec.{array_vec_len};
 ghost use Rattle.elf_model.specs.Prelude.{entry_text, escaped, help_text, item_text, items_text, missing_line, name_text, number_sign, place_text, relocation_types, type_prefix};
@@ -13,11 +13,11 @@ use elf_model::{Format, LayoutAddress, MissingAddress, RelocationBase};
 use elf_source::{Out, OutFault, Sink};
 use itoa::Buffer;
 
-/// Writes the line of what a layout lacks: the type of the entry that was refused, the name of its
-/// symbol, which `is_cut` where it has more bytes than these, and the item that would help.
+/// Writes the line of what a layout is missing: the type of the entry that was refused, the name of
+/// its symbol, which `is_cut` if it has more bytes than these, and the item that would help.
 ///
 /// # Errors
-/// A fault of the output, with a front of the line written.
+/// Returns a fault of the output; a prefix of the line was written.
 pub fn show_missing<W: Sink>(
     missing: MissingAddress,
     name: &[u8],
@@ -31,10 +31,10 @@ pub fn show_missing<W: Sink>(
     show_help(missing.wanted, name, is_cut, out)
 }
 
-/// Writes the type of an entry, and the name of its symbol where it has one.
+/// Writes the type of an entry, and the name of its symbol if it has one.
 ///
 /// # Errors
-/// A fault of the output, with a front of the text written.
+/// Returns a fault of the output; a prefix of the text was written.
 fn show_entry<W: Sink>(
     kind: u32,
     name: &[u8],
@@ -52,7 +52,7 @@ fn show_entry<W: Sink>(
     show_around(line, name, is_cut, b": ", out)
 }
 
-/// The type of an entry: its name as in a listing with the names of the GNU system, or its number.
+/// Returns the type of an entry: its name as in a listing with GNU names, or its number.
 #[tactic(auto, unfolding(elf_model::specs::ExplainLine::type_prefix, elf_model::specs::NameTables::relocation_type_text))]
 fn type_prefix(kind: u32) -> LineBuf
     ensures text { result.items ≡ type_prefix kind }
@@ -69,7 +69,7 @@ fn type_prefix(kind: u32) -> LineBuf
 /// Writes the item that would help.
 ///
 /// # Errors
-/// A fault of the output, with a front of the text written.
+/// Returns a fault of the output; a prefix of the text was written.
 #[tactic(auto, unfolding(elf_model::specs::ExplainLine::help_text))]
 fn show_help<W: Sink>(
     wanted: LayoutAddress,
@@ -96,17 +96,17 @@ fn show_help<W: Sink>(
     }
 }
 
-/// Writes that no item has the name, which is empty or cut.
+/// Writes that no item has the name, which is empty or truncated.
 ///
 /// # Errors
-/// A fault of the output, with a front of the text written.
+/// Returns a fault of the output; a prefix of the text was written.
 fn show_no_item<W: Sink>(out: &mut Out<W>) -> Result<(), OutFault>
     ensures puts { OutPuts out.old out.new result (codes "no item can name it\n") }
 {
     out.put(b"no item can name it\n")
 }
 
-/// The item of a section.
+/// Returns the item of a section.
 #[tactic(auto, unfolding(elf_model::specs::ExplainLine::place_text))]
 fn place_row(section: u16) -> LineBuf
     ensures { result.items ≡ place_text section }
@@ -118,11 +118,11 @@ fn place_row(section: u16) -> LineBuf
     line
 }
 
-/// Writes the item of a name that gives what a base takes: of a procedure linkage table entry, and
-/// the definition that would do too.
+/// Writes the item of a name that gives the address that a base needs: for a procedure linkage
+/// table entry also the definition, which would do too.
 ///
 /// # Errors
-/// A fault of the output, with a front of the text written.
+/// Returns a fault of the output; a prefix of the text was written.
 #[tactic(auto, unfolding(elf_model::specs::ExplainLine::items_text))]
 fn show_items<W: Sink>(base: RelocationBase, name: &[u8], out: &mut Out<W>) -> Result<(), OutFault>
     ensures puts { OutPuts out.old out.new result (items_text base (escaped name.now)) }
@@ -138,10 +138,10 @@ fn show_items<W: Sink>(base: RelocationBase, name: &[u8], out: &mut Out<W>) -> R
     }
 }
 
-/// Writes the item of a name, by the word of its sort, and what stands behind it.
+/// Writes the item of a name: the word for its type, the name, and what follows it.
 ///
 /// # Errors
-/// A fault of the output, with a front of the text written.
+/// Returns a fault of the output; a prefix of the text was written.
 fn show_item<W: Sink>(
     word: &[u8],
     name: &[u8],
@@ -155,11 +155,11 @@ fn show_item<W: Sink>(
     show_around(line_of(word), name, false, tail, out)
 }
 
-/// Writes what stands before a name, the name as it is spelt in columns, what says that it was cut,
-/// and what stands behind it.
+/// Writes a text before a name, the name escaped as in columns, the mark of a truncated name, and a
+/// text after it.
 ///
 /// # Errors
-/// A fault of the output, with a front of the text written.
+/// Returns a fault of the output; a prefix of the text was written.
 #[tactic(auto, unfolding(crate::specs::Named::line_tailed))]
 fn show_around<W: Sink>(
     line: LineBuf,

@@ -1,7 +1,7 @@
-//! The fields of a line, each put with its key, in columns or as the member of a JSON object; and
+//! The fields of a line, each written with its key, in columns or as a member of a JSON object; and
 //! lines that end in a name of any length.
 //!
-//! The lines of a listing: each from its record or answer, and the calls that write one.
+//! The lines of a listing: each built from its record or result, and the calls that write one.
 #![tactic(auto)]
 
 mod buffers;

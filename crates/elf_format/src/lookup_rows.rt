@@ -9,7 +9,8 @@ use crate::render::{Columns, Json, Render};
 use elf_model::Format;
 use elf_source::{Out, OutFault, Sink};
 
-/// The `F` line, which ends a lookup: whether the name was found, and how many symbols were compared.
+/// Returns the `F` line, which ends a lookup: whether the name was found, and the number of symbols
+/// compared.
 #[tactic(auto, unfolding(elf_model::specs::Lines::steps_line))]
 fn steps_row<R: Render>(found: bool, steps: u64) -> LineBuf
     ensures { result.items ≡ steps_line R.FORMAT found steps }
@@ -23,11 +24,11 @@ fn steps_row<R: Render>(found: bool, steps: u64) -> LineBuf
     line
 }
 
-/// Writes the `F` line, which ends a lookup: whether the name was found, and how many symbols were
+/// Writes the `F` line, which ends a lookup: whether the name was found, and the number of symbols
 /// compared.
 ///
 /// # Errors
-/// A fault of the output, with a front of the line written.
+/// Returns a fault of the output; a prefix of the line was written.
 pub fn show_steps<W: Sink>(
     found: bool,
     steps: u64,

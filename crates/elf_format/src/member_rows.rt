@@ -6,8 +6,8 @@ ghost use Rattle.elf_model.specs.Archive.{member_prefix};
 use crate::fields::{LinePrefix, begin_named, put_decimal, put_hex_field};
 use crate::render::Render;
 
-/// The `A` line of an archive's member up to the name, in place of what the front held: its index,
-/// the file offset and the size in bytes of its data.
+/// Fills the prefix with the `A` line of an archive's member up to the name: its index, and the
+/// file offset and the size in bytes of its data.
 #[tactic(auto, unfolding(elf_model::specs::Archive::member_prefix))]
 pub fn member_prefix<R: Render>(front: &mut LinePrefix, index: u64, at: u64, size: u64)
     ensures front { front_of front.new ≡ member_prefix R.FORMAT index at size }

@@ -3,7 +3,7 @@ ghost use Rattle.std.specs.Prelude.{◌≡◌, ◌≤◌, ◌++◌, ℕ, true, l
 ghost use Rattle.elf_model.specs.Prelude.{name_of, names_where};
 ghost use Rattle.elf_format.specs.Tables.{are_short, entries};
 
-/// The name of a number in a table.
+/// Returns the name of a number in a table.
 #[tactic(auto, unfolding(crate::specs::Rows::name_of))]
 pub fn name_of(mut table: &[(u64, &'static str)], number: u64) -> Option<&'static str>
     ensures { option_copied result ≡ name_of (entries table.entry.now) number }
@@ -17,8 +17,8 @@ pub fn name_of(mut table: &[(u64, &'static str)], number: u64) -> Option<&'stati
     None
 }
 
-/// The name of a number in the first of two tables, else in the second, which counts under a
-/// condition.
+/// Returns the name of a number in the first of two tables, otherwise in the second, which is used
+/// under a condition.
 #[tactic(auto, using(crate::proofs::Names::name_of_both), unfolding(crate::specs::Rows::name_of))]
 pub(crate) fn name_in_either_table(
     names: &[(u64, &'static str)],
@@ -28,7 +28,7 @@ pub(crate) fn name_in_either_table(
 ) -> Option<&'static str>
     ensures name { let both = entries names.now ++ names_where condition (entries more.now) in
         option_copied result ≡ name_of both number }
-    // Where both tables have names of at most so many bytes alone, this one has no more.
+    // If both tables only have names of at most `most` bytes, this name has no more.
     ensures short { (most : ℕ) → are_short most (entries names.now) ≡ true →
         are_short most (entries more.now) ≡ true →
         IfSome result (λ name. length name.now ≤ most) }

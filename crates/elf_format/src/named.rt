@@ -1,4 +1,4 @@
-//! Lines with a name, which is of any length: a line is written in pieces.
+//! Lines with a name of any length: a line is written in pieces.
 ghost use Rattle.std.specs.Prelude.{◌≡◌, ℕ, ◌+◌, ◌<◌, ◌≤◌, [], ◌∷◌, ◌++◌, length};
 ghost use Rattle.std.specs.Prelude.{slice_index, IsOk, IsTrue};
 ghost use Rattle.arrayvec.specs.ArrayVec.{array_vec_len};
@@ -14,11 +14,11 @@ use crate::objects::{put_key, put_quoted_byte};
 use elf_model::Format;
 use elf_source::{Out, OutFault, Sink};
 
-/// Writes a line that ends in a name: its front, the name as it is spelt in a listing, what says
-/// that it was cut, and the line's end.
+/// Writes a line that ends in a name: its prefix, the name escaped as in a listing, the mark of a
+/// truncated name, and the line's end.
 ///
 /// # Errors
-/// A fault of the output, with a front of the line written.
+/// Returns a fault of the output; a prefix of the line was written.
 #[tactic(auto, unfolding(elf_model::specs::Lines::line_named, crate::specs::Named::line_tailed, elf_model::specs::Fields::closing))]
 pub fn show_named<W: Sink>(
     front: &mut LinePrefix,
@@ -36,12 +36,11 @@ pub fn show_named<W: Sink>(
     }
 }
 
-/// Writes a line that ends in a name and what stands behind it: its front, the name as it is spelt
-/// in a listing, what says that it was cut, and the `tail`, with the line's end, of at most 256
-/// bytes.
+/// Writes a line that ends in a name and a tail: its prefix, the name escaped as in a listing, the
+/// mark of a truncated name, and the `tail`, with the line's end, of at most 256 bytes.
 ///
 /// # Errors
-/// A fault of the output, with a front of the line written.
+/// Returns a fault of the output; a prefix of the line was written.
 #[inline(always)]
 pub fn show_tailed<W: Sink>(
     front: &mut LinePrefix,
@@ -59,22 +58,22 @@ pub fn show_tailed<W: Sink>(
     show_last(&mut front.line, tail, out)
 }
 
-/// A name that stands behind another: what stands between them, its bytes, and what stands behind
-/// it, with the line's end. The first and the last have at most 256 bytes.
+/// A name that follows another: the text between them, its bytes, and the text after it, with the
+/// line's end. The first and the last have at most 256 bytes.
 pub struct SecondName<'a> {
-    /// What stands before it.
+    /// The text before it.
     pub between: &'a [u8],
     /// The name.
     pub name: &'a [u8],
-    /// What stands behind it.
+    /// The text after it.
     pub tail: &'a [u8],
 }
 
-/// Writes a line that ends in two names: its front, the first name as it is spelt in a listing, what
-/// says that it was cut, and the next name between what stands around it, spelt too.
+/// Writes a line that ends in two names: its prefix, the first name escaped as in a listing, the
+/// mark of a truncated name, and the second name between the texts around it, escaped too.
 ///
 /// # Errors
-/// A fault of the output, with a front of the line written.
+/// Returns a fault of the output; a prefix of the line was written.
 pub fn show_joined<W: Sink>(
     front: &mut LinePrefix,
     name: &[u8],
@@ -97,11 +96,11 @@ pub fn show_joined<W: Sink>(
     show_last(&mut front.line, next.tail, out)
 }
 
-/// Puts a line's front, a name with what stands around it, and what says that it was cut. Where the
-/// line is full it is written, and begun anew.
+/// Appends a line's prefix, a name with the texts around it, and the mark of a truncated name. If
+/// the line is full it is written, and begun again.
 ///
 /// # Errors
-/// A fault of the output, with a front of these bytes written.
+/// Returns a fault of the output; a prefix of these bytes was written.
 #[inline(always)]
 fn put_named<W: Sink>(
     front: &mut LinePrefix,
@@ -120,11 +119,11 @@ fn put_named<W: Sink>(
     put_piece(&mut front.line, name_closing(format, is_cut), out)
 }
 
-/// Puts a text of at most 256 bytes behind a line. Where the line is full it is written, and begun
-/// anew.
+/// Appends a text of at most 256 bytes to a line. If the line is full it is written, and begun
+/// again.
 ///
 /// # Errors
-/// A fault of the output, with a front of the line written.
+/// Returns a fault of the output; a prefix of the line was written.
 #[inline(always)]
 fn put_piece<W: Sink>(line: &mut LineBuf, text: &[u8], out: &mut Out<W>) -> Result<(), OutFault>
     requires { length text.now ≤ 256 }
@@ -136,10 +135,10 @@ fn put_piece<W: Sink>(line: &mut LineBuf, text: &[u8], out: &mut Out<W>) -> Resu
     Ok(())
 }
 
-/// Writes a line, and behind it its last text, of at most 256 bytes.
+/// Writes a line and then its last text, of at most 256 bytes.
 ///
 /// # Errors
-/// A fault of the output, with a front of these bytes written.
+/// Returns a fault of the output; a prefix of these bytes was written.
 #[inline(always)]
 fn show_last<W: Sink>(line: &mut LineBuf, text: &[u8], out: &mut Out<W>) -> Result<(), OutFault>
     requires { length text.now ≤ 256 }
@@ -149,11 +148,11 @@ fn show_last<W: Sink>(line: &mut LineBuf, text: &[u8], out: &mut Out<W>) -> Resu
     out.put(line)
 }
 
-/// Puts what stands before a name: nothing in columns. Where the line is full it is written, and
-/// begun anew.
+/// Appends the text before a name: nothing in columns. If the line is full it is written, and begun
+/// again.
 ///
 /// # Errors
-/// A fault of the output, with a front of the line written.
+/// Returns a fault of the output; a prefix of the line was written.
 #[inline(always)]
 #[tactic(auto, unfolding(crate::specs::Pieces::name_start))]
 fn begin_name<W: Sink>(front: &mut LinePrefix, out: &mut Out<W>) -> Result<(), OutFault>
@@ -174,7 +173,7 @@ fn begin_name<W: Sink>(front: &mut LinePrefix, out: &mut Out<W>) -> Result<(), O
     }
 }
 
-/// What ends a name, by whether the name was cut.
+/// Returns the text that ends a name, by whether the name was truncated.
 #[inline(always)]
 #[tactic(auto, unfolding(crate::specs::Pieces::name_closing))]
 fn name_closing(format: Format, is_cut: bool) -> &'static [u8]
@@ -189,11 +188,11 @@ fn name_closing(format: Format, is_cut: bool) -> &'static [u8]
     }
 }
 
-/// Puts a name behind a line: the bytes at its front that stand as they are at once, as far as
-/// there is room for them, and the others byte by byte.
+/// Appends a name to a line: the bytes at its start that need no escape at once, as far as they
+/// fit, and the others byte by byte.
 ///
 /// # Errors
-/// A fault of the output, with a front of the line and the name written.
+/// Returns a fault of the output; a prefix of the line and the name was written.
 #[inline(always)]
 fn put_name<W: Sink>(
     line: &mut LineBuf,
@@ -210,7 +209,7 @@ fn put_name<W: Sink>(
     put_escaped(line, format, &name[plain..], out)
 }
 
-/// How many bytes at the front of a name stand in a line as they are.
+/// Returns the number of bytes at the start of a name that need no escape in a line.
 fn plain_bytes(format: Format, name: &[u8]) -> usize
     ensures within { result ≤ length name.now }
     ensures stand { (k : ℕ) → k < result →
@@ -223,7 +222,8 @@ fn plain_bytes(format: Format, name: &[u8]) -> usize
     }
 }
 
-/// How many bytes at the front of a name stand in a line as they are, in whole pieces of sixteen.
+/// Returns the number of bytes at the start of a name that need no escape in a line, in whole
+/// pieces of sixteen.
 fn plain_front(format: Format, name: &[u8]) -> usize
     ensures within { result ≤ length name.now }
     ensures stand { (k : ℕ) → k < result →
@@ -239,7 +239,7 @@ fn plain_front(format: Format, name: &[u8]) -> usize
     count
 }
 
-/// The same, byte by byte behind so many that do.
+/// Does the same, byte by byte, after `front` bytes that need none.
 fn plain_from(format: Format, name: &[u8], front: usize) -> usize
     requires within { front ≤ length name.now }
     requires stand { (k : ℕ) → k < front →
@@ -255,8 +255,8 @@ fn plain_from(format: Format, name: &[u8], front: usize) -> usize
     count
 }
 
-/// Whether all of sixteen bytes of a name stand in a line as they are. Each is looked at, so that
-/// the compiler looks at all of them at once.
+/// Returns `true` if none of sixteen bytes of a name needs an escape in a line. Each is tested, so
+/// that the compiler can test all of them at once.
 fn are_plain(piece: &[u8; 16]) -> bool
     ensures { (format : Format) (k : ℕ) → IsTrue result → k < 16 →
         byte_text format (slice_index piece.now k) ≡ slice_index piece.now k ∷ [] }
@@ -268,8 +268,8 @@ fn are_plain(piece: &[u8; 16]) -> bool
     plain
 }
 
-/// Whether a byte of a name is a printing ASCII character, no quotation mark and no backslash, and
-/// so stands in a line as it is.
+/// Returns `true` if a byte of a name is a printing ASCII character, no quotation mark and no
+/// backslash, and so needs no escape in a line.
 #[inline(always)]
 fn is_plain(byte: u8) -> bool
     ensures { (format : Format) → IsTrue result → byte_text format byte ≡ byte ∷ [] }
@@ -280,11 +280,11 @@ fn is_plain(byte: u8) -> bool
     true
 }
 
-/// Puts a name behind a line, each byte as it is spelt. Where the line is full it is written, and
-/// begun anew.
+/// Appends a name to a line, each byte escaped as in a listing. If the line is full it is written,
+/// and begun again.
 ///
 /// # Errors
-/// A fault of the output, with a front of the line and the name written.
+/// Returns a fault of the output; a prefix of the line and the name was written.
 #[inline(always)]
 fn put_escaped<W: Sink>(
     line: &mut LineBuf,
@@ -302,7 +302,7 @@ fn put_escaped<W: Sink>(
     Ok(())
 }
 
-/// Puts a byte of a name as it is spelt.
+/// Appends an escaped byte of a name.
 #[tactic(auto, unfolding(crate::specs::Pieces::byte_text))]
 fn put_byte(line: &mut LineBuf, format: Format, byte: u8)
     requires { array_vec_len line.old + 5 ≤ 256 }
@@ -315,11 +315,11 @@ fn put_byte(line: &mut LineBuf, format: Format, byte: u8)
     }
 }
 
-/// Makes room for so many bytes in a line: where fewer are free, the line is written and begun
-/// anew.
+/// Makes room for a number of bytes in a line: if fewer are free, the line is written and begun
+/// again.
 ///
 /// # Errors
-/// A fault of the output, with a front of the line written.
+/// Returns a fault of the output; a prefix of the line was written.
 #[inline(always)]
 pub(crate) fn make_room<W: Sink>(
     line: &mut LineBuf,
@@ -338,8 +338,8 @@ pub(crate) fn make_room<W: Sink>(
     Ok(())
 }
 
-/// Puts a byte of a name as it is spelt in a listing: a backslash is doubled, a printing ASCII
-/// character stands as it is, and any other byte is `\x` and two hexadecimal digits.
+/// Appends a byte of a name as a listing escapes it: a backslash is doubled, a printing ASCII
+/// character is unchanged, and any other byte is `\x` and two hexadecimal digits.
 #[tactic(auto, unfolding(elf_model::specs::Lines::name_byte_text))]
 pub(crate) fn put_name_byte(line: &mut LineBuf, byte: u8)
     requires { array_vec_len line.old + 4 ≤ 256 }

@@ -16,12 +16,11 @@ use elf_record::NoteHead;
 use elf_source::{Out, OutFault, Sink};
 use hex::encode_to_slice;
 
-/// How many bytes of a note's descriptor are shown.
+/// The number of bytes of a note's descriptor that are shown.
 const SHOWN_DESCRIPTOR: u32 = 32;
 
-/// The `N` line of a note up to the name, in place of what the front held: the index of its section
-/// or program header, type, and the sizes of its name and its descriptor in bytes (gABI 5, Note
-/// Section).
+/// Fills the prefix with the `N` line of a note up to the name: the index of its section or program
+/// header, type, and the sizes of its name and its descriptor in bytes (gABI 5, Note Section).
 #[tactic(auto, unfolding(elf_model::specs::LineFronts::note_prefix))]
 pub fn note_prefix<R: Render>(front: &mut LinePrefix, index: u16, head: &NoteHead)
     ensures front { front_of front.new
@@ -36,12 +35,12 @@ pub fn note_prefix<R: Render>(front: &mut LinePrefix, index: u16, head: &NoteHea
     put_hex_field::<R>(line, b"descsz", 8, u64::from(head.descsz), b' ');
 }
 
-/// Writes the `N` line of a note behind its front, with its name, which `is_cut` where it has more
-/// bytes than these, and the first bytes of its descriptor, which has `descsz` bytes: 32 of them, or
-/// all where it has fewer.
+/// Writes the `N` line of a note after its prefix, with its name, which `is_cut` if it has more
+/// bytes than these, and the first bytes of its descriptor, which has `descsz` bytes: 32 of them,
+/// or all if it has fewer.
 ///
 /// # Errors
-/// A fault of the output, with a front of the line written.
+/// Returns a fault of the output; a prefix of the line was written.
 pub fn show_note<W: Sink>(
     front: &mut LinePrefix,
     name: &[u8],
@@ -65,8 +64,8 @@ pub fn show_note<W: Sink>(
     show_tailed(front, name, is_cut, &tail, out)
 }
 
-/// What stands behind a note's name: the digits of the first bytes of its descriptor, in columns
-/// the mark where it has more than these, and the line's end.
+/// Returns the text after a note's name: the digits of the first bytes of its descriptor, in
+/// columns the mark of one that has more than these, and the line's end.
 #[tactic(auto, unfolding(crate::specs::Notes::note_end))]
 fn note_end(format: Format, digits: &[u8], has_more: bool) -> LineBuf
     requires { length digits.now ≤ 64 }

@@ -7,7 +7,7 @@ ghost use Rattle.elf_model.specs.Prelude.{member_key, name_byte_text, name_or_va
 use crate::columns::{LineBuf, put, write_hex};
 use itoa::{Buffer, Integer};
 
-/// Puts a comma, a key and a colon.
+/// Appends a comma, a key and a colon.
 #[tactic(auto, unfolding(elf_model::specs::Fields::member_key))]
 pub(crate) fn put_key(line: &mut LineBuf, key: &[u8])
     requires { array_vec_len line.old + (length key.now + 4) ≤ 256 }
@@ -19,7 +19,7 @@ pub(crate) fn put_key(line: &mut LineBuf, key: &[u8])
     put(line, b"\":");
 }
 
-/// Puts a key, and a number in decimal.
+/// Appends a key, and a number in decimal.
 pub(crate) fn put_number<I: Integer>(line: &mut LineBuf, key: &[u8], number: I)
     requires { array_vec_len line.old + (length key.now + 4) + I.MAX_STR_LEN ≤ 256 }
     ensures items { line.new.items ≡ line.old.items ++ member_key key.now ++ I.text number }
@@ -31,7 +31,7 @@ pub(crate) fn put_number<I: Integer>(line: &mut LineBuf, key: &[u8], number: I)
     put(line, buffer.format(number).as_bytes());
 }
 
-/// Puts a key, and a name as a string, or a number.
+/// Appends a key, and a name as a string, or a number.
 pub(crate) fn put_name_or_number(
     line: &mut LineBuf,
     key: &[u8],
@@ -56,7 +56,7 @@ pub(crate) fn put_name_or_number(
     }
 }
 
-/// Puts a text as a string.
+/// Appends a text as a string.
 #[tactic(auto, unfolding(elf_model::specs::Fields::quoted))]
 pub(crate) fn put_quoted(line: &mut LineBuf, text: &[u8])
     requires { array_vec_len line.old + (length text.now + length text.now + 2) ≤ 256 }
@@ -71,7 +71,7 @@ pub(crate) fn put_quoted(line: &mut LineBuf, text: &[u8])
     line.push(b'"');
 }
 
-/// Puts a byte of a string.
+/// Appends a byte of a string.
 #[tactic(auto, unfolding(elf_model::specs::Fields::string_byte))]
 fn put_string_byte(line: &mut LineBuf, byte: u8)
     requires { array_vec_len line.old + 2 ≤ 256 }
@@ -84,7 +84,7 @@ fn put_string_byte(line: &mut LineBuf, byte: u8)
     line.push(byte);
 }
 
-/// Puts a byte of a name, as it is spelt in a listing, in a string.
+/// Appends a byte of a name, escaped as in a listing, to a string.
 #[tactic(auto, using(crate::proofs::NameText::string_hex), unfolding(elf_model::specs::Fields::string_byte, elf_model::specs::Fields::string_text, elf_model::specs::Lines::name_byte_text))]
 pub(crate) fn put_quoted_byte(line: &mut LineBuf, byte: u8)
     requires { array_vec_len line.old + 5 ≤ 256 }

@@ -26,8 +26,8 @@ use elf_record::numbers::{
     R_X86_64_PLT32, R_X86_64_RELATIVE,
 };
 
-/// The `R` line of a relocation entry up to the name, in place of what the front held: the index of
-/// its section, offset, type on this machine, symbol and addend (gABI 4, Relocation).
+/// Fills the prefix with the `R` line of a relocation entry up to the name: the index of its
+/// section, offset, type on this machine, symbol and addend (gABI 4, Relocation).
 #[tactic(auto, unfolding(elf_model::specs::LineFronts::relocation_prefix))]
 pub fn relocation_prefix<R: Render>(
     front: &mut LinePrefix,
@@ -49,7 +49,7 @@ pub fn relocation_prefix<R: Render>(
     put_signed::<R>(line, b"addend", entry.r_addend);
 }
 
-/// The name of a relocation type on the machine. Names are known for x86-64 alone.
+/// Returns the name of a relocation type on the machine. Names are known for x86-64 alone.
 #[tactic(auto, unfolding(elf_model::specs::Text::name_of))]
 fn name_on_machine(kind: u32, naming: ConstantNames) -> Option<&'static str>
     ensures name { option_copied result
@@ -62,7 +62,7 @@ fn name_on_machine(kind: u32, naming: ConstantNames) -> Option<&'static str>
     relocation_type_name(kind, naming.gnu)
 }
 
-/// The name of a relocation type of x86-64.
+/// Returns the name of a relocation type of x86-64.
 pub(crate) fn relocation_type_name(kind: u32, gnu: bool) -> Option<&'static str>
     ensures name { option_copied result ≡ name_of (relocation_types gnu) kind }
     ensures short { IfSome result (λ name. length name.now ≤ 10) }

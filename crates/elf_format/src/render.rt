@@ -4,13 +4,13 @@ ghost use Rattle.elf_model.specs.declared.formats.Format.{Format as Spec};
 
 use elf_model::Format;
 
-/// A rendering of lines. What puts a field asks it for the format, which is known where the code is
-/// made: each rendering has code of its own, in which no field is tested for the other.
+/// A rendering of lines. A function that appends a field takes the format from it at compile time:
+/// each rendering has code of its own, in which no field tests the format.
 pub trait Render {
-    /// How it writes a line.
+    /// The format of its lines.
     const FORMAT: Format;
 
-    /// How it writes a line.
+    /// The format of its lines.
     ghost FORMAT: { Spec };
 }
 

@@ -13,9 +13,9 @@ use elf_record::numbers::{ET_CORE, ET_DYN, ET_EXEC, ET_NONE, ET_REL};
 use elf_record::{Cause, Ehdr, Refusal};
 use elf_source::{Out, OutFault, Sink};
 
-/// The `H` line of a file header: type, machine, entry point, the places of the program headers and the
-/// section headers, flags, their numbers, and the section of the section names (gABI 4, ELF
-/// Header).
+/// Returns the `H` line of a file header: type, machine, entry point, the offsets of the program
+/// headers and the section headers, flags, their numbers, and the section of the section names
+/// (gABI 4, ELF Header).
 #[tactic(auto, unfolding(elf_model::specs::Lines::header_line))]
 pub fn header_row<R: Render>(header: &Ehdr) -> LineBuf
     ensures { (file : List ℕ) → IsEhdr file 0 header.now →
@@ -37,7 +37,7 @@ pub fn header_row<R: Render>(header: &Ehdr) -> LineBuf
     line
 }
 
-/// The `!` line of a refusal: the file offset that it points to, and its cause.
+/// Returns the `!` line of a refusal: the file offset that it points to, and its cause.
 #[tactic(auto, unfolding(elf_model::specs::Lines::refusal_line))]
 fn refusal_row<R: Render>(refusal: Refusal) -> LineBuf
     ensures { result.items ≡ refusal_line R.FORMAT refusal }
@@ -57,10 +57,10 @@ fn refusal_row<R: Render>(refusal: Refusal) -> LineBuf
 }
 
 /// Writes the line of a refusal: `!`, the file offset that it points to in 16 hexadecimal digits,
-/// and the word of its cause; or these as an object.
+/// and the word for its cause; or these as an object.
 ///
 /// # Errors
-/// A fault of the output, with a front of the line written.
+/// Returns a fault of the output; a prefix of the line was written.
 pub fn show_refusal<W: Sink>(
     refusal: Refusal,
     format: Format,
@@ -74,7 +74,7 @@ pub fn show_refusal<W: Sink>(
     }
 }
 
-/// The word of a cause in a listing.
+/// Returns the word for a cause in a listing.
 #[tactic(auto, unfolding(elf_model::specs::Causes::cause_word))]
 pub fn cause_word(cause: Cause) -> &'static str
     ensures word { result.now ≡ cause_word cause }
@@ -83,7 +83,7 @@ pub fn cause_word(cause: Cause) -> &'static str
     CAUSE_WORDS[cause as usize]
 }
 
-/// The words of the causes, in the order of `Cause`.
+/// The words for the causes, in the order of `Cause`.
 const CAUSE_WORDS: [&str; 35] = [
     "short",
     "not-elf",
@@ -122,7 +122,7 @@ const CAUSE_WORDS: [&str; 35] = [
     "load-overlap",
 ];
 
-/// The name of an object file type.
+/// Returns the name of an object file type.
 fn file_type_name(kind: u64) -> Option<&'static str>
     ensures name { option_copied result ≡ name_of file_types kind }
     ensures short { IfSome result (λ name. length name.now ≤ 4) }

@@ -22,8 +22,8 @@ use elf_record::numbers::{
 };
 use elf_record::{SectionFlags, Shdr};
 
-/// The `S` line of a section header up to the name, in place of what the front held: its index,
-/// type, flags, address, file offset, size, link and info (gABI 4, Section Header).
+/// Fills the prefix with the `S` line of a section header up to the name: its index, type, flags,
+/// address, file offset, size, link and info (gABI 4, Section Header).
 #[tactic(auto, unfolding(elf_model::specs::LineFronts::section_prefix))]
 pub fn section_prefix<R: Render>(
     front: &mut LinePrefix,
@@ -49,13 +49,13 @@ pub fn section_prefix<R: Render>(
     put_hex_field::<R>(line, b"info", 8, u64::from(header.sh_info), b' ');
 }
 
-/// How many letters of flags are shown at most.
+/// The largest number of letters of flags that are shown.
 const MOST_LETTERS: usize = 12;
 
-/// All flags to which the standard gives a meaning.
+/// All flags that the standard defines.
 const STANDARD_FLAGS: u64 = 0xff7;
 
-/// The letters of a section's flags, and a question mark where any other bit is set (gABI 4,
+/// Returns the letters of a section's flags, and a question mark if any other bit is set (gABI 4,
 /// Section Attribute Flags); of more than twelve the first eleven, and a question mark.
 fn section_letters(bits: u64, naming: ConstantNames) -> LineBuf
     ensures text { result.items ≡ section_flags_text naming.gnu naming.machine bits }
@@ -72,7 +72,7 @@ fn section_letters(bits: u64, naming: ConstantNames) -> LineBuf
 }
 
 #[tactic(auto, unfolding(crate::specs::Rows::flags_column))]
-/// A text of letters, or the first eleven letters of a longer one, and a question mark.
+/// Returns a text of letters, or the first eleven letters of a longer one, and a question mark.
 fn flags_column(letters: LineBuf) -> LineBuf
     ensures text { result.items ≡ flags_column letters.items }
     ensures short { array_vec_len result ≤ 12 }
@@ -85,7 +85,7 @@ fn flags_column(letters: LineBuf) -> LineBuf
     line
 }
 
-/// Puts the letters of the flags of a table that are set, where a condition holds.
+/// Appends the letters of the flags of a table that are set, if a condition holds.
 #[tactic(auto, unfolding(crate::specs::Rows::letters_of))]
 fn put_letters(line: &mut LineBuf, condition: bool, mut table: &[(u64, u8)], bits: u64)
     requires { array_vec_len line.old + length table.now ≤ 256 }
@@ -117,7 +117,7 @@ const STANDARD_LETTERS: [(u64, u8); 11] = [
     (SectionFlags::COMPRESSED.0, b'C'),
 ];
 
-/// The flags of the GNU system, and their letters.
+/// The GNU flags, and their letters.
 const GNU_LETTERS: [(u64, u8); 2] = [(SHF_GNU_RETAIN, b'R'), (SHF_GNU_MBIND, b'D')];
 
 /// The flags of x86-64, and their letters (x86-64 psABI, Section Attribute Flags).
@@ -126,7 +126,7 @@ const X86_64_LETTERS: [(u64, u8); 1] = [(SHF_X86_64_LARGE, b'l')];
 /// The flags of every processor, and their letters.
 const PROCESSOR_LETTERS: [(u64, u8); 1] = [(SHF_EXCLUDE, b'E')];
 
-/// All flags that have letters.
+/// Returns all flags that have letters.
 #[tactic(auto, unfolding(crate::specs::Rows::section_flags, crate::specs::Rows::standard_section_flags, crate::specs::Rows::further_section_flags, crate::specs::Rows::gnu_section_flags, crate::specs::Rows::x86_64_section_flags, crate::specs::Rows::processor_section_flags))]
 fn flags_with_letters(naming: ConstantNames) -> u64
     ensures { result ≡ flags_with_letters (section_flags naming.gnu naming.machine) }
@@ -141,7 +141,7 @@ fn flags_with_letters(naming: ConstantNames) -> u64
     further
 }
 
-/// The name of a section type.
+/// Returns the name of a section type.
 fn section_type_name(kind: u64, naming: ConstantNames) -> Option<&'static str>
     ensures name { option_copied result ≡ name_of (section_types naming.gnu naming.machine) kind }
     ensures short { IfSome result (λ name. length name.now ≤ 13) }
@@ -177,7 +177,7 @@ const STANDARD_SECTION_TYPES: [(u64, &str); 17] = [
     (SHT_SYMTAB_SHNDX as u64, "SYMTAB_SHNDX"),
 ];
 
-/// The section types of the GNU system that have names.
+/// The GNU section types that have names.
 const GNU_SECTION_TYPES: [(u64, &str); 7] = [
     (SHT_RELR as u64, "RELR"),
     (SHT_GNU_ATTRIBUTES as u64, "GNU_ATTRIBS"),

@@ -18,9 +18,9 @@ use elf_record::numbers::{
 };
 use elf_record::{Phdr, SegmentFlags};
 
-/// The `P` line of a program header: its index, type, permissions, file offset, virtual and physical
-/// address, size in the file and in memory, and alignment (gABI 5, Program Header); `gnu` says
-/// whether types of the GNU system have names.
+/// Returns the `P` line of a program header: its index, type, permissions, file offset, virtual and
+/// physical address, size in the file and in memory, and alignment (gABI 5, Program Header); `gnu`
+/// says whether GNU types have names.
 #[tactic(auto, unfolding(elf_model::specs::Lines::segment_line))]
 pub fn segment_row<R: Render>(index: u16, header: &Phdr, gnu: bool) -> LineBuf
     ensures { (file : List ℕ) (at : ℕ) → IsPhdr file at header.now →
@@ -44,8 +44,8 @@ pub fn segment_row<R: Render>(index: u16, header: &Phdr, gnu: bool) -> LineBuf
     line
 }
 
-/// Puts a segment's permissions: the letters of read, write and execute, or a dash for each that is
-/// not given. Other bits are not shown (gABI 5, Segment Flag Bits).
+/// Appends a segment's permissions: the letters of read, write and execute, or a dash for each that
+/// is not given. Other bits are not shown (gABI 5, Segment Flag Bits).
 fn put_permissions(line: &mut LineBuf, flags: SegmentFlags)
     requires { array_vec_len line.old + 3 ≤ 256 }
     ensures items { line.new.items ≡ line.old.items ++ segment_flags_text flags.0 }
@@ -56,7 +56,7 @@ fn put_permissions(line: &mut LineBuf, flags: SegmentFlags)
     put_letter(line, flags.contains(SegmentFlags::X), b'X');
 }
 
-/// Puts a flag's letter, or a dash where it is not set.
+/// Appends a flag's letter, or a dash if it is not set.
 fn put_letter(line: &mut LineBuf, is_set: bool, letter: u8)
     requires { array_vec_len line.old + 1 ≤ 256 }
     ensures items { line.new.items ≡ line.old.items ++ (if is_set then letter ∷ [] else codes "-") }
@@ -65,7 +65,7 @@ fn put_letter(line: &mut LineBuf, is_set: bool, letter: u8)
     line.push(if is_set { letter } else { b'-' });
 }
 
-/// The name of a segment type.
+/// Returns the name of a segment type.
 fn segment_type_name(kind: u64, gnu: bool) -> Option<&'static str>
     ensures name { option_copied result ≡ name_of (segment_types gnu) kind }
     ensures short { IfSome result (λ name. length name.now ≤ 8) }
@@ -85,7 +85,7 @@ const STANDARD_SEGMENT_TYPES: [(u64, &str); 8] = [
     (PT_TLS as u64, "TLS"),
 ];
 
-/// The segment types of the GNU system that have names.
+/// The GNU segment types that have names.
 const GNU_SEGMENT_TYPES: [(u64, &str); 5] = [
     (PT_GNU_EH_FRAME as u64, "EH_FRAME"),
     (PT_GNU_STACK as u64, "STACK"),

@@ -23,8 +23,8 @@ use elf_record::numbers::{
 };
 use elf_source::{Out, OutFault, Sink};
 
-/// The `Y` line of a symbol up to the name, in place of what the front held: the index of its
-/// section, its own index, value, size, type, binding, visibility and place (gABI 4, Symbol Table).
+/// Fills the prefix with the `Y` line of a symbol up to the name: the index of its section, its own
+/// index, value, size, type, binding, visibility and section index (gABI 4, Symbol Table).
 #[tactic(auto, unfolding(elf_model::specs::LineFronts::symbol_prefix))]
 pub fn symbol_prefix<R: Render>(
     front: &mut LinePrefix,
@@ -65,7 +65,7 @@ pub fn symbol_prefix<R: Render>(
     put_name_or_decimal::<R>(line, b"place", 5, place_name(place, naming), place);
 }
 
-/// The same in a format that is known only where the program runs.
+/// Does the same as [`symbol_prefix`], in a format that is known only at run time.
 pub fn symbol_front_in(
     format: Format,
     front: &mut LinePrefix,
@@ -84,10 +84,10 @@ pub fn symbol_front_in(
     }
 }
 
-/// Writes the `Y` line of a symbol with its name, whole, as it is given, in the standards' names.
+/// Writes the `Y` line of a symbol with the given name, whole, in the standards' names.
 ///
 /// # Errors
-/// A fault of the output, with a front of the line written.
+/// Returns a fault of the output; a prefix of the line was written.
 pub fn show_symbol<W: Sink>(
     section: u16,
     index: u64,
@@ -114,7 +114,7 @@ pub fn show_symbol<W: Sink>(
     show_named(&mut front, name, false, out)
 }
 
-/// The name of a symbol type.
+/// Returns the name of a symbol type.
 fn symbol_type_name(kind: u64, gnu: bool) -> Option<&'static str>
     ensures name { option_copied result ≡ name_of (symbol_types gnu) kind }
     ensures short { IfSome result (λ name. length name.now ≤ 7) }
@@ -133,10 +133,10 @@ const STANDARD_SYMBOL_TYPES: [(u64, &str); 7] = [
     (STT_TLS as u64, "TLS"),
 ];
 
-/// The symbol types of the GNU system that have names.
+/// The GNU symbol types that have names.
 const GNU_SYMBOL_TYPES: [(u64, &str); 1] = [(STT_GNU_IFUNC as u64, "IFUNC")];
 
-/// The name of a symbol's binding.
+/// Returns the name of a symbol's binding.
 fn binding_name(binding: u64, gnu: bool) -> Option<&'static str>
     ensures name { option_copied result ≡ name_of (bindings gnu) binding }
     ensures short { IfSome result (λ name. length name.now ≤ 6) }
@@ -151,10 +151,10 @@ const STANDARD_BINDINGS: [(u64, &str); 3] = [
     (STB_WEAK as u64, "WEAK"),
 ];
 
-/// The symbol bindings of the GNU system that have names.
+/// The GNU symbol bindings that have names.
 const GNU_BINDINGS: [(u64, &str); 1] = [(STB_GNU_UNIQUE as u64, "UNIQUE")];
 
-/// The name of a symbol's visibility.
+/// Returns the name of a symbol's visibility.
 fn visibility_name(visibility: u64) -> Option<&'static str>
     ensures name { option_copied result ≡ name_of visibilities visibility }
     ensures short { IfSome result (λ name. length name.now ≤ 9) }
@@ -170,7 +170,7 @@ const VISIBILITIES: [(u64, &str); 4] = [
     (STV_PROTECTED as u64, "PROTECTED"),
 ];
 
-/// The name of a special section index that a symbol may have.
+/// Returns the name of a special section index that a symbol may have.
 fn place_name(index: u64, naming: ConstantNames) -> Option<&'static str>
     ensures name { option_copied result ≡ name_of (places naming.gnu naming.machine) index }
     ensures short { IfSome result (λ name. length name.now ≤ 5) }

@@ -8,12 +8,12 @@ use crate::columns::LineBuf;
 use crate::named::{make_room, put_name_byte};
 use elf_source::{Out, OutFault, Sink};
 
-/// Writes a text for a terminal: a newline stands as it is, and any other byte is
-/// spelt as in a name. So no byte reaches the terminal but newlines and printing ASCII characters,
-/// and a text of these without a backslash stands as it is.
+/// Writes a text for a terminal: a newline is unchanged, and any other byte is escaped as in a
+/// name. So no byte reaches the terminal except newlines and printing ASCII characters, and a text
+/// of these without a backslash is unchanged.
 ///
 /// # Errors
-/// A fault of the output, with a front of the text written.
+/// Returns a fault of the output; a prefix of the text was written.
 pub fn show_escaped_text<W: Sink>(text: &[u8], out: &mut Out<W>) -> Result<(), OutFault>
     ensures puts { OutPuts out.old out.new result (reported_text text.now) }
     ensures plain { All IsPlain (reported_text text.now) }
@@ -28,8 +28,8 @@ pub fn show_escaped_text<W: Sink>(text: &[u8], out: &mut Out<W>) -> Result<(), O
     out.put(&line)
 }
 
-/// Puts a byte of a text for a terminal: a newline stands as it is, and any other byte is spelt as
-/// in a name.
+/// Appends a byte of a text for a terminal: a newline is unchanged, and any other byte is escaped
+/// as in a name.
 #[tactic(auto, unfolding(crate::specs::Told::reported_byte))]
 fn put_told_byte(line: &mut LineBuf, byte: u8)
     requires { array_vec_len line.old + 4 ≤ 256 }

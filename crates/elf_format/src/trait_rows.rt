@@ -13,10 +13,10 @@ use crate::render::{Columns, Json, Render};
 use elf_model::{Format, Hardening, ProgramKind, Relro, SearchPath, SegmentTraits, TraitColumn};
 use elf_source::{Out, OutFault, Sink};
 
-/// Writes the `T` line of a file: its traits in columns, and its path, spelt as names are.
+/// Writes the `T` line of a file: its traits in columns, and its path, escaped as names are.
 ///
 /// # Errors
-/// A fault of the output, with a front of the line written.
+/// Returns a fault of the output; a prefix of the line was written.
 pub fn show_traits<W: Sink>(
     traits: Hardening,
     path: &[u8],
@@ -33,10 +33,10 @@ pub fn show_traits<W: Sink>(
     show_named(&mut front, path, false, out)
 }
 
-/// Writes the line of what a file lacks: the name of a column, and the word that the file has in it.
+/// Writes the line of a missing trait: the name of a column, and the word that the file has in it.
 ///
 /// # Errors
-/// A fault of the output, with a front of the line written.
+/// Returns a fault of the output; a prefix of the line was written.
 pub fn show_missing_trait<W: Sink>(
     traits: Hardening,
     column: TraitColumn,
@@ -51,7 +51,7 @@ pub fn show_missing_trait<W: Sink>(
     }
 }
 
-/// The `T` line of a file up to its path.
+/// Returns the `T` line of a file up to its path.
 #[tactic(auto, unfolding(elf_model::specs::TraitWords::trait_front))]
 fn traits_row<R: Render>(front: &mut LinePrefix, traits: Hardening)
     ensures front { front_of front.new ≡ trait_front R.FORMAT traits }
@@ -70,7 +70,7 @@ fn traits_row<R: Render>(front: &mut LinePrefix, traits: Hardening)
     put_trait::<R>(line, b"rpath", 7, path_word(traits.path));
 }
 
-/// Puts the word of a trait at the left of a column of this width, and a space.
+/// Appends the word for a trait, left-aligned in a column of this width, and a space.
 fn put_trait<R: Render>(line: &mut LineBuf, key: &[u8], width: usize, word: &'static str)
     requires room { array_vec_len line.old + text_room (length key.now) width ≤ 256 }
     requires short { length word.now ≤ width }
@@ -82,7 +82,7 @@ fn put_trait<R: Render>(line: &mut LineBuf, key: &[u8], width: usize, word: &'st
     put_text::<R>(line, key, width, word.as_bytes(), b' ');
 }
 
-/// The line of what a file lacks.
+/// Returns the line of a missing trait.
 #[tactic(auto, unfolding(elf_model::specs::TraitWords::lacking_line))]
 fn lacking_row<R: Render>(traits: Hardening, column: TraitColumn) -> LineBuf
     ensures { result.items ≡ lacking_line R.FORMAT traits column }
@@ -97,7 +97,7 @@ fn lacking_row<R: Render>(traits: Hardening, column: TraitColumn) -> LineBuf
     line
 }
 
-/// The word of a file's traits in a column.
+/// Returns the word for a file's traits in a column.
 #[tactic(auto, unfolding(elf_model::specs::TraitWords::column_word))]
 pub fn column_word(traits: Hardening, column: TraitColumn) -> &'static str
     ensures word { result.now ≡ column_word traits column }
@@ -116,7 +116,7 @@ pub fn column_word(traits: Hardening, column: TraitColumn) -> &'static str
     }
 }
 
-/// The name of a column.
+/// Returns the name of a column.
 #[tactic(auto, unfolding(elf_model::specs::TraitWords::column_name))]
 pub(crate) fn column_name(column: TraitColumn) -> &'static str
     ensures word { result.now ≡ column_name column }

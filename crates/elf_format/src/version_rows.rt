@@ -8,8 +8,8 @@ use crate::render::{Columns, Json, Render};
 use elf_model::Format;
 use elf_record::{VersionKind, version_number};
 
-/// The `V` line of a record of definitions or needs up to its name, in place of what the front held:
-/// the index of its section, its kind, number, flags and hash (Linux Standard Base Core, Symbol
+/// Fills the prefix with the `V` line of a record of definitions or needs up to its name: the index
+/// of its section, its kind, version index, flags and hash (Linux Standard Base Core, Symbol
 /// Versioning).
 #[tactic(auto, unfolding(elf_model::specs::VersionRows::version_prefix))]
 pub fn version_prefix<R: Render>(
@@ -32,8 +32,8 @@ pub fn version_prefix<R: Render>(
     put_hex_field::<R>(line, b"hash", 8, u64::from(hash), b' ');
 }
 
-/// The `X` line of a symbol's version up to its name, in place of what the front held: the index of
-/// the section of version numbers, the symbol's index, and the number with the mark of a hidden
+/// Fills the prefix with the `X` line of a symbol's version up to its name: the index of the
+/// section of symbol versions, the symbol's index, and the version index with the mark of a hidden
 /// version, of the symbol's `word` (Linux Standard Base Core, Symbol Versioning).
 #[tactic(auto, unfolding(elf_model::specs::VersionRows::symbol_version_prefix))]
 pub fn symbol_version_prefix<R: Render>(front: &mut LinePrefix, section: u16, index: u64, word: u16)
@@ -49,7 +49,7 @@ pub fn symbol_version_prefix<R: Render>(front: &mut LinePrefix, section: u16, in
     put_text::<R>(line, b"hidden", 1, hidden_mark(word == number), b' ');
 }
 
-/// The same in a format that is known only where the program runs.
+/// Does the same as [`symbol_version_prefix`], in a format that is known only at run time.
 pub fn symbol_version_front_in(
     format: Format,
     front: &mut LinePrefix,
@@ -66,7 +66,7 @@ pub fn symbol_version_front_in(
     }
 }
 
-// The mark of a version that is shown, or hidden.
+// Returns the mark of a version that is shown, or hidden.
 fn hidden_mark(shown: bool) -> &'static [u8]
     ensures mark { result.now ≡ (if shown then codes "-" else codes "H") }
     ensures short { length result.now ≡ 1 }
@@ -74,7 +74,7 @@ fn hidden_mark(shown: bool) -> &'static [u8]
     if shown { b"-" } else { b"H" }
 }
 
-// The word of a kind of record.
+// Returns the word for a kind of record.
 #[tactic(auto, unfolding(elf_model::specs::VersionRows::kind_text))]
 fn kind_name(kind: VersionKind) -> &'static str
     ensures word { result.now ≡ kind_text kind }

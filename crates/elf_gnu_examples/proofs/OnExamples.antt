@@ -1,4 +1,4 @@
--- What opens the words of the examples, beside those of the definitions.
+-- What unfolds the words of the examples, besides those of the definitions.
 use Rattle.elf_gnu_examples.specs.Prelude.{asked_within, gnu_table_of, long_version, named_listed, parts_listed, rows_named, symbols_listed, versions_listed, with_versions}
 use Rattle.elf_model.specs.Prelude.{line_suffixed, link_text, linked_by, linked_from, linked_in, linked_with, links_by_segments, links_ceiling, links_of, loaded_links, lookup_refusal, most_bytes, parse_query, relocation_row_with_version, suffix_at, suffix_members, suffix_text, suffixed_relocation_rows, suffixed_symbol_rows, suffixes_refusal, symbol_row_with_version, symbol_suffix, version_member, walk_refusal, word_suffix}
 

@@ -1,10 +1,11 @@
--- Worked examples of what comes before a loader's lookup: the file's headers, and which of several tables counts.
+-- Worked examples of what comes before a loader's lookup: the file's headers, and which of several
+-- tables counts.
 use Rattle.std.specs.Prelude.{[], ◌∷◌, ◌++◌, codes}
 use Rattle.elf_model.specs.Prelude.{little, versioned_library, versioned_without_sections, with_bytes, words}
 use Rattle.elf_gnu_examples.specs.LoaderWords.{LoaderCosts, Fails, LoaderFinds, absent_2, first_f, found_1, found_2, of_v1, of_v2, second_f}
 
--- the file header, and how many headers are permitted, before all else; the section of the section names once the headers
--- are read
+-- the file header, and how many headers are allowed, before all else; the section of the section
+-- names once the headers are read
 abbrev pub HeadersAreChecked : Type 0
 HeadersAreChecked =
     Fails (with_bytes 0x4 (little 1 1) versioned_library) (codes "f") (codes "! 0000000000000004 class\n")
@@ -16,14 +17,14 @@ HeadersAreChecked =
     × Fails (with_bytes 0x3e (little 2 1) versioned_library) (codes "f") (codes "! 0000000000000330 not-strings\n")
     × LoaderCosts (with_bytes 0x3e (little 2 1) versioned_library) (codes "f") 604
 
--- a table of the GNU system counts before one of the gABI, whichever comes first
+-- a GNU hash table counts before a gABI one, in any order
 abbrev pub GnuTablesComeFirst : Type 0
 GnuTablesComeFirst =
     LoaderFinds (with_bytes 0x4b4 (little 4 5) versioned_library) (codes "f") (second_f ++ of_v2 ++ found_2)
     × Fails (with_bytes 0x4b4 (little 4 0x6ffffff6) (with_bytes 0x334 (little 4 5) versioned_library)) (codes "f") (codes "! 00000000000004b0 bad-link\n")
     × LoaderFinds (with_bytes 0x230 (little 8 4 ++ little 8 0xe0) versioned_without_sections) (codes "f") (codes "Y     1          4 00000000000002a9 0000000000000001 FUNC    GLOBAL DEFAULT       7 f\n" ++ codes "X     1          4     3 - V2\n" ++ found_2)
 
--- a second section of a type is not looked at: a hash table, words of versions, definitions, needs
+-- a second section of a type is not read: a hash table, versym entries, definitions, needs
 abbrev pub FirstSectionsCount : Type 0
 FirstSectionsCount =
     LoaderFinds (with_bytes 0x4b4 (little 4 0x6ffffff6) versioned_library) (codes "f") (second_f ++ of_v2 ++ found_2)
@@ -31,8 +32,8 @@ FirstSectionsCount =
     × LoaderFinds (with_bytes 0x4b4 (little 4 0x6ffffffd) versioned_library) (codes "f@V1") (first_f ++ of_v1 ++ found_1)
     × LoaderFinds (with_bytes 0x4b4 (little 4 0x6ffffffe) versioned_library) (codes "f@V1") (first_f ++ of_v1 ++ found_1)
 
--- the first segment of dynamic entries: the whole file, which has no hash table among them; the first that is loaded, at
--- other addresses and from another offset on
+-- the first segment of dynamic entries: the whole file, which has no hash table among them; the
+-- first that is loaded, at other addresses and from another offset on
 abbrev pub FirstSegmentCounts : Type 0
 FirstSegmentCounts =
     Fails (with_bytes 0x40 (little 4 2) versioned_without_sections) (codes "f") (codes "! 0000000000000020 no-hash\n")
@@ -44,7 +45,7 @@ FirstSegmentCounts =
     × Fails (with_bytes 0x50 (little 8 0x1000) versioned_without_sections) (codes "f") (codes "! 0000000000000250 unmapped\n")
     × LoaderCosts (with_bytes 0x50 (little 8 0x1000) versioned_without_sections) (codes "f") 396
 
--- a hash table of the gABI by the segments: its walk, its counts, and no room for these
+-- a gABI hash table by the segments: its walk, its counts, and no room for these
 abbrev pub TablesOfTheGabiBySegments : Type 0
 TablesOfTheGabiBySegments =
     LoaderFinds (with_bytes 0xb0 (words (1 ∷ 6 ∷ 1 ∷ 0 ∷ 2 ∷ 3 ∷ 4 ∷ 5 ∷ 0 ∷ [])) (with_bytes 0x250 (little 8 4) versioned_without_sections)) (codes "f") (codes "Y     1          4 00000000000002a9 0000000000000001 FUNC    GLOBAL DEFAULT       7 f\n" ++ codes "X     1          4     3 - V2\n" ++ codes "F found           4\n")
@@ -52,7 +53,7 @@ TablesOfTheGabiBySegments =
     × Fails (with_bytes 0x258 (little 8 0x2e9) (with_bytes 0x250 (little 8 4) versioned_without_sections)) (codes "f") (codes "! 0000000000000250 hash-shape\n")
     × Fails (with_bytes 0x258 (little 8 0x2e1) versioned_without_sections) (codes "f") (codes "! 0000000000000250 hash-shape\n")
 
--- no definitions, no needs; needs that are not loaded; neither is looked at without words of versions
+-- no definitions, no needs; needs that are not loaded; neither is read without versym entries
 abbrev pub VersionsBySegments : Type 0
 VersionsBySegments =
     Fails (with_bytes 0x2a0 (little 8 0x63) versioned_without_sections) (codes "f") (codes "! 00000000000001a8 version-index\n")
@@ -61,7 +62,8 @@ VersionsBySegments =
     × LoaderFinds (with_bytes 0x2c8 (little 8 0x2f0) (with_bytes 0x290 (little 8 0x63) versioned_without_sections)) (codes "f") (codes "Y     1          3 00000000000002a8 0000000000000001 FUNC    GLOBAL DEFAULT       7 f\n" ++ found_1)
     × Fails (with_bytes 0x2a0 (little 8 0x63) versioned_without_sections) (codes "f@GLIBC_2.2.5") absent_2
 
--- a hash table without room for its counts is refused before its link is looked at, and before the other rows are
+-- a hash table without room for its counts is refused before its link and the other rows are
+-- checked
 abbrev pub SizesComeFirst : Type 0
 SizesComeFirst =
     Fails (with_bytes 0x358 (little 4 3) (with_bytes 0x350 (little 8 0xf) versioned_library)) (codes "f") (codes "! 0000000000000330 hash-shape\n")

@@ -1,4 +1,4 @@
--- Worked examples of the binding of names over two files, and of what a symbol asks others for.
+-- Worked examples of the binding of names over two files, and of what a symbol references.
 use Rattle.std.specs.Prelude.{ℕ, ◌≡◌, ◌+◌, ◌*◌, List, [], ◌∷◌, codes, Option, None, Some, Result, Ok, Err}
 use Rattle.elf_model.specs.Prelude.{Binding, BoundTo, BoundToNone, NoVersion, StoppedIn, SymbolQuery, Version, VersionQuery, bound_in, definition_cost, definition_lookup, hostile_library, little, lookup_tables_of, reference_at, symbols_hashed, versioned_without_sections, with_bytes, without_sections, words}
 use Rattle.elf_model.specs.declared.causes.Cause.TheVariants.{HashShape, NameOutside, VersionCut, VersionIndex}
@@ -21,8 +21,8 @@ undefined = with_bytes 0x146 (little 2 0) library
 abbrev BindsTo : List ℕ → VersionQuery → List (List ℕ) → Binding → Type 0
 BindsTo name asked files binding = bound_in 8 (record { name = name; asked = asked }) files ≡ binding
 
--- the first file defines it, whatever the second has, and `f@V1` is another symbol there; where the first does not, the second
--- does: also where the first has it undefined, with an address for it
+-- the first file defines it, no matter what the second has, and `f@V1` is another symbol there; if
+-- the first does not, the second does: also if the first has it undefined, with an address for it
 abbrev pub FirstDefines : Type 0
 FirstDefines =
     BindsTo (codes "f") NoVersion (library ∷ hostile ∷ []) (BoundTo 0 4)
@@ -42,14 +42,15 @@ NoneDefines =
 abbrev shapeless : List ℕ
 shapeless = with_bytes 0xb0 (little 4 0) library
 
--- the lookup in a file is refused: at what tells of the hash table, and at a definition of versions; those behind are not asked
+-- the lookup in a file is refused: at what describes the hash table, and at a version definition;
+-- those after it are not searched
 abbrev pub RefusalsStop : Type 0
 RefusalsStop =
     BindsTo (codes "nope") NoVersion (library ∷ shapeless ∷ library ∷ []) (StoppedIn 1 (record { at = 0x250; cause = HashShape }))
     × BindsTo (codes "f") NoVersion (library ∷ shapeless ∷ []) (BoundTo 0 4)
     × BindsTo (codes "f") (Version (codes "V1")) (hostile ∷ library ∷ []) (StoppedIn 0 (record { at = 0x1e8; cause = VersionCut }))
 
--- what it reads: nothing where the filter tells that there is none, but the records of versions where one is asked for
+-- what it reads: nothing if the filter excludes it, except the version records if one is requested
 abbrev asks_for : List ℕ → VersionQuery → List ℕ → ℕ
 asks_for name asked file =
     let wanted : SymbolQuery = record { name = name; asked = asked } in
@@ -61,15 +62,16 @@ LookupsAsk =
     × (asks_for (codes "puts") (Version (codes "V1")) library ≡ 5 * (28 + 64))
     × (asks_for (codes "f") NoVersion library ≡ 2 * (4 + 26 + 64))
 
--- what the symbol of an index asks others for, and how many symbols there are
+-- the reference of the symbol of an index, and how many symbols there are
 abbrev SeeksAt : List ℕ → ℕ → Result (Option SymbolQuery) Refusal → Type 0
 SeeksAt file index sought = elim (lookup_tables_of file 8) [ Ok scope ↦ reference_at file scope.symbols index ≡ sought | Err refusal ↦ ⊥ ]
 
 abbrev puts : Option SymbolQuery
 puts = Some (record { name = codes "puts"; asked = Version (codes "GLIBC_2.2.5") })
 
--- the first symbol asks for nothing, nor does one that is defined; one that is undefined asks for its name, with the version of
--- its number; without one by the number 1; local it does not, and not without a name
+-- the first symbol is no reference, nor is one that is defined; one that is undefined references
+-- its name, with the version of its index; without one for the index 1; a local one does not, and
+-- neither does one without a name
 abbrev pub SymbolsAsk : Type 0
 SymbolsAsk =
     SeeksAt library 0 (Ok None) × SeeksAt library 1 (Ok puts) × SeeksAt library 2 (Ok None) × SeeksAt library 4 (Ok None)
@@ -78,14 +80,15 @@ SymbolsAsk =
     × SeeksAt (with_bytes 0xfc (little 1 0x02) library) 1 (Ok None)
     × SeeksAt (with_bytes 0xf8 (little 4 0) library) 1 (Ok None)
 
--- one whose name is empty asks for nothing, whatever its word of a version is
+-- one whose name is empty is no reference, for any versym entry
 abbrev pub EmptyNamesAskForNothing : Type 0
 EmptyNamesAskForNothing =
     SeeksAt (with_bytes 0xf8 (little 4 5) library) 1 (Ok None)
     × SeeksAt (with_bytes 0xf8 (little 4 5) (with_bytes 0x1a2 (little 2 9) library)) 1 (Ok None)
 
--- a unique symbol asks, and one of another binding does not; the highest bit of the word is no part of the number; a number of a
--- definition is a version too; a symbol that is defined asks for nothing, whatever its name is
+-- a unique symbol is a reference, and one of another binding is not; the highest bit of the versym
+-- entry is no part of the index; an index of a definition is a version too; a symbol that is
+-- defined is no reference, for any name
 abbrev pub OtherSymbolsAsk : Type 0
 OtherSymbolsAsk =
     SeeksAt (with_bytes 0xfc (little 1 0xa2) library) 1 (Ok puts)
@@ -95,7 +98,7 @@ OtherSymbolsAsk =
     × SeeksAt (with_bytes 0x1a2 (little 2 2) library) 1 (Ok (Some (record { name = codes "puts"; asked = Version (codes "V1") })))
     × SeeksAt (with_bytes 0x128 (little 4 0x30) library) 3 (Ok None)
 
--- a word for two symbols, and for one: the second has none
+-- a versym entry for two symbols, and for one: the second has none
 abbrev pub WordsOfSymbolsEnd : Type 0
 WordsOfSymbolsEnd =
     SeeksAt (with_bytes 0x298 (little 8 0x2ec) library) 1 (Ok (Some (record { name = codes "puts"; asked = NoVersion })))
@@ -107,7 +110,7 @@ SymbolsAreRefusedInOrder =
     SeeksAt (with_bytes 0xf8 (little 4 0x30) (with_bytes 0x1a2 (little 2 9) library)) 1 (Err (record { at = 0xf8; cause = NameOutside }))
     × SeeksAt (with_bytes 0x228 (little 4 0x30) library) 1 (Err (record { at = 0x220; cause = NameOutside }))
 
--- its refusals: of its name, of a number that no record has, and of the records before
+-- its refusals: of its name, of an index that no record has, and of the records before
 abbrev pub SymbolsAreRefused : Type 0
 SymbolsAreRefused =
     SeeksAt (with_bytes 0xf8 (little 4 0x30) library) 1 (Err (record { at = 0xf8; cause = NameOutside }))
@@ -120,7 +123,8 @@ CountIs file count = elim (lookup_tables_of file 8) [ Ok scope ↦ symbols_hashe
 abbrev pub SymbolsAreCounted : Type 0
 SymbolsAreCounted = CountIs library (Ok 6)
 
--- the highest of the buckets' words leads to the last chain, wherever it stands; a table without a bucket is refused
+-- the largest of the buckets' words leads to the last chain, in any position; a table without a
+-- bucket is refused
 abbrev pub HighestBucketsCount : Type 0
 HighestBucketsCount =
     CountIs (with_bytes 0xc8 (words (3 ∷ 2 ∷ [])) library) (Ok 6)

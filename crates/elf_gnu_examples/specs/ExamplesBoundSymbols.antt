@@ -1,4 +1,4 @@
--- Worked examples of what binds the symbols of some objects, and of the lines of that.
+-- Worked examples of what binds the symbols of some objects, and of the lines for them.
 use Rattle.std.specs.Prelude.{ℕ, ◌≡◌, true, false, if◌then◌else◌, List, [], ◌∷◌, ◌++◌, codes, Option, None, Some}
 use Rattle.std.specs.Str.{bytes_eq}
 use Rattle.elf_model.specs.Prelude.{BoundItem, BoundObjects, Faulty, Told, any_unbound, bound_items, bound_text, little, needed_file, needed_version, versioned_without_sections, with_bytes}
@@ -7,8 +7,9 @@ use Rattle.elf_model.specs.declared.formats.Format.TheVariants.{Columns, Object}
 use Rattle.elf_model.specs.declared.causes.Cause.TheVariants.{HashShape, NameOutside}
 use Rattle.elf_model.specs.declared.states.BindingState.TheVariants as state
 
--- a library that asks for a version of `puts`, of a needed file, and defines two versions of `f`; with a weak `puts`; that asks
--- others for its last `f`; that has a hash table without a bucket; and whose `puts` has a name outside the strings
+-- a library that references a version of `puts`, of a needed file, and defines two versions of `f`;
+-- with a weak `puts`; that references its last `f`; that has a hash table without a bucket; and
+-- whose `puts` has a name outside the strings
 abbrev library : List ℕ
 library = versioned_without_sections
 
@@ -24,40 +25,41 @@ shapeless = with_bytes 0xb0 (little 4 0) library
 abbrev nameless : List ℕ
 nameless = with_bytes 0xf8 (little 4 0x30) asking
 
--- the objects 0 and so on but for 1, which is not looked in; the needed file is the object of an index, if it is one
+-- the objects 0 and so on except for 1, which is not searched; the needed file is the object of an
+-- index, if it is one
 abbrev objects_of : List (List ℕ) → Option ℕ → BoundObjects
 objects_of files libc = record { files = files; indexes = 0 ∷ 2 ∷ 3 ∷ []; headers = 8; called = λ name. libc }
 
--- what is told of `puts`
+-- what is reported of `puts`
 abbrev puts : ℕ → BindingState → BoundItem
 puts object found = Told object 1 found (codes "puts") (Some (codes "GLIBC_2.2.5"))
 
 abbrev AreBound : List (List ℕ) → Option ℕ → List BoundItem → Type 0
 AreBound files libc items = bound_items (objects_of files libc) ≡ items
 
--- the first object that defines it is the definer, by its index among all
+-- the first object that defines it is used, by its index among all
 abbrev pub FirstBinds : Type 0
 FirstBinds =
     AreBound (asking ∷ library ∷ library ∷ []) None
     (puts 0 state.Unbound ∷ Told 0 4 (state.Bound 2 4) (codes "f") (Some (codes "V2")) ∷ puts 2 state.Unbound ∷ puts 3 state.Unbound ∷ [])
 
--- none defines it: a weak one may be undefined; the object of the needed file has versions and not that one; or it is not looked
--- in, or there is none
+-- none defines it: a weak one may be undefined; the object of the needed file has versions and not
+-- that one; or it is not searched, or there is none
 abbrev pub NoneBinds : Type 0
 NoneBinds =
     AreBound (weak ∷ library ∷ []) (Some 2) (puts 0 state.Weak ∷ puts 2 state.NoVersion ∷ [])
     × AreBound (library ∷ []) (Some 1) (puts 0 state.Unbound ∷ [])
     × AreBound (library ∷ []) None (puts 0 state.Unbound ∷ [])
 
--- a lookup that is refused in an object ends there, and is told of the symbol; a fault of an object's own symbols is the last that
--- is told of it
+-- a lookup that is refused in an object ends there, and is reported of the symbol; a fault of an
+-- object's own symbols is the last that is reported of it
 abbrev pub FaultsAreTold : Type 0
 FaultsAreTold =
     AreBound (library ∷ shapeless ∷ []) None
     (puts 0 (state.Refused 2) ∷ Faulty (record { at = 0x250; cause = HashShape }) ∷ [])
     × AreBound (nameless ∷ library ∷ []) None (Faulty (record { at = 0xf8; cause = NameOutside }) ∷ puts 2 state.Unbound ∷ [])
 
--- the lines, and whether they tell that something is missing
+-- the lines, and whether they say that something is missing
 abbrev pub LinesTell : Type 0
 LinesTell =
     let all = bound_items (objects_of (asking ∷ weak ∷ []) None) in
@@ -67,7 +69,7 @@ LinesTell =
     × (any_unbound all ≡ true)
     × (any_unbound (bound_items (objects_of (weak ∷ []) None)) ≡ false)
 
--- the objects 0 and 2, of which the second is the object of one name
+-- the objects 0 and 2, where the second is the object of one name
 abbrev AreBoundBy : List ℕ → List ℕ → List ℕ → List BoundItem → Type 0
 AreBoundBy first second name items =
     bound_items (record {
@@ -81,13 +83,15 @@ AreBoundBy first second name items =
 abbrev libc : List ℕ
 libc = codes "libc.so.6"
 
--- a library that needs the version GLIBC_2.2.5 of two files, under two numbers, and asks for `puts` with one of these
+-- a library that needs the version GLIBC_2.2.5 of two files, under two indices, and references
+-- `puts` with one of these
 abbrev two_files : (number : ℕ) → List ℕ
 two_files number =
     with_bytes 0x1a2 (little 2 number) (with_bytes 0x2a0 (little 8 99) (with_bytes 0x2c8 (little 8 0x1b0)
     (with_bytes 0x1b0 (needed_file 1 12 16 32 ++ needed_version 0 0 4 0x16 0 ++ needed_file 1 0x22 16 0 ++ needed_version 0 0 5 0x16 0) library)))
 
--- the object of the needed file is asked whether it lacks the version: of that file, of several, before whose next the version stands
+-- the object of the needed file is checked for the version: of that file, of several, before whose
+-- next the version is
 abbrev pub NeededFilesAreAsked : Type 0
 NeededFilesAreAsked =
     AreBoundBy library library libc (puts 0 state.NoVersion ∷ puts 2 state.NoVersion ∷ [])
@@ -97,14 +101,14 @@ NeededFilesAreAsked =
     × AreBoundBy (two_files 5) library libc (puts 0 state.Unbound ∷ puts 2 state.NoVersion ∷ [])
     × AreBoundBy (two_files 4) library libc (puts 0 state.NoVersion ∷ puts 2 state.NoVersion ∷ [])
 
--- it lacks none that it has; nor where it defines no versions, or has no words of them
+-- it lacks none that it has; nor if it defines no versions, or has no versym entries
 abbrev pub VersionsAreLacked : Type 0
 VersionsAreLacked =
     AreBoundBy (with_bytes 0x228 (little 4 0x2a) library) library libc (Told 0 1 state.Unbound (codes "puts") (Some (codes "V1")) ∷ puts 2 state.NoVersion ∷ [])
     × AreBoundBy library (with_bytes 0x2a0 (little 8 99) library) libc (puts 0 state.Unbound ∷ puts 2 state.Unbound ∷ [])
     × AreBoundBy library (with_bytes 0x290 (little 8 99) library) libc (puts 0 state.Unbound ∷ Told 2 1 state.Unbound (codes "puts") None ∷ [])
 
--- the name of the needed file is read only where it is asked for
+-- the name of the needed file is read only if it is requested
 abbrev pub NeededNamesAreRefused : Type 0
 NeededNamesAreRefused =
     AreBound (with_bytes 0x214 (little 4 0x30) library ∷ []) None (Faulty (record { at = 0x210; cause = NameOutside }) ∷ [])
@@ -115,7 +119,7 @@ abbrev pub LastSymbolsAreBound : Type 0
 LastSymbolsAreBound =
     AreBound (with_bytes 0x15e (little 2 0) library ∷ []) None (puts 0 state.Unbound ∷ Told 0 5 state.Unbound (codes "h") (Some (codes "V2")) ∷ [])
 
--- the other lines, and as objects; what tells that something is missing
+-- the other lines, and as objects; what says that something is missing
 abbrev pub OtherLinesTell : Type 0
 OtherLinesTell =
     let fault = Faulty (record { at = 0x250; cause = HashShape }) in
@@ -130,7 +134,8 @@ OtherLinesTell =
     × (any_unbound (puts 0 (state.Refused 2) ∷ []) ≡ true)
     × (any_unbound (puts 0 state.Weak ∷ fault ∷ []) ≡ true)
 
--- a name with an `@` in it: in columns it looks as one with a version, as an object it does not; bytes of both are spelt
+-- a name with an `@` in it: in columns it looks like one with a version, as an object it does not;
+-- bytes of both are escaped
 abbrev pub NamesAndVersionsArePartedInObjects : Type 0
 NamesAndVersionsArePartedInObjects =
     (bound_text Columns (Told 0 1 state.Weak (codes "a@b") None ∷ Told 0 2 state.Weak (codes "a") (Some (codes "b")) ∷ [])

@@ -3,8 +3,8 @@ use Rattle.std.specs.Prelude.{[], ◌∷◌, ◌++◌, codes}
 use Rattle.elf_model.specs.Prelude.{little, versioned_library, versioned_without_sections, with_bytes, words}
 use Rattle.elf_gnu_examples.specs.LoaderWords.{LoaderCosts, Fails, LoaderFinds, absent_0, absent_2, first_f, found_1, of_v1, of_v2, second_f}
 
--- no bucket; three words of a filter; words of a filter past the table; a shift of 32; a section of fewer bytes; fewer than
--- the four counts
+-- no bucket; three words of a filter; words of a filter past the table; a shift of 32; a section of
+-- fewer bytes; fewer than the four counts
 abbrev pub CountsAreRefused : Type 0
 CountsAreRefused =
     Fails (with_bytes 0xb0 (little 4 0) versioned_library) (codes "f") (codes "! 0000000000000330 hash-shape\n")
@@ -14,8 +14,8 @@ CountsAreRefused =
     × Fails (with_bytes 0x350 (little 8 0x1f) versioned_library) (codes "f") (codes "! 0000000000000330 hash-shape\n")
     × Fails (with_bytes 0x350 (little 8 0xf) versioned_library) (codes "f") (codes "! 0000000000000330 hash-shape\n")
 
--- no word of a filter; a shift of 31, whose bits are none of the filter; a table that ends with its buckets; counts that
--- are refused cost nothing beside the headers
+-- no word of a filter; a shift of 31, whose bits are none of the filter; a table that ends with its
+-- buckets; counts that are refused cost nothing besides the headers
 abbrev pub CountsAtTheirBounds : Type 0
 CountsAtTheirBounds =
     Fails (with_bytes 0xb8 (little 4 0) versioned_library) (codes "f") (codes "! 0000000000000330 hash-shape\n")
@@ -25,8 +25,8 @@ CountsAtTheirBounds =
     × Fails (with_bytes 0x350 (little 8 0x20) versioned_library) (codes "f") (codes "! 00000000000000cc hash-index\n")
     × LoaderCosts (with_bytes 0x350 (little 8 0x20) versioned_library) (codes "f") 604
 
--- a section that ends before the chain words of symbols 4 and 5, and symbols that end before symbol 4; the first symbol is
--- found all the same
+-- a section that ends before the chain words of symbols 4 and 5, and symbols that end before symbol
+-- 4; the first symbol is found all the same
 abbrev pub ChainsEndWithTheTable : Type 0
 ChainsEndWithTheTable =
     Fails (with_bytes 0x350 (little 8 0x28) versioned_library) (codes "f") (codes "! 00000000000000d4 hash-index\n")
@@ -52,28 +52,28 @@ BucketsLeadToSymbols =
     × Fails (with_bytes 0xcc (little 4 6) versioned_library) (codes "f") (codes "! 00000000000000cc hash-index\n")
     × LoaderCosts (with_bytes 0xcc (little 4 6) versioned_library) (codes "f") 604
 
--- a chain whose last word is even; a name whose hash is that of another but for the lowest bit
+-- a chain whose last word is even; a name whose hash is that of another except for the lowest bit
 abbrev pub ChainsEndAtOddWords : Type 0
 ChainsEndAtOddWords =
     Fails (with_bytes 0xdc (little 4 0x2b60c) (with_bytes 0xc0 (little 8 0xffffffffffffffff) versioned_library)) (codes "nope") (codes "! 00000000000000dc hash-index\n")
     × Fails (with_bytes 0xc8 (little 4 3) (with_bytes 0xc0 (little 8 0xffffffffffffffff) versioned_library)) (codes "e") absent_2
 
--- a hash table of the gABI in its place: other symbols stand in the chain, which ends, or comes back to itself
+-- a gABI hash table in its place: other symbols are in the chain, which ends, or has a cycle
 abbrev pub OtherTables : Type 0
 OtherTables =
     LoaderFinds (with_bytes 0xb0 (words (1 ∷ 6 ∷ 1 ∷ 0 ∷ 2 ∷ 3 ∷ 4 ∷ 5 ∷ 0 ∷ [])) (with_bytes 0x334 (little 4 5) versioned_library)) (codes "f") (second_f ++ of_v2 ++ codes "F found           4\n")
     × Fails (with_bytes 0xb0 (words (1 ∷ 6 ∷ 1 ∷ 0 ∷ 2 ∷ 3 ∷ 4 ∷ 5 ∷ 0 ∷ [])) (with_bytes 0x334 (little 4 5) versioned_library)) (codes "puts") (codes "F absent          5\n")
     × Fails (with_bytes 0xd0 (little 4 2) (with_bytes 0xb0 (words (1 ∷ 6 ∷ 1 ∷ 0 ∷ 2 ∷ 3 ∷ 4 ∷ 5 ∷ 0 ∷ [])) (with_bytes 0x334 (little 4 5) versioned_library))) (codes "nope") (codes "! 00000000000000b8 hash-cycle\n")
 
--- what these ask for: a chain word for each symbol that is tried
+-- what these read: a chain word for each symbol that is tried
 abbrev pub OtherTablesAsk : Type 0
 OtherTablesAsk =
     LoaderCosts (with_bytes 0xb0 (words (1 ∷ 6 ∷ 1 ∷ 0 ∷ 2 ∷ 3 ∷ 4 ∷ 5 ∷ 0 ∷ [])) (with_bytes 0x334 (little 4 5) versioned_library)) (codes "f") 1384
     × LoaderCosts (with_bytes 0xb0 (words (1 ∷ 6 ∷ 1 ∷ 0 ∷ 2 ∷ 3 ∷ 4 ∷ 5 ∷ 0 ∷ [])) (with_bytes 0x334 (little 4 5) versioned_library)) (codes "puts") 1074
     × LoaderCosts (with_bytes 0xd0 (little 4 2) (with_bytes 0xb0 (words (1 ∷ 6 ∷ 1 ∷ 0 ∷ 2 ∷ 3 ∷ 4 ∷ 5 ∷ 0 ∷ [])) (with_bytes 0x334 (little 4 5) versioned_library))) (codes "nope") 1168
 
--- its counts: no bucket, more words than the section has; a word that is no index of a chain; a section that has no room
--- for the counts
+-- its counts: no bucket, more words than the section has; a word that is no index of a chain; a
+-- section that has no room for the counts
 abbrev pub OtherTablesAreChecked : Type 0
 OtherTablesAreChecked =
     Fails (with_bytes 0xb0 (little 4 0) (with_bytes 0xb0 (words (1 ∷ 6 ∷ 1 ∷ 0 ∷ 2 ∷ 3 ∷ 4 ∷ 5 ∷ 0 ∷ [])) (with_bytes 0x334 (little 4 5) versioned_library))) (codes "f") (codes "! 0000000000000330 hash-shape\n")

@@ -1,4 +1,5 @@
--- Worked examples of what dynamic entries tell of how a file is linked, and of their refusals in order.
+-- Worked examples of what dynamic entries say of how a file is linked, and of their refusals in
+-- order.
 use Rattle.std.specs.Prelude.{ℕ, ◌≡◌, ◌+◌, ◌*◌, List, [], ◌∷◌, codes, Option, None, Some, Result, Ok, Err}
 use Rattle.elf_model.specs.Prelude.{LinkState, links_ceiling, links_of, little, no_link_info, one_load, tagged, versioned_library, versioned_without_sections, with_bytes}
 use Rattle.elf_model.specs.declared.causes.Cause.TheVariants.{LoadOverlap, NameOutside, NotElf, Unmapped}
@@ -8,7 +9,7 @@ use Rattle.elf_model.specs.declared.causes.Refusal.{Refusal}
 abbrev LinksAre : List ℕ → Result LinkState Refusal → Type 0
 LinksAre file links = links_of file 2 (record { bytes = 20; texts = 3 }) ≡ links
 
--- a library that needs `libc.so.6`, with other texts and so much room left
+-- a library that needs `libc.so.6`, with other texts and this much room left
 abbrev needing_libc : (soname rpath runpath : Option (List ℕ)) → (bytes texts : ℕ) → Result LinkState Refusal
 needing_libc soname rpath runpath bytes texts =
     Ok (record {
@@ -19,7 +20,7 @@ needing_libc soname rpath runpath bytes texts =
 abbrev libf : Option (List ℕ)
 libf = Some (codes "libf.so")
 
--- the text of each tag, and those of two; section headers are not looked at, whatever they say and however many there are
+-- the text of each tag, and those of two; section headers are not read, for any contents and number
 abbrev pub EachTagHasItsText : Type 0
 EachTagHasItsText =
     LinksAre versioned_without_sections (needing_libc libf None None 4 1)
@@ -29,8 +30,8 @@ EachTagHasItsText =
     × LinksAre (with_bytes 0x2b0 (tagged 15 0x2d) versioned_without_sections) (needing_libc libf (Some (codes "V2")) None 2 0)
     × LinksAre one_load (Ok (record { links = no_link_info; room = record { bytes = 20; texts = 3 } }))
 
--- refusals: of the file header; of a LOAD segment over another, before the entries; of what a lookup is made in, before their texts;
--- of the first text
+-- refusals: of the file header; of overlapping LOAD segments, before the entries; of the lookup
+-- tables, before their texts; of the first text
 abbrev pub LinksAreRefusedInOrder : Type 0
 LinksAreRefusedInOrder =
     let nameless = with_bytes 0x238 (little 8 0x30) versioned_without_sections in

@@ -1,11 +1,12 @@
--- Worked examples of lookups as a loader makes them: in a library with two versions of a function, by its sections, by its
--- segments, and in a hostile one.
+-- Worked examples of lookups as a loader does them: in a library with two versions of a function,
+-- by its sections, by its segments, and in a hostile one.
 use Rattle.std.specs.Prelude.{◌++◌, codes}
 use Rattle.elf_model.specs.FixturesVersions.{versioned_library, versioned_without_sections, hostile_library}
 use Rattle.elf_gnu_examples.specs.LoaderWords.{LoaderCosts, Fails, LoaderFinds, absent_0, absent_1, absent_2, first_f, found_1, found_2, of_none, of_v1, of_v2, only_g, second_f}
 
--- a library with two versions of `f`: the default one, each by its name, one that is to be the default one and is not, none
--- of a name; symbols of the number 1 and of a version; names that the table does not hold
+-- a library with two versions of `f`: the default one, each by its name, one that must be the
+-- default one and is not, none of a name; symbols of the index 1 and of a version; names that the
+-- table does not have
 abbrev pub LibraryAnswers : Type 0
 LibraryAnswers =
     LoaderFinds versioned_library (codes "f") (second_f ++ of_v2 ++ found_2)
@@ -21,7 +22,7 @@ LibraryAnswers =
     × Fails versioned_library (codes "puts") absent_0
     × Fails versioned_library (codes "nope") absent_0
 
--- what these lookups ask for
+-- what these lookups read
 abbrev pub LibraryAsks : Type 0
 LibraryAsks =
     LoaderCosts versioned_library (codes "f") 1196
@@ -37,7 +38,8 @@ LibraryAsks =
     × LoaderCosts versioned_library (codes "puts") 604
     × LoaderCosts versioned_library (codes "nope") 604
 
--- the same library without section headers: the index of the segment of dynamic entries stands in place of sections
+-- the same library without section headers: the index of the segment of dynamic entries is in place
+-- of sections
 abbrev pub SegmentsAnswer : Type 0
 SegmentsAnswer =
     LoaderFinds versioned_without_sections (codes "f") (codes "Y     1          4 00000000000002a9 0000000000000001 FUNC    GLOBAL DEFAULT       7 f\n" ++ codes "X     1          4     3 - V2\n" ++ found_2)
@@ -53,7 +55,7 @@ SegmentsAnswer =
     × Fails versioned_without_sections (codes "puts") absent_0
     × Fails versioned_without_sections (codes "nope") absent_0
 
--- what these lookups ask for: program headers and dynamic entries in place of section headers
+-- what these lookups read: program headers and dynamic entries in place of section headers
 abbrev pub SegmentsAsk : Type 0
 SegmentsAsk =
     LoaderCosts versioned_without_sections (codes "f") 988
@@ -69,7 +71,8 @@ SegmentsAsk =
     × LoaderCosts versioned_without_sections (codes "puts") 396
     × LoaderCosts versioned_without_sections (codes "nope") 396
 
--- a hostile library: the walk over the records stops once a name is found, chains of symbols end with the symbols
+-- a hostile library: the walk over the records stops once a name is found, chains of symbols end
+-- with the symbols
 abbrev pub HostileAnswers : Type 0
 HostileAnswers =
     LoaderFinds hostile_library (codes "f") (second_f ++ of_v2 ++ found_2)
@@ -78,7 +81,7 @@ HostileAnswers =
     × Fails hostile_library (codes "h") (codes "! 00000000000001e8 version-cut\n")
     × Fails hostile_library (codes "nope") (codes "! 00000000000000dc hash-index\n")
 
--- what these lookups ask for
+-- what these lookups read
 abbrev pub HostileAsks : Type 0
 HostileAsks =
     LoaderCosts hostile_library (codes "f") 1196

@@ -1,4 +1,5 @@
--- Worked examples of the symbols that a loader takes: their values, places, types, bindings, visibilities and names.
+-- Worked examples of the symbols that a loader takes: their values, sections, types, bindings,
+-- visibilities and names.
 use Rattle.std.specs.Prelude.{◌++◌, codes}
 use Rattle.elf_model.specs.Prelude.{little, versioned_library, with_bytes}
 use Rattle.elf_gnu_examples.specs.LoaderWords.{LoaderCosts, Fails, LoaderFinds, absent_2, found_2, of_v2}
@@ -24,7 +25,7 @@ ThreadLocalByPlace =
     × Fails (with_bytes 0x146 (little 2 0) (with_bytes 0x144 (little 1 0x16) versioned_library)) (codes "f") absent_2
     × Fails (with_bytes 0x148 (little 8 0) (with_bytes 0x146 (little 2 0) (with_bytes 0x144 (little 1 0x16) versioned_library))) (codes "f") absent_2
 
--- each binding: local, global, weak, unique, and numbers beside them
+-- each binding: local, global, weak, unique, and numbers next to them
 abbrev pub BindingsOffer : Type 0
 BindingsOffer =
     Fails (with_bytes 0x144 (little 1 2) versioned_library) (codes "f") absent_2
@@ -34,7 +35,7 @@ BindingsOffer =
     × Fails (with_bytes 0x144 (little 1 0x92) versioned_library) (codes "f") absent_2
     × Fails (with_bytes 0x144 (little 1 0xb2) versioned_library) (codes "f") absent_2
 
--- each type: none, object, common, indirect; section, file, and numbers beside them
+-- each type: none, object, common, indirect; section, file, and numbers next to them
 abbrev pub TypesOffer : Type 0
 TypesOffer =
     LoaderFinds (with_bytes 0x144 (little 1 0x10) versioned_library) (codes "f") (codes "Y     2          4 00000000000002a9 0000000000000001 NOTYPE  GLOBAL DEFAULT       7 f\n" ++ of_v2 ++ found_2)

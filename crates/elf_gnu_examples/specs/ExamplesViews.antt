@@ -1,5 +1,5 @@
--- Worked examples of a loader's lookup by the program headers in a file with section headers; and of hash tables with words of
--- 8 bytes, as Alpha's files have them.
+-- Worked examples of a loader's lookup by the program headers in a file with section headers; and
+-- of hash tables with words of 8 bytes, as Alpha's files have them.
 use Rattle.std.specs.Prelude.{[], ◌∷◌, ◌++◌, ℕ, List, codes, true}
 use Rattle.elf_model.specs.Prelude.{little, looked_at, versioned_library, versioned_without_sections, with_bytes, words}
 use Rattle.elf_gnu_examples.specs.LoaderWords.{LoaderCosts, Fails, LoaderFinds, found_2, of_v2, second_f}
@@ -18,8 +18,9 @@ abbrev pub second_with_v2 : List ℕ
 second_with_v2 =
     codes "Y     1          4 00000000000002a9 0000000000000001 FUNC    GLOBAL DEFAULT       7 f\n" ++ codes "X     1          4     3 - V2\n" ++ found_2
 
--- the library answers as it does without section headers, whatever they tell: no hash table, a table of other symbols, more
--- headers than are permitted, a number of them that is not told, and section names that are no strings
+-- the library answers as it does without section headers, for any section headers: no hash table, a
+-- table of other symbols, more headers than are allowed, a number of them that is stored elsewhere,
+-- and section names that are no strings
 abbrev pub SectionsAreNotLookedAt : Type 0
 SectionsAreNotLookedAt =
     FindsBySegments versioned_library (codes "f") second_with_v2
@@ -33,7 +34,7 @@ SectionsAreNotLookedAt =
     × FindsBySegments (with_bytes 0x3c (little 2 0) versioned_library) (codes "f") second_with_v2
     × FindsBySegments (with_bytes 0x3e (little 2 0xffff) versioned_library) (codes "f") second_with_v2
 
--- what is refused is what would be without section headers
+-- what is refused is what would be refused without section headers
 abbrev pub SegmentsAreChecked : Type 0
 SegmentsAreChecked =
     FailsBySegments (with_bytes 0x4 (little 1 1) versioned_library) (codes "f") (codes "! 0000000000000004 class\n")
@@ -42,12 +43,13 @@ SegmentsAreChecked =
     × AsksBySegments (with_bytes 0x78 (little 4 0) versioned_library) (codes "f") 204
     × FailsBySegments (with_bytes 0xb0 (little 4 0) versioned_library) (codes "f") (codes "! 0000000000000250 hash-shape\n")
 
--- the library as a file of Alpha, with a hash table of the gABI whose words have 8 bytes by its header, and 4
+-- the library as a file of Alpha, with a gABI hash table whose words have 8 bytes by its header,
+-- and 4
 abbrev pub alpha : List ℕ → List ℕ
 alpha file = with_bytes 0x12 (little 2 0x9026) file
 
--- words of 8 bytes are refused in Alpha's files alone, and in tables of the gABI alone; where their size is not told, by the
--- segments, in all of Alpha's
+-- words of 8 bytes are refused only in Alpha's files, and only in gABI tables; if their size is not
+-- given, by the segments, in all of Alpha's
 abbrev pub WideWordsOfViewsAreRefused : Type 0
 WideWordsOfViewsAreRefused =
     Fails (alpha (with_bytes 0x368 (little 8 8) (with_bytes 0x334 (little 4 5) versioned_library))) (codes "f") (codes "! 0000000000000330 hash-shape\n")

@@ -4,7 +4,8 @@ use Rattle.elf_model.specs.Prelude.{DefaultVersion, NoVersion, Version, find_ans
 use Rattle.elf_model.specs.declared.formats.Format.TheVariants.{Columns, Object}
 use Rattle.elf_gnu_examples.specs.LoaderWords.{LoaderFinds, LoaderCosts, second_f, found_2}
 
--- the text of a name alone, of a version behind one sign and behind two, and of versions that hold such signs
+-- the text of a name alone, of a version after one sign and after two, and of versions that contain
+-- such signs
 abbrev pub TextsAreParted : Type 0
 TextsAreParted =
     (parse_query (codes "f") ≡ record { name = codes "f"; asked = NoVersion })
@@ -24,7 +25,8 @@ EmptyNamesAreNone =
     × (is_complete (parse_query (codes "f@V")) ≡ true)
     × (is_complete (parse_query (codes "f@@V")) ≡ true)
 
--- the library with other strings, behind it: `f`, and so many letters that are the name of the second version
+-- the library with other strings, after it: `f`, and this many letters that are the name of the
+-- second version
 unfoldable pub long_version : ℕ → List ℕ
 long_version count =
     with_bytes 0x128 (little 4 1)
@@ -35,7 +37,7 @@ long_version count =
     (with_bytes 0x3c8 (little 8 0x4f0 ++ little 8 304)
     (versioned_library ++ (0 ∷ 102 ∷ 0 ∷ replicate count 97) ++ zeros 301))))))
 
--- a name of 256 bytes is told whole, one more is cut; the wanted one is told whole
+-- a name of 256 bytes is reported whole, one more is cut; the wanted one is reported whole
 abbrev pub LongVersionsAreCut : Type 0
 LongVersionsAreCut =
     LoaderFinds (long_version 256) (codes "f") (second_f ++ codes "X     4          4     3 - " ++ replicate 256 97 ++ codes "\n" ++ found_2)
@@ -43,7 +45,8 @@ LongVersionsAreCut =
     × LoaderFinds (long_version 300) (codes "f@" ++ replicate 300 97)
     (second_f ++ codes "X     4          4     3 - " ++ replicate 300 97 ++ codes "\n" ++ found_2)
 
--- a wanted version is read in whole pieces of 64 bytes with each record, and a wanted name with each symbol
+-- a wanted version is read in pieces of 64 bytes with each record, and a wanted name with each
+-- symbol
 abbrev pub LongNamesAsk : Type 0
 LongNamesAsk =
     LoaderCosts (long_version 300) (codes "f@" ++ replicate 300 97) (604 + 188 + 5 * (28 + 320))
@@ -54,14 +57,16 @@ LongNamesAsk =
     (replicate 64 97) (604 + 5 * (4 + 26 + 128))
     × LoaderCosts (with_bytes 0xc0 (replicate 8 0xff) versioned_library) (replicate 64 97) (604 + 4 * 3)
 
--- what no lookup asks for more than, by a file's length, the headers that are permitted, the name and the version
+-- the upper bound of what lookups read, by a file's length, the headers that are allowed, the name
+-- and the version
 abbrev pub LoaderCeilings : Type 0
 LoaderCeilings =
     (loader_ceiling 1264 8 (parse_query (codes "f")) ≡ 92 + 512 + 1264 + 316 * (30 + 64) + 158 * 28 + 320)
     × (loader_ceiling 1264 8 (parse_query (codes "f@V1")) ≡ 92 + 512 + 1264 + 316 * (30 + 64) + 158 * (28 + 64) + 320)
     × (loader_ceiling 7 0 (parse_query (replicate 64 97)) ≡ 92 + 7 + 158 + 320)
 
--- the lookup of a name alone finds no hash table of the gABI in the library, with section headers or without
+-- the lookup of a name alone finds no gABI hash table in the library, with section headers or
+-- without
 abbrev pub OtherLookupsFindNoTable : Type 0
 OtherLookupsFindNoTable =
     (find_answer Columns versioned_library 8 (codes "f") ≡ record { text = codes "! 0000000000000028 no-hash\n"; status = 1 })

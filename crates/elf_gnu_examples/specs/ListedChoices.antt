@@ -3,7 +3,7 @@ use Rattle.std.specs.Prelude.{◌≡◌, ℕ, List, [], ◌∷◌, ◌++◌, cod
 use Rattle.elf_model.specs.Prelude.{ListingStyle, RELOCS, RowsOf, SECTIONS, SYMBOLS, VERSIONS, archive_items, archive_of, cost, listing, listing_cost, little, member, most_bytes, one_call, one_symbol_table, report_of, standard, versioned_library, wanted_text, with_bytes}
 use Rattle.elf_model.specs.declared.formats.Format.TheVariants.{Columns}
 
--- how the rows of some names are shown: so many bytes of a name as the longest has
+-- how the rows of some names are shown: with as many bytes of a name as the longest has
 unfoldable pub rows_named : List (List ℕ) → ListingStyle
 rows_named names = record {
   cap = most_bytes names;
@@ -14,11 +14,12 @@ rows_named names = record {
   versions = false;
 }
 
--- the rows of some names in some parts of a file, with eight headers permitted
+-- the rows of some names in some parts of a file, with eight headers allowed
 unfoldable pub named_listed : ℕ → List (List ℕ) → List ℕ → List ℕ
 named_listed parts names file = report_of Columns (listing file 8 (rows_named names) parts)
 
--- symbols of a library: the two of one name, those of two names in the order of the table, one name twice, and none
+-- symbols of a library: the two of one name, those of two names in the order of the table, one name
+-- twice, and none
 abbrev pub NamesAreListed : Type 0
 NamesAreListed =
     let first = codes "Y     2          3 00000000000002a8 0000000000000001 FUNC    GLOBAL DEFAULT       7 f\n" in
@@ -30,8 +31,8 @@ NamesAreListed =
     × (named_listed SYMBOLS (codes "e" ∷ []) versioned_library ≡ [])
     × (named_listed SYMBOLS [] versioned_library ≡ [])
 
--- a name of as many bytes as are shown is whole, and one of a byte more is cut: a name that is a front of it is not it, whether
--- more bytes are shown or not
+-- a name of as many bytes as are shown is whole, and one of a byte more is cut: a name that is a
+-- prefix of it is not it, whether more bytes are shown or not
 abbrev pub FrontsAreNotListed : Type 0
 FrontsAreNotListed =
     let puts = codes "Y     2          1 0000000000000000 0000000000000000 FUNC    GLOBAL DEFAULT   UND   puts\n" in
@@ -62,7 +63,7 @@ EntriesAreListed =
     ≡ codes "R     2 0000000000000001 PLT32      00000001 -0000000000000004 f\n")
     × (named_listed RELOCS (codes "g" ∷ []) one_call ≡ [])
 
--- a fault ends the rows, whatever they are: of a name, of a version's number
+-- a fault ends the rows, also if they are not shown: of a name, of a version index
 abbrev pub FaultsAreListed : Type 0
 FaultsAreListed =
     (named_listed SYMBOLS (codes "g" ∷ []) (with_bytes 0x128 (little 4 48) versioned_library)
@@ -70,13 +71,14 @@ FaultsAreListed =
     × (named_listed SYMBOLS (codes "e" ∷ []) (with_bytes 0x128 (little 4 48) versioned_library) ≡ codes "! 0000000000000128 name-outside\n")
     × (named_listed VERSIONS (codes "e" ∷ []) (with_bytes 0x1a8 (little 2 9) versioned_library) ≡ codes "! 00000000000001a8 version-index\n")
 
--- rows that end in other names stand as they are, cut as every name is
+-- rows that end in other names are unchanged, cut as every name is
 abbrev pub OtherRowsStand : Type 0
 OtherRowsStand =
     named_listed SECTIONS (codes "main" ∷ []) one_symbol_table
     ≡ report_of Columns (listing one_symbol_table 8 (record { cap = 4; gnu = true; by_segments = false; format = Columns; choice = (standard 4).choice; versions = false }) SECTIONS)
 
--- of an archive the line of each member stands, its name cut as every name is, and behind it the rows of the names
+-- of an archive the line of each member is listed, its name cut as every name is, followed by the
+-- rows of the names
 abbrev pub MembersStand : Type 0
 MembersStand =
     report_of Columns
@@ -89,7 +91,8 @@ MembersStand =
 abbrev pub with_cut_member : List ℕ
 with_cut_member = archive_of (member (codes "a.o/") (127 ∷ 69 ∷ 76 ∷ 70 ∷ 2 ∷ []) ++ member (codes "b.o/") one_symbol_table)
 
--- where the line of a member does not stand alone, it stands before a row of the names, or the line of the member's refusal
+-- if the line of a member is not listed alone, it comes before a row of the names, or the line of
+-- the member's refusal
 abbrev pub LinesStandBeforeLines : Type 0
 LinesStandBeforeLines =
     (report_of Columns
@@ -100,7 +103,7 @@ LinesStandBeforeLines =
     × (report_of Columns (archive_items false with_cut_member 8 (rows_named (codes "none" ∷ [])) SYMBOLS)
     ≡ codes "A     0 0000000000000044 0000000000000005 a.o\n" ++ codes "! 0000000000000005 short\n")
 
--- what the rows of some names cost is what all rows do, with as many bytes of a name
+-- the rows of some names cost what all rows do, with as many bytes of a name
 abbrev pub NamesCostAsAllRows : Type 0
 NamesCostAsAllRows =
     listing_cost one_symbol_table 8 (rows_named (codes "main" ∷ [])) SYMBOLS ≡ cost one_symbol_table 8 4 SYMBOLS

@@ -1,14 +1,15 @@
--- Worked examples of the versions behind the names of symbols.
+-- Worked examples of the versions after the names of symbols.
 use Rattle.std.specs.Prelude.{◌≡◌, ℕ, ◌+◌, ◌*◌, List, [], ◌∷◌, ◌++◌, codes, map, true, false}
 use Rattle.elf_model.specs.Prelude.{EveryRow, ListingStyle, RELOCS, RowFilter, RowsOf, SYMBOLS, listing, listing_cost, little, report_of, section_at, style_ceiling, suffixed_relocation_rows, suffixed_symbol_rows, versioned_library, wanted_text, with_bytes}
 use Rattle.elf_model.specs.declared.formats.Format.TheVariants.{Columns, Object}
 use Rattle.elf_model.specs.declared.formats.Format.{Format}
 
--- how rows are shown: with versions, so many bytes of a name, as a line is written and rows are chosen
+-- how rows are shown: with versions, with this limit on bytes of a name, by a format and a row
+-- filter
 unfoldable pub with_versions : ℕ → Format → RowFilter → ListingStyle
 with_versions cap format choice = record { cap = cap; gnu = true; by_segments = false; format = format; choice = choice; versions = true }
 
--- the symbols of a library: all, and those that some texts ask for
+-- the symbols of a library: all, and those that some texts select
 unfoldable pub symbols_listed : List ℕ → List ℕ
 symbols_listed file = report_of Columns (suffixed_symbol_rows file (with_versions 63 Columns EveryRow) 2 (section_at file 2))
 
@@ -34,13 +35,15 @@ before_line =
     codes "Y     2          0 0000000000000000 0000000000000000 NOTYPE  LOCAL  DEFAULT   UND   \n" ++ puts_line
     ++ codes "Y     2          2 00000000000002a0 0000000000000008 OBJECT  UNIQUE DEFAULT       7 g\n"
 
--- an undefined symbol has no default version, a hidden one is none, and the numbers 0 and 1 are of no version
+-- an undefined symbol has no default version, a hidden one is none, and the indices 0 and 1 are of
+-- no version
 abbrev pub SymbolsHaveVersions : Type 0
 SymbolsHaveVersions =
     symbols_listed versioned_library
     ≡ before_line ++ hidden_line ++ default_line ++ codes "Y     2          5 00000000000002aa 0000000000000001 IFUNC   GLOBAL DEFAULT       7 h@@V2\n"
 
--- a text with a version asks for it, and with two signs for the default one; a name alone for every version
+-- a text with a version selects it, and with two signs the default one; a name alone selects every
+-- version
 abbrev pub TextsAskForVersions : Type 0
 TextsAskForVersions =
     (asked_listed (codes "f@V1" ∷ []) versioned_library ≡ hidden_line)
@@ -52,7 +55,7 @@ TextsAskForVersions =
     × (asked_listed (codes "puts@@GLIBC_2.2.5" ∷ []) versioned_library ≡ [])
     × (asked_listed (codes "puts@GLIBC_2.2.5" ∷ codes "f@@V2" ∷ []) versioned_library ≡ puts_line ++ default_line)
 
--- a name that is a front of another, and one that is cut, are none that a text asks for; nor are versions that are
+-- no text selects a name that is a prefix of another, or one that is cut; nor such versions
 abbrev pub FrontsAreNotAskedFor : Type 0
 FrontsAreNotAskedFor =
     (asked_listed (codes "put@GLIBC_2.2.5" ∷ []) versioned_library ≡ [])
@@ -62,18 +65,19 @@ FrontsAreNotAskedFor =
     ≡ codes "Y     2          1 0000000000000000 0000000000000000 FUNC    GLOBAL DEFAULT   UND   puts@GLIB\\+\n")
     × (asked_within 3 (codes "puts" ∷ codes "put" ∷ []) versioned_library ≡ [])
 
--- the sign parts a text, so no text asks for a name with one in it
+-- the sign splits a text, so no text selects a name with one in it
 abbrev pub SignsPartTexts : Type 0
 SignsPartTexts = asked_listed (codes "f@V1" ∷ []) (with_bytes 0x171 (codes "f@V1") versioned_library) ≡ hidden_line
 
--- a number that no record names, at its word; a symbol without a word, at the section; a name outside its table, at the record
+-- an index that no record names, at its versym entry; a symbol without an entry, at the section; a
+-- name outside its table, at the record
 abbrev pub RowsAreRefused : Type 0
 RowsAreRefused =
     (symbols_listed (with_bytes 0x1a8 (little 2 9) versioned_library) ≡ before_line ++ hidden_line ++ codes "! 00000000000001a8 version-index\n")
     × (symbols_listed (with_bytes 0x410 (little 8 8) versioned_library) ≡ before_line ++ hidden_line ++ codes "! 00000000000003f0 version-cut\n")
     × (symbols_listed (with_bytes 0x1fc (little 4 48) versioned_library) ≡ before_line ++ hidden_line ++ codes "! 00000000000001fc name-outside\n")
 
--- before the first row: the section of version numbers, a definition, a need
+-- before the first row: the versym section, a definition, a need
 abbrev pub TablesAreRefused : Type 0
 TablesAreRefused =
     (symbols_listed (with_bytes 0x410 (little 8 9) versioned_library) ≡ codes "! 00000000000003f0 size-not-whole\n")
@@ -81,7 +85,7 @@ TablesAreRefused =
     × (symbols_listed (with_bytes 0x1cc (little 2 2) versioned_library) ≡ codes "! 00000000000001cc version\n")
     × (symbols_listed (with_bytes 0x226 (little 2 1024) versioned_library) ≡ codes "! 0000000000000220 version-index\n")
 
--- the version numbers of another table are none of this one's
+-- the versym entries of another table are none of this one's
 abbrev pub OtherTablesHaveTheirs : Type 0
 OtherTablesHaveTheirs =
     asked_listed (codes "f@V1" ∷ []) (with_bytes 0x418 (little 4 3) versioned_library) ≡ []
@@ -112,19 +116,19 @@ ObjectsHaveVersions =
 abbrev pub plain_line : List ℕ
 plain_line = codes "Y     2          2 00000000000002a0 0000000000000008 OBJECT  UNIQUE DEFAULT       7 g\n"
 
--- the library with a second section of version numbers, of the same table, whose numbers stand at an offset
+-- the library with a second versym section, of the same table, whose entries are at an offset
 abbrev second_numbers : (offset : ℕ) → List ℕ
 second_numbers offset =
     with_bytes 0x4b4 (little 4 0x6fffffff)
     (with_bytes 0x4c8 (little 8 offset ++ little 8 12 ++ little 4 2) (with_bytes 0x4e8 (little 8 2) versioned_library))
 
--- of two sections of version numbers the first counts that is of the table
+-- of two versym sections the first counts that is of the table
 abbrev pub FirstNumbersCount : Type 0
 FirstNumbersCount =
     (asked_listed (codes "f@V1" ∷ []) (second_numbers 0x230) ≡ hidden_line)
     × (asked_listed (codes "f@V1" ∷ []) (with_bytes 0x418 (little 4 3) (second_numbers 0x1a0)) ≡ hidden_line)
 
--- the numbers 0 and 1 are of no version with the highest bit of their word too
+-- the indices 0 and 1 are of no version with the highest bit of their entry too
 abbrev pub HiddenNumbersAreSmall : Type 0
 HiddenNumbersAreSmall =
     (asked_listed (codes "g" ∷ []) (with_bytes 0x1a4 (little 2 0x8001) versioned_library) ≡ plain_line)
@@ -137,8 +141,8 @@ SuffixesHaveTheirStrings =
     (with_bytes 0x498 (little 4 7) (with_bytes 0x4b4 (little 4 3) (with_bytes 0x4c8 (little 8 0x171 ++ little 8 0x2f) versioned_library)))
     ≡ codes "Y     2          1 0000000000000000 0000000000000000 FUNC    GLOBAL DEFAULT   UND   puts@LIBC_2.2.5\n" ++ hidden_line
 
--- a fault of a version ends the rows though no text asks for its symbol; the name of a need is at fault at its record; and the
--- fault of a symbol's name is before that of its version
+-- a fault of a version ends the rows though no text selects its symbol; the name of a need is
+-- malformed at its record; and the fault of a symbol's name is before that of its version
 abbrev pub RefusalsAreNotChosen : Type 0
 RefusalsAreNotChosen =
     (asked_listed (codes "g" ∷ []) (with_bytes 0x1a8 (little 2 9) versioned_library) ≡ plain_line ++ codes "! 00000000000001a8 version-index\n")
@@ -146,7 +150,8 @@ RefusalsAreNotChosen =
     × (asked_listed (codes "g" ∷ []) (with_bytes 0x140 (little 4 48) (with_bytes 0x1a8 (little 2 9) versioned_library))
     ≡ plain_line ++ codes "! 0000000000000140 name-outside\n")
 
--- what is refused before the first row, in order: the version numbers, the definitions with their section, the needs with theirs
+-- what is refused before the first row, in order: the versym section, the definitions with their
+-- section, the needs with theirs
 abbrev pub TablesAreRefusedInOrder : Type 0
 TablesAreRefusedInOrder =
     let cut = with_bytes 0x1cc (little 2 2) versioned_library in
@@ -167,7 +172,7 @@ EmptyTablesAreNotRefused =
     × (entries_listed (with_bytes 0x4d0 (little 8 0) (with_bytes 0x1cc (little 2 2) (relocated_library 1))) ≡ [])
     × (entries_listed (with_bytes 0x1cc (little 2 2) (relocated_library 1)) ≡ codes "! 00000000000001cc version\n")
 
--- an entry of symbol 0 has no version, though the word of that symbol has one
+-- an entry of symbol 0 has no version, though the versym entry of that symbol has one
 abbrev pub FirstSymbolHasNoVersion : Type 0
 FirstSymbolHasNoVersion =
     entries_listed (with_bytes 0x1a0 (little 2 3) (relocated_library 0))
@@ -181,8 +186,8 @@ ObjectsHaveDefaults =
     × (report_of Columns (suffixed_relocation_rows (relocated_library 1) (with_versions 4 Object EveryRow) 7 (section_at (relocated_library 1) 7))
     ≡ codes "{\"line\":\"R\",\"table\":7,\"offset\":672,\"type\":\"GLOB_DAT\",\"symbol\":1,\"addend\":0,\"name\":\"puts\",\"version\":\"GLIB\",\"version_cut\":true,\"default\":false}\n")
 
--- a listing has them, and costs a word and a name more for each row, and a walk over four definitions and two needs; nothing more
--- where the numbers are of another table
+-- a listing has them, and costs a versym entry and a name more for each row, and a walk over four
+-- definitions and two needs; nothing more if the entries are of another table
 abbrev pub SuffixesAreCounted : Type 0
 SuffixesAreCounted =
     (report_of Columns (listing versioned_library 8 (with_versions 63 Columns (RowsOf (map (wanted_text true) (codes "f@V1" ∷ [])))) SYMBOLS) ≡ hidden_line)
@@ -190,7 +195,8 @@ SuffixesAreCounted =
     × (listing_cost (relocated_library 1) 8 (with_versions 63 Columns EveryRow) RELOCS ≡ 64 + 8 * 64 + (24 + 24 + 64) + (2 + 64) + 4 * 28 + 2 * 16)
     × (listing_cost (with_bytes 0x418 (little 4 3) versioned_library) 8 (with_versions 63 Columns EveryRow) SYMBOLS ≡ 64 + 8 * 64 + 6 * (24 + 64))
 
--- what they never pass with one header: 120 bytes have room for seven rows of 16 bytes, five symbols, six definitions, seven needs
+-- their upper bound with one header: 120 bytes have room for seven rows of 16 bytes, five symbols,
+-- six definitions, seven needs
 abbrev pub CeilingWithVersions : Type 0
 CeilingWithVersions =
     style_ceiling 120 1 (with_versions 63 Columns EveryRow)

@@ -4,24 +4,25 @@ use Rattle.std.specs.List.{concat}
 use Rattle.elf_model.specs.Prelude.{ALL, EveryRow, GNU_ALL, HEADER, ListingStyle, VERSIONS, cost, hostile_library, listing, listing_cost, little, one_table, report_of, standard, versioned_library, versioned_without_sections, with_bytes}
 use Rattle.elf_model.specs.declared.formats.Format.TheVariants.{Columns}
 
--- how rows are shown here: 63 bytes of a name, and the names of the GNU system's numbers
+-- how rows are shown here: 63 bytes of a name, and the names of GNU numbers
 abbrev standard_style : ListingStyle
 standard_style = record { cap = 63; gnu = true; by_segments = false; format = Columns; choice = EveryRow; versions = false }
 
--- the listing of some parts of a file, with eight headers permitted, and of its symbol versions alone
+-- the listing of some parts of a file, with eight headers allowed, and of its symbol versions alone
 unfoldable pub parts_listed : ℕ → List ℕ → List ℕ
 parts_listed parts file = report_of Columns (listing file 8 standard_style parts)
 
 unfoldable pub versions_listed : List ℕ → List ℕ
 versions_listed file = parts_listed VERSIONS file
 
--- it has so many lines, and ends in one
+-- it has this many lines, and ends in one
 abbrev pub EndsInLine : List ℕ → ℕ → List ℕ → Type 0
 EndsInLine file count last =
     let text = versions_listed file in
     (length (filter (λ b. b == 10) text) ≡ count) × (drop (length text - length last) text ≡ last)
 
--- a number that no record names: of a symbol, of definitions that are none, and of one that names the file itself
+-- an index that no record names: of a symbol, of definitions that are none, and of one that names
+-- the file itself
 abbrev pub NumbersAreRefused : Type 0
 NumbersAreRefused =
     EndsInLine (with_bytes 0x1a8 (little 2 9) versioned_library) 10 (codes "! 00000000000001a8 version-index\n")
@@ -29,13 +30,15 @@ NumbersAreRefused =
     × EndsInLine (with_bytes 0x1c0 (little 4 0) versioned_library) 7 (codes "! 00000000000001a6 version-index\n")
     × EndsInLine (with_bytes 0x1ce (little 2 1) versioned_library) 9 (codes "! 00000000000001a6 version-index\n")
 
--- a definition that names the file itself, with another flag too, names no version; with another flag alone it does
+-- a definition that names the file itself, with another flag too, names no version; with another
+-- flag alone it does
 abbrev pub FlagsNameVersions : Type 0
 FlagsNameVersions =
     EndsInLine (with_bytes 0x1ce (little 2 3) versioned_library) 9 (codes "! 00000000000001a6 version-index\n")
     × EndsInLine (with_bytes 0x1ce (little 2 2) versioned_library) 11 (codes "X     4          5     3 - V2\n")
 
--- the strings of the needs are those that their section links to: here they begin one byte later than those of the definitions
+-- the strings of the needs are those that their section links to: here they begin one byte later
+-- than those of the definitions
 abbrev pub NeedsHaveTheirStrings : Type 0
 NeedsHaveTheirStrings =
     versions_listed
@@ -52,7 +55,8 @@ NeedsHaveTheirStrings =
     ++ codes "X     4          4     3 - V2\n"
     ++ codes "X     4          5     3 - V2\n"
 
--- the section of version numbers: fewer entries than symbols, half of one, their size, no symbol table, no such section
+-- the versym section: fewer entries than symbols, half of one, their size, no symbol table, no such
+-- section
 abbrev pub NumberTablesAreRefused : Type 0
 NumberTablesAreRefused =
     EndsInLine (with_bytes 0x410 (little 8 8) versioned_library) 10 (codes "! 00000000000003f0 version-cut\n")
@@ -61,13 +65,14 @@ NumberTablesAreRefused =
     × EndsInLine (with_bytes 0x418 (little 4 3) versioned_library) 6 (codes "! 00000000000003f0 bad-link\n")
     × EndsInLine (with_bytes 0x3f4 (little 4 1) versioned_library) 5 (codes "V     6 NEED     4 0000 09691a75 GLIBC_2.2.5\n")
 
--- entries behind the last symbol are not looked at, and a section of no bytes has no rows
+-- entries after the last symbol are not read, and a section of no bytes has no rows
 abbrev pub NumberTablesEnd : Type 0
 NumberTablesEnd =
     EndsInLine (with_bytes 0x390 (little 8 0x60) versioned_library) 9 (codes "X     4          3     2 H V1\n")
     × EndsInLine (with_bytes 0x410 (little 8 0) versioned_library) 5 (codes "V     6 NEED     4 0000 09691a75 GLIBC_2.2.5\n")
 
--- a definition: its version, its number, its name past the end of the table, and past the end of the strings
+-- a definition: its layout version, its index, its name past the end of the table, and past the end
+-- of the strings
 abbrev pub DefinitionsAreRefused : Type 0
 DefinitionsAreRefused =
     EndsInLine (with_bytes 0x1cc (little 2 2) versioned_library) 2 (codes "! 00000000000001cc version\n")
@@ -83,14 +88,16 @@ DefinitionsLeadOn =
     × EndsInLine (with_bytes 0x1c0 (little 4 0xffffffff) versioned_library) 2 (codes "! 00000000000001b0 version-cut\n")
     × EndsInLine (with_bytes 0x450 (little 8 19) versioned_library) 1 (codes "! 0000000000000430 version-cut\n")
 
--- a name that two definitions share, the largest number with the hidden bit, a name in the last bytes of the table
+-- a name that two definitions share, the largest index with the hidden bit, a name in the last
+-- bytes of the table
 abbrev pub DefinitionsAreNamed : Type 0
 DefinitionsAreNamed =
     EndsInLine (with_bytes 0x1d8 (little 4 56) versioned_library) 11 (codes "X     4          5     3 - V2\n")
     × EndsInLine (with_bytes 0x1ec (little 2 0x83ff) (with_bytes 0x1a8 (little 2 0x3ff) (with_bytes 0x1aa (little 2 0x3ff) versioned_library))) 11 (codes "X     4          5  1023 - V2\n")
     × EndsInLine (with_bytes 0x450 (little 8 80) (with_bytes 0x1f4 (little 4 16) versioned_library)) 11 (codes "X     4          5     3 - \n")
 
--- a needed file and its version: the record version, the number, and names past the end of the strings
+-- a needed file and its version: the record version, the index, and names past the end of the
+-- strings
 abbrev pub NeedsAreRefused : Type 0
 NeedsAreRefused =
     EndsInLine (with_bytes 0x210 (little 2 0) versioned_library) 4 (codes "! 0000000000000210 version\n")
@@ -98,7 +105,8 @@ NeedsAreRefused =
     × EndsInLine (with_bytes 0x228 (little 4 0xffffffff) versioned_library) 5 (codes "! 0000000000000220 name-outside\n")
     × EndsInLine (with_bytes 0x214 (little 4 48) versioned_library) 4 (codes "! 0000000000000210 name-outside\n")
 
--- a needed file whose versions or whose next file are past the end of the table; more records than have room
+-- a needed file whose versions or whose next file are past the end of the table; more records than
+-- have room
 abbrev pub NeedsLeadOn : Type 0
 NeedsLeadOn =
     EndsInLine (with_bytes 0x218 (little 4 17) versioned_library) 5 (codes "! 0000000000000210 version-cut\n")
@@ -106,7 +114,7 @@ NeedsLeadOn =
     × EndsInLine (with_bytes 0x22c (little 4 16) versioned_library) 6 (codes "! 0000000000000220 version-cut\n")
     × EndsInLine (with_bytes 0x218 (little 4 8) (with_bytes 0x220 (little 4 0x16) (with_bytes 0x224 (little 2 8) (with_bytes 0x226 (little 2 0) versioned_library)))) 6 (codes "! 0000000000000218 version-cut\n")
 
--- a number that a definition and a need have: the definition names it
+-- an index that a definition and a need have: the definition names it
 abbrev pub DefinitionsComeFirst : Type 0
 DefinitionsComeFirst =
     EndsInLine (with_bytes 0x226 (little 2 3) (with_bytes 0x1a2 (little 2 3) versioned_library)) 11 (codes "X     4          5     3 - V2\n")
@@ -129,7 +137,7 @@ version_lines =
 abbrev pub VersionedLibraryLists : Type 0
 VersionedLibraryLists = versions_listed versioned_library ≡ version_lines
 
--- its whole listing, in the names of the GNU system: headers, symbols, dynamic entries, and behind them the versions
+-- its whole listing, in the GNU names: headers, symbols, dynamic entries, and then the versions
 abbrev pub LibraryListsWhole : Type 0
 LibraryListsWhole =
     parts_listed GNU_ALL versioned_library
@@ -164,7 +172,7 @@ LibraryListsWhole =
     ++ codes "D    11 NULL             0000000000000000 \n"
     ++ version_lines
 
--- without the names of the GNU system it has no symbol versions
+-- without the GNU names it has no symbol versions
 abbrev pub StandardHasNone : Type 0
 StandardHasNone =
     (report_of Columns (listing versioned_library 8 (standard 63) VERSIONS) ≡ [])
@@ -187,7 +195,7 @@ abbrev pub NoneWithoutSections : Type 0
 NoneWithoutSections =
     (versions_listed versioned_without_sections ≡ []) × (length versioned_library ≡ 1264) × (length versioned_without_sections ≡ 752)
 
--- definitions that lie over each other, 13 bytes apart: as many are met as have room one behind the other
+-- definitions that overlap, 13 bytes apart: as many are visited as have room one after another
 abbrev pub overlapping : List ℕ
 overlapping = take 1000 (concat (replicate 77 (1 ∷ 0 ∷ 0 ∷ 13 ∷ 0 ∷ 0 ∷ 0 ∷ 0 ∷ 0 ∷ 0 ∷ 0 ∷ 0 ∷ 8 ∷ [])))
 
@@ -196,7 +204,7 @@ OverlappingAreCut =
     EndsInLine (one_table 0x6ffffffd 8 0 overlapping (0 ∷ [])) 51
     (codes "V     1 DEF      0 0d00 00000000 \n" ++ codes "! 00000000000002bd version-cut\n")
 
--- how many bytes are asked for at most: of the library, with and without sections, and where checks fail
+-- how many bytes are read at most: of the library, with and without sections, and if checks fail
 abbrev pub parts_cost : ℕ → List ℕ → ℕ
 parts_cost parts file = listing_cost file 8 standard_style parts
 

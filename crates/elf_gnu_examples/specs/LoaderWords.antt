@@ -1,9 +1,9 @@
--- What the worked examples of a loader's lookups are said by.
+-- The words in which the worked examples of a loader's lookups are stated.
 use Rattle.std.specs.Prelude.{◌≡◌, ℕ, List, codes}
 use Rattle.elf_model.specs.Prelude.{loader_answer, loader_cost, parse_query}
 use Rattle.elf_model.specs.declared.formats.Format.TheVariants.{Columns}
 
--- a lookup in a file, with eight headers permitted, finds a symbol and writes these lines
+-- a lookup in a file, with eight headers allowed, finds a symbol and writes these lines
 abbrev pub LoaderFinds : List ℕ → List ℕ → List ℕ → Type 0
 LoaderFinds file text lines = loader_answer Columns file 8 text ≡ record { text = lines; status = 0 }
 
@@ -11,7 +11,7 @@ LoaderFinds file text lines = loader_answer Columns file 8 text ≡ record { tex
 abbrev pub Fails : List ℕ → List ℕ → List ℕ → Type 0
 Fails file text line = loader_answer Columns file 8 text ≡ record { text = line; status = 1 }
 
--- it asks for so many bytes
+-- it reads this many bytes
 abbrev pub LoaderCosts : List ℕ → List ℕ → ℕ → Type 0
 LoaderCosts file text cost = loader_cost file 8 (parse_query text) ≡ cost
 

@@ -1,21 +1,20 @@
-//! Worked lookups by what tells of their tables, each computed by the prover.
+//! Worked lookups by the headers and tables before them, each computed by the prover.
 ghost use Rattle.elf_gnu_examples.specs.ExamplesBefore.{HeadersAreChecked, GnuTablesComeFirst, FirstSectionsCount, FirstSegmentCounts, TablesOfTheGabiBySegments, VersionsBySegments, SizesComeFirst};
 
-/// The file header, and how many headers are permitted, before all else; the section of the
-/// section names once the headers are read.
+/// The file header, and how many headers are allowed, before all else; the section of the section
+/// names once the headers are read.
 #[tactic(auto, unfolding(elf_model::proofs::OnLiterals::on_literals, elf_model::proofs::OnLoader::on_loader))]
 pub fn headers_are_checked()
     ensures { HeadersAreChecked }
 {}
 
-/// A table of the GNU system counts before one of the gABI, whichever comes first.
+/// A GNU hash table counts before a gABI one, in any order.
 #[tactic(auto, unfolding(elf_model::proofs::OnLiterals::on_literals, elf_model::proofs::OnLoader::on_loader))]
 pub fn gnu_tables_come_first()
     ensures { GnuTablesComeFirst }
 {}
 
-/// A second section of a type is not looked at: a hash table, words of versions, definitions,
-/// needs.
+/// A second section of a type is not read: a hash table, versym entries, definitions, needs.
 #[tactic(auto, unfolding(elf_model::proofs::OnLiterals::on_literals, elf_model::proofs::OnLoader::on_loader))]
 pub fn first_sections_count()
     ensures { FirstSectionsCount }
@@ -28,21 +27,20 @@ pub fn first_segment_counts()
     ensures { FirstSegmentCounts }
 {}
 
-/// A hash table of the gABI by the segments: its walk, its counts, and no room for these.
+/// A gABI hash table by the segments: its walk, its counts, and no room for these.
 #[tactic(auto, unfolding(elf_model::proofs::OnLiterals::on_literals, elf_model::proofs::OnLoader::on_loader))]
 pub fn tables_of_the_gabi_by_segments()
     ensures { TablesOfTheGabiBySegments }
 {}
 
-/// No definitions, no needs; needs that are not loaded; neither is looked at without words of
-/// versions.
+/// No definitions, no needs; needs that are not loaded; neither is read without versym entries.
 #[tactic(auto, unfolding(elf_model::proofs::OnLiterals::on_literals, elf_model::proofs::OnLoader::on_loader))]
 pub fn versions_by_segments()
     ensures { VersionsBySegments }
 {}
 
-/// A hash table without room for its counts is refused before its link is looked at, and before
-/// the other rows are.
+/// A hash table without room for its counts is refused before its link and the other rows are
+/// checked.
 #[tactic(auto, unfolding(elf_model::proofs::OnLiterals::on_literals, elf_model::proofs::OnLoader::on_loader))]
 pub fn sizes_come_first()
     ensures { SizesComeFirst }

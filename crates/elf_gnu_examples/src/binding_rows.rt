@@ -1,7 +1,7 @@
 //! Worked bindings of names over files, each computed by the prover.
 ghost use Rattle.elf_gnu_examples.specs.ExamplesBindings.{EmptyNamesAskForNothing, FirstDefines, HighestBucketsCount, LookupsAsk, NoneDefines, OtherSymbolsAsk, RefusalsStop, SymbolsAreCounted, SymbolsAreRefused, SymbolsAreRefusedInOrder, SymbolsAsk, WordsOfSymbolsEnd};
 
-/// The first file that defines a name is its definer.
+/// The first file that defines a name is used.
 #[tactic(auto, unfolding(elf_model::proofs::OnLiterals::on_literals, elf_model::proofs::OnLoader::on_loader, elf_model::specs::Bindings::defines, elf_model::specs::Bindings::definer_walk, elf_model::specs::Bindings::definition_in, elf_model::specs::Bindings::definition_lookup, elf_model::specs::Bindings::definition_cost, elf_model::specs::Bindings::bound_from, elf_model::specs::Bindings::is_reference, elf_model::specs::Bindings::whole_name, elf_model::specs::Bindings::reference_by_index, elf_model::specs::Bindings::reference_version, elf_model::specs::Bindings::reference_at, elf_model::specs::Bindings::symbols_hashed, elf_model::specs::Traits::hashed_symbol_count, elf_model::specs::Traits::gnu_symbols, elf_model::specs::Traits::max_bucket))]
 pub fn first_defines()
     ensures { FirstDefines }
@@ -19,13 +19,13 @@ pub fn refusals_stop()
     ensures { RefusalsStop }
 {}
 
-/// How many bytes looking for a definer asks for.
+/// How many bytes the search for a definition reads.
 #[tactic(auto, unfolding(elf_model::proofs::OnLiterals::on_literals, elf_model::proofs::OnLoader::on_loader, elf_model::specs::Bindings::defines, elf_model::specs::Bindings::definer_walk, elf_model::specs::Bindings::definition_in, elf_model::specs::Bindings::definition_lookup, elf_model::specs::Bindings::definition_cost, elf_model::specs::Bindings::bound_from, elf_model::specs::Bindings::is_reference, elf_model::specs::Bindings::whole_name, elf_model::specs::Bindings::reference_by_index, elf_model::specs::Bindings::reference_version, elf_model::specs::Bindings::reference_at, elf_model::specs::Bindings::symbols_hashed, elf_model::specs::Traits::hashed_symbol_count, elf_model::specs::Traits::gnu_symbols, elf_model::specs::Traits::max_bucket))]
 pub fn lookups_ask()
     ensures { LookupsAsk }
 {}
 
-/// What symbols ask others for.
+/// Which symbols are references.
 #[tactic(auto, unfolding(elf_model::proofs::OnLiterals::on_literals, elf_model::proofs::OnLoader::on_loader, elf_model::specs::Bindings::defines, elf_model::specs::Bindings::definer_walk, elf_model::specs::Bindings::definition_in, elf_model::specs::Bindings::definition_lookup, elf_model::specs::Bindings::definition_cost, elf_model::specs::Bindings::bound_from, elf_model::specs::Bindings::is_reference, elf_model::specs::Bindings::whole_name, elf_model::specs::Bindings::reference_by_index, elf_model::specs::Bindings::reference_version, elf_model::specs::Bindings::reference_at, elf_model::specs::Bindings::symbols_hashed, elf_model::specs::Traits::hashed_symbol_count, elf_model::specs::Traits::gnu_symbols, elf_model::specs::Traits::max_bucket))]
 pub fn symbols_ask()
     ensures { SymbolsAsk }
@@ -37,7 +37,7 @@ pub fn empty_names_ask_for_nothing()
     ensures { EmptyNamesAskForNothing }
 {}
 
-/// What is refused of a symbol that asks others for something.
+/// What is refused of a symbol that is a reference.
 #[tactic(auto, unfolding(elf_model::proofs::OnLiterals::on_literals, elf_model::proofs::OnLoader::on_loader, elf_model::specs::Bindings::defines, elf_model::specs::Bindings::definer_walk, elf_model::specs::Bindings::definition_in, elf_model::specs::Bindings::definition_lookup, elf_model::specs::Bindings::definition_cost, elf_model::specs::Bindings::bound_from, elf_model::specs::Bindings::is_reference, elf_model::specs::Bindings::whole_name, elf_model::specs::Bindings::reference_by_index, elf_model::specs::Bindings::reference_version, elf_model::specs::Bindings::reference_at, elf_model::specs::Bindings::symbols_hashed, elf_model::specs::Traits::hashed_symbol_count, elf_model::specs::Traits::gnu_symbols, elf_model::specs::Traits::max_bucket))]
 pub fn symbols_are_refused()
     ensures { SymbolsAreRefused }
@@ -49,13 +49,13 @@ pub fn symbols_are_counted()
     ensures { SymbolsAreCounted }
 {}
 
-/// Other bindings, and other numbers of versions.
+/// Other bindings, and other version indices.
 #[tactic(auto, unfolding(elf_model::proofs::OnLiterals::on_literals, elf_model::proofs::OnLoader::on_loader, elf_model::specs::Bindings::defines, elf_model::specs::Bindings::definer_walk, elf_model::specs::Bindings::definition_in, elf_model::specs::Bindings::definition_lookup, elf_model::specs::Bindings::definition_cost, elf_model::specs::Bindings::bound_from, elf_model::specs::Bindings::is_reference, elf_model::specs::Bindings::whole_name, elf_model::specs::Bindings::reference_by_index, elf_model::specs::Bindings::reference_version, elf_model::specs::Bindings::reference_at, elf_model::specs::Bindings::symbols_hashed, elf_model::specs::Traits::hashed_symbol_count, elf_model::specs::Traits::gnu_symbols, elf_model::specs::Traits::max_bucket))]
 pub fn other_symbols_ask()
     ensures { OtherSymbolsAsk }
 {}
 
-/// Words of versions for fewer symbols than there are.
+/// Versym entries for fewer symbols than there are.
 #[tactic(auto, unfolding(elf_model::proofs::OnLiterals::on_literals, elf_model::proofs::OnLoader::on_loader, elf_model::specs::Bindings::defines, elf_model::specs::Bindings::definer_walk, elf_model::specs::Bindings::definition_in, elf_model::specs::Bindings::definition_lookup, elf_model::specs::Bindings::definition_cost, elf_model::specs::Bindings::bound_from, elf_model::specs::Bindings::is_reference, elf_model::specs::Bindings::whole_name, elf_model::specs::Bindings::reference_by_index, elf_model::specs::Bindings::reference_version, elf_model::specs::Bindings::reference_at, elf_model::specs::Bindings::symbols_hashed, elf_model::specs::Traits::hashed_symbol_count, elf_model::specs::Traits::gnu_symbols, elf_model::specs::Traits::max_bucket))]
 pub fn words_of_symbols_end()
     ensures { WordsOfSymbolsEnd }

@@ -8,8 +8,8 @@ pub fn counts_are_refused()
     ensures { CountsAreRefused }
 {}
 
-/// No word of a filter; a shift of 31, whose bits are none of the filter; a table that ends
-/// with its buckets; counts that are refused cost nothing beside the headers.
+/// No word of a filter; a shift of 31, whose bits are none of the filter; a table that ends with
+/// its buckets; counts that are refused cost nothing besides the headers.
 #[tactic(auto, unfolding(elf_model::proofs::OnLiterals::on_literals, elf_model::proofs::OnLoader::on_loader))]
 pub fn counts_at_their_bounds()
     ensures { CountsAtTheirBounds }
@@ -34,21 +34,19 @@ pub fn buckets_lead_to_symbols()
     ensures { BucketsLeadToSymbols }
 {}
 
-/// A chain whose last word is even; a name whose hash is that of another but for the lowest
-/// bit.
+/// A chain whose last word is even; a name whose hash is that of another except for the lowest bit.
 #[tactic(auto, unfolding(elf_model::proofs::OnLiterals::on_literals, elf_model::proofs::OnLoader::on_loader))]
 pub fn chains_end_at_odd_words()
     ensures { ChainsEndAtOddWords }
 {}
 
-/// A hash table of the gABI in its place: other symbols stand in the chain, which ends, or
-/// comes back to itself.
+/// A gABI hash table in its place: other symbols are in the chain, which ends, or has a cycle.
 #[tactic(auto, unfolding(elf_model::proofs::OnLiterals::on_literals, elf_model::proofs::OnLoader::on_loader))]
 pub fn other_tables()
     ensures { OtherTables }
 {}
 
-/// What these ask for: a chain word for each symbol that is tried.
+/// What these read: a chain word for each symbol that is tried.
 #[tactic(auto, unfolding(elf_model::proofs::OnLiterals::on_literals, elf_model::proofs::OnLoader::on_loader))]
 pub fn other_tables_ask()
     ensures { OtherTablesAsk }

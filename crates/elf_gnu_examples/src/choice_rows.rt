@@ -7,7 +7,7 @@ pub fn names_are_listed()
     ensures { NamesAreListed }
 {}
 
-/// A name that is a front of another, and one of a byte more than are shown.
+/// A name that is a prefix of another, and one with a byte more than are shown.
 #[tactic(auto, unfolding(elf_model::proofs::OnLiterals::on_literals, crate::proofs::OnExamples::on_examples))]
 pub fn fronts_are_not_listed()
     ensures { FrontsAreNotListed }
@@ -49,7 +49,7 @@ pub fn members_stand()
     ensures { MembersStand }
 {}
 
-/// The lines of members that do not stand alone.
+/// The lines of members that are not listed alone.
 #[tactic(auto, unfolding(elf_model::proofs::OnLiterals::on_literals, crate::proofs::OnExamples::on_examples))]
 pub fn lines_stand_before_lines()
     ensures { LinesStandBeforeLines }

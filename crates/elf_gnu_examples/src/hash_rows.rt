@@ -1,4 +1,4 @@
-//! Worked lookups in hash tables that stand alone, each computed by the prover.
+//! Worked lookups in hash tables that are alone, each computed by the prover.
 ghost use Rattle.elf_gnu_examples.specs.ExamplesGnuHash.{KnownGnuHashes, ChainsAreWalked, TrialsAreRefused, FilterWordsAlternate, BucketsAreByTheHash, WordsLeadNowhere};
 
 /// The hashes of some names.
@@ -7,7 +7,7 @@ pub fn known_gnu_hashes()
     ensures { KnownGnuHashes }
 {}
 
-/// Symbols of the hash alone are tried, and the words of the others read.
+/// Only symbols of the hash are tried, and the words of the others read.
 #[tactic(auto, unfolding(elf_model::proofs::OnLiterals::on_literals, elf_model::proofs::OnLoader::on_loader, crate::proofs::OnExamples::on_examples))]
 pub fn chains_are_walked()
     ensures { ChainsAreWalked }
@@ -19,7 +19,7 @@ pub fn trials_are_refused()
     ensures { TrialsAreRefused }
 {}
 
-/// Which word of the filter tells of a hash, and that each of two bits does.
+/// Which word of the filter is for a hash, and that each of two bits is needed.
 #[tactic(auto, unfolding(elf_model::proofs::OnLiterals::on_literals, elf_model::proofs::OnLoader::on_loader, crate::proofs::OnExamples::on_examples))]
 pub fn filter_words_alternate()
     ensures { FilterWordsAlternate }

@@ -13,7 +13,7 @@ pub fn links_are_refused_in_order()
     ensures { LinksAreRefusedInOrder }
 {}
 
-/// What reading the entries never passes.
+/// The upper bound of reading the entries.
 #[tactic(auto, unfolding(elf_model::proofs::OnLiterals::on_literals, elf_model::proofs::OnLoader::on_loader, crate::proofs::OnExamples::on_examples))]
 pub fn links_ceiling_row()
     ensures { LinksCeiling }

@@ -1,7 +1,7 @@
 //! Worked rows of symbol versions, each computed by the prover.
 ghost use Rattle.elf_gnu_examples.specs.ListedVersions.{NumbersAreRefused, FlagsNameVersions, NeedsHaveTheirStrings, NumberTablesAreRefused, NumberTablesEnd, DefinitionsAreRefused, DefinitionsLeadOn, DefinitionsAreNamed, NeedsAreRefused, NeedsLeadOn, DefinitionsComeFirst, VersionedLibraryLists, LibraryListsWhole, StandardHasNone, HostileLists, NoneWithoutSections, OverlappingAreCut, VersionsCost};
 
-/// A number that no record names: of a symbol, of definitions that are none, and of one that names
+/// An index that no record names: of a symbol, of definitions that are none, and of one that names
 /// the file itself.
 #[tactic(auto, unfolding(elf_model::proofs::OnLiterals::on_literals, crate::proofs::OnExamples::on_examples))]
 pub fn numbers_are_refused()
@@ -20,21 +20,21 @@ pub fn needs_have_their_strings()
     ensures { NeedsHaveTheirStrings }
 {}
 
-/// The section of version numbers: fewer entries than symbols, half of one, their size, no symbol
-/// table, no such section.
+/// The versym section: fewer entries than symbols, half of one, their size, no symbol table, no
+/// such section.
 #[tactic(auto, unfolding(elf_model::proofs::OnLiterals::on_literals, crate::proofs::OnExamples::on_examples))]
 pub fn number_tables_are_refused()
     ensures { NumberTablesAreRefused }
 {}
 
-/// Entries behind the last symbol are not looked at, and a section of no bytes has no rows.
+/// Entries after the last symbol are not read, and a section of no bytes has no rows.
 #[tactic(auto, unfolding(elf_model::proofs::OnLiterals::on_literals, crate::proofs::OnExamples::on_examples))]
 pub fn number_tables_end()
     ensures { NumberTablesEnd }
 {}
 
-/// A definition: its version, its number, its name past the end of the table, and past the end of
-/// the strings.
+/// A definition: its layout version, its index, its name past the end of the table, and past the
+/// end of the strings.
 #[tactic(auto, unfolding(elf_model::proofs::OnLiterals::on_literals, crate::proofs::OnExamples::on_examples))]
 pub fn definitions_are_refused()
     ensures { DefinitionsAreRefused }
@@ -47,14 +47,14 @@ pub fn definitions_lead_on()
     ensures { DefinitionsLeadOn }
 {}
 
-/// A name that two definitions share, the largest number with the hidden bit, a name in the last
+/// A name that two definitions share, the largest index with the hidden bit, a name in the last
 /// bytes of the table.
 #[tactic(auto, unfolding(elf_model::proofs::OnLiterals::on_literals, crate::proofs::OnExamples::on_examples))]
 pub fn definitions_are_named()
     ensures { DefinitionsAreNamed }
 {}
 
-/// A needed file and its version: the record version, the number, and names past the end of the
+/// A needed file and its version: the record version, the index, and names past the end of the
 /// strings.
 #[tactic(auto, unfolding(elf_model::proofs::OnLiterals::on_literals, crate::proofs::OnExamples::on_examples))]
 pub fn needs_are_refused()
@@ -68,7 +68,7 @@ pub fn needs_lead_on()
     ensures { NeedsLeadOn }
 {}
 
-/// A number that a definition and a need have: the definition names it.
+/// An index that a definition and a need have: the definition names it.
 #[tactic(auto, unfolding(elf_model::proofs::OnLiterals::on_literals, crate::proofs::OnExamples::on_examples))]
 pub fn definitions_come_first()
     ensures { DefinitionsComeFirst }
@@ -80,13 +80,13 @@ pub fn library_lists()
     ensures { VersionedLibraryLists }
 {}
 
-/// Its whole listing, in the names of the GNU system.
+/// Its whole listing, in the GNU names.
 #[tactic(auto, unfolding(elf_model::proofs::OnLiterals::on_literals, crate::proofs::OnExamples::on_examples))]
 pub fn library_lists_whole()
     ensures { LibraryListsWhole }
 {}
 
-/// Without the names of the GNU system it has no symbol versions.
+/// Without the GNU names it has no symbol versions.
 #[tactic(auto, unfolding(elf_model::proofs::OnLiterals::on_literals, crate::proofs::OnExamples::on_examples))]
 pub fn standard_has_none()
     ensures { StandardHasNone }
@@ -104,13 +104,13 @@ pub fn none_without_sections()
     ensures { NoneWithoutSections }
 {}
 
-/// Definitions that lie over each other: as many are met as have room one behind the other.
+/// Definitions that overlap: as many are visited as have room one after another.
 #[tactic(auto, unfolding(elf_model::proofs::OnLiterals::on_literals, crate::proofs::OnExamples::on_examples))]
 pub fn overlapping_are_cut()
     ensures { OverlappingAreCut }
 {}
 
-/// How many bytes are asked for at most.
+/// How many bytes are read at most.
 #[tactic(auto, unfolding(elf_model::proofs::OnLiterals::on_literals, crate::proofs::OnExamples::on_examples))]
 pub fn versions_cost()
     ensures { VersionsCost }

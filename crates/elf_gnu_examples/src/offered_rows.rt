@@ -1,4 +1,4 @@
-//! Worked lookups of symbols that are offered, or not, each computed by the prover.
+//! Worked lookups of symbols that are exported, or not, each computed by the prover.
 ghost use Rattle.elf_gnu_examples.specs.ExamplesOffered.{NamesAreRefused, UndefinedByValue, ThreadLocalByPlace, BindingsOffer, TypesOffer, VisibilitiesOffer};
 
 /// A name that is outside.
@@ -20,13 +20,13 @@ pub fn thread_local_by_place()
     ensures { ThreadLocalByPlace }
 {}
 
-/// Each binding: local, global, weak, unique, and numbers beside them.
+/// Each binding: local, global, weak, unique, and numbers next to them.
 #[tactic(auto, unfolding(elf_model::proofs::OnLiterals::on_literals, elf_model::proofs::OnLoader::on_loader))]
 pub fn bindings_offer()
     ensures { BindingsOffer }
 {}
 
-/// Each type: none, object, common, indirect; section, file, and numbers beside them.
+/// Each type: none, object, common, indirect; section, file, and numbers next to them.
 #[tactic(auto, unfolding(elf_model::proofs::OnLiterals::on_literals, elf_model::proofs::OnLoader::on_loader))]
 pub fn types_offer()
     ensures { TypesOffer }

@@ -1,4 +1,4 @@
-//! Worked lookups in libraries whose LOAD segments lie over each other, each computed by the prover.
+//! Worked lookups in libraries whose LOAD segments overlap, each computed by the prover.
 ghost use Rattle.elf_gnu_examples.specs.ExamplesOverlaps.{OverlapsAreRefused, OverlapsBeforeTheEntries};
 
 /// A LOAD segment on a page of another is refused at its program header; one on the next page is
@@ -8,7 +8,7 @@ pub fn overlaps_are_refused()
     ensures { OverlapsAreRefused }
 {}
 
-/// The refusal stands before those of the dynamic entries, and a lookup by the section headers has
+/// The refusal comes before those of the dynamic entries, and a lookup by the section headers has
 /// none.
 #[tactic(auto, unfolding(elf_model::proofs::OnLiterals::on_literals, elf_model::proofs::OnLoader::on_loader))]
 pub fn overlaps_before_the_entries()

@@ -1,4 +1,4 @@
-//! Worked lookups by the records of versions, and in small tables, each computed by the prover.
+//! Worked lookups by the version records, and in small tables, each computed by the prover.
 ghost use Rattle.elf_gnu_examples.specs.ExamplesRecords.{FlagsDecide, NothingIsCheckedOfNone, StringsAreTheirOwn, SmallTablesBySegments, MachinesName};
 
 /// The flags of a definition.
@@ -7,7 +7,7 @@ pub fn flags_decide()
     ensures { FlagsDecide }
 {}
 
-/// Tables of words and of definitions that have no bytes.
+/// Versym and definition tables that have no bytes.
 #[tactic(auto, unfolding(elf_model::proofs::OnLiterals::on_literals, elf_model::proofs::OnLoader::on_loader))]
 pub fn nothing_is_checked_of_none()
     ensures { NothingIsCheckedOfNone }
@@ -19,7 +19,7 @@ pub fn strings_are_their_own()
     ensures { StringsAreTheirOwn }
 {}
 
-/// A hash table of the gABI whose segment has few bytes from it on.
+/// A gABI hash table at whose address few bytes of the segment are left.
 #[tactic(auto, unfolding(elf_model::proofs::OnLiterals::on_literals, elf_model::proofs::OnLoader::on_loader))]
 pub fn small_tables_by_segments()
     ensures { SmallTablesBySegments }

@@ -8,35 +8,35 @@ pub fn tables_by_segments()
     ensures { TablesBySegments }
 {}
 
-/// A segment that ends with its last byte but one; that ends past the end of the file; before
-/// the symbols, within the hash table, before the strings' end, within the words of versions.
+/// A segment that ends with its last byte but one; that ends past the end of the file; before the
+/// symbols, within the hash table, before the strings' end, within the versym entries.
 #[tactic(auto, unfolding(elf_model::proofs::OnLiterals::on_literals, elf_model::proofs::OnLoader::on_loader))]
 pub fn rests_end()
     ensures { RestsEnd }
 {}
 
-/// Words of versions at the segment's last bytes; no symbols; strings past the segment; a hash
-/// table past it; definitions of which 16 bytes are left.
+/// Versym entries at the segment's last bytes; no symbols; strings past the segment; a hash table
+/// past it; definitions of which 16 bytes are left.
 #[tactic(auto, unfolding(elf_model::proofs::OnLiterals::on_literals, elf_model::proofs::OnLoader::on_loader))]
 pub fn rows_are_read()
     ensures { RowsAreRead }
 {}
 
-/// A second row of symbols is not looked at; no row of strings, or of their size, is refused at
+/// A second row of symbols is not read; a missing row of strings, or of their size, is refused at
 /// the hash table's.
 #[tactic(auto, unfolding(elf_model::proofs::OnLiterals::on_literals, elf_model::proofs::OnLoader::on_loader))]
 pub fn first_rows_count()
     ensures { FirstRowsCount }
 {}
 
-/// Dynamic entries of no whole number, none, too few of them, past the end of the file; no
+/// Dynamic entries whose number is not whole, none, too few of them, past the end of the file; no
 /// segment of them.
 #[tactic(auto, unfolding(elf_model::proofs::OnLiterals::on_literals, elf_model::proofs::OnLoader::on_loader))]
 pub fn entries_are_checked()
     ensures { EntriesAreChecked }
 {}
 
-/// A row behind the first null entry is none.
+/// A row after the first null entry is none.
 #[tactic(auto, unfolding(elf_model::proofs::OnLiterals::on_literals, elf_model::proofs::OnLoader::on_loader))]
 pub fn entries_end()
     ensures { EntriesEnd }

@@ -1,4 +1,4 @@
-//! Worked rows of the versions behind the names of symbols, each computed by the prover.
+//! Worked rows of the versions after the names of symbols, each computed by the prover.
 ghost use Rattle.elf_gnu_examples.specs.ListedSuffixes.{CeilingWithVersions, EmptyTablesAreNotRefused, EntriesHaveVersions, FirstNumbersCount, FirstSymbolHasNoVersion, FrontsAreNotAskedFor, HiddenNumbersAreSmall, ObjectsHaveDefaults, ObjectsHaveVersions, OtherTablesHaveTheirs, RefusalsAreNotChosen, RowsAreRefused, SignsPartTexts, SuffixesAreCounted, SuffixesHaveTheirStrings, SymbolsHaveVersions, TablesAreRefused, TablesAreRefusedInOrder, TextsAskForVersions};
 
 /// Symbols with a version, a hidden one, a needed one, and none.
@@ -13,7 +13,8 @@ pub fn texts_ask_for_versions()
     ensures { TextsAskForVersions }
 {}
 
-/// A name that is a front of another, one of a byte more than are shown, and the same of versions.
+/// A name that is a prefix of another, one with a byte more than are shown, and the same for
+/// versions.
 #[tactic(auto, unfolding(elf_model::proofs::OnLiterals::on_literals, crate::proofs::OnExamples::on_examples))]
 pub fn fronts_are_not_asked_for()
     ensures { FrontsAreNotAskedFor }
@@ -37,7 +38,7 @@ pub fn tables_are_refused()
     ensures { TablesAreRefused }
 {}
 
-/// A section of version numbers that links to another table.
+/// A versym section that links to another table.
 #[tactic(auto, unfolding(elf_model::proofs::OnLiterals::on_literals, crate::proofs::OnExamples::on_examples))]
 pub fn other_tables_have_theirs()
     ensures { OtherTablesHaveTheirs }
@@ -55,13 +56,13 @@ pub fn objects_have_versions()
     ensures { ObjectsHaveVersions }
 {}
 
-/// Two sections of version numbers.
+/// Two versym sections.
 #[tactic(auto, unfolding(elf_model::proofs::OnLiterals::on_literals, crate::proofs::OnExamples::on_examples))]
 pub fn first_numbers_count()
     ensures { FirstNumbersCount }
 {}
 
-/// The numbers 0 and 1 with the highest bit of their word.
+/// The indices 0 and 1 with the highest bit of their versym entry.
 #[tactic(auto, unfolding(elf_model::proofs::OnLiterals::on_literals, crate::proofs::OnExamples::on_examples))]
 pub fn hidden_numbers_are_small()
     ensures { HiddenNumbersAreSmall }
@@ -73,7 +74,7 @@ pub fn suffixes_have_their_strings()
     ensures { SuffixesHaveTheirStrings }
 {}
 
-/// Faults of rows that no text asks for.
+/// Faults of rows that no text selects.
 #[tactic(auto, unfolding(elf_model::proofs::OnLiterals::on_literals, crate::proofs::OnExamples::on_examples))]
 pub fn refusals_are_not_chosen()
     ensures { RefusalsAreNotChosen }
@@ -85,13 +86,13 @@ pub fn tables_are_refused_in_order()
     ensures { TablesAreRefusedInOrder }
 {}
 
-/// Tables of no rows beside definitions that are cut.
+/// Tables of no rows next to definitions that are cut.
 #[tactic(auto, unfolding(elf_model::proofs::OnLiterals::on_literals, crate::proofs::OnExamples::on_examples))]
 pub fn empty_tables_are_not_refused()
     ensures { EmptyTablesAreNotRefused }
 {}
 
-/// An entry of symbol 0, whose word has a number.
+/// An entry of symbol 0, whose versym entry has an index.
 #[tactic(auto, unfolding(elf_model::proofs::OnLiterals::on_literals, crate::proofs::OnExamples::on_examples))]
 pub fn first_symbol_has_no_version()
     ensures { FirstSymbolHasNoVersion }
@@ -109,7 +110,7 @@ pub fn suffixes_are_counted()
     ensures { SuffixesAreCounted }
 {}
 
-/// What no listing with versions passes.
+/// The upper bound of listings with versions.
 #[tactic(auto, unfolding(elf_model::proofs::OnLiterals::on_literals, crate::proofs::OnExamples::on_examples, elf_model::specs::Cost::style_ceiling))]
 pub fn ceiling_with_versions()
     ensures { CeilingWithVersions }

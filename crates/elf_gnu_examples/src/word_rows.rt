@@ -1,4 +1,4 @@
-//! Worked lookups in files with words of versions and no records, each computed by the prover.
+//! Worked lookups in files with versym entries and no records, each computed by the prover.
 ghost use Rattle.elf_gnu_examples.specs.ExamplesWords.{WordsWithoutRecords, UnreadWordsAreUnchecked, EmptyRecordsAreNone, EitherRecordsAreEnough, WordsWithoutRows};
 
 /// By the sections: the first symbol of the name answers, for any version.
@@ -7,13 +7,13 @@ pub fn words_without_records()
     ensures { WordsWithoutRecords }
 {}
 
-/// The words are not checked where nothing names a version.
+/// The versym entries are not checked if nothing names a version.
 #[tactic(auto, unfolding(elf_model::proofs::OnLiterals::on_literals, elf_model::proofs::OnLoader::on_loader))]
 pub fn unread_words_are_unchecked()
     ensures { UnreadWordsAreUnchecked }
 {}
 
-/// A section of records without a byte counts for none; the first of a type decides.
+/// A section of records without a byte counts as none; the first of a type decides.
 #[tactic(auto, unfolding(elf_model::proofs::OnLiterals::on_literals, elf_model::proofs::OnLoader::on_loader))]
 pub fn empty_records_are_none()
     ensures { EmptyRecordsAreNone }

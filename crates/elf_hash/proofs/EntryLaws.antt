@@ -1,4 +1,4 @@
--- The first entries of a table, entry by entry, and where they stand.
+-- The first entries of a table, entry by entry, and their offsets.
 use Rattle.std.proofs.Common.{◌≡◌, ℕ, zero, suc, ◌+◌, ◌/◌, ◌==◌, Bool, true, false, List, Option, None, Some, refl, sym, ap, subst, ◌∙◌, arith}
 use Rattle.std.specs.Prelude.{option_map}
 use Rattle.elf_model.specs.Prelude.{DYNAMIC_SIZE, d_tag, dynamic_at, dynamic_count, first_that, p_filesz, p_offset, tagged_row}
@@ -24,7 +24,7 @@ module _ (file : List ℕ) (tag : ℕ) where
   unfolding tagged_entry
   tagged_more at n t = rw (t, tagged_entry) refl
 
-  -- the first entry is its own, or that of those behind it
+  -- the first entry is its own, or that of those after it
   tagged_suc : (at n : ℕ) → first_entry (entry_here file at tag) (tagged_entry file (at + 16) n tag) ≡ tagged_entry file at (suc n) tag
   tagged_suc at n = go (d_tag file at == tag) refl
     where
@@ -32,13 +32,13 @@ module _ (file : List ℕ) (tag : ℕ) where
       go true t = ap (λ (x : Option DynEntry). first_entry x (tagged_entry file (at + 16) n tag)) (here_some at t) ∙ sym (tagged_here at n t)
       go false t = ap (λ (x : Option DynEntry). first_entry x (tagged_entry file (at + 16) n tag)) (here_none at t) ∙ sym (tagged_more at n t)
 
-  -- an entry that is looked for in the one that a step gives, and then in those that are left
+  -- an entry that is searched in the one that a step yields, and then in those that are left
   entry_step : (at n before : ℕ) (next : ℕ) (found : Option DynEntry) → before ≡ suc n → next ≡ at + 16
       → first_entry (first_entry found (entry_here file at tag)) (tagged_entry file next n tag) ≡ first_entry found (tagged_entry file at before tag)
   entry_step at n before next (Some entry) less there = refl
   entry_step at n before next None less there = rw (less, there) (tagged_suc at n)
 
-  -- where no entry is left, it is what was found
+  -- if no entry is left, it is the one found before
   entry_end : (at n : ℕ) (found : Option DynEntry) → n ≡ 0 → first_entry found (tagged_entry file at n tag) ≡ found
   unfolding tagged_entry
   entry_end at n (Some entry) z = refl
@@ -81,7 +81,7 @@ module _ (file : List ℕ) (tag : ℕ) where
           tagged_more (dynamic_at base first) n t ∙ (ap (λ (x : ℕ). tagged_entry file x n tag) next
           ∙ (behind ∙ sym (ap (λ (x : Option ℕ). row_entry x base) (that_more base first n t))))
 
-  -- so it stands where the definitions say
+  -- so it is where the definitions say
   listed_is : (at : ℕ) (table : TableRange) → table.at ≡ p_offset file at → table.count ≡ p_filesz file at / DYNAMIC_SIZE
       → listed_entry file table tag ≡ option_map (dynamic_entry_at file) (tagged_row file at tag)
   unfolding tagged_row
@@ -99,7 +99,7 @@ module _ (file : List ℕ) (tag : ℕ) where
       go None e = rw (e, tagged_row) refl
       go (Some i) e = rw (e, tagged_row) refl
 
--- of each tag
+-- for each tag
 pub entries_are : (file : List ℕ) (at : ℕ) (table : TableRange) (found : DynamicTags) → table.at ≡ p_offset file at → table.count ≡ p_filesz file at / DYNAMIC_SIZE
     → AreListed file table found → AreTaggedEntries file at found
 entries_are file at table found place count l = record {
@@ -145,7 +145,7 @@ module _ (file : List ℕ) (table : TableRange) (at n : ℕ) (found : DynamicTag
     verneed = sym (entry_end file _ at n found.verneed none) ∙ e.verneed;
   }
 
--- an entry that is taken in stands at an offset that is told in other words
+-- an entry that is added is at an offset that is given in other terms
 pub takes_at : (file : List ℕ) (at there : ℕ) (entry : Dyn) (old new : DynamicTags) → there ≡ at → (IsDyn file there entry → TakesEntry file there old new) → IsDyn file at entry
     → TakesEntry file at old new
 takes_at file at there entry old new is gives stands =

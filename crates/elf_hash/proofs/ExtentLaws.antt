@@ -1,4 +1,4 @@
--- How many symbols a hash table tells of, word by word.
+-- The number of symbols that a hash table covers, word by word.
 use Rattle.std.proofs.Common.{◌≡◌, ℕ, zero, suc, ◌+◌, ◌-◌, ◌*◌, ◌<◌, ◌≤◌, max, min, nat_lt, Bool, true, false, List, Option, None, Some, Result, Ok, refl, sym, ap, subst, ◌∙◌, arith, nat_cmp}
 use Rattle.std.specs.Ordering.{ord_max}
 use Rattle.std.proofs.lemmas.Bool.Decides.{nat_tests}
@@ -16,14 +16,14 @@ use Rattle.elf_hash.proofs.GnuSteps.{chain_is}
 abbrev pub buckets_of : Gnu → TableRange
 buckets_of t = record { at = t.place.at + (16 + 8 * t.nbloom); count = t.nbucket; entry = 4 }
 
--- where one stands
+-- the offset of one
 pub bucket_stands : (file : List ℕ) (table : Table) (t : Gnu) (index : ℕ) → IsGnu file table t → row_at (buckets_of t) index ≡ gnu_bucket_at file table.place index
 bucket_stands file table t index is =
     let start = is.place.start in
     let filters = is.filters in
     omega (arith, start, filters)
 
--- a step that answered a row gave it, and one that answered none ended
+-- a step that returned a row yielded it, and one that returned none ended
 pub row_given : (file : Option (List ℕ)) (old new : CursorState) (b : Bool) → b ≡ true → Advances file old new (Ok b) → GivesRow file old new
 row_given file old new true t s = s
 row_given file old new false t s = cc
@@ -32,11 +32,11 @@ pub row_ended : (file : Option (List ℕ)) (old new : CursorState) (b : Bool) �
 row_ended file old new false t s = s
 row_ended file old new true t s = cc
 
--- the greater of two numbers, as `max` answers it
+-- the greater of two numbers, as `max` returns it
 pub greater_is : (a b : ℕ) → ord_max nat_cmp a b ≡ max a b
 greater_is a b = grind (arith, nat_tests)
 
--- no bucket is gone by; one more is
+-- no bucket is passed; one more is
 pub highest_none : (file : List ℕ) (place : ℕ) → max_bucket file place 0 ≡ 0
 unfolding max_bucket
 highest_none file place = refl
@@ -89,7 +89,7 @@ module _ (file : List ℕ) (table : Table) where
       let none : table.symbols - index ≡ 0 = omega arith in
       last_is index ∙ (ap (λ (n : ℕ). past (first_that test index n)) none ∙ ap past (that_none index))
 
-  -- what is found stands behind what is gone by
+  -- what is found is after what is passed
   above : (first n : ℕ) → first + n ≤ table.symbols → 0 < n → first < past (first_that test first n)
   above first zero within some = absurd (omega arith)
   above first (suc n) within some = go (λ more. above (suc first) n (omega arith) more) (test first) refl
@@ -115,7 +115,7 @@ module _ (file : List ℕ) (table : Table) where
       let e = last_is index in
       omega (arith, a, e)
 
-  -- a symbol that no chain word has, the last of a chain, and another
+  -- a symbol that has no chain word, the last of a chain, and another
   pub not_chained : (index : ℕ) → is_chained file table index ≡ false → test index ≡ true
   not_chained index isnt = rw (isnt, is_last_in) refl
 
@@ -125,7 +125,7 @@ module _ (file : List ℕ) (table : Table) where
   pub goes_on : (index : ℕ) → is_chained file table index ≡ true → is_chain_end (chain_word file table.place index) ≡ false → test index ≡ false
   goes_on index is ends = rw (is, ends, is_last_in) refl
 
-  -- those of the whole table, by the highest of the buckets' words
+  -- those of the whole table, by the largest bucket value
   module _ (start before : ℕ) (is : start ≡ max_bucket file table.place (gnu_nbucket file table.place)) where
     pub none_chained : start < gnu_first file table.place → gnu_symbols file table before ≡ unfound (gnu_first file table.place) before table.symbols
     unfolding gnu_symbols
@@ -161,7 +161,7 @@ module _ (file : List ℕ) (scope : LookupTables) where
   pub sysv_bytes : scope.kind ≡ SysvTable → extent_bytes file scope ≡ 0
   sysv_bytes kind = rw (kind, extent_bytes) refl
 
--- what a cursor over buckets may ask for before the first
+-- what a cursor over buckets may request before the first
 pub unread_start : (c : CursorState) (t : Gnu) → c.failed ≡ None → c.table ≡ buckets_of t → c.unread ≡ size_of c.table → unread_bytes c ≡ 4 * t.nbucket
 unread_start c t none is unread = rw (none, unread, is) (omega arith)
 
@@ -170,11 +170,11 @@ pub word_is : (file : List ℕ) (table : Table) (t : Gnu) (index word place : �
     → place ≡ t.place.at + (16 + 8 * t.nbloom + 4 * t.nbucket + 4 * (index - t.first)) → word ≡ field file place 4 → word ≡ chain_word file table.place index
 word_is file table t index word place is at read = read ∙ ap (λ (n : ℕ). field file n 4) (at ∙ chain_is file table index t is)
 
--- a number that is read, in other words
+-- a number that is read, in other terms
 pub read_of : (result : Result ℕ Fault) (count other : ℕ) → count ≡ other → IsRead result count → IsRead result other
 read_of result count other same read = subst (λ n. IsRead result n) same read
 
--- strings of no symbol do not count
+-- if there is no symbol the strings do not count
 no_room : (table : Table) (symbols strings : ℕ) → table.symbols ≡ 0 → before_strings table symbols strings ≡ 0
 unfolding before_strings
 no_room table symbols strings none = grind (arith, nat_tests, none)
@@ -189,7 +189,7 @@ behind_is scope symbols strings are = go scope.table.symbols refl
         let first = ap (λ (n : ℕ). before_strings scope.table n strings) (sym are.place) in
         first ∙ ap (λ (n : ℕ). before_strings scope.table scope.symbols.place n) (sym (are.strings_at (omega (arith, some))))
 
--- what is told of a table of either kind
+-- the result for a table of either style
 pub gnu_told : (file : List ℕ) (scope : LookupTables) (t : Gnu) (symbols strings before : ℕ) {a b : CountedState} {result : Result ℕ Fault}
     → scope.kind ≡ GnuTable → IsGnu file scope.table t → SymbolsBegin scope symbols strings → before ≡ before_strings scope.table symbols strings
     → EndsChain (4 * t.nbucket) (gnu_symbols file scope.table before) a b result → ReturnsExtent file scope a b result

@@ -1,4 +1,4 @@
--- What the first segment of dynamic entries tells, within what is asked for.
+-- What the first PT_DYNAMIC segment implies, within what is requested.
 use Rattle.std.proofs.Common.{◌≡◌, ℕ, zero, suc, ◌+◌, ◌*◌, ◌/◌, ◌<◌, ◌≤◌, List, None, Some, Result, Ok, Err, IfErr, refl, sym, ap, subst, ◌∙◌, arith}
 use Rattle.std.proofs.Math.Nat.{div-mul-le_self}
 use Rattle.elf_model.specs.Prelude.{PT_DYNAMIC, dynamic_segment_index, first_refusal, lookup_tables_by_segments, overlap_checks, p_filesz, p_offset, scope_in_segment, scope_in_segments, segment_at, segment_dynamic_checks}
@@ -27,7 +27,7 @@ pub size_within : (table : TableRange) (size : ℕ) → TableInBounds size table
 size_within table size h = fits_in table.count table.entry table.at size h
 
 module _ (file : List ℕ) where
-  -- a LOAD segment lies over another, or none does
+  -- two LOAD segments overlap, or none do
   pub overlap_refused : (fault : Fault) → RefusedBy (overlap_checks file) fault → FindsLookupTables file (lookup_tables_by_segments file) (Err fault)
   unfolding lookup_tables_by_segments
   overlap_refused (Refused refusal) r = λ other. rw (r, lookup_tables_by_segments) refl
@@ -48,7 +48,7 @@ module _ (file : List ℕ) where
   unfolding scope_in_segments
   segments_none e = rw (e, scope_in_segments) refl
 
-  -- a fault of a read tells nothing
+  -- a fault of a read implies nothing
   pub read_finds : (fault : Fault) → IsOfRead fault → FindsLookupTables file (scope_in_segments file) (Err fault)
   read_finds (Refused refusal) budget = λ other. absurd (other budget)
   read_finds (Source fault at) budget = tt

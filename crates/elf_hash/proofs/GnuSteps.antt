@@ -1,4 +1,4 @@
--- A walk in a table of the GNU system step by step: what it meets at the symbol that it has come to.
+-- A walk in a GNU hash table step by step: what it finds at the current symbol.
 use Rattle.std.proofs.Common.{◌≡◌, ℕ, zero, suc, ◌+◌, ◌-◌, ◌*◌, ◌/◌, ◌%◌, ◌^◌, ◌<◌, ◌≤◌, ◌&&◌, inl, inr, not, nat_lt, if◌then◌else◌, Bool, true, false, List, Option, None, Some, Result, Ok, Err, refl, sym, ap, ◌∙◌, arith, add-one}
 use Rattle.std.proofs.lemmas.Bool.{cases_eq, cases_lt, ne_eqb}
 use Rattle.elf_model.specs.Prelude.{Answers, ChainResult as NoteScan, GoesOn, HashTable as Table, IsGnuLookup, Last, NotThere, Untried, WalkEnd, chain_word, cost_where, end_of_chain, end_of_match, field, filter_may_contain, gnu_bucket_of, gnu_chain_at, gnu_end, gnu_looked_up, gnu_start, gnu_symbol, gnu_tried, gnu_walked_at, gnu_word_at, hash_bits_match, holds_none, is_chain_end, is_chained, is_set, nothing_tried, sum_over}
@@ -15,7 +15,7 @@ use Rattle.elf_hash.specs.declared.gnu_table.GnuHashTable.{GnuHashTable}
 use Rattle.elf_hash.specs.declared.answer.SymbolMatch.{SymbolMatch}
 use Rattle.elf_hash.proofs.WalkLaws.{Meets, bytes_most, bytes_tried, meets_answer, meets_fault, meets_refusal, meets_untried}
 
--- one where it is so
+-- one if the condition holds
 abbrev pub one_if : Bool → ℕ
 one_if b = cost_where b 1
 
@@ -31,7 +31,7 @@ sum_last amount first (suc count) =
     let same : amount (suc first + count) ≡ amount (first + suc count) = ap amount (omega arith) in
     omega (arith, rest, same)
 
--- what is asked for with a word more, and with a symbol that is tried or not
+-- what is requested with one more word, and with a symbol that is tried or not
 pub bytes_where : (few read tried cost : ℕ) (b : Bool) → walk_bytes few read tried cost + 4 + cost_where b cost ≡ walk_bytes few (suc read) (tried + one_if b) cost
 bytes_where few read tried cost true = rw (add-one) (omega (arith, bytes_tried few read tried cost))
 bytes_where few read tried cost false = omega arith
@@ -44,13 +44,13 @@ pub one_most : (b : Bool) → one_if b ≤ 1
 one_most true = omega arith
 one_most false = omega arith
 
--- there is room for one more chain word, where a symbol is there
+-- there is room for one more chain word, if there is a symbol
 pub room_for : (first start read index before size : ℕ) → index ≡ start + read → (0 < read → first ≤ start) → first ≤ index
     → before + 4 * (index - first) + 4 ≤ size → (first ≤ start) × (4 * (read + 1) ≤ size)
 room_for first start zero index before size rises begins low lies = (omega arith, omega arith)
 room_for first start (suc read) index before size rises begins low lies = let b = begins (omega arith) in (b, omega arith)
 
--- and for what is asked for
+-- and for what is requested
 pub spent_most : (read tried cost size : ℕ) (b : Bool) → tried ≤ read → 4 * (read + 1) ≤ size
     → walk_bytes 0 read tried cost + 4 + cost_where b cost ≤ walk_bytes 0 (size / 4) (size / 4) cost
 spent_most read tried cost size b few fits =
@@ -90,7 +90,8 @@ module _ (file : List ℕ) (table : Table) (hash : ℕ) (says : ℕ → Result B
       let same : tried_of (i + suc more) ≡ tried_of (suc (i + more)) = ap tried_of (omega arith) in
       omega (arith, next, on, same)
 
-  -- a walk has read so many chain words and tried so many symbols, and has come to a symbol index by the word at an offset
+  -- a walk has read a number of chain words and tried a number of symbols, and has come to a symbol
+  -- index by the word at an offset
   pub record Along (read tried index place : ℕ) : Type 0 where
     pub told : holds_none file table.place hash ≡ false
     pub goes : GoesOn ends symbols read
@@ -130,7 +131,7 @@ module _ (file : List ℕ) (table : Table) (hash : ℕ) (says : ℕ → Result B
   unfolding gnu_end
   end_by y b is of_hash = rw (is, gnu_end) (rw of_hash refl)
 
-  -- no fewer words are read and symbols tried than so far, and one more at a symbol that is there
+  -- no fewer words are read and symbols tried than so far, and one more at a symbol that exists
   least_at : (i : ℕ) (end : WalkEnd) → (end ≡ NotThere → ⊥)
       → (tried_of (suc i) ≤ (gnu_walked_at file table.place hash i end).tried) × (suc i ≤ (gnu_walked_at file table.place hash i end).read)
   unfolding gnu_walked_at
@@ -181,7 +182,7 @@ module _ (file : List ℕ) (table : Table) (hash : ℕ) (says : ℕ → Result B
         ])
   ]
 
-  -- it has come to a symbol that is there, whose chain word is of the hash or not
+  -- it has come to a symbol that exists, whose chain word is of the hash or not
   pub record There (read tried index word : ℕ) (b : Bool) : Type 0 where
     pub place : ℕ
     pub along : Along read tried index place
@@ -207,7 +208,7 @@ module _ (file : List ℕ) (table : Table) (hash : ℕ) (says : ℕ → Result B
     end_there : ends index ≡ (elim b [ true ↦ end_of_match (says index) (end_of_chain (word_of index)) | false ↦ end_of_chain (word_of index) ])
     end_there = end_by index b t.is (ap (λ (w : ℕ). hash_bits_match w hash) (sym t.word_is) ∙ sym t.of_hash)
 
--- what a walk meets there
+-- what a walk finds there
 module _ (file : List ℕ) (table : Table) (hash : ℕ) (says : ℕ → Result Bool Refusal) (stands : ℕ → SymbolMatch → Type 0) (cost : ℕ) where
   abbrev looked : NoteScan
   looked = gnu_looked_up file table hash says
@@ -231,7 +232,7 @@ module _ (file : List ℕ) (table : Table) (hash : ℕ) (says : ℕ → Result B
     gives : (end : WalkEnd) → ends file table hash says index ≡ Some end → looked ≡ gnu_walked_at file table.place hash read end
     gives end here = ends_here file table hash says read tried index t.place end t.along here
 
-    -- a symbol that answers, or fails, was to be tried
+    -- a symbol that matches, or fails, was to be tried
     wanted : (c : Bool) (result : Result (Option SymbolMatch) Fault) → (result ≡ Ok None → ⊥) → TriesDefinedSymbol c stands says index result → (c ≡ true) × TriesSymbol stands says index result
     wanted true result other tries = (refl, tries)
     wanted false result other tries = absurd (other tries)
@@ -262,7 +263,7 @@ module _ (file : List ℕ) (table : Table) (hash : ℕ) (says : ℕ → Result B
         (rw (now, index_is) (gives Answers (end ∙ rw (w.0, w.1.0) refl)))
         (let bytes = bytes_where 0 read tried cost b in omega (arith, bytes)) w.1.1)
 
-    -- a symbol that does not answer, or is not tried
+    -- a symbol that does not match, or is not tried
     end_passed : TriesDefinedSymbol b stands says index (Ok None) → ends file table hash says index ≡ end_of_chain (word_of file table hash says index)
     end_passed tries = by_case b tries (end_there file table hash says read tried index word b t)
       where
@@ -287,7 +288,7 @@ module _ (file : List ℕ) (table : Table) (hash : ℕ) (says : ℕ → Result B
         (rw (now) (gives Last (end_passed tries ∙ rw odd refl)))
         (let bytes = bytes_where 0 read tried cost b in omega (arith, bytes)) tt)
 
-    -- past a symbol that does not answer and is not the last
+    -- past a symbol that does not match and is not the last
     pub along_next : (found : Option SymbolMatch) (all place : ℕ) → TriesDefinedSymbol b stands says index (Ok found) → ((answer : SymbolMatch) → found ≡ Some answer → ⊥)
         → is_chain_end word ≡ false → all ≡ tried + one_if b → place ≡ gnu_chain_at file table.place index
         → Along file table hash says (read + 1) all (index + 1) place
@@ -307,7 +308,7 @@ module _ (file : List ℕ) (table : Table) (hash : ℕ) (says : ℕ → Result B
           tried_is = count ∙ now;
         })
 
--- where the words of a table stand, and what its symbol indexes are
+-- the offsets of the words of a table, and its symbol indexes
 pub filter_is : (file : List ℕ) (table : Table) (hash word : ℕ) (t : GnuHashTable) → IsGnu file table t
     → word ≡ field file (t.place.at + (16 + 8 * (hash / 64 % t.nbloom))) 8
     → (is_set word (hash % 64) && is_set word (hash / 2 ^ t.shift % 64)) ≡ filter_may_contain file table.place hash
@@ -329,7 +330,7 @@ pub chained_is : (file : List ℕ) (table : Table) (index : ℕ) (t : GnuHashTab
     ≡ is_chained file table index
 chained_is file table index t is = rw (is.place.symbols, is.place.size, is.filters, is.buckets, is.first) refl
 
--- a table tells that it holds no name of a hash, by its filter or by an empty bucket, or that it may
+-- a table excludes a hash, by its filter or by an empty bucket, or it does not
 pub reported_none : (file : List ℕ) (place hash : ℕ) → filter_may_contain file place hash ≡ false → holds_none file place hash ≡ true
 reported_none file place hash isnt = rw isnt refl
 
@@ -341,7 +342,7 @@ pub told_start : (file : List ℕ) (place hash start : ℕ) → filter_may_conta
     → HoldsHash file place hash start
 told_start file place hash start may is some = (rw may (ne_eqb (gnu_start file place hash) 0 (λ e. some (is ∙ e))), is)
 
--- nothing is tried where the table tells that there is nothing
+-- nothing is tried if the table excludes the hash
 pub passed_over : (file : List ℕ) (table : Table) (hash : ℕ) (says : ℕ → Result Bool Refusal) → holds_none file table.place hash ≡ true
     → gnu_looked_up file table hash says ≡ nothing_tried
 unfolding gnu_looked_up

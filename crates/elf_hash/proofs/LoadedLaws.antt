@@ -1,4 +1,5 @@
--- What a file tells of what a lookup is made in, behind its load, and what asking for it costs.
+-- What a file implies for the tables that a lookup searches, after its load, and the cost of
+-- finding them.
 use Rattle.std.proofs.Common.{◌≡◌, ℕ, ◌+◌, ◌*◌, ◌≤◌, ◌==◌, true, false, inl, inr, List, ◌++◌, length, Option, None, Some, Result, Err, refl, sym, ap, subst, ◌∙◌, arith, eq-eqb, ne_eqb}
 use Rattle.std.proofs.lemmas.Bool.{cases_Bool, eqb-true}
 use Rattle.elf_model.specs.Prelude.{IsBudgetRefusal, LookupTables as IsScopeOf, before_headers, e_phnum, e_shnum, early_checks, first_refusal, header_checks, load_checks, lookup_tables_by_segments, lookup_tables_of, scope_by_sections, segments_asked}
@@ -13,7 +14,7 @@ use Rattle.elf_table.proofs.LoadLaws.{load-within, load_most}
 use Rattle.elf_hash.specs.Prelude.{FindsLookupTables, entries_asked, scope_cost, scope_loaded, segments_bytes}
 use Rattle.elf_hash.specs.declared.lookup_tables.LookupTables.{LookupTables}
 
--- a fault of a read tells nothing
+-- a fault of a read implies nothing
 pub read_tells : (file : List ℕ) (found : Result IsScopeOf Refusal) (fault : Fault) → IsOfRead fault → FindsLookupTables file found (Err fault)
 read_tells file found (Refused refusal) budget = λ other. absurd (other budget)
 read_tells file found (Source fault at) budget = tt
@@ -68,7 +69,7 @@ module _ (file : List ℕ) (headers : ℕ) where
       let is = scope_passed (first_refusal-none (header_checks file) (load_checks file headers) header ∙ load) in
       subst (λ r. FindsLookupTables file r result) (sym is) f
 
-  -- what it costs: the file header at least, and where the early checks pass the headers
+  -- the cost: the file header at least, and if the early checks pass the headers
   pub scope_least : 64 ≤ scope_cost file headers
   scope_least = go (first_refusal (before_headers file headers)) refl
     where
@@ -87,7 +88,7 @@ module _ (file : List ℕ) (headers : ℕ) where
   load_within header size is same passed =
       load-within file header size headers _ is same scope_least (λ early. let cost = cost_loaded passed early in let count : header.e_shnum ≡ e_shnum file = is.e_shnum in omega (arith, cost, count))
 
--- all that is asked for: the section headers, or the program headers and the dynamic entries
+-- all that is requested: the section headers, or the program headers and the dynamic entries
 pub all_within : (header : Ehdr) (size seen slots : ℕ) → header.e_shnum ≤ slots → header.e_phnum ≤ slots
     → load_cost header seen slots + segments_bytes header size ≤ 64 * slots + size
 all_within header size seen slots few few_segments =

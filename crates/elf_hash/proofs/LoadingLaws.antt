@@ -1,4 +1,4 @@
--- What a file that locates no section headers tells of its load, and what asking for it costs.
+-- What a file that locates no section headers implies for its load, and the cost of it.
 use Rattle.std.proofs.Common.{◌≡◌, ℕ, ◌+◌, ◌*◌, ◌≤◌, List, ◌++◌, None, Err, refl, sym, ap, ◌∙◌, arith}
 use Rattle.std.specs.Prelude.{is_none}
 use Rattle.std.proofs.lemmas.List.{append_assoc}
@@ -11,7 +11,7 @@ use Rattle.elf_table.specs.declared.fault.Fault.{Fault}
 use Rattle.elf_table.specs.declared.fault.Fault.TheVariants.{Refused, Source}
 use Rattle.elf_hash.specs.Loading.{LoadsSegments, segments_load_cost}
 
--- no section header is asked for
+-- no section header is requested
 pub load_none : (header : Ehdr) (size slots : ℕ) → header.e_shnum ≡ 0 → load_cost header size slots ≡ 0
 load_none header size slots none =
     let most : load_cost header size slots ≤ 64 * header.e_shnum =
@@ -29,7 +29,7 @@ module _ (file : List ℕ) (headers : ℕ) where
       first_refusal-none (header_checks file) (load_checks file headers) passed ∙ ap (λ (n : ℕ). first_refusal (load_checks file n)) (sym slots) ∙ loads other
   load_stops (Source fault at) store passed slots loads = tt
 
-  -- a fault of a read tells nothing
+  -- a fault of a read implies nothing
   pub read_stops : (fault : Fault) (store : StoreState) → IsOfRead fault → LoadsSegments file headers store (Err fault)
   read_stops (Refused refusal) store budget = λ other. absurd (other budget)
   read_stops (Source fault at) store budget = tt
@@ -39,7 +39,7 @@ module _ (file : List ℕ) (headers : ℕ) where
   all_pass slots same header load =
       first_refusal-none (header_checks file) (load_checks file headers) header ∙ ap (λ (n : ℕ). first_refusal (load_checks file n)) (sym same) ∙ load
 
-  -- where they pass the program headers are asked for
+  -- if they pass the program headers are requested
   pub early_pass : first_refusal (header_checks file ++ load_checks file headers) ≡ None → first_refusal (before_headers file headers) ≡ None
   early_pass passes =
       passes_front (before_headers file headers) (section_name_checks file)

@@ -14,7 +14,7 @@ use Rattle.elf_hash.specs.declared.hash_section.HashSection.{HashSection}
 use Rattle.elf_hash.specs.declared.answer.SymbolMatch.{SymbolMatch}
 use Rattle.elf_hash.proofs.NamedLaws.{row_is}
 
--- what steps ask for, each a chain word, a symbol and a name
+-- what steps request, each a chain word, a symbol and a name
 pub steps_ask : (steps length : ℕ) → walk_bytes 4 steps steps (symbol_bytes length) ≡ 4 + steps * step_bytes length
 steps_ask steps length = omega arith
 

@@ -1,4 +1,4 @@
--- What a lookup is made in by the dynamic entries of a segment.
+-- The tables that a lookup searches, by the dynamic entries of a segment.
 use Rattle.std.proofs.Common.{◌≡◌, ◌⊎◌, inl, inr, ℕ, ◌/◌, ◌<◌, ◌≤◌, ◌||◌, nat_lt, Bool, true, false, List, [], ◌∷◌, ◌++◌, Option, None, Some, Result, Ok, Err, refl, sym, ap, subst, ◌∙◌, arith}
 use Rattle.std.proofs.lemmas.Bool.Decides.{nat_tests}
 use Rattle.std.specs.Prelude.{is_none, option_map}
@@ -16,7 +16,7 @@ use Rattle.elf_hash.specs.declared.versions.VersionTables.{VersionTables}
 use Rattle.elf_hash.proofs.SettleLaws.{checked_fails, checked_passes, passed_both, refused_back, refused_front}
 use Rattle.elf_hash.proofs.SegmentLaws.{IsRest, entry_passes, entry_refused, row_some}
 
--- whether an entry is there
+-- whether there is an entry
 module _ (file : List ℕ) where
   none_map : (row : Option ℕ) → is_none (option_map (dynamic_entry_at file) row) ≡ is_none row
   none_map None = refl
@@ -31,7 +31,7 @@ missing_refuses missing at t = rw t refl
 both_missing : (a b c d e f : Bool) → a ≡ d → b ≡ e → c ≡ f → (a || b || c) ≡ true → (d || e || f) ≡ true
 both_missing a b c d e f p q r t = rw (sym p, sym q, sym r) t
 
--- the checks of what the entries tell of the symbols
+-- the checks of what the entries locate of the symbols
 module _ (file : List ℕ) (at row : ℕ) where
   abbrev missing_rows : List Check
   missing_rows = refuse (is_none (tagged_row file at DT_SYMTAB) || is_none (tagged_row file at DT_STRTAB) || is_none (tagged_row file at DT_STRSZ)) row Unmapped ∷ []
@@ -150,7 +150,7 @@ module _ (file : List ℕ) (at row : ℕ) where
               },
             )
 
--- the checks of the hash table's entry, and behind them those of the symbols
+-- the checks of the hash table's entry, and after them those of the symbols
 less_true : (a b : ℕ) → a < b → nat_lt a b ≡ true
 less_true a b h = grind (arith, nat_tests)
 
@@ -219,7 +219,7 @@ module _ (file : List ℕ) (kind : IsHashKind) (index at : ℕ) (entry : DynEntr
         },
       )
 
--- what a lookup is made in, by the entry of the hash table
+-- the tables that a lookup searches, by the entry of the hash table
 module _ (file : List ℕ) (index at : ℕ) where
   pub entries_none : hash_row file at ≡ None → scope_by_entries file index at ≡ Err (record { at = 0x20; cause = NoHash })
   entries_none e = rw (e, scope_by_entries) refl

@@ -1,4 +1,4 @@
--- The trial of a symbol by its name: where the symbol stands, and what its name is compared with.
+-- The match of a symbol by its name: the symbol's offset, and what its name is compared with.
 use Rattle.std.proofs.Common.{◌≡◌, ℕ, ◌<◌, Bool, true, false, List, Option, None, Some, Result, Ok, Err, refl, ap, ◌∙◌, arith}
 use Rattle.elf_model.specs.Prelude.{fault_at, same, same_symbol, st_name, symbol_at}
 use Rattle.elf_model.specs.declared.causes.Refusal.{Refusal}
@@ -10,7 +10,7 @@ use Rattle.elf_table.specs.declared.fault.Fault.TheVariants.{Refused, Source}
 use Rattle.elf_hash.specs.Prelude.{SaysHasName, TriesSymbol}
 use Rattle.elf_hash.specs.declared.answer.SymbolMatch.{SymbolMatch}
 
--- the symbol, where its name is the wanted one
+-- the symbol, if its name is the wanted one
 abbrev pub picked : Sym → Result Bool Fault → Result (Option SymbolMatch) Fault
 picked symbol (Ok true) = Ok (Some (record { symbol = symbol; version = None }))
 picked symbol (Ok false) = Ok None
@@ -28,7 +28,7 @@ module _ (file : List ℕ) (symbols : TableRange) (names : StringTableRange) (wa
       let name : off ≡ st_name file (symbol_at file is.table index) = place ∙ (stands.st_name ∙ ap (st_name file) row_is) in
       rw (is.strings (omega arith), name, row_is) (ap (λ (f : ℕ → Result Bool Refusal). f index) is.says_so)
 
-  -- what is answered of the symbol by the comparison of its name
+  -- the result for the symbol by the comparison of its name
   pub tries :
       (symbol : Sym) (off place : ℕ) (equal : Result Bool Fault) → index < symbols.count
       → IsSym file (row_at symbols index) symbol → off ≡ symbol.st_name → place ≡ row_at symbols index

@@ -1,4 +1,5 @@
--- The counts of a table of either kind are held against its size, as a loader's lookup does; and its walk is the one there.
+-- The counts of a table of either style are checked against its size, as a loader's lookup does;
+-- and its walk is the one there.
 use Rattle.std.proofs.Common.{◌≡◌, ℕ, Bool, List, [], ◌∷◌, Ok, Err, refl, sym, ap, ◌∙◌}
 use Rattle.elf_model.specs.Prelude.{GnuTable, LookupTables, SymbolQuery, SysvTable, answers, counts_check, first_refusal, refuse, walk_in}
 use Rattle.elf_model.specs.declared.causes.Cause.TheVariants.{HashShape}
@@ -42,7 +43,7 @@ module _ (file : List ℕ) (scope : LookupTables) (place : HashTableLocation) (i
       let c = counts is.table other in sysv_check (sym is.kind ∙ ap hash_style_of sysv) ∙ rw (c.0, c.1) refl
   sysv_fails (Source fault at) sysv counts = tt
 
--- the walk of a loader's lookup is that of its trial
+-- the walk of a loader's lookup is that of its matcher
 pub walk_in_is : (file : List ℕ) (scope : LookupTables) (wanted : SymbolQuery) (is_wanted : ℕ → Bool)
     → walk_in file scope wanted is_wanted ≡ walked_in file scope wanted.name (answers file scope.symbols wanted is_wanted)
 unfolding walk_in

@@ -1,4 +1,4 @@
--- What a lookup is made in, by the section headers.
+-- The tables that a lookup searches, by the section headers.
 use Rattle.std.proofs.Common.{◌≡◌, ℕ, List, [], None, Some, Result, Ok, Err, refl, ap, ◌∙◌}
 use Rattle.elf_model.specs.Prelude.{GnuTable, HashStyle as IsHashKind, SHT_GNU_HASH, SHT_GNU_VERDEF, SHT_GNU_VERNEED, SHT_HASH, SysvTable, e_machine, first_of_type, hash_checks_from, hash_section, least_size, records_of_type, scope_by_sections, section_at, section_checks, section_lookup_tables, section_words, sh_offset, sh_size, version_checks}
 use Rattle.elf_model.specs.declared.versions.VersionKind.TheVariants.{Definition, File}
@@ -25,7 +25,7 @@ module _ (file : List ℕ) where
   unfolding hash_section
   none_first none e = rw (none, e, hash_section) refl
 
-  -- what a lookup is made in, by that section
+  -- the tables that a lookup searches, by that section
   pub sections_none : hash_section file ≡ None → scope_by_sections file ≡ Err (record { at = 0x28; cause = NoHash })
   unfolding scope_by_sections
   sections_none e = rw (e, scope_by_sections) refl
@@ -37,7 +37,7 @@ module _ (file : List ℕ) where
   sections_find found e (Err (Refused refusal)) s = λ other. rw (e, s, scope_by_sections) refl
   sections_find found e (Err (Source fault at)) s = absurd s
 
--- what a section with a hash table answers, once its checks pass
+-- the result for a section with a hash table, once its checks pass
 pub section_is : (file : List ℕ) (kind : IsHashKind) (at : ℕ) (scope : LookupTables) (found : ℕ × (TableRange × StringTableRange)) (versions : VersionTables)
     → ChecksThenValue (hash_checks_from (least_size kind) file at) (AreHashed file at) (Ok found)
     → ChecksThenValue (version_checks file at) (AreVersions file (section_words file) (records_of_type file SHT_GNU_VERDEF Definition (records_of_type file SHT_GNU_VERNEED File []))) (Ok versions)

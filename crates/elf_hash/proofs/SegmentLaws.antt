@@ -1,4 +1,4 @@
--- What the dynamic entries of a segment tell of, one by one.
+-- What the dynamic entries of a segment locate, one by one.
 use Rattle.std.proofs.Common.{◌≡◌, ℕ, ◌+◌, ◌-◌, ◌/◌, Bool, true, false, List, [], ◌∷◌, ◌++◌, length, Option, None, Some, Ok, Err, refl, sym, ap, subst, ◌∙◌}
 use Rattle.std.specs.Prelude.{◌&&◌, is_none, is_some, not, option_map}
 use Rattle.elf_model.specs.Prelude.{Check, DT_GNU_HASH, DT_HASH, DT_VERDEF, DT_VERNEED, GnuTable, SysvTable, VersionRecordTable as IsTableOf, VersymTable as IsWordsOf, checks_of_row, d_un, first_refusal, hash_row, is_outside, mapped_at, mapped_place, p_filesz, p_offset, p_vaddr, records_of_tag, refuse, rest_checks, rest_place, rest_size, segment_strings, segment_words, tagged_row, words_row}
@@ -23,7 +23,7 @@ pub record IsRest (file : List ℕ) (row : ℕ) (table : TableRange) : Type 0 wh
   pub place : table.at ≡ rest_place file row
   pub size : table.count ≡ rest_size file row
 
--- an entry that is told of, and its row
+-- an entry that is used, and its row
 module _ (file : List ℕ) where
   pub row_some : (row : Option ℕ) (entry : DynEntry) → Some entry ≡ option_map (dynamic_entry_at file) row → (row ≡ Some entry.at) × (d_un file entry.at ≡ entry.value)
   row_some None entry h = absurd (cc)
@@ -129,14 +129,14 @@ module _ (file : List ℕ) (at tag : ℕ) (kind : VersionKind) where
         let is_table : IsVersionRecordTable file told records = record { kind = same; head = head; place = p.1.place; size = p.1.size; names = λ some. names } in
         (ap (λ (r : Option ℕ). first_refusal (checks_of_row r (rest_checks file))) here.0 ∙ p.0, λ others tables h. rw (these others) (is_table, h))
 
--- whether none is there
+-- whether there is none
 pub none_is : (entry : Option DynEntry) (none : Bool) → is_some entry ≡ not none → is_none entry ≡ none
 none_is None true h = refl
 none_is None false h = cc
 none_is (Some entry) true h = cc
 none_is (Some entry) false h = refl
 
--- the entry of the words of versions
+-- the entry of the version symbol table
 module _ (file : List ℕ) (at : ℕ) where
   none_map : (row : Option ℕ) → is_none (option_map (dynamic_entry_at file) row) ≡ is_none row
   none_map None = refl
@@ -167,7 +167,7 @@ module _ (file : List ℕ) (at : ℕ) where
       → found.versym ≡ option_map (dynamic_entry_at file) (words_row file at)
   words_needed found are d n = words_by found false are (rw (d, n) refl)
 
--- the tables of versions
+-- the version tables
 module _ (file : List ℕ) (index at : ℕ) where
   abbrev definition_rows : List Check
   definition_rows = checks_of_row (tagged_row file at DT_VERDEF) (rest_checks file)

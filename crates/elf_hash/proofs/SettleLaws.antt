@@ -1,4 +1,4 @@
--- Checks one list behind the other, and what answers behind them.
+-- Consecutive lists of checks, and the results after them.
 use Rattle.std.proofs.Common.{◌≡◌, ℕ, false, List, [], ◌++◌, None, Ok, Err, sym, ◌∙◌}
 use Rattle.elf_model.specs.Checks.{Check, first_refusal}
 use Rattle.elf_model.proofs.CheckSteps.{first_refusal-none, first_refusal-some}
@@ -13,7 +13,7 @@ pub none_refused : (fault : Fault) → RefusedBy [] fault → ⊥
 none_refused (Refused refusal) r = cc
 none_refused (Source fault at) r = r
 
--- a refusal in front, and one behind
+-- a refusal in the first list, and one in the second
 pub refused_front : (front back : List Check) (fault : Fault) → RefusedBy front fault → RefusedBy (front ++ back) fault
 refused_front front back (Refused refusal) r = first_refusal-some front back refusal r
 refused_front front back (Source fault at) r = r
@@ -25,7 +25,7 @@ refused_back front back (Source fault at) p r = r
 pub passed_both : (front back : List Check) → first_refusal front ≡ None → first_refusal back ≡ None → first_refusal (front ++ back) ≡ None
 passed_both front back p q = first_refusal-none front back p ∙ q
 
--- an answer that is told by checks
+-- a result that is given by checks
 pub checked_fails : {A : Type 0} (checks : List Check) (value : A) (fault : Fault) → Err fault ≡ checked checks value → RefusedBy checks fault
 checked_fails checks value fault h = (table-fails false value value checks fault (sym h)).1
 

@@ -1,4 +1,4 @@
--- Where the symbols of a lookup begin, and their strings.
+-- The offset at which the symbols of a lookup begin, and their strings.
 use Rattle.std.proofs.Common.{◌≡◌, ℕ, ◌<◌, List, ◌∙◌, sym, arith}
 use Rattle.elf_model.specs.LoaderScope.{LookupTables}
 use Rattle.elf_hash.specs.Prelude.{IsDynamicSymbols, IsTable, SymbolsBegin, place_of_table}
@@ -6,7 +6,7 @@ use Rattle.elf_hash.specs.declared.symbols.DynamicSymbols.{DynamicSymbols}
 use Rattle.elf_hash.specs.declared.table.HashTable.{HashTable}
 use Rattle.elf_hash.specs.declared.table.HashTable.TheVariants.{Gnu, Sysv}
 
--- a table is of as many symbols as the definitions say
+-- a table covers as many symbols as the definitions say
 as_many : (file : List ℕ) (scope : LookupTables) (table : HashTable) → IsTable file scope table → (place_of_table table).symbols ≡ scope.table.symbols
 as_many file scope (Gnu t) is = is.1.place.symbols
 as_many file scope (Sysv t) is = is.1.place.symbols

@@ -1,4 +1,4 @@
--- A walk in a table of the gABI step by step: what it meets at the word that it has come to.
+-- A walk in a SysV hash table step by step: what it finds at the current word.
 use Rattle.std.proofs.Common.{◌≡◌, ℕ, zero, suc, ◌+◌, ◌*◌, ◌%◌, ◌<◌, ◌≤◌, inl, inr, Bool, true, false, List, Option, None, Some, Result, Ok, Err, refl, sym, ap, subst, ◌∙◌, arith, add-one}
 use Rattle.std.proofs.lemmas.Bool.{cases_eq, cases_lt}
 use Rattle.elf_model.specs.Prelude.{Answers, ChainResult as NoteScan, EndsAtWord, GoesOn, HashTable as Table, IsFirst, IsSysvWalk, Last, NotThere, Untried, WalkEnd, end_of_match, field, is_sysv_index, sysv_bucket_of, sysv_chain_at, sysv_cycle, sysv_end, sysv_nchain, sysv_walked, sysv_walked_at, sysv_word, sysv_word_at, walk_word}
@@ -25,7 +25,7 @@ module _ (file : List ℕ) (table : Table) (hash : ℕ) (says : ℕ → Result B
   abbrev walk : NoteScan
   walk = sysv_walked file table hash says
 
-  -- a walk has come to a word at an offset behind so many steps
+  -- a walk has come to a word at an offset after a number of steps
   pub record Along (steps word place : ℕ) : Type 0 where
     pub goes : GoesOn ends words steps
     pub word_is : word ≡ words steps
@@ -110,7 +110,7 @@ module _ (file : List ℕ) (table : Table) (hash : ℕ) (says : ℕ → Result B
   least_more walked (inl a) steps goes few tries = ends_more walked a steps goes tries
   least_more walked (inr b) steps goes few tries = rw (b.gives) (few, few)
 
-  -- a walk goes round that tries a symbol behind as many steps as there are chains
+  -- a walk is cyclic that tries a symbol after as many steps as there are chains
   goes_round : (walked : NoteScan) → IsSysvWalk file table hash says walked → walked.tried ≤ sysv_nchain file table.place
       → GoesOn ends words (sysv_nchain file table.place)
       → ends (words (sysv_nchain file table.place)) ≡ end_of_match (says (words (sysv_nchain file table.place))) None
@@ -182,7 +182,7 @@ module _ (file : List ℕ) (table : Table) (hash : ℕ) (says : ℕ → Result B
           let few = more steps word t in
           meets_fault stands 4 cost walk _ (suc steps) (suc steps) fault read few.0 few.1 (omega (arith, bytes_tried 4 steps steps cost))
 
-      -- past a symbol that does not answer
+      -- past a symbol that does not match
       pub along_next : (found : Option SymbolMatch) (next place index : ℕ) → index ≡ word → TriesSymbol stands says index (Ok found) → ((answer : SymbolMatch) → found ≡ Some answer → ⊥)
           → place ≡ sysv_chain_at file table.place word → next ≡ field file place 4 → Along (steps + 1) next place
       unfolding walk_word sysv_word_at
@@ -195,7 +195,7 @@ module _ (file : List ℕ) (table : Table) (hash : ℕ) (says : ℕ → Result B
             place_is = rw (stands, t.along.word_is) refl;
           })
 
--- where the words of a table stand
+-- the offsets of the words of a table
 pub bucket_is : (file : List ℕ) (table : Table) (hash : ℕ) (t : SysvHashTable) → IsSysv file table t
     → t.place.at + (8 + 4 * (hash % t.nbucket)) ≡ sysv_bucket_of file table.place hash
 unfolding sysv_bucket_of

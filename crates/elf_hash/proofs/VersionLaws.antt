@@ -1,4 +1,4 @@
--- The tables of versions by the section headers.
+-- The version tables by the section headers.
 use Rattle.std.proofs.Common.{◌≡◌, ℕ, ◌/◌, ◌<◌, ◌==◌, not, true, false, inl, inr, List, [], ◌∷◌, ◌++◌, length, Option, None, Some, Ok, Err, refl, sym, ap, ◌∙◌, arith, eq-eqb}
 use Rattle.std.proofs.lemmas.Bool.{cases_Bool, eqb-true}
 use Rattle.elf_model.specs.Prelude.{Check, SHT_GNU_VERDEF, SHT_GNU_VERNEED, SHT_GNU_VERSYM, VERSYM_SIZE, VersionRecordTable as IsTableOf, VersymTable as IsWordsOf, all_checks, checks_of_type, first_of_type, first_refusal, has_bytes, range_checks_of, records_of_type, records_with, refuse, section_at, section_words, sh_link, sh_offset, sh_size, strings_checks, table_checks, unless_empty, version_checks, version_table, words_section}
@@ -14,7 +14,7 @@ use Rattle.elf_hash.specs.declared.versions.VersionTables.{VersionTables}
 use Rattle.elf_hash.specs.declared.symbols.VersymTable.{VersymTable}
 use Rattle.elf_hash.proofs.SettleLaws.{checked_fails, checked_passes, none_refused, passed_both, refused_back, refused_front}
 
--- the words of a section: its own checks
+-- the versym entries of a section: its own checks
 abbrev words_own : List ℕ → ℕ → List Check
 words_own file at = unless_empty (sh_size file at) (table_checks file at VERSYM_SIZE)
 
@@ -40,7 +40,7 @@ module _ (file : List ℕ) (at : ℕ) where
             (p.0, (sym (ap (λ (t : TableRange). t.at) is), sym (ap (λ (t : TableRange). t.count) is)))
       ]
 
--- it is looked at where one of both kinds of records has a byte
+-- it is read if one of both kinds of records has a byte
 module _ (file : List ℕ) where
   pub words_unread : has_bytes file SHT_GNU_VERDEF ≡ false → has_bytes file SHT_GNU_VERNEED ≡ false → None ≡ words_section file
   unfolding words_section
@@ -54,7 +54,7 @@ module _ (file : List ℕ) where
   unfolding words_section
   words_needed d n = rw (d, n, words_section) refl
 
--- the first section of words
+-- the first section of versym entries
 module _ (file : List ℕ) (at : ℕ) where
   pub words_none : words_section file ≡ None → ChecksThenValue (words_checks file at) (AreVersymTable (section_words file)) (Ok None)
   unfolding section_words
@@ -160,12 +160,12 @@ module _ (file : List ℕ) (type : ℕ) (kind : VersionKind) where
         let same : (others : List IsTableOf) → records_of_type file type kind others ≡ records_at file kind (section_at file i) ∷ others = λ others. rw (e, records_of_type) refl in
         (ap first_refusal first_checks ∙ s.0, λ others tables h. rw (same others) (s.1, h))
 
--- nothing behind
+-- nothing after
 one_alone : (found : Option VersionRecordTable) → table_if_any found ++ [] ≡ table_if_any found
 one_alone None = refl
 one_alone (Some table) = refl
 
--- both tables of records, one in front of the other
+-- both tables of records, one before the other
 pub both_in_front : (file : List ℕ) (front back : List IsTableOf → List IsTableOf) (one other : Option VersionRecordTable) → AreInFront file front one → AreInFront file back other
     → AreVersionRecordTables file (front (back [])) (table_if_any one ++ table_if_any other)
 both_in_front file front back one other f b =
@@ -173,12 +173,12 @@ both_in_front file front back one other f b =
     let behind : AreVersionRecordTables file (back []) (table_if_any other) = rw (one_alone other) at alone in
     f (back []) (table_if_any other) behind
 
--- the records that stand with words
+-- the records that come with versym entries
 pub records_kept : (told : Option IsWordsOf) (words : VersymTable) (records : List IsTableOf) → AreVersymTable told (Some words) → records_with told records ≡ records
 records_kept None words records h = absurd h
 records_kept (Some one) words records h = refl
 
--- all tables of versions
+-- all version tables
 module _ (file : List ℕ) (at : ℕ) where
   abbrev definitions : List Check
   definitions = checks_of_type file SHT_GNU_VERDEF (all_checks version_table file)

@@ -1,4 +1,5 @@
--- How walks end, and what they ask for by the symbols that are tried and the chain words that are read.
+-- How walks end, and what they request by the symbols that are tried and the chain words that are
+-- read.
 use Rattle.std.proofs.Common.{◌≡◌, ℕ, suc, ◌+◌, ◌≤◌, Bool, List, Option, Result, Ok, Err, IfSome, ap, ◌∙◌, arith, mul-le-mul_right, suc-mul}
 use Rattle.elf_model.specs.Prelude.{ChainResult as NoteScan, field, refused_walk, slice}
 use Rattle.elf_model.specs.declared.causes.Refusal.{Refusal}
@@ -22,22 +23,22 @@ pub bytes_most : (few read tried most_read most_tried cost : ℕ) → read ≤ m
     → walk_bytes few read tried cost ≤ walk_bytes few most_read most_tried cost
 bytes_most few read tried most_read most_tried cost r t = omega (arith, r, mul-le-mul_right cost t)
 
--- one symbol more
+-- one more symbol
 pub bytes_tried : (few read tried cost : ℕ) → walk_bytes few read tried cost + cost ≡ walk_bytes few read (suc tried) cost
 bytes_tried few read tried cost = omega (arith, suc-mul tried cost)
 
--- one step more, in which a symbol is tried and a word is read
+-- one more step, in which a symbol is tried and a word is read
 pub bytes_step : (few steps most cost : ℕ) → suc steps ≤ most → walk_bytes few steps steps cost + cost + 4 ≤ walk_bytes few most most cost
 bytes_step few steps most cost one =
     omega (arith, bytes_tried few steps steps cost, bytes_most few (suc steps) (suc steps) most most cost one one)
 
 module _ (stands : ℕ → SymbolMatch → Type 0) (few cost : ℕ) (walk : NoteScan) where
-  -- how a walk ends that has asked for so many bytes: within what it costs, and with what it gives
+  -- how a walk ends that has requested a number of bytes: within its cost, and with its result
   pub record Meets (spent : ℕ) (result : Result ChainResult Fault) : Type 0 where
     pub within : spent ≤ walk_bytes few walk.read walk.tried cost
     pub gives : GivesWalked stands walk result
 
-  -- and so it does what it does
+  -- and so it has its effect
   pub walks : {old new : CountedState} (spent : ℕ) (result : Result ChainResult Fault)
       → ((most : ℕ) → spent ≤ most → CallReads old new (fault_of_result result) most) → Meets spent result
       → WalksChain stands few cost walk old new result

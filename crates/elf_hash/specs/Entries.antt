@@ -9,11 +9,11 @@ use Rattle.elf_hash.specs.declared.dyn_entry.DynEntry.{DynEntry}
 abbrev pub dynamic_entry_at : List ℕ → ℕ → DynEntry
 dynamic_entry_at file at = record { at = at; value = d_un file at }
 
--- the same, where it has a tag
+-- the same, if it has a tag
 abbrev pub entry_here : List ℕ → ℕ → ℕ → Option DynEntry
 entry_here file at tag = elim (d_tag file at == tag) [ true ↦ Some (dynamic_entry_at file at) | false ↦ None ]
 
--- an entry, or another where there is none
+-- an entry, or another if there is none
 abbrev pub first_entry : Option DynEntry → Option DynEntry → Option DynEntry
 first_entry (Some entry) other = Some entry
 first_entry None other = other
@@ -27,7 +27,7 @@ tagged_entry file at (suc n) tag = elim (d_tag file at == tag) [ true ↦ Some (
 abbrev pub listed_entry : List ℕ → TableRange → ℕ → Option DynEntry
 listed_entry file table tag = tagged_entry file table.at (dynamic_count file table.at table.count) tag
 
--- something is so of the entry with each tag
+-- a predicate holds of the entry with each tag
 pub record EachTag (P : Option DynEntry → ℕ → Type 0) (found : DynamicTags) : Type 0 where
   pub hash : P found.hash DT_HASH
   pub gnu_hash : P found.gnu_hash DT_GNU_HASH
@@ -42,7 +42,7 @@ pub record EachTag (P : Option DynEntry → ℕ → Type 0) (found : DynamicTags
 abbrev pub no_entries : DynamicTags
 no_entries = record { hash = None; gnu_hash = None; symtab = None; strtab = None; strsz = None; versym = None; verdef = None; verneed = None }
 
--- the entry at an offset is taken in behind others
+-- the entry at an offset is added after others
 pub record TakesEntry (file : List ℕ) (at : ℕ) (old new : DynamicTags) : Type 0 where
   pub hash : new.hash ≡ first_entry old.hash (entry_here file at DT_HASH)
   pub gnu_hash : new.gnu_hash ≡ first_entry old.gnu_hash (entry_here file at DT_GNU_HASH)
@@ -57,6 +57,6 @@ pub record TakesEntry (file : List ℕ) (at : ℕ) (old new : DynamicTags) : Typ
 abbrev pub AreListed : List ℕ → TableRange → DynamicTags → Type 0
 AreListed file table found = EachTag (λ entry tag. entry ≡ listed_entry file table tag) found
 
--- they are those of the segment whose program header stands at an offset
+-- they are those of the segment whose program header is at an offset
 abbrev pub AreTaggedEntries : List ℕ → ℕ → DynamicTags → Type 0
 AreTaggedEntries file at found = EachTag (λ entry tag. entry ≡ option_map (dynamic_entry_at file) (tagged_row file at tag)) found

@@ -1,11 +1,11 @@
--- How many symbols a hash table knows, and what asking for it costs.
+-- The number of symbols that a hash table covers, and the cost of counting them.
 use Rattle.std.specs.Prelude.{ℕ, suc, ◌≡◌, ◌+◌, ◌-◌, ◌*◌, ◌<◌, List, None, Some, Result}
 use Rattle.elf_model.specs.Prelude.{GnuTable, HashTable, LookupTables, SysvTable, first_that, gnu_nbucket, hashed_symbol_count, is_last_in}
 use Rattle.elf_source.specs.Source.{CountedState}
 use Rattle.elf_table.specs.Prelude.{CallReads, IsRead, fault_of_result}
 use Rattle.elf_table.specs.declared.fault.Fault.{Fault}
 
--- how many symbols there are up to the end of the chain that begins at a symbol index
+-- the number of symbols up to the end of the chain that begins at a symbol index
 abbrev pub last_in : List ℕ → HashTable → ℕ → ℕ
 last_in file table start = elim (first_that (is_last_in file table) start (table.symbols - start)) [
   | None ↦ table.symbols
@@ -17,19 +17,20 @@ pub record EndsChain (few count : ℕ) (old new : CountedState) (result : Result
   pub costs : CallReads old new (fault_of_result result) (few + 4 * count)
   pub tells : IsRead result count
 
--- the symbols of a lookup begin at an offset, and their strings at another; strings of no symbol are not looked at
+-- the symbols of a lookup begin at an offset, and their strings at another; if there is no symbol
+-- the strings are ignored
 pub record SymbolsBegin (scope : LookupTables) (symbols strings : ℕ) : Type 0 where
   pub place : scope.symbols.place ≡ symbols
   pub strings_at : 0 < scope.table.symbols → scope.symbols.strings_at ≡ strings
 
--- how many bytes are asked for, behind the counts
+-- how many bytes are requested after the counts
 abbrev pub extent_bytes : List ℕ → LookupTables → ℕ
 extent_bytes file scope = elim scope.kind [
   | GnuTable ↦ 4 * gnu_nbucket file scope.table.place + 4 * hashed_symbol_count file scope
   | SysvTable ↦ 0
 ]
 
--- HOW MANY SYMBOLS a hash table knows, in a known file
+-- THE NUMBER OF SYMBOLS that a hash table covers, in a known file
 pub record ReturnsExtent (file : List ℕ) (scope : LookupTables) (old new : CountedState) (result : Result ℕ Fault) : Type 0 where
   pub costs : CallReads old new (fault_of_result result) (extent_bytes file scope)
   pub tells : IsRead result (hashed_symbol_count file scope)

@@ -1,4 +1,4 @@
--- The tables that a lookup searches in a file, and where they lie.
+-- The tables that a lookup searches in a file, and their ranges.
 use Rattle.std.specs.Prelude.{ℕ, ◌≡◌, ◌+◌, ◌≤◌, List, Result, Ok, Err}
 use Rattle.elf_model.specs.Prelude.{IsBudgetRefusal, LookupTables as IsScopeOf, e_machine}
 use Rattle.elf_model.specs.declared.causes.Refusal.{Refusal}
@@ -8,7 +8,7 @@ use Rattle.elf_hash.specs.HashStyles.{hash_style_of}
 use Rattle.elf_hash.specs.Symbols.{IsDynamicSymbols, DynamicSymbolsInBounds}
 use Rattle.elf_hash.specs.declared.lookup_tables.LookupTables.{LookupTables}
 
--- THE TABLES THAT A LOOKUP SEARCHES are those of the definitions, and the machine is the file's
+-- THE TABLES THAT A LOOKUP SEARCHES are those of the model, and the machine is the file's
 pub record IsLookupTables (file : List ℕ) (told : IsScopeOf) (scope : LookupTables) : Type 0 where
   pub machine : scope.machine ≡ e_machine file
   pub kind : hash_style_of scope.hash.kind ≡ told.kind
@@ -24,7 +24,7 @@ pub record LookupTablesInBounds (size : ℕ) (scope : LookupTables) : Type 0 whe
   pub count : scope.symbols.table.count ≡ scope.hash.symbols
   pub symbols : DynamicSymbolsInBounds size scope.symbols
 
--- what the definitions find is what the code has, or its refusal, unless that is for want of budget
+-- the model's result is that of the code, or its refusal, unless that is `Budget`
 abbrev pub FindsLookupTables : List ℕ → Result IsScopeOf Refusal → Result LookupTables Fault → Type 0
 FindsLookupTables file found (Ok scope) = (told : IsScopeOf) × (found ≡ Ok told) × IsLookupTables file told scope
 FindsLookupTables file found (Err (Refused refusal)) = (IsBudgetRefusal refusal → ⊥) → found ≡ Err refusal

@@ -17,7 +17,7 @@ use Rattle.elf_hash.specs.declared.hash_style.HashStyle.{HashStyle}
 use Rattle.elf_hash.specs.declared.lookup_tables.LookupTables.{LookupTables}
 use Rattle.elf_hash.specs.declared.symbols.DynamicSymbols.{DynamicSymbols}
 
--- the entry that locates the hash table, and the kind of that
+-- the entry that locates the hash table, and its style
 abbrev pub ReturnsHash : List ℕ → ℕ → Option (HashStyle × DynEntry) → Type 0
 ReturnsHash file at None = hash_row file at ≡ None
 ReturnsHash file at (Some found) = (hash_row file at ≡ Some (hash_style_of found.0, found.1.at)) × (d_un file found.1.at ≡ found.1.value)
@@ -27,7 +27,7 @@ abbrev pub TellSymbols : DynamicTags → Option (DynEntry × DynEntry × DynEntr
 TellSymbols found None = (is_none found.symtab || is_none found.strtab || is_none found.strsz) ≡ true
 TellSymbols found (Some told) = (found.symtab ≡ Some told.0) × (found.strtab ≡ Some told.1) × (found.strsz ≡ Some told.2)
 
--- the checks of the entries that locate versions
+-- the checks of the entries that locate version tables
 abbrev pub version_rows : List ℕ → ℕ → List Check
 version_rows file at =
     checks_of_row (words_row file at) (λ row.
@@ -35,7 +35,7 @@ version_rows file at =
     ++ checks_of_row (tagged_row file at DT_VERDEF) (rest_checks file)
     ++ checks_of_row (tagged_row file at DT_VERNEED) (rest_checks file))
 
--- the records of versions at the entries
+-- the version records at the entries
 abbrev pub rows_records : List ℕ → ℕ → List IsTableOf
 rows_records file at = records_of_tag file at DT_VERDEF Definition (records_of_tag file at DT_VERNEED File [])
 
@@ -61,7 +61,7 @@ scope_by_entries file index at = elim (hash_row file at) [
   ]
 ]
 
--- how many bytes of dynamic entries are asked for
+-- how many bytes of dynamic entries are requested
 abbrev pub entries_asked : List ℕ → ℕ
 entries_asked file = elim (dynamic_segment_index file) [
   | None ↦ 0
@@ -70,8 +70,9 @@ entries_asked file = elim (dynamic_segment_index file) [
       cost_where (pass (segment_dynamic_checks file at)) (p_filesz file at)
 ]
 
--- WHAT THE PROGRAM HEADERS SAY: the tables that a lookup searches, which lie within the file, by no more bytes than it has;
--- where the file is known within the bytes of the dynamic entries, and as the definitions find it
+-- THE RESULT BY THE PROGRAM HEADERS: the tables that a lookup searches, which lie within the file,
+-- by no more bytes than it has; if the file is known within the bytes of the dynamic entries, and
+-- as the definitions find it
 pub record FindsSegments (view : ExecutionView) (told : List ℕ → Result IsScopeOf Refusal) (old new : CountedState) (result : Result LookupTables Fault) : Type 0 where
   pub did : CallDid old new (fault_of_result result) old.seen.size (λ bytes.
       HoldsProgramHeaders bytes view.loaded view.store.now → CallReads old new (fault_of_result result) (entries_asked bytes) × FindsLookupTables bytes (told bytes) result)

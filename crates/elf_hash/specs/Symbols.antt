@@ -1,4 +1,4 @@
--- What the symbols of a lookup are of a file, and where they lie.
+-- The relation of the symbols of a lookup to a file, and their ranges.
 use Rattle.std.specs.Prelude.{ℕ, ◌≡◌, ◌<◌, List, [], ◌∷◌, ◌++◌, Option, None, Some, IfSome}
 use Rattle.elf_model.specs.Loader.{VersymTable as IsWordsOf, VersionRecordTable as IsTableOf, DynamicSymbols as AreSymbolsOf}
 use Rattle.elf_table.specs.Tables.{TableInBounds, StringsInBounds, strings_in}
@@ -6,21 +6,21 @@ use Rattle.elf_hash.specs.declared.symbols.VersionRecordTable.{VersionRecordTabl
 use Rattle.elf_hash.specs.declared.symbols.DynamicSymbols.{DynamicSymbols}
 use Rattle.elf_hash.specs.declared.symbols.VersymTable.{VersymTable}
 
--- the words of symbols' versions are those of the definitions
+-- the version symbol table is that of the definitions
 pub record IsVersymTable (told : IsWordsOf) (words : VersymTable) : Type 0 where
   pub place : words.words.at ≡ told.place
   pub count : words.words.count ≡ told.count
   pub head : words.head ≡ told.head
   pub index : words.index ≡ told.index
 
--- there are such words, or none
+-- there is such a table, or none
 abbrev pub AreVersymTable : Option IsWordsOf → Option VersymTable → Type 0
 AreVersymTable None None = Unit {0}
 AreVersymTable (Some told) (Some words) = IsVersymTable told words
 AreVersymTable None (Some words) = ⊥
 AreVersymTable (Some told) None = ⊥
 
--- a table of records of versions; the strings of one without a byte are not looked at
+-- a table of version records; the strings of one without a byte are ignored
 pub record IsVersionRecordTable (file : List ℕ) (told : IsTableOf) (records : VersionRecordTable) : Type 0 where
   pub kind : records.kind ≡ told.kind
   pub head : records.head ≡ told.head
@@ -33,14 +33,15 @@ abbrev pub table_if_any : Option VersionRecordTable → List VersionRecordTable
 table_if_any None = []
 table_if_any (Some table) = table ∷ []
 
--- tables of records, one behind the other
+-- consecutive tables of records
 abbrev pub AreVersionRecordTables : List ℕ → List IsTableOf → List VersionRecordTable → Type 0
 AreVersionRecordTables file [] [] = Unit {0}
 AreVersionRecordTables file (told ∷ others) (table ∷ tables) = IsVersionRecordTable file told table × AreVersionRecordTables file others tables
 AreVersionRecordTables file [] (table ∷ tables) = ⊥
 AreVersionRecordTables file (told ∷ others) [] = ⊥
 
--- WHAT A LOADER KNOWS OF THE SYMBOLS of a file is what the definitions say; the strings of no symbol are not looked at
+-- WHAT A LOADER KNOWS OF THE SYMBOLS of a file is what the definitions say; if there is no symbol
+-- the strings are ignored
 pub record IsDynamicSymbols (file : List ℕ) (told : AreSymbolsOf) (symbols : DynamicSymbols) : Type 0 where
   pub index : symbols.index ≡ told.index
   pub place : symbols.table.at ≡ told.place

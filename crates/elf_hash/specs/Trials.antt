@@ -1,4 +1,4 @@
--- What the trial of a symbol answers.
+-- The result of a matcher for a symbol.
 use Rattle.std.specs.Prelude.{ℕ, ◌≡◌, ◌<◌, Bool, true, false, List, Option, None, Some, Result, Ok, Err}
 use Rattle.elf_model.specs.Prelude.{IsBudgetRefusal, has_name, sh_offset, strings_of, symbol_count}
 use Rattle.elf_model.specs.declared.causes.Refusal.{Refusal}
@@ -7,20 +7,21 @@ use Rattle.elf_table.specs.declared.fault.Fault.{Fault}
 use Rattle.elf_table.specs.declared.fault.Fault.TheVariants.{Refused, Source}
 use Rattle.elf_hash.specs.declared.answer.SymbolMatch.{SymbolMatch}
 
--- the trial of a symbol answers what is said of it: where it answers, what stands for it; nothing, where it does not; or why it
--- cannot be tried, unless it is refused for want of budget
+-- the matcher's result for a symbol is as specified: if it matches, the match; nothing, if it does
+-- not; or why it cannot be tried, unless it is refused with `Budget`
 abbrev pub TriesSymbol : (stands : ℕ → SymbolMatch → Type 0) (says : ℕ → Result Bool Refusal) → ℕ → Result (Option SymbolMatch) Fault → Type 0
 TriesSymbol stands says index (Ok (Some answer)) = (says index ≡ Ok true) × stands index answer
 TriesSymbol stands says index (Ok None) = says index ≡ Ok false
 TriesSymbol stands says index (Err (Refused refusal)) = (IsBudgetRefusal refusal → ⊥) → says index ≡ Err refusal
 TriesSymbol stands says index (Err (Source fault at)) = Unit {0}
 
--- the same of a symbol that is to be tried, or not
+-- the same for a symbol that is to be tried, or not
 abbrev pub TriesDefinedSymbol : Bool → (stands : ℕ → SymbolMatch → Type 0) (says : ℕ → Result Bool Refusal) → ℕ → Result (Option SymbolMatch) Fault → Type 0
 TriesDefinedSymbol true stands says index result = TriesSymbol stands says index result
 TriesDefinedSymbol false stands says index result = result ≡ Ok None
 
--- of the symbols of a section whose header stands at an offset it is said whether they have a name
+-- the function says of the symbols of a section whose header is at an offset whether they have a
+-- name
 pub record SaysHasName (file : List ℕ) (symbols : TableRange) (names : StringTableRange) (wanted : List ℕ) (says : ℕ → Result Bool Refusal) : Type 0 where
   pub table : ℕ
   pub start : symbols.at ≡ sh_offset file table

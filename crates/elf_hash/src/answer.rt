@@ -1,20 +1,20 @@
-//! What a trial answers of a symbol.
+//! The result of a matcher for a symbol.
 use elf_record::Sym;
 
-/// The word of a symbol's version that is read.
+/// An entry of the version symbol table (Elf64_Versym) that is read.
 #[derive(Clone, Copy)]
 pub struct VersymEntry {
-    /// The word: the number, with the bit that hides it.
+    /// The entry: the version index, with the hidden bit.
     pub word: u16,
     /// The file offset of its first byte.
     pub at: u64,
 }
 
-/// A symbol that answers a trial.
+/// A symbol that matches.
 #[derive(Clone, Copy)]
 pub struct SymbolMatch {
     /// The symbol.
     pub symbol: Sym,
-    /// The word of the symbol's version, where the trial reads one.
+    /// The symbol's versym entry, if the matcher reads one.
     pub version: Option<VersymEntry>,
 }

@@ -18,12 +18,12 @@ use elf_record::gnu_numbers::SHT_GNU_HASH;
 use elf_record::numbers::SHT_HASH;
 use elf_table::{Fault, SectionView, refused};
 
-/// The tables that a lookup searches, by the section headers. No bytes are read.
+/// Returns the tables that a lookup searches, by the section headers. No bytes are read.
 ///
 /// # Errors
-/// The first that fails: `NoHash` at 0x28 where there is no section with a hash table; the checks of
-/// the hash table's section and of the symbols that it links to, as [`SectionView::hashed`]; those of the
-/// tables of versions.
+/// Returns the first check that fails: `NoHash` at 0x28 if there is no section with a hash table;
+/// the checks of the hash table's section and of the symbols that it links to, as
+/// [`SectionView::hashed`]; those of the version tables.
 pub(crate) fn by_sections(file: &SectionView<'_>) -> Result<LookupTables, Fault>
     requires small { file.now.loaded.size < 2 ^ 63 }
     ensures { FindsIn HoldsSectionHeaders file.now.loaded file.now.store.now result
@@ -36,7 +36,7 @@ pub(crate) fn by_sections(file: &SectionView<'_>) -> Result<LookupTables, Fault>
     section_lookup_tables(file, kind, section)
 }
 
-/// The first section with a hash table of the GNU system, else the first with one of the gABI.
+/// Returns the first section with a GNU hash table, otherwise the first with a SysV one.
 fn hash_section(file: &SectionView<'_>) -> Option<(HashStyle, u16)>
     ensures below { IfSome result (λ found. found.1 < file.now.store.now.loaded) }
     ensures held { (bytes : List ℕ) → HoldsSectionHeaders bytes file.now.loaded file.now.store.now →
@@ -51,10 +51,11 @@ fn hash_section(file: &SectionView<'_>) -> Option<(HashStyle, u16)>
     Some((HashStyle::Sysv, section))
 }
 
-/// The tables that a lookup searches, by a section with a hash table.
+/// Returns the tables that a lookup searches, by a section with a hash table.
 ///
 /// # Errors
-/// The first check that fails: those of [`SectionView::hashed`], then of the tables of versions.
+/// Returns the first check that fails: those of [`SectionView::hashed`], then of the version
+/// tables.
 fn section_lookup_tables(
     file: &SectionView<'_>,
     kind: HashStyle,

@@ -19,14 +19,14 @@ use elf_record::numbers::{EM_ALPHA, PT_DYNAMIC};
 use elf_source::{Counted, Source};
 use elf_table::{ExecutionView, Fault, refused};
 
-/// The tables that a lookup searches by the program headers: by the dynamic entries of the first
-/// segment of such, which are read, each byte at most once.
+/// Returns the tables that a lookup searches by the program headers: by the dynamic entries of the
+/// first PT_DYNAMIC segment, which are read, each byte at most once.
 ///
 /// # Errors
-/// The first that fails: the check of [`ExecutionView::check_overlaps`]; `NoHash` at 0x20 where there is
-/// no such segment, and where none of its entries locates a hash table; before the latter the checks
-/// of [`ExecutionView::dynamic`]; then those of the entries. Else a fault of a read, or a refusal for
-/// want of budget, at an entry's offset.
+/// Returns the first check that fails: that of [`ExecutionView::check_overlaps`]; `NoHash` at 0x20
+/// if there is no such segment, and if none of its entries locates a hash table; before the latter
+/// the checks of [`ExecutionView::dynamic`]; then those of the entries. Otherwise returns a fault
+/// of a read, or the refusal `Budget`, at an entry's offset.
 pub fn find_in_segments<S: Source>(
     src: &mut Counted<S>,
     view: &ExecutionView<'_>,
@@ -38,7 +38,7 @@ pub fn find_in_segments<S: Source>(
     in_segments(src, view)
 }
 
-/// The same behind the check that no LOAD segment lies over another.
+/// Does the same after the check that no two LOAD segments overlap.
 fn in_segments<S: Source>(
     src: &mut Counted<S>,
     view: &ExecutionView<'_>,
@@ -54,7 +54,7 @@ fn in_segments<S: Source>(
     by_entries(view, segment, &found)
 }
 
-/// The tables that a lookup searches, by the entries of a segment.
+/// Returns the tables that a lookup searches, by the entries of a segment.
 fn by_entries(
     view: &ExecutionView<'_>,
     segment: u16,
@@ -73,7 +73,7 @@ fn by_entries(
     segment_lookup_tables(view, segment, found, kind, &row)
 }
 
-/// The entry that locates a hash table: of the GNU system's, else of the gABI's.
+/// Returns the entry that locates a hash table: DT_GNU_HASH, otherwise DT_HASH.
 fn hash_entry(found: &DynamicTags) -> Option<(HashStyle, DynEntry)>
     ensures { (bytes : List ℕ) (at : ℕ) → AreTaggedEntries bytes at found.now →
         ReturnsHash bytes at result }
@@ -87,11 +87,13 @@ fn hash_entry(found: &DynamicTags) -> Option<(HashStyle, DynEntry)>
     Some((HashStyle::Sysv, row))
 }
 
-/// The tables that a lookup searches, by the entry that locates the hash table and the others.
+/// Returns the tables that a lookup searches, by the entry that locates the hash table and the
+/// others.
 ///
 /// # Errors
-/// The first that fails: those of [`ExecutionView::rest`] for the hash table; `HashShape` at its entry
-/// where it is too small for its counts, and where its words have 8 bytes; those of the symbols.
+/// Returns the first check that fails: those of [`ExecutionView::rest`] for the hash table;
+/// `HashShape` at its entry if it is too small for its counts, and if its words have 8 bytes; those
+/// of the symbols.
 fn segment_lookup_tables(
     view: &ExecutionView<'_>,
     segment: u16,
@@ -130,8 +132,8 @@ fn segment_lookup_tables(
     })
 }
 
-/// Whether the words of a hash table have 8 bytes: in files of Alpha those of the gABI's have. No
-/// entry has their size.
+/// Returns `true` if the words of a hash table have 8 bytes: in Alpha files those of the SysV hash
+/// table have. No entry holds their size.
 fn has_64_bit_words(view: &ExecutionView<'_>, kind: HashStyle) -> bool
     ensures { (bytes : List ℕ) → HoldsProgramHeaders bytes view.now.loaded view.now.store.now →
         result ≡ has_wide_kind bytes (hash_style_of kind) }

@@ -1,4 +1,4 @@
-//! The counts of a hash table of either kind, and the walk in it.
+//! The counts of a hash table of either style, and the walk in it.
 ghost use Rattle.std.specs.Prelude.{◌≡◌, ℕ, ◌+◌, ◌/◌, ◌≤◌, Bool, List, Result, IfOk};
 ghost use Rattle.elf_table.specs.Ledger.{CallDid, fault_of_result};
 ghost use Rattle.elf_hash.specs.SearchedTables.{HasCounts, IsPlaceIn, IsTable, HashTableInBounds, ReturnsExcluded, counts_bytes, place_of_table, walked_in};
@@ -18,14 +18,14 @@ use crate::table_counts::{gnu_counts, sysv_counts};
 use elf_source::{Counted, Source};
 use elf_table::Fault;
 
-/// Reads the counts of the hash table at a place: four words of a table of the GNU system, two of one
-/// of the gABI (5, Hash Table). The table ends at or below the source's length.
+/// Reads the counts of the hash table at a location: four words of a GNU hash table, two of a SysV
+/// one (gABI 5, Hash Table). The table ends at or below the source's length.
 ///
 /// # Errors
-/// `HashShape` at what tells of the table where there is no bucket, or where the words before the
-/// chains, or in a table of the gABI all words that the counts tell of, do not fit into its size; in
-/// a table of the GNU system also where its filter's words are not as many as a power of two tells,
-/// or where its shift leaves no bits of a hash. Else a fault of a read.
+/// Returns `HashShape` at the header or entry that locates the table if there is no bucket, or if
+/// the words before the chains, or in a SysV hash table all words that the counts require, do not
+/// fit into its size; in a GNU hash table also if the number of its filter's words is no power of
+/// two, or if its shift leaves no bits of a hash. Otherwise returns a fault of a read.
 pub fn counts<S: Source>(
     src: &mut Counted<S>,
     place: &HashTableLocation,
@@ -41,19 +41,20 @@ pub fn counts<S: Source>(
     }
 }
 
-/// Goes along the chain of a name's hash, up to the first symbol that answers a trial or to the
-/// chain's end: in a table of the gABI (5, Hash Table) from word to word, in one of the GNU system from
-/// symbol to symbol, unless its filter or an empty bucket tells that there is none. The table ends at
-/// or below the source's length, and the trial knows all of its symbols.
+/// Walks along the chain of a name's hash, up to the first symbol that matches or to the chain's
+/// end: in a SysV hash table (gABI 5, Hash Table) from word to word, in a GNU one from symbol to
+/// symbol, unless its filter or an empty bucket excludes the name. The table ends at or below the
+/// source's length, and the matcher covers all of its symbols.
 ///
-/// Where the source's file is known the answer is the file's own, and so is the refusal. No more is
-/// asked for than a filter's word, a bucket's word, each chain word that is read and what the tries
-/// ask for, also where the source fails.
+/// If the source's file is known the result is that of the file, and so is the refusal. No more is
+/// read than a filter's word, a bucket's word, each chain word that is read and what the tries
+/// read, also if the source fails.
 ///
 /// # Errors
-/// `HashIndex` at the word that leads to an index which no symbol and no chain word has. In a table
-/// of the gABI `HashCycle` at the bucket's word, where as many steps as there are chains gave no
-/// answer. The trial's own where a symbol cannot be tried. Else a fault of a read.
+/// Returns `HashIndex` at the word that leads to an index that no symbol and no chain word has. In
+/// a SysV hash table returns `HashCycle` at the bucket's word if as many steps as there are chains
+/// found no match. Returns the matcher's own refusal if a symbol cannot be tried. Otherwise returns
+/// a fault of a read.
 pub fn walk<S: Source, T: Matcher>(
     src: &mut Counted<S>,
     table: &HashTable,
@@ -77,12 +78,12 @@ pub fn walk<S: Source, T: Matcher>(
     }
 }
 
-/// Whether a table excludes a name without a look at any chain: one of the GNU system by its filter or
-/// an empty bucket. Then no symbol is tried for the name, whatever a trial says. The table ends at or
-/// below the source's length. No more is asked for than a filter's word and a bucket's word.
+/// Returns `true` if a table excludes a name without reading any chain: a GNU hash table by its
+/// filter or an empty bucket. Then no symbol is tried for the name, with any matcher. The table
+/// ends at or below the source's length. No more is read than a filter's word and a bucket's word.
 ///
 /// # Errors
-/// A fault of a read.
+/// Returns a fault of a read.
 pub fn excludes<S: Source>(
     src: &mut Counted<S>,
     table: &HashTable,

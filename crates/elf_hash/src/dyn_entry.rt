@@ -9,12 +9,12 @@ pub(crate) struct DynEntry {
     pub value: u64,
 }
 
-/// The first entries with the tags that tell of a lookup's tables, where there are such.
+/// The first entry with each of the tags that locate a lookup's tables, if there is one.
 #[derive(Clone, Copy)]
 pub(crate) struct DynamicTags {
-    /// DT_HASH: the hash table of the gABI.
+    /// DT_HASH: the SysV hash table.
     pub hash: Option<DynEntry>,
-    /// DT_GNU_HASH: that of the GNU system.
+    /// DT_GNU_HASH: the GNU hash table.
     pub gnu_hash: Option<DynEntry>,
     /// DT_SYMTAB: the symbols.
     pub symtab: Option<DynEntry>,
@@ -22,7 +22,7 @@ pub(crate) struct DynamicTags {
     pub strtab: Option<DynEntry>,
     /// DT_STRSZ: the size of the strings.
     pub strsz: Option<DynEntry>,
-    /// DT_VERSYM: the words of symbols' versions.
+    /// DT_VERSYM: the version symbol table.
     pub versym: Option<DynEntry>,
     /// DT_VERDEF: the definitions of versions.
     pub verdef: Option<DynEntry>,

@@ -1,4 +1,4 @@
-//! The dynamic entries that tell of a lookup's tables.
+//! The dynamic entries that locate a lookup's tables.
 ghost use Rattle.std.specs.Prelude.{◌≡◌, ℕ, List, IfErr, IfOk};
 ghost use Rattle.elf_record.specs.Dyn.{IsDyn};
 ghost use Rattle.elf_table.specs.Prelude.{CallDid, IsOfRead, TableInBounds, fault_of_result, size_of};
@@ -12,12 +12,12 @@ use elf_record::numbers::{DT_HASH, DT_STRSZ, DT_STRTAB, DT_SYMTAB};
 use elf_source::{Counted, Source};
 use elf_table::{Fault, Table};
 
-/// Goes over the dynamic entries of a table, whose rows have 16 bytes, up to and with the first
-/// DT_NULL, and answers the first entry with each of the tags that tell of a lookup's tables. It asks
-/// for each byte of the table at most once.
+/// Iterates over the dynamic entries of a table, whose rows have 16 bytes, up to and including the
+/// first DT_NULL, and returns the first entry with each of the tags that locate a lookup's tables.
+/// It reads each byte of the table at most once.
 ///
 /// # Errors
-/// A fault of a read, or a refusal for want of budget, at an entry's offset.
+/// Returns a fault of a read, or the refusal `Budget`, at an entry's offset.
 pub(crate) fn first_entries<S: Source>(
     src: &mut Counted<S>,
     table: Table,
@@ -37,7 +37,7 @@ pub(crate) fn first_entries<S: Source>(
     Ok(found)
 }
 
-/// No entry.
+/// Returns no entries.
 fn nothing() -> DynamicTags
     ensures { result ≡ no_entries }
 {
@@ -53,7 +53,7 @@ fn nothing() -> DynamicTags
     }
 }
 
-/// The first entries, with one behind those that they are of.
+/// Returns the first entries, with one more after those that were read.
 fn with_entry(found: &DynamicTags, at: u64, entry: &Dyn) -> DynamicTags
     ensures { (file : List ℕ) → IsDyn file at entry.now → TakesEntry file at found.now result }
 {
@@ -69,7 +69,7 @@ fn with_entry(found: &DynamicTags, at: u64, entry: &Dyn) -> DynamicTags
     }
 }
 
-/// An entry that was found, or this one where it has the tag.
+/// Returns an entry that was found before, or this one if it has the tag.
 fn first_of(found: Option<DynEntry>, tag: u64, at: u64, entry: &Dyn) -> Option<DynEntry>
     ensures { (file : List ℕ) → IsDyn file at entry.now →
         result ≡ first_entry found (entry_here file at tag) }

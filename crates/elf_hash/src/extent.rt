@@ -1,4 +1,4 @@
-//! How many symbols a hash table knows.
+//! The number of symbols that a hash table covers.
 ghost use Rattle.std.specs.Prelude.{◌≡◌, ℕ, ◌+◌, ◌-◌, ◌*◌, ◌<◌, ◌≤◌, List, length, IfOk};
 ghost use Rattle.elf_table.specs.Ledger.{CallDid, IsRead, fault_of_result};
 ghost use Rattle.elf_hash.specs.Counts.{IsGnu, IsTablePlace};
@@ -16,16 +16,16 @@ use elf_record::word;
 use elf_source::{Counted, Source};
 use elf_table::{Cursor, Fault, Row};
 
-/// How many symbols there are by a hash table, and no more than there is room for: of the gABI's (5,
-/// Hash Table) as many as there are chains; of the GNU system's those before the first that it knows,
-/// and those of chains, of which the highest begins at the highest of the buckets' words; where none is
-/// found in it and that first is 1, which says nothing, those that have room before their strings, if
-/// the table does not stand between. `symbols` and `strings` are the file offsets where these begin. It asks for the
-/// buckets' words and for those of that chain, each at most once; the table ends at or below the
-/// source's length.
+/// Returns the number of symbols by a hash table, no more than fit into the symbol table: for a
+/// SysV one (gABI 5, Hash Table) the number of chains; for a GNU one those before the first that it
+/// covers, and those of chains, of which the last begins at the largest bucket value; if none is
+/// found in it and that first is 1, which means nothing, those that fit before their strings, if
+/// the table does not lie between. `symbols` and `strings` are the file offsets at which these
+/// begin. It reads the buckets' words and those of that chain, each at most once; the table ends at
+/// or below the source's length.
 ///
 /// # Errors
-/// A fault of a read, or a refusal for want of budget, at the offset that was asked for.
+/// Returns a fault of a read, or the refusal `Budget`, at the offset of the read.
 pub fn symbol_extent<S: Source>(
     src: &mut Counted<S>,
     table: &HashTable,
@@ -47,8 +47,8 @@ pub fn symbol_extent<S: Source>(
     }
 }
 
-/// How many symbols have room before their strings; none where the hash table stands between, or there
-/// is no room for so many.
+/// Returns the number of symbols that fit before their strings; none if the hash table lies
+/// between, or not that many fit.
 #[tactic(auto, unfolding(elf_model::specs::Traits::before_strings))]
 fn before_strings(table: &HashTableLocation, symbols: u64, strings: u64) -> u64
     ensures value { (at : Place) → IsTablePlace at table.now →
@@ -63,9 +63,9 @@ fn before_strings(table: &HashTableLocation, symbols: u64, strings: u64) -> u64
     rows
 }
 
-/// How many symbols there are where none is found, with `before` of them before their strings and `room`
-/// for so many: those before the first that the table knows, unless that is 1, which the usual linker
-/// writes whatever there are.
+/// Returns the number of symbols if none is found, with `before` of them before their strings and
+/// room for `room`: those before the first that the table covers, unless that is 1, which the usual
+/// linker writes in any case.
 #[tactic(auto, unfolding(elf_model::specs::Traits::unfound))]
 fn unfound(first: u32, before: u64, room: u64) -> u64
     requires { before ≤ room }
@@ -79,10 +79,10 @@ fn unfound(first: u32, before: u64, room: u64) -> u64
     least
 }
 
-/// The same of a table of the GNU system, with so many symbols before their strings.
+/// Does the same for a GNU hash table, with `before` symbols before their strings.
 ///
 /// # Errors
-/// A fault of a read.
+/// Returns a fault of a read.
 fn gnu_extent<S: Source>(
     src: &mut Counted<S>,
     table: &GnuHashTable,
@@ -102,10 +102,10 @@ fn gnu_extent<S: Source>(
     chain_end(src, table, u64::from(start))
 }
 
-/// The highest of the buckets' words.
+/// Returns the largest bucket value.
 ///
 /// # Errors
-/// A fault of a read.
+/// Returns a fault of a read.
 fn max_bucket<S: Source>(src: &mut Counted<S>, table: &GnuHashTable) -> Result<u32, Fault>
     requires within { table.now.place.at + table.now.place.size ≤ src.old.seen.size }
     ensures did { CallDid src.old src.new (fault_of_result result) (4 * table.now.nbucket)
@@ -121,7 +121,7 @@ fn max_bucket<S: Source>(src: &mut Counted<S>, table: &GnuHashTable) -> Result<u
     Ok(highest)
 }
 
-/// The word whose bytes a row has, four of them.
+/// Decodes the word in a row of four bytes.
 fn word_in(row: &Row<'_>) -> u32
     requires { length row.now.bytes.now ≡ 4 }
     ensures { (file : List ℕ) (at : ℕ) → row.now.bytes.now ≡ slice file at 4 →
@@ -130,11 +130,12 @@ fn word_in(row: &Row<'_>) -> u32
     word(row.bytes.first_chunk().unwrap())
 }
 
-/// How many symbols there are up to the end of the chain that begins at a symbol index: one more than
-/// the index of its last, or of the first on the way that no chain word has; no more than there are.
+/// Returns the number of symbols up to the end of the chain that begins at a symbol index: one more
+/// than the index of its last, or of the first on the way that has no chain word; no more than
+/// there are.
 ///
 /// # Errors
-/// A fault of a read.
+/// Returns a fault of a read.
 fn chain_end<S: Source>(
     src: &mut Counted<S>,
     table: &GnuHashTable,
@@ -162,7 +163,7 @@ fn chain_end<S: Source>(
     Ok(table.place.symbols)
 }
 
-/// The number behind one that is below another.
+/// Returns the number after one that is below another.
 fn next_below(index: u64, count: u64) -> u64
     requires { index < count }
     ensures { result ≡ index + 1 }

@@ -1,4 +1,4 @@
-//! The call that looks a name up.
+//! The call that looks up a name.
 ghost use Rattle.std.specs.Prelude.{◌≡◌, ℕ, ◌+◌, ◌*◌, ◌/◌, ◌≤◌, length, IfOk};
 ghost use Rattle.elf_table.specs.Prelude.{CallDid, HoldsSectionHeaders, fault_of_result};
 ghost use Rattle.elf_hash.specs.Lookups.{FindsBySysv, LooksBySysv, after_headers_bytes, find_bytes, lookup_in, looked_after, step_bytes, steps_of};
@@ -22,22 +22,22 @@ use elf_record::Cause;
 use elf_source::{Counted, Source};
 use elf_table::{Fault, HeaderStore, SectionView, header, load, refused};
 
-/// Looks a name up in a file by its hash table: that of the first HASH section, with the symbols
-/// that it links to (gABI 5, Hash Table). The answer is the first symbol of that name in its chain,
-/// whatever its version and place; a loader may take another. The section headers are loaded into
-/// the store. `wanted` is the name, at most 4,096 bytes, without a NUL.
+/// Looks up a name in a file by its hash table: that of the first HASH section, with the symbols
+/// that it links to (gABI 5, Hash Table). The result is the first symbol of that name in its chain,
+/// with any version and section index; a loader may choose another. The section headers are loaded
+/// into the store. `wanted` is the name, at most 4,096 bytes, without a NUL.
 ///
-/// Where the source's file is known the answer is the file's own, and so is the refusal; no more is
-/// asked for than the lookup costs, also where the source fails. Undefined symbols are found too.
+/// If the source's file is known the result is that of the file, and so is the refusal; no more is
+/// read than the lookup costs, also if the source fails. Undefined symbols are found too.
 ///
 /// # Errors
-/// The first that fails: the checks of [`header`] and of [`load`]; `NoHash` at 0x28 where there is
-/// no HASH section; `TableOutside`, `HashShape` or `BadLink` at its section header; the checks of
-/// the symbols that it links to and of their string table; `HashShape` at its section header where
-/// its counts are no table's of its size; then on the way `HashIndex` at a word that is no index,
-/// `HashCycle` at the bucket's word where the chain goes round, or a name's `NameOutside` or
-/// `NameUnended` at its symbol. Else a fault of the source, or `Budget` where a limit has no room
-/// for a read, at the offset that was asked for.
+/// Returns the first check that fails: those of [`header`] and of [`load`]; `NoHash` at 0x28 if
+/// there is no HASH section; `TableOutside`, `HashShape` or `BadLink` at its section header; the
+/// checks of the symbols that it links to and of their string table; `HashShape` at its section
+/// header if its counts do not fit its size; then on the way `HashIndex` at a word that is no
+/// index, `HashCycle` at the bucket's word if the chain is cyclic, or a name's `NameOutside` or
+/// `NameUnended` at its symbol. Otherwise returns a fault of the source, or `Budget` if a read
+/// exceeds the limit, at the offset of the read.
 pub fn find<S: Source>(
     src: &mut Counted<S>,
     store: &mut HeaderStore,
@@ -55,7 +55,7 @@ pub fn find<S: Source>(
     find_in(src, &SectionView { loaded, store }, wanted)
 }
 
-/// Looks a name up in a loaded file.
+/// Looks up a name in a loaded file.
 fn find_in<S: Source>(
     src: &mut Counted<S>,
     file: &SectionView<'_>,
@@ -78,7 +78,7 @@ fn find_in<S: Source>(
     look_up(src, &section, &table, wanted)
 }
 
-/// The place of the table in a section.
+/// Returns the location of the table in a section.
 fn place_of(section: &HashSection) -> HashTableLocation
     ensures { IsPlaceOf section.now result }
 {
@@ -91,10 +91,10 @@ fn place_of(section: &HashSection) -> HashTableLocation
     }
 }
 
-/// Goes along the chain of the wanted name in a section's table.
+/// Walks along the chain of the wanted name in a section's table.
 ///
 /// # Errors
-/// Those of [`sysv_walk`]; a symbol cannot be tried where its name has a fault.
+/// Those of [`sysv_walk`]; a symbol cannot be tried if its name has a fault.
 fn look_up<S: Source>(
     src: &mut Counted<S>,
     section: &HashSection,
@@ -121,7 +121,7 @@ fn look_up<S: Source>(
     Ok(answer_of(section.link, &walked, table.nchain))
 }
 
-/// What is answered by a walk in a table of so many chains.
+/// Returns the result of a lookup by a walk in a table of `chains` chains.
 fn answer_of(link: u16, walked: &ChainResult, chains: u32) -> Lookup
     requires short { IsShort chains walked.now }
     ensures { result ≡ lookup_in link walked.now }

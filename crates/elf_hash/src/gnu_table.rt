@@ -1,12 +1,12 @@
-//! A hash table of the GNU system.
+//! A GNU hash table.
 ghost use Rattle.std.specs.Prelude.{◌≡◌, ◌+◌, ◌-◌, ◌*◌, ◌/◌, ◌%◌, ◌<◌, ◌≤◌, ◌&&◌, nat_lt, not, IsTrue};
 
 use crate::place::HashTableLocation;
 use elf_table::Table;
 
-/// A hash table of the GNU system whose filter and buckets lie within its bytes: four counts of four
-/// bytes each, the filter's words, eight bytes each, then a word for each bucket and a chain word for
-/// each symbol from the first on that it knows, four bytes each. It holds the counts, as they were
+/// A GNU hash table whose filter and buckets lie within its bytes: four counts of four bytes each,
+/// the filter's words, eight bytes each, then a word for each bucket and a chain word for each
+/// symbol starting at the first that it covers, four bytes each. It holds the counts, as they were
 /// read once, and no other word.
 #[derive(Clone, Copy)]
 pub struct GnuHashTable {
@@ -22,7 +22,7 @@ pub struct GnuHashTable {
 }
 
 impl GnuHashTable {
-    /// The file offset of the filter's word for a hash.
+    /// Returns the file offset of the filter's word for a hash.
     pub(crate) fn filter_at(&self, hash: u32) -> u64
         ensures value { result ≡ self.now.place.at + (16 + 8 * (hash / 64 % self.now.nbloom)) }
         ensures inside { result + 8 ≤ self.now.place.at + self.now.place.size }
@@ -30,7 +30,8 @@ impl GnuHashTable {
         self.place.at + (16 + 8 * u64::from(hash / 64 % self.nbloom))
     }
 
-    /// The file offset of the word of a hash's bucket, which is the index of the first symbol.
+    /// Returns the file offset of the word of a hash's bucket, which is the index of the first
+    /// symbol.
     pub(crate) fn bucket_at(&self, hash: u32) -> u64
         ensures value { result ≡
             self.now.place.at + (16 + 8 * self.now.nbloom + 4 * (hash % self.now.nbucket)) }
@@ -40,7 +41,7 @@ impl GnuHashTable {
         self.place.at + (16 + 8 * u64::from(self.nbloom) + 4 * u64::from(bucket))
     }
 
-    /// The words of the buckets, rows of four bytes.
+    /// Returns the words of the buckets, rows of four bytes.
     pub(crate) fn buckets(&self) -> Table
         ensures value { result ≡ record {
           at = self.now.place.at + (16 + 8 * self.now.nbloom);
@@ -53,7 +54,7 @@ impl GnuHashTable {
         Table::new(at, u64::from(self.nbucket), 4)
     }
 
-    /// How many bytes stand before the chain words.
+    /// Returns the number of bytes before the chain words.
     pub(crate) fn before_chains(&self) -> u64
         ensures value { result ≡ 16 + 8 * self.now.nbloom + 4 * self.now.nbucket }
         ensures fits { result ≤ self.now.place.size }
@@ -61,8 +62,8 @@ impl GnuHashTable {
         16 + 8 * u64::from(self.nbloom) + 4 * u64::from(self.nbucket)
     }
 
-    /// Whether a symbol index is one from the first on and below the number of symbols, and its chain
-    /// word lies within the table.
+    /// Returns `true` if a symbol index is at or above the first and below the number of symbols,
+    /// and its chain word lies within the table.
     pub(crate) fn has(&self, index: u64) -> bool
         ensures is { result
             ≡ (not (nat_lt index self.now.first) && nat_lt index self.now.place.symbols
@@ -76,7 +77,8 @@ impl GnuHashTable {
         index >= first && index < self.place.symbols && self.has_words(index - first)
     }
 
-    /// Whether the chain word of so many behind the first lies within the table.
+    /// Returns `true` if the chain word at the index `behind` after the first lies within the
+    /// table.
     fn has_words(&self, behind: u64) -> bool
         ensures is { result ≡ not (nat_lt self.now.place.size
             (16 + 8 * self.now.nbloom + 4 * self.now.nbucket + 4 * behind + 4)) }
@@ -86,7 +88,7 @@ impl GnuHashTable {
         behind < (self.place.size - self.before_chains()) / 4
     }
 
-    /// The file offset of the chain word of a symbol.
+    /// Returns the file offset of the chain word of a symbol.
     pub(crate) fn chain_at(&self, index: u64) -> u64
         requires first { self.now.first ≤ index }
         requires inside { 16 + 8 * self.now.nbloom + 4 * self.now.nbucket + 4

@@ -1,4 +1,4 @@
-//! The walk along a chain of a hash table of the GNU system.
+//! The walk along a chain of a GNU hash table.
 ghost use Rattle.std.specs.Prelude.{◌≡◌, ℕ, ◌+◌, ◌-◌, ◌*◌, ◌/◌, ◌%◌, ◌^◌, ◌<◌, ◌≤◌, ◌&&◌, Bool, List, Result};
 ghost use Rattle.elf_table.specs.Ledger.{CallDid, fault_of_result};
 ghost use Rattle.elf_hash.specs.Counts.{IsGnu};
@@ -16,13 +16,13 @@ use elf_record::Cause;
 use elf_source::{Counted, Source};
 use elf_table::{Fault, refused};
 
-/// Looks for the symbol that answers among those of a hash: not at all where the filter or an empty
-/// bucket tells that there is none, else along their chain.
+/// Searches the symbols of a hash for one that matches: not at all if the filter or an empty bucket
+/// excludes the hash, otherwise along their chain.
 ///
 /// # Errors
-/// `HashIndex` at the word that leads to a symbol index which is below the first, not below the
-/// number of symbols, or has no chain word in the table. The trial's own where a symbol cannot be
-/// tried. Else a fault of a read.
+/// Returns `HashIndex` at the word that leads to a symbol index which is below the first, not below
+/// the number of symbols, or has no chain word in the table. Returns the matcher's own refusal if a
+/// symbol cannot be tried. Otherwise returns a fault of a read.
 pub(crate) fn gnu_walk<S: Source, T: Matcher>(
     src: &mut Counted<S>,
     table: &GnuHashTable,
@@ -48,11 +48,11 @@ pub(crate) fn gnu_walk<S: Source, T: Matcher>(
     }
 }
 
-/// The index of the first symbol of a hash's chain, unless the filter or an empty bucket tells that
-/// there is none.
+/// Returns the index of the first symbol of a hash's chain, unless the filter or an empty bucket
+/// excludes the hash.
 ///
 /// # Errors
-/// A fault of a read.
+/// Returns a fault of a read.
 pub(crate) fn start<S: Source>(
     src: &mut Counted<S>,
     table: &GnuHashTable,
@@ -70,14 +70,14 @@ pub(crate) fn start<S: Source>(
     Ok(if start == 0 { None } else { Some(start) })
 }
 
-/// Whether the filter's word for a hash has both bits of the hash.
+/// Returns `true` if the filter's word for a hash has both bits of the hash.
 fn filter_may_contain(table: &GnuHashTable, word: u64, hash: u32) -> bool
     ensures { result ≡ (is_set word (hash % 64) && is_set word (hash / 2 ^ table.now.shift % 64)) }
 {
     is_set(word, hash % 64) && is_set(word, (hash >> table.shift) % 64)
 }
 
-/// Whether a bit of a word is set.
+/// Returns `true` if a bit of a word is set.
 fn is_set(word: u64, bit: u32) -> bool
     requires { bit < 64 }
     ensures { result ≡ is_set word bit }
@@ -85,7 +85,7 @@ fn is_set(word: u64, bit: u32) -> bool
     (word >> bit) % 2 == 1
 }
 
-/// Goes along the chain of a hash from its first symbol on.
+/// Walks along the chain of a hash from its first symbol.
 ///
 /// # Errors
 /// Those of [`gnu_walk`].
@@ -129,28 +129,28 @@ fn along_chain<S: Source, T: Matcher>(
     refused(at, Cause::HashIndex)
 }
 
-/// Whether a chain word is of a hash: it has the hash's bits but for the lowest.
+/// Returns `true` if a chain word is of a hash: it has the hash's bits except the lowest.
 fn hash_bits_match(word: u32, hash: u32) -> bool
     ensures { result ≡ hash_bits_match word hash }
 {
     word / 2 == hash / 2
 }
 
-/// Whether a chain word says that its symbol is the last of the chain.
+/// Returns `true` if a chain word says that its symbol is the last of the chain.
 pub(crate) fn is_chain_end(word: u32) -> bool
     ensures { result ≡ is_chain_end word }
 {
     word % 2 == 1
 }
 
-/// 1 where it is so, else 0.
+/// Returns 1 if the argument is `true`, otherwise 0.
 fn one_where(is_so: bool) -> u64
     ensures { result ≡ cost_where is_so 1 }
 {
     if is_so { 1 } else { 0 }
 }
 
-/// The symbol of an index, where it is to be tried and answers.
+/// Tries the symbol of an index, if it is to be tried, and returns it if it matches.
 ///
 /// # Errors
 /// Those of [`Matcher::tried`].

@@ -12,22 +12,22 @@ use crate::lookup_tables::LookupTables;
 use elf_source::{Counted, Source};
 use elf_table::{ExecutionView, Fault, HeaderStore, Loaded, SectionView, header, load};
 
-/// The tables that a loader of the GNU system searches in one file (gABI 5, Dynamic Linking;
-/// Linux Standard Base Core, Symbol Versioning). By the section headers: the hash table of the first
-/// section of the GNU system's type, else of the first HASH section, with the symbols that it links
-/// to, and the first sections of the words, the definitions and the needs of versions. Where a file
-/// has no sections, by the first segment of dynamic entries: the first entry with each tag, and of
-/// each address the rest of the LOAD segment that holds it. The headers are loaded into the store.
+/// Returns the tables that a GNU loader searches in one file (gABI 5, Dynamic Linking; Linux
+/// Standard Base Core, Symbol Versioning). By the section headers: the hash table of the first
+/// GNU_HASH section, otherwise of the first HASH section, with the symbols that it links to, and
+/// the first sections of versym entries, definitions and needs. If a file has no sections, by the
+/// first PT_DYNAMIC segment: the first entry with each tag, and for each address the rest of the
+/// LOAD segment that holds it. The headers are loaded into the store.
 ///
-/// Where the source's file is known the answer is the file's own, and so is the refusal.
+/// If the source's file is known the result is that of the file, and so is the refusal.
 ///
 /// # Errors
-/// The first that fails: the checks of [`header`] and of [`load`]; by segments `LoadOverlap` at the
-/// program header of a LOAD segment that lies over another; `NoHash` at 0x28, by segments at 0x20,
-/// where no table is found; those of the hash table, of the symbols and of their strings, and
-/// where there are words of versions those of the words, of the definitions and of the needs, each
-/// at the section header or the dynamic entry that locates it. Else a fault of the source, or
-/// `Budget` where a limit has no room for a read, at the offset that was asked for.
+/// Returns the first check that fails: those of [`header`] and of [`load`]; by segments
+/// `LoadOverlap` at the program header of a LOAD segment that overlaps another; `NoHash` at 0x28,
+/// by segments at 0x20, if no table is found; those of the hash table, of the symbols and of their
+/// strings, and if there is a version symbol table those of its entries, of the definitions and of
+/// the needs, each at the section header or the dynamic entry that locates it. Otherwise returns a
+/// fault of the source, or `Budget` if a read exceeds the limit, at the offset of the read.
 pub fn find_lookup_tables<S: Source>(
     src: &mut Counted<S>,
     store: &mut HeaderStore,
@@ -44,7 +44,7 @@ pub fn find_lookup_tables<S: Source>(
     loaded_scope(src, store, loaded)
 }
 
-/// The tables that a lookup searches, of a loaded file.
+/// Returns the tables that a lookup searches, of a loaded file.
 fn loaded_scope<S: Source>(
     src: &mut Counted<S>,
     store: &mut HeaderStore,

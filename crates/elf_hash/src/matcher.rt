@@ -1,4 +1,4 @@
-//! The trial of a symbol.
+//! Tests of symbols for a match.
 ghost use Rattle.std.specs.Prelude.{ℕ, ◌<◌, Bool, List, Result};
 ghost use Rattle.elf_model.specs.declared.causes.Refusal.{Refusal};
 ghost use Rattle.elf_table.specs.Ledger.{CallDid, fault_of_result};
@@ -9,28 +9,29 @@ use crate::answer::SymbolMatch;
 use elf_source::{Counted, Source};
 use elf_table::Fault;
 
-/// Tells of symbols whether they answer, as a walk along a chain asks of one after another.
+/// A test of symbols for a match, which a walk along a chain applies to one after another.
 pub trait Matcher {
-    /// How many symbols it knows: those of an index below may be tried.
+    /// The number of symbols that it covers: those of a smaller index may be tried.
     ghost symbols: { Self → ℕ };
 
-    /// The most bytes that one try asks for.
+    /// The largest number of bytes that one try reads.
     ghost cost: { Self → ℕ };
 
-    /// In a file this is what it answers of the symbol of an index.
+    /// Holds of a file if this is the result for the symbol of an index.
     ghost stands: { Self → List ℕ → ℕ → SymbolMatch → Type 0 };
 
-    /// All that it reads lies within a source of so many bytes.
+    /// Holds if all that it reads lies within a source of a size.
     ghost lies: { Self → ℕ → Type 0 };
 
-    /// It is the trial of a file of which this says whether a symbol answers, or why it cannot be
-    /// tried.
+    /// Holds if it is the matcher of a file in which the function says whether a symbol matches, or
+    /// why it cannot be tried.
     ghost is_of: { Self → List ℕ → (ℕ → Result Bool Refusal) → Type 0 };
 
-    /// The symbol of an index, if it answers.
+    /// Returns the symbol of an index, if it matches.
     ///
     /// # Errors
-    /// Where the symbol cannot be tried, as the trial tells. Else a fault of a read.
+    /// Returns the matcher's own refusal if the symbol cannot be tried. Otherwise returns a fault
+    /// of a read.
     fn tried<S: Source>(
         &self,
         src: &mut Counted<S>,

@@ -1,4 +1,4 @@
-//! The trial of a symbol by its name alone.
+//! The match of a symbol by its name alone.
 ghost use Rattle.std.specs.Prelude.{◌≤◌, length};
 ghost use Rattle.elf_hash.specs.Lookups.{symbol_bytes};
 ghost use Rattle.elf_hash.specs.Trials.{SaysHasName};
@@ -10,8 +10,8 @@ use crate::matcher::Matcher;
 use elf_source::{Counted, Source};
 use elf_table::{Fault, Names, Table};
 
-/// The symbols of a table that have a name, whatever their versions and places: one read of a symbol,
-/// and its name is compared.
+/// Matches the symbols of a table that have a name, with any version and section index: one read of
+/// a symbol, and its name is compared.
 #[derive(Clone, Copy)]
 pub(crate) struct NameMatcher<'a> {
     /// The symbols, rows of 24 bytes.

@@ -1,22 +1,22 @@
-//! The place of a hash table.
+//! The location of a hash table.
 ghost use Rattle.std.specs.Prelude.{◌+◌, ◌^◌, ◌<◌, ◌≤◌};
 ghost use Rattle.elf_hash.specs.HashStyles.{hash_style_of};
 ghost use Rattle.elf_model.specs.LoaderScope.{least_size};
 
 use crate::hash_style::HashStyle;
 
-/// Where a hash table stands in a file, of which kind it is, and how many symbols it is of. It holds
-/// no bytes, and its words have had no check.
+/// The location of a hash table in a file, its style, and the number of symbols in its symbol
+/// table. It holds no bytes, and its words are not checked.
 #[derive(Clone, Copy)]
 pub struct HashTableLocation {
-    /// The kind.
+    /// The style.
     pub kind: HashStyle,
-    /// The file offset of the header or entry that locates the table, which a refusal of the whole
-    /// table names.
+    /// The file offset of the header or entry that locates the table, to which a refusal of the
+    /// whole table points.
     pub head: u64,
     /// The file offset of its first word.
     pub at: u64,
-    /// Its size in bytes, with room for its counts: 16 in a table of the GNU system, else 8.
+    /// Its size in bytes, at least that of its counts: 16 in a GNU hash table, otherwise 8.
     pub size: u64,
     /// The number of symbols in the symbol table.
     pub symbols: u64,

@@ -1,4 +1,4 @@
-//! The load of a file's program headers, whatever its section headers are.
+//! Loading a file's program headers, for any section headers.
 ghost use Rattle.std.specs.Prelude.{◌≡◌, ◌+◌, ◌*◌, IfOk};
 ghost use Rattle.elf_table.specs.Ledger.{CallDid, fault_of_result};
 ghost use Rattle.elf_hash.specs.Loading.{FitsSource, LoadsShown};
@@ -8,14 +8,14 @@ use elf_record::Cause;
 use elf_source::{Counted, Source};
 use elf_table::{Fault, HeaderStore, Loaded, header, load, refused};
 
-/// Loads the program headers of the file that the source shows into the store: of a file whose header
-/// locates no section headers, as where these are hidden ([`Counted::mask_section_headers`]). Where the
-/// source's file is known no more is asked for than the file header and they have, also where the
-/// source fails.
+/// Loads the program headers of the file that the source shows into the store: of a file whose
+/// header locates no section headers, as when these are masked ([`Counted::mask_section_headers`]).
+/// If the source's file is known no more is read than the file header and the program headers, also
+/// if the source fails.
 ///
 /// # Errors
-/// The first that fails: the checks of [`header`] and of [`load`]. Else a fault of a read, or a
-/// refusal for want of budget, at the offset that was asked for.
+/// Returns the first check that fails: those of [`header`] and of [`load`]. Otherwise returns a
+/// fault of a read, or the refusal `Budget`, at the offset of the read.
 pub fn load_by_segments<S: Source>(
     src: &mut Counted<S>,
     store: &mut HeaderStore,

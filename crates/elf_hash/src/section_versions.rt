@@ -1,4 +1,4 @@
-//! The tables of versions by the section headers.
+//! The version tables by the section headers.
 ghost use Rattle.std.specs.Prelude.{◌≡◌, ◌<◌, ◌^◌, ℕ, List, [], IfErr, IfSome};
 ghost use Rattle.elf_model.specs.Prelude.{SHT_GNU_VERDEF, SHT_GNU_VERNEED, all_checks, checks_of_type, has_bytes, records_of_type, section_at, section_words, sh_link, version_checks, version_table, words_section};
 ghost use Rattle.elf_model.specs.declared.versions.VersionKind.TheVariants.{Definition, File as NeededFile, Need};
@@ -14,12 +14,13 @@ use elf_record::sizes::SYMBOL_VERSION_BYTES;
 use elf_record::{Cause, VersionKind};
 use elf_table::{Fault, Names, SectionView, Table, refused};
 
-/// The tables of versions of the symbols that the section of a hash table links to: of the first
-/// sections of their types, the words, the definitions and the needs; nothing where there are no
-/// words, or where neither the definitions nor the needs have a byte.
+/// Returns the version tables of the symbols that the section of a hash table links to: of the
+/// first sections of their types, the versym entries, the definitions and the needs; nothing if
+/// there are no versym entries, or if neither the definitions nor the needs have a byte.
 ///
 /// # Errors
-/// The first check that fails: those of the words, of the definitions, of the needs.
+/// Returns the first check that fails: those of the versym entries, of the definitions, of the
+/// needs.
 pub(crate) fn section_versions(file: &SectionView<'_>, link: u32) -> Result<VersionTables, Fault>
     requires small { file.now.loaded.size < 2 ^ 63 }
     ensures { FindsIn HoldsSectionHeaders file.now.loaded file.now.store.now result
@@ -45,11 +46,11 @@ pub(crate) fn section_versions(file: &SectionView<'_>, link: u32) -> Result<Vers
     })
 }
 
-/// The words of symbols' versions of the first section of such, if there is one, and one of
+/// Returns the version symbol table of the first section of that type, if there is one, and one of
 /// definitions or of needs.
 ///
 /// # Errors
-/// At its header: those of [`SectionView::table`]; `BadLink` where its link is another than `link`.
+/// Those of [`SectionView::table`] at its header; `BadLink` there if its link is not `link`.
 fn section_words(file: &SectionView<'_>, link: u32) -> Result<Option<VersymTable>, Fault>
     ensures { FindsIn HoldsSectionHeaders file.now.loaded file.now.store.now result
         (λ size found. IfSome found (λ words. TableInBounds size words.words))
@@ -71,8 +72,8 @@ fn section_words(file: &SectionView<'_>, link: u32) -> Result<Option<VersymTable
     }))
 }
 
-/// The first section of the words of symbols' versions, where there are definitions or needs. Without
-/// them no word names a version, and a loader does not look at the words.
+/// Returns the first section of versym entries, if there are definitions or needs. Without them no
+/// entry names a version, and a loader does not read the entries.
 fn words_section(file: &SectionView<'_>) -> Option<u16>
     ensures below { IfSome result (λ section. section < file.now.store.now.loaded) }
     ensures held { (bytes : List ℕ) → HoldsSectionHeaders bytes file.now.loaded file.now.store.now →
@@ -84,7 +85,7 @@ fn words_section(file: &SectionView<'_>) -> Option<u16>
     None
 }
 
-/// Whether there is a section of a type, and the first of them has a byte.
+/// Returns `true` if there is a section of a type, and the first of them has a byte.
 fn has_bytes(file: &SectionView<'_>, sh_type: u32) -> bool
     ensures { (bytes : List ℕ) → HoldsSectionHeaders bytes file.now.loaded file.now.store.now →
         result ≡ has_bytes bytes sh_type }
@@ -95,7 +96,7 @@ fn has_bytes(file: &SectionView<'_>, sh_type: u32) -> bool
     file.section(section).sh_size != 0
 }
 
-/// The definitions, or the needs, of the first section of a type, if there is one.
+/// Returns the definitions, or the needs, of the first section of a type, if there is one.
 ///
 /// # Errors
 /// Those of [`section_records`].
@@ -118,10 +119,11 @@ fn first_records(
     Ok(Some(records))
 }
 
-/// The definitions, or the needs, of a section. One of size 0 is not checked.
+/// Returns the definitions, or the needs, of a section. A section of size 0 is not checked.
 ///
 /// # Errors
-/// `TableOutside` at its header where it ends past the end of the file; those of [`SectionView::strings`].
+/// Returns `TableOutside` at its header if it ends past the end of the file; those of
+/// [`SectionView::strings`].
 fn section_records(
     file: &SectionView<'_>,
     section: u16,
@@ -146,7 +148,7 @@ fn section_records(
     })
 }
 
-/// The string table of the names of records, where there is a byte of them.
+/// Returns the string table of the names of records, if they have a byte.
 ///
 /// # Errors
 /// Those of [`SectionView::strings`].

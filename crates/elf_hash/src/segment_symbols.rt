@@ -1,4 +1,4 @@
-//! The symbols and the tables of versions by the program headers.
+//! The symbols and the version tables by the program headers.
 ghost use Rattle.std.specs.Prelude.{◌≡◌, ◌/◌, ◌<◌, ◌≤◌, ◌^◌, ℕ, List, IfSome, option_map};
 ghost use Rattle.elf_model.specs.Prelude.{checks_of_row, records_of_tag, rest_checks, rows_checks, segment_at, segment_strings, segment_words, tagged_row, words_row};
 ghost use Rattle.elf_model.specs.declared.versions.VersionKind.TheVariants.{Need};
@@ -16,13 +16,13 @@ use elf_record::sizes::{SYMBOL_BYTES, SYMBOL_VERSION_BYTES};
 use elf_record::{Cause, VersionKind};
 use elf_table::{ExecutionView, Fault, Names, Table, refused};
 
-/// The symbols that the entries of a segment locate, with their names and versions. `row` is the
-/// file offset of the entry of the hash table.
+/// Returns the symbols that the entries of a segment locate, with their names and versions. `row`
+/// is the file offset of the entry of the hash table.
 ///
 /// # Errors
-/// The first that fails: `Unmapped` at `row` where no entry locates the symbols or their strings, or
-/// has the size of these; those of [`ExecutionView::rest`] for the symbols and of
-/// [`ExecutionView::mapped`]; those of the tables of versions.
+/// Returns the first check that fails: `Unmapped` at `row` if no entry locates the symbols or their
+/// strings, or holds the size of these; those of [`ExecutionView::rest`] for the symbols and of
+/// [`ExecutionView::mapped`]; those of the version tables.
 pub(crate) fn segment_symbols(
     view: &ExecutionView<'_>,
     segment: u16,
@@ -51,7 +51,7 @@ pub(crate) fn segment_symbols(
     })
 }
 
-/// The entries that locate symbols and their strings, and have the size of these.
+/// Returns the entries that locate symbols and their strings, and hold the size of these.
 fn symbol_entries(found: &DynamicTags) -> Option<(DynEntry, DynEntry, DynEntry)>
     ensures { TellSymbols found.now result }
 {
@@ -67,7 +67,7 @@ fn symbol_entries(found: &DynamicTags) -> Option<(DynEntry, DynEntry, DynEntry)>
     Some((symtab, strtab, strsz))
 }
 
-/// As many rows of `entry` bytes as single bytes have room for.
+/// Returns as many rows of `entry` bytes as fit into a range.
 fn rows_in(bytes: Table, entry: u64) -> Table
     requires bytes { bytes.entry ≡ 1 }
     requires entry { (0 < entry) × (entry ≤ 4096) }
@@ -77,11 +77,12 @@ fn rows_in(bytes: Table, entry: u64) -> Table
     Table::new(bytes.at(), bytes.len() / entry, entry)
 }
 
-/// The tables of versions that the entries of a segment locate, whose names are the symbols'
-/// strings; nothing without an entry of the words, or without one of the definitions or the needs.
+/// Returns the version tables that the entries of a segment locate, whose names are in the symbols'
+/// strings; nothing without an entry of the version symbol table, or without one of the definitions
+/// or the needs.
 ///
 /// # Errors
-/// Those of [`ExecutionView::rest`] for the words, for the definitions and for the needs.
+/// Those of [`ExecutionView::rest`] for the versym entries, for the definitions and for the needs.
 fn segment_versions(
     view: &ExecutionView<'_>,
     segment: u16,
@@ -118,8 +119,8 @@ fn segment_versions(
     })
 }
 
-/// The entry of the words of symbols' versions, where there is one of the definitions or of the needs.
-/// Without them no word names a version, and a loader does not look at the words.
+/// Returns the entry of the version symbol table, if there is one of the definitions or of the
+/// needs. Without them no versym entry names a version, and a loader does not read these.
 fn words_entry(found: &DynamicTags) -> Option<DynEntry>
     ensures { (bytes : List ℕ) (at : ℕ) → AreTaggedEntries bytes at found.now →
         result ≡ option_map (dynamic_entry_at bytes) (words_row bytes at) }
@@ -130,7 +131,7 @@ fn words_entry(found: &DynamicTags) -> Option<DynEntry>
     found.versym
 }
 
-/// The definitions, or the needs, that an entry locates, if there is one.
+/// Returns the definitions, or the needs, that an entry locates, if there is one.
 ///
 /// # Errors
 /// Those of [`ExecutionView::rest`].

@@ -1,4 +1,4 @@
-//! How many symbols a lookup has.
+//! The number of symbols of a lookup.
 ghost use Rattle.std.specs.Prelude.{◌≡◌, ◌+◌, ◌≤◌, IfOk};
 ghost use Rattle.elf_table.specs.Ledger.{CallDid, fault_of_result};
 ghost use Rattle.elf_hash.specs.Extents.{ReturnsExtent};
@@ -13,11 +13,11 @@ use elf_source::{Counted, Source};
 use elf_table::Fault;
 
 impl DynamicSymbols {
-    /// How many symbols there are by their hash table, as [`symbol_extent`] counts them, and no more than
-    /// there is room for.
+    /// Returns the number of symbols by their hash table, as [`symbol_extent`] counts them, no more
+    /// than fit into the symbol table.
     ///
     /// # Errors
-    /// A fault of a read, or a refusal for want of budget, at the offset that was asked for.
+    /// Returns a fault of a read, or the refusal `Budget`, at the offset of the read.
     pub fn extent<S: Source>(&self, src: &mut Counted<S>, table: &HashTable) -> Result<u64, Fault>
         requires within { HashTableInBounds src.old.seen.size table.now }
         requires count { self.now.table.count ≡ (place_of_table table.now).symbols }

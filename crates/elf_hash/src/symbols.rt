@@ -1,18 +1,18 @@
-//! The symbols of a file, with the tables of their versions.
+//! The symbols of a file, with their version tables.
 ghost use Rattle.std.specs.Prelude.{◌≡◌, ◌^◌, ◌<◌};
 ghost use Rattle.elf_model.specs.declared.versions.VersionKind.TheVariants.{Need};
 
 use elf_record::VersionKind;
 use elf_table::{Names, Table};
 
-/// The words of the versions of symbols, one for each (Linux Standard Base Core, Symbol Version
-/// Table). It holds no bytes.
+/// The version symbol table, with one entry for each symbol (Linux Standard Base Core, Symbol
+/// Version Table). It holds no bytes.
 #[derive(Clone, Copy)]
 pub struct VersymTable {
-    /// The words, rows of 2 bytes.
+    /// The entries, rows of 2 bytes.
     pub words: Table,
-    /// The file offset of the section header or dynamic entry that locates them, which a refusal of a
-    /// symbol without a word names.
+    /// The file offset of the section header or dynamic entry that locates it, to which a refusal
+    /// of a symbol without an entry points.
     pub head: u64,
     /// The index of the section, or of the program header of the dynamic entries.
     pub index: u16,
@@ -36,7 +36,7 @@ pub struct VersionRecordTable {
     pub ghost small: { table.count < 2 ^ 63 },
 }
 
-/// The symbols that a hash table is of, with the tables of their versions. It holds no bytes.
+/// The symbols that a hash table covers, with their version tables. It holds no bytes.
 #[derive(Clone, Copy)]
 pub struct DynamicSymbols {
     /// The index of their section, or of the program header of the dynamic entries.
@@ -45,11 +45,11 @@ pub struct DynamicSymbols {
     pub table: Table,
     /// The names of the symbols.
     pub names: Names,
-    /// The words of their versions, if there are such.
+    /// Their version symbol table, if there is one.
     pub words: Option<VersymTable>,
-    /// The definitions of versions, where there are words of versions and definitions.
+    /// The definitions of versions, if there is a version symbol table and there are definitions.
     pub definitions: Option<VersionRecordTable>,
-    /// The needs of versions, where there are words of versions and needs.
+    /// The needs of versions, if there is a version symbol table and there are needs.
     pub needs: Option<VersionRecordTable>,
     pub ghost rows: { table.entry ≡ 24 },
 }

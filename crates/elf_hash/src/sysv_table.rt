@@ -1,11 +1,11 @@
-//! A hash table of the gABI.
+//! A SysV hash table.
 ghost use Rattle.std.specs.Prelude.{◌≡◌, ◌+◌, ◌*◌, ◌%◌, ◌<◌, ◌≤◌};
 
 use crate::place::HashTableLocation;
 
-/// A hash table of the gABI (5, Hash Table) whose words lie within its bytes: two counts, a word for
-/// each bucket, a word for each chain, four bytes each. It holds the counts, as they were read once,
-/// and no other word.
+/// A SysV hash table (gABI 5, Hash Table) whose words lie within its bytes: two counts, a word for
+/// each bucket, a word for each chain, four bytes each. It holds the counts, as they were read
+/// once, and no other word.
 #[derive(Clone, Copy)]
 pub struct SysvHashTable {
     pub(crate) place: HashTableLocation,
@@ -16,7 +16,8 @@ pub struct SysvHashTable {
 }
 
 impl SysvHashTable {
-    /// The file offset of the word of a hash's bucket, which is the index of the first symbol.
+    /// Returns the file offset of the word of a hash's bucket, which is the index of the first
+    /// symbol.
     pub(crate) fn bucket_at(&self, hash: u32) -> u64
         ensures value { result ≡ self.now.place.at + (8 + 4 * (hash % self.now.nbucket)) }
         ensures inside { result + 4 ≤ self.now.place.at + self.now.place.size }
@@ -24,7 +25,8 @@ impl SysvHashTable {
         self.place.at + (8 + 4 * u64::from(hash % self.nbucket))
     }
 
-    /// The file offset of the word of a symbol's chain, which is the index of the next symbol.
+    /// Returns the file offset of the word of a symbol's chain, which is the index of the next
+    /// symbol.
     pub(crate) fn chain_at(&self, index: u32) -> u64
         requires { index < self.now.nchain }
         ensures { result ≡ self.now.place.at + (8 + 4 * self.now.nbucket + 4 * index) }

@@ -1,4 +1,4 @@
-//! The walk along a chain of a hash table of the gABI.
+//! The walk along a chain of a SysV hash table.
 ghost use Rattle.std.specs.Prelude.{◌≡◌, ℕ, ◌+◌, ◌<◌, ◌≤◌, Bool, List, Result, IfOk, IsTrue};
 ghost use Rattle.elf_table.specs.Ledger.{CallDid, fault_of_result};
 ghost use Rattle.elf_hash.specs.Counts.{IsSysv};
@@ -15,12 +15,13 @@ use elf_record::Cause;
 use elf_source::{Counted, Source};
 use elf_table::{Fault, refused};
 
-/// Goes along the chain of a hash, up to the symbol that answers or to the chain's end.
+/// Walks along the chain of a hash, up to the symbol that matches or to the chain's end.
 ///
 /// # Errors
-/// `HashIndex` at a word that is not below the number of chains and of symbols. `HashCycle` at the
-/// word of the bucket where as many steps as there are chains gave no answer: the chain goes round.
-/// The trial's own where a symbol cannot be tried. Else a fault of a read.
+/// Returns `HashIndex` at a word that is not below the number of chains and of symbols. Returns
+/// `HashCycle` at the word of the bucket if as many steps as there are chains found no match: the
+/// chain is cyclic. Returns the matcher's own refusal if a symbol cannot be tried. Otherwise
+/// returns a fault of a read.
 pub(crate) fn sysv_walk<S: Source, T: Matcher>(
     src: &mut Counted<S>,
     table: &SysvHashTable,
@@ -58,7 +59,7 @@ pub(crate) fn sysv_walk<S: Source, T: Matcher>(
     Ok(stepped(None, tried))
 }
 
-/// Whether a word is an index of a chain and of a symbol.
+/// Returns `true` if a word is an index of a chain and of a symbol.
 fn is_index(table: &SysvHashTable, word: u32) -> bool
     ensures below { IsTrue result →
         (word < table.now.nchain) × (word < table.now.place.symbols) }
@@ -68,7 +69,7 @@ fn is_index(table: &SysvHashTable, word: u32) -> bool
     word < table.nchain && u64::from(word) < table.place.symbols
 }
 
-/// A symbol of an index that answers.
+/// Returns the match of the symbol of an index.
 fn found_at(index: u32, answer: SymbolMatch) -> ChainMatch
     ensures { result ≡ record { index = index; answer = answer } }
 {
@@ -78,7 +79,8 @@ fn found_at(index: u32, answer: SymbolMatch) -> ChainMatch
     }
 }
 
-/// What is answered after so many steps, each of which tries a symbol and counts for a chain word.
+/// Returns the result after `steps` steps, each of which tries a symbol and counts for a chain
+/// word.
 fn stepped(found: Option<ChainMatch>, steps: u64) -> ChainResult
     ensures { result ≡ record { found = found; tried = steps; read = steps } }
 {

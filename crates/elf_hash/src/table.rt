@@ -1,12 +1,12 @@
-//! A hash table of either kind.
+//! A hash table of either style.
 use crate::gnu_table::GnuHashTable;
 use crate::sysv_table::SysvHashTable;
 
-/// A hash table of either kind, whose counts fit its size.
+/// A hash table of either style, whose counts fit its size.
 #[derive(Clone, Copy)]
 pub enum HashTable {
-    /// One of the GNU system.
+    /// A GNU hash table.
     Gnu(GnuHashTable),
-    /// One of the gABI.
+    /// A SysV hash table.
     Sysv(SysvHashTable),
 }

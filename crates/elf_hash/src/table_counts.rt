@@ -13,12 +13,12 @@ use elf_record::Cause;
 use elf_source::{Counted, Source};
 use elf_table::{Fault, refused};
 
-/// Reads the four counts of a table of the GNU system.
+/// Reads the four counts of a GNU hash table.
 ///
 /// # Errors
-/// `HashShape` at the entry of the table where there is no bucket, where the filter's words are not
-/// as many as a power of two tells, where the shift leaves no bits of a hash, or where the filter and
-/// the buckets do not fit into the table. Else a fault of a read.
+/// Returns `HashShape` at the entry of the table if there is no bucket, if the number of the
+/// filter's words is no power of two, if the shift leaves no bits of a hash, or if the filter and
+/// the buckets do not fit into the table. Otherwise returns a fault of a read.
 pub(crate) fn gnu_counts<S: Source>(
     src: &mut Counted<S>,
     place: &HashTableLocation,
@@ -45,7 +45,7 @@ pub(crate) fn gnu_counts<S: Source>(
     })
 }
 
-/// Whether these counts are no table's of the GNU system of so many bytes.
+/// Returns `true` if these counts are not those of a GNU hash table of `size` bytes.
 fn has_no_gnu_shape(nbucket: u32, nbloom: u32, shift: u32, size: u64) -> bool
     ensures is { result ≡ (nbucket == 0 || not (count_ones nbloom == 1) || not (nat_lt shift 32)
         || nat_lt size (16 + 8 * nbloom + 4 * nbucket)) }
@@ -58,11 +58,11 @@ fn has_no_gnu_shape(nbucket: u32, nbloom: u32, shift: u32, size: u64) -> bool
         || 16 + 8 * u64::from(nbloom) + 4 * u64::from(nbucket) > size
 }
 
-/// Reads the two counts of a table of the gABI.
+/// Reads the two counts of a SysV hash table.
 ///
 /// # Errors
-/// `HashShape` at the entry of the table where there is no bucket, or where the words that the
-/// counts tell of do not fit into the table. Else a fault of a read.
+/// Returns `HashShape` at the entry of the table if there is no bucket, or if the words that the
+/// counts require do not fit into the table. Otherwise returns a fault of a read.
 pub(crate) fn sysv_counts<S: Source>(
     src: &mut Counted<S>,
     place: &HashTableLocation,
@@ -84,7 +84,8 @@ pub(crate) fn sysv_counts<S: Source>(
     })
 }
 
-/// Whether there is no bucket, or the words that these counts tell of do not fit into so many bytes.
+/// Returns `true` if there is no bucket, or the words that these counts require do not fit into
+/// `size` bytes.
 fn has_no_shape(nbucket: u32, nchain: u32, size: u64) -> bool
     ensures is { result ≡ (nbucket == 0 || nat_lt size (8 + 4 * nbucket + 4 * nchain)) }
     ensures fits { MatchBool result (Unit {0})

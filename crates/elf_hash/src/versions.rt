@@ -1,15 +1,15 @@
-//! The tables of versions of symbols.
+//! The version tables of symbols.
 ghost use Rattle.std.specs.Prelude.{◌≡◌};
 
 use crate::symbols::{VersionRecordTable, VersymTable};
 
-/// The tables of the versions of symbols.
+/// The version tables of the symbols.
 #[derive(Clone, Copy)]
 pub(crate) struct VersionTables {
-    /// The words of the symbols' versions, if there are such.
+    /// The version symbol table, if there is one.
     pub words: Option<VersymTable>,
-    /// The definitions, where there are words and definitions.
+    /// The definitions, if there is a version symbol table and there are definitions.
     pub definitions: Option<VersionRecordTable>,
-    /// The needs, where there are words and needs.
+    /// The needs, if there is a version symbol table and there are needs.
     pub needs: Option<VersionRecordTable>,
 }

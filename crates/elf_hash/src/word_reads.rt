@@ -10,7 +10,7 @@ use elf_table::{Fault, fill};
 /// Reads the word at an offset, and only its four bytes.
 ///
 /// # Errors
-/// A fault of the read, or a refusal for want of budget, at the offset.
+/// Returns a fault of the read, or the refusal `Budget`, at the offset.
 pub fn read_word<S: Source>(src: &mut Counted<S>, at: u64) -> Result<u32, Fault>
     requires { at + 4 ≤ src.old.seen.size }
     ensures { CallDid src.old src.new (fault_of_result result) 4
@@ -24,7 +24,7 @@ pub fn read_word<S: Source>(src: &mut Counted<S>, at: u64) -> Result<u32, Fault>
 /// Reads the eight bytes at an offset, a word of a filter.
 ///
 /// # Errors
-/// A fault of the read, or a refusal for want of budget, at the offset.
+/// Returns a fault of the read, or the refusal `Budget`, at the offset.
 pub(crate) fn read_filter<S: Source>(src: &mut Counted<S>, at: u64) -> Result<u64, Fault>
     requires { at + 8 ≤ src.old.seen.size }
     ensures { CallDid src.old src.new (fault_of_result result) 8

@@ -1,4 +1,4 @@
--- What a word is parted into, and what digits spell.
+-- How an argument is split, and which number digits represent.
 use Rattle.std.proofs.Common.{◌≡◌, ◌≢◌, ℕ, ◌+◌, ◌^◌, ◌<◌, ◌≤◌, ◌==◌, List, [], ◌∷◌, ◌++◌, length, get_or, take, drop, Option, None, Some, Result, refl, ap, sym, subst, ◌∙◌, arith, length-append, take-append-drop}
 use Rattle.std.specs.Result.{OkIff, result_ok}
 use Rattle.std.specs.Prelude.{Bool, Ok, Err, All, IfSome, IsNone, MatchBool, MatchOption, true, false}
@@ -57,7 +57,7 @@ same_parts (x ∷ a) b (y ∷ key) text e p q =
     let rest = same_parts a b key text (tail_same x y (a ++ EQUALS ∷ b) (key ++ EQUALS ∷ text) e) p q in
     ((λ k. head_same x y (a ++ EQUALS ∷ b) (key ++ EQUALS ∷ text) e k ∷ rest.0 k), rest.1)
 
--- a word is parted in one way
+-- an argument is split in one way
 parted_once : (word a b key text : List ℕ) → IsSplitAtEquals word a b → IsSplitAtEquals word key text → (a ≡ key) × (b ≡ text)
 parted_once word a b key text one other = same_parts a b key text (sym one.0 ∙ other.0) one.1 other.1
 
@@ -72,7 +72,7 @@ pub parted_nowhere : (word : List ℕ) (r : Option (Bor (List ℕ) × Bor (List 
 parted_nowhere word None h none key text parted = not_parted word key text h parted
 parted_nowhere word (Some x) h none key text parted = absurd (true_is_not_false none)
 
--- digits of a number that fits a machine word are read as they stand
+-- digits of a number that fits a machine word are read unchanged
 plain : {E : Type 0} (radix : ℕ) (digits : List ℕ) (r : Result ℕ E) → get_or digits 0 0 ≢ 43 → ParsesUnsigned 64 radix digits r
     → OkIff r (IsNumeral radix digits × (digits_value radix digits < 2 ^ 64)) (digits_value radix digits)
 plain radix digits r first h =
@@ -92,13 +92,13 @@ unread radix most digits (Err e) needs first h none numeral short =
 pub no_plus : (digits : List ℕ) (r : Bool) → MatchBool r (HasPrefixMatch (FindsCharPrefix 43) digits) (FindsCharPrefix 43 digits None) → r ≡ false → get_or digits 0 0 ≢ 43
 no_plus digits r h other plus = true_is_not_false (sym ((starts_char 43 digits r h (omega arith) (omega arith)).1 plus) ∙ other)
 
--- what a word spells, where the word is parted so
+-- the item of an argument that is split like this
 pub spelled_so : (word key text : List ℕ) → IsSplitAtEquals word key text → (item : Item) → ParsesItem word item → IsItemOf key item × IsAddress text (item_address item)
 spelled_so word key text parted item spells =
     let same = parted_once word spells.key spells.text key text spells.parted parted in
     (subst (λ k. IsItemOf k item) same.0 spells.is_of, subst (λ t. IsAddress t (item_address item)) same.1 spells.address)
 
--- two items are of one sort, and have one index or name and one address
+-- two items are of one kind, and have one index or name and one address
 abbrev pub SameItem : Item → Item → Type 0
 SameItem (Section i a) (Section j b) = (i ≡ j) × (a ≡ b)
 SameItem (Define n a) (Define m b) = (n.now ≡ m.now) × (a ≡ b)
@@ -141,7 +141,7 @@ of_one_key key (Thread n a) (Thread m b) (e, o) (g, p) same = (ap (drop 6) (sym 
 one_address : (text : List ℕ) (a b : ℕ) → IsAddress text a → IsAddress text b → a ≡ b
 one_address text a b (d, e, n) (f, g, m) = n.2 ∙ ap (λ t. digits_value 16 (drop 2 t)) (sym e ∙ g) ∙ sym m.2
 
--- a word spells one item
+-- an argument is one item
 pub one_item : (word : List ℕ) (x y : Item) → ParsesItem word x → ParsesItem word y → SameItem x y
 one_item word x y one other =
     let so = spelled_so word one.key one.text one.parted y other in

@@ -35,7 +35,7 @@ pub address_none : (items : List (ℕ × ℕ)) (i section : ℕ) → length item
 unfolding address_in
 address_none items i section past = rw (drop-all items i past) refl
 
--- an address is found where one of the items has the index
+-- an address is found if one of the items has the index
 has_more : (section : ℕ) (item : ℕ × ℕ) (items : List (ℕ × ℕ)) → (item.0 ≡ section → ⊥) → (found : Bool) → MatchBool found (HasKey items section) (LacksKey items section) → MatchBool found (HasKey (item ∷ items) section) (LacksKey (item ∷ items) section)
 has_more section item items other true has = (suc has.0, has.1, omega (arith, has.2), has.3, has.4)
 has_more section item items other false lacks = All-cons (λ (x : ℕ × ℕ). x.0 ≢ section) item items other lacks
@@ -49,7 +49,7 @@ has_address (item ∷ items) section found is =
       | inr other ↦ has_more section item items other.1 found (has_address items section found (is ∙ ap is_some (address_in-miss items item section other.0)))
     ]
 
--- the cost of the names that are left
+-- the cost of the remaining names
 pub cost_step : (i : ℕ) (items : List (List ℕ × ℕ)) (item : List ℕ × ℕ) (name : List ℕ) → i < length items → item ≡ get_or items i item → name ≡ item.0
     → items_cost (drop i items) ≡ pad64 (length name + 1) + items_cost (drop (i + 1) items)
 cost_step i items item name below is named = ap items_cost (drop-at items i item item below is) ∙ (sum_by-cons (λ (x : List ℕ × ℕ). pad64 (length x.0 + 1)) item (drop (i + 1) items) ∙ ap (λ n. pad64 (length n + 1) + items_cost (drop (i + 1) items)) (sym named))

@@ -1,4 +1,4 @@
--- What a search finds among items in rising order.
+-- The result of a search among items in ascending order.
 use Rattle.std.proofs.Common.{◌≡◌, ◌≢◌, ℕ, zero, suc, ◌+◌, ◌<◌, ◌≤◌, List, [], ◌∷◌, length, length-take, get_or, take, ◌-◌, Ordering, Less, Equal, Greater, Some, None, Result, Ok, Err, refl, sym, ap, subst, ◌∙◌, arith, inl, inr, is_lt, nat_cmp}
 use Rattle.std.specs.Cmp.{IsTotalOrder}
 use Rattle.std.specs.List.Sorted.{IsSearchInRange, IsBinarySearchResult, IsSortedBy}
@@ -12,7 +12,7 @@ use Rattle.elf_layout.specs.Prelude.{FindsKey, Follows, KeysAscend, borrowed_ind
 use Rattle.elf_layout.specs.declared.lent.LentSection.{LentSection}
 use Rattle.elf_layout.proofs.LayoutSteps.{address_in-hit, address_in-miss}
 
--- a search by an order, among items whose keys rise
+-- a search by an order, among items whose keys ascend
 module _ {K X : Type 0} {order : K → K → Ordering} (total : IsTotalOrder order) (key : X → K) (items : List X) (rises : KeysAscend order key items) where
   sorted : IsSortedBy (λ a b. is_lt (order (key a) (key b))) items
   sorted k d low within =
@@ -25,7 +25,7 @@ module _ {K X : Type 0} {order : K → K → Ordering} (total : IsTotalOrder ord
       let p = parted (searchable_from_sorted total key items wanted sorted) in
       (within, λ k d below. p.0 k d (omega arith) below, λ k d from below. p.1 k d from below)
 
--- items whose keys rise before a place, one more of which is looked at
+-- items whose keys ascend before a position, and one more
 module _ {K X : Type 0} {order : K → K → Ordering} (total : IsTotalOrder order) (key : X → K) (items : List X) where
   abbrev pub Below : ℕ → Type 0
   Below n = (a b : ℕ) (d : X) → a < b → b < n → order (key (get_or items a d)) (key (get_or items b d)) ≡ Less
@@ -42,7 +42,7 @@ module _ {K X : Type 0} {order : K → K → Ordering} (total : IsTotalOrder ord
   pub all_rise : (n : ℕ) → Below n → length items ≤ n → KeysAscend order key items
   all_rise n low past a b d less within = low a b d less (omega (arith, past, within))
 
-  -- and one that does not rise
+  -- and one that does not ascend
   pub front_falls : (n : ℕ) → n < length items → KeysAscend order key (take (n + 1) items) → Follows order key items n
   front_falls n within rises d some =
       let long = length-take (n + 1) items in

@@ -1,4 +1,4 @@
--- Items of lines, one after another, and sorted items of which two have one key.
+-- Items of lines in order, and sorted items of which two have the same key.
 use Rattle.std.proofs.Common.{◌≡◌, ◌≢◌, ℕ, ◌+◌, ◌-◌, ◌<◌, ◌≤◌, List, [], ◌∷◌, ◌++◌, length, get_or, take, map, ap₂, drop, take-append-drop, append_assoc, ◌==◌, Ordering, Less, Equal, Greater, MatchBool, Bool, true, false, refl, sym, ap, subst, ◌∙◌, arith, inl, inr, is_lt, nat_cmp}
 use Rattle.std.specs.Cmp.{IsTotalOrder}
 use Rattle.std.specs.List.{AllZip}
@@ -32,7 +32,7 @@ items_push : (old : Layout) (items : List Item) (item : Item) → with_items old
 items_push old [] item = refl
 items_push old (x ∷ items) item = items_push (with_item old x) items item
 
--- no line gives no item
+-- no lines give no items
 pub gives_none : (old : Layout) → GiveItems [] old old
 gives_none old = record { items = []; spelled = tt; placed = refl }
 
@@ -45,7 +45,7 @@ gives_more lines line item old new newer gives spells is = record {
   placed = is ∙ ap (λ l. with_item l item) gives.placed ∙ sym (items_push old gives.items item);
 }
 
--- items that are the same are alike to the same others
+-- equal items are alike to the same others
 same_alike : (one other wanted : Item) → SameItem one other → AreAlike other wanted → AreAlike one wanted
 same_alike (Section i a) (Section j b) (Section k c) same alike = same.0 ∙ alike
 same_alike (Define i a) (Define j b) (Define k c) same alike = same.0 ∙ alike
@@ -59,13 +59,13 @@ same_alike (Table i a) (Table j b) _ same alike = absurd alike
 same_alike (Thread i a) (Thread j b) _ same alike = absurd alike
 same_alike _ _ _ same alike = absurd same
 
--- a line spells one item, so it is alike or none is
+-- a line is one item, so it is alike or no line is
 pub alike_told : (line : List ℕ) (found wanted : Item) (answer : Bool) → ParsesItem line found → MatchBool answer (AreAlike found wanted) (AreAlike found wanted → ⊥)
     → MatchBool answer (ParsesSameItem wanted line) (ParsesSameItem wanted line → ⊥)
 alike_told line found wanted true spells alike = (found, spells, alike)
 alike_told line found wanted false spells other = λ said. other (same_alike found said.0 wanted (one_item line found said.0 spells said.1) said.2)
 
--- the last line that is alike, one line later
+-- the last line that is alike, after one more line
 pub last_none : (wanted : Item) → IsLastAlike [] wanted 0
 last_none wanted = inl (refl, All-nil (λ line. ParsesSameItem wanted line → ⊥))
 
@@ -86,11 +86,11 @@ parts_few (x ∷ y ∷ more) = omega (arith, parts_few (y ∷ more))
 pub lines_few : (text : List ℕ) → length (lines text) ≤ length text + 1
 lines_few text = omega (arith, parts_few (slice_split (λ b. b == 10) text), length-slice_split (λ b. b == 10) text, count_by-le-length (λ b. b == 10) text)
 
--- a line among all, behind those before it
+-- one of the lines, after those before it
 pub line_parted : (all front : List (List ℕ)) (n : ℕ) (line : List ℕ) → front ≡ take n all → n < length all → line ≡ get_or all n line → all ≡ front ++ line ∷ drop (n + 1) all
 line_parted all front n line is within here = sym (take-append-drop n all) ∙ ap₂ (λ a b. a ++ b) (sym is) (drop-at all n line line within here)
 
--- sorted items of which one does not follow the one before it: both have its key
+-- sorted items one of which does not follow the one before it: both have the same key
 module _ {K : Type 0} {order : K → K → Ordering} (total : IsTotalOrder order) (equal : (a b : K) → order a b ≡ Equal → a ≡ b) (items : List (K × ℕ)) (sorted : KeysNeverDescend order items) where
   alike_at : (j i : ℕ) (d : K × ℕ) → j + 1 ≡ i → i < length items → (order (get_or items j d).0 (get_or items i d).0 ≡ Less → ⊥) → (get_or items j d).0 ≡ (get_or items i d).0
   alike_at j i d next within not = by_order (order (get_or items j d).0 (get_or items i d).0) refl
@@ -123,7 +123,7 @@ first_of : {X : Type 0} (items : List X) → 0 < length items → X
 first_of [] some = absurd (omega (arith, some))
 first_of (item ∷ items) some = item
 
--- items that are lent, as pairs of their keys and addresses
+-- borrowed items, as pairs of their keys and addresses
 module _ {X K : Type 0} (key : X → K) (address : X → ℕ) (items : List X) where
   abbrev pub pair : X → K × ℕ
   pair item = (key item, address item)
@@ -155,13 +155,13 @@ module _ {X K : Type 0} (key : X → K) (address : X → ℕ) (items : List X) w
       then_falls (order (key (get_or items (i + 1) d)) (key (get_or items i d))) (nat_cmp (address (get_or items (i + 1) d)) (address (get_or items i d))) (sorted i d (omega arith) inside)
       (subst (λ x. order x (key (get_or items i d)) ≡ Less) (ap (λ (x : K × ℕ). x.0) (pair_at (i + 1) d e inside)) (subst (λ x. order (get_or pairs (i + 1) e).0 x ≡ Less) (ap (λ (x : K × ℕ). x.0) (pair_at i d e before)) less))
 
--- names that are lent
+-- borrowed names
 pub names_twice : (items : List LentName) (i : ℕ) (e : LentName) → i < length items → KeysNeverDescend name_order (named items) → (MayFollow items i → ⊥) → IsName (lent_name (get_or items i e))
     → HasTwice (named items) (lent_name (get_or items i e))
 names_twice items i e within sorted not is_name =
     key_twice lent_name (λ item. item.address) items nat_list_cmp_total order_same i e within sorted (λ follows. not ((λ d. subst (λ x. IsName (lent_name x)) (get_or_default items i e d within) is_name), follows))
 
--- the name of an item that is lent, of which each has one that it may have
+-- the name of a borrowed item, if each has a valid one
 pub name_there : (items : List LentName) (i : ℕ) (e : LentName) → i < length items → HaveNames (named items) → IsName (lent_name (get_or items i e))
 name_there items i e within names =
     let its : LentName → List ℕ × ℕ = λ item. (lent_name item, item.address) in

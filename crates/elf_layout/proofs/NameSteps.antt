@@ -1,4 +1,5 @@
--- What a search for the bytes at an index of a string table finds among names in rising order.
+-- The result of a search for the bytes at an index of a string table among names in ascending
+-- order.
 use Rattle.std.proofs.Common.{◌≡◌, ◌≢◌, ℕ, zero, suc, ◌+◌, ◌-◌, ◌<◌, ◌≤◌, ◌==◌, Bool, true, false, MatchBool, nat_eq, List, [], ◌∷◌, ◌++◌, length, get_or, take, drop, max, Ordering, Less, Equal, Greater, Option, Some, None, Result, Ok, Err, refl, sym, ap, ap₂, subst, ◌∙◌, arith, inl, inr, is_eq, nat_cmp, All, add-one, drop-cons, length-take, length-append, append-nil}
 use mathlib.Core.Bool.{false≢true}
 use Rattle.std.proofs.lemmas.Bool.{cases_lt}
@@ -17,7 +18,7 @@ use Rattle.std.specs.Ordering.{ord_max}
 use Rattle.elf_layout.proofs.LentSteps.{front_falls}
 use Rattle.elf_layout.proofs.LayoutSteps.{drop-at, drop-all}
 
--- names that are equal in their order are the same
+-- names that compare equal are the same
 pub order_same : (a b : List ℕ) → name_order a b ≡ Equal → a ≡ b
 order_same a b e = (bytes_eq-Decides a b).0 (sym (is_eq-slice_cmp a b) ∙ ap is_eq e)
 
@@ -42,7 +43,7 @@ no_nul_turned x xs h = grind (arith, nat_tests, h 0 0 (omega arith))
 no_nul_tail : (x : ℕ) (xs : List ℕ) → NoNul (x ∷ xs) → NoNul xs
 no_nul_tail x xs h k d below = h (suc k) d (omega (arith, below))
 
--- a name with its NUL, against what stands in the table
+-- a name with its NUL, against the bytes in the table
 ended_same : (name more : List ℕ) → begins (name ++ 0 ∷ more) (name ++ 0 ∷ []) ≡ Ok true
 unfolding begins
 ended_same [] more = refl
@@ -75,13 +76,13 @@ unended_other (x ∷ key) (y ∷ name) more k other =
       | inr differ ↦ rw (begins, differ.0) refl
     ]
 
--- what begins with some bytes is not below them
+-- what begins with some bytes is not less than them
 begins_not_less : (key rest : List ℕ) → name_order (key ++ rest) key ≡ Less → ⊥
 begins_not_less [] [] e = absurd (cc)
 begins_not_less [] (x ∷ rest) e = absurd (cc)
 begins_not_less (x ∷ key) rest e = grind (arith, nat_tests, begins_not_less key rest)
 
--- a name above some bytes that is below one that begins with them begins with them too
+-- a name greater than some bytes and less than one that begins with them begins with them too
 begins_between : (key name rest : List ℕ) → name_order name key ≡ Greater → name_order name (key ++ rest) ≡ Less → BeginsWith name key
 begins_between [] name rest above below = (name, refl)
 begins_between (x ∷ key) [] rest above below = absurd (cc)
@@ -91,7 +92,7 @@ begins_between (x ∷ key) (y ∷ name) rest above below =
       | inr differ ↦ absurd (grind (arith, nat_tests))
     ]
 
--- one of the names is at most as long as the longest
+-- each name is at most as long as the longest
 as_long : (items : List LentName) (k : ℕ) (d : LentName) → k < length items → length (lent_name (get_or items k d)) ≤ longest (named items)
 unfolding longest
 as_long [] k d below = absurd (omega (arith, below))
@@ -105,7 +106,7 @@ longest_more [] i d below = absurd (omega (arith, below))
 longest_more (item ∷ items) zero d below = omega arith
 longest_more (item ∷ items) (suc i) d below = let more = longest_more items i d (omega (arith, below)) in omega (arith, more)
 
--- names that may be lent are short
+-- names that may be borrowed are short
 pub few_bytes : (items : List LentName) → All (λ item. IsName (lent_name item)) items → longest (named items) ≤ 255
 unfolding longest
 few_bytes [] names = omega arith
@@ -113,12 +114,12 @@ few_bytes (item ∷ items) names =
     let first = (names 0 item (omega arith)).1 in
     let more = few_bytes items (λ k d below. names (suc k) d (omega (arith, below))) in omega (arith, first, more)
 
--- the names of a front
+-- the names of a prefix
 pub lends_front : (items : List LentName) (i : ℕ) → i < length items → MayBorrow (take (i + 1) items) → MayFollow items i
 lends_front items i within lend =
     (λ d. subst (λ x. IsName (lent_name x)) (get_or-take (i + 1) items i d (omega arith)) (lend.names i d (omega (arith, within, length-take (i + 1) items))), front_falls nat_list_cmp_total lent_name items i within lend.rise)
 
--- what `starts_with` says
+-- the result of `starts_with`
 pub begins_said : (name front : List ℕ) (r : Bool) → r ≡ pointwise nat_eq front (take (length front) name) → MatchBool r (BeginsWith name front) (BeginsWith name front → ⊥)
 begins_said name front true is = (drop (length front) name, (starts_is Decides-eqb name front true is).0 refl)
 begins_said name front false is = λ b. absurd (false≢true ((starts_is Decides-eqb name front false is).1 b.0 b.1))
@@ -144,7 +145,7 @@ module _ (items : List LentName) (i : ℕ) (name : List ℕ) (within : i < lengt
       let d : LentName = some_item items (omega (arith, within)) in
       not (subst (λ n. name_order before n ≡ Less) (sym (here d)) (subst (λ n. name_order n (lent_name (get_or items i d)) ≡ Less) (sym (at d)) (may.1 d some)))
 
--- whether the name at a place begins with some bytes, from its test
+-- whether the name at a position begins with some bytes, from its test
 pub begins_there : (items : List LentName) (i : ℕ) (front name : List ℕ) → i < length items → ((d : LentName) → name ≡ lent_name (get_or items i d)) → (r : Bool)
     → MatchBool r (BeginsWith name front) (BeginsWith name front → ⊥) → MatchBool r (BeginsAt items i front) (BeginsAt items i front → ⊥)
 begins_there items i front name within here true b =
@@ -152,7 +153,7 @@ begins_there items i front name within here true b =
     (within, (item, get_or_default items i (some_item items (omega (arith, within))) item within, (b.0, sym (here (some_item items (omega (arith, within)))) ∙ b.1)))
 begins_there items i front name within here false not = λ at. not (at.1.2.0, here at.1.0 ∙ sym (ap lent_name at.1.1) ∙ at.1.2.1)
 
--- the names one after another, compared with what stands at an index
+-- the names in order, compared with the bytes at an index
 module _ (strings : List ℕ) (index : ℕ) where
   abbrev compared : LentName → Result Bool Cause
   compared item = same strings index (lent_name item)
@@ -176,7 +177,8 @@ module _ (strings : List ℕ) (index : ℕ) where
   unfolding address_named
   at_end = refl
 
--- what stands in a string table at an index, as far as it was read: so many bytes before the first NUL, or all
+-- the bytes of a string table at an index, as far as they were read: this many before the first
+-- NUL, or all
 module _ (strings : List ℕ) (index end most : ℕ) (front : List ℕ) (inside : index < length strings) (is : front ≡ slice strings index (most + 1))
     (within : end ≤ length front) (before : (k : ℕ) → k < end → get_or front k 0 ≢ 0)
   where
@@ -198,7 +200,7 @@ module _ (strings : List ℕ) (index end most : ℕ) (front : List ℕ) (inside 
     key_is : key ≡ take end (drop index strings)
     key_is = ap (take end) is ∙ take-take end (most + 1) (drop index strings) (omega (arith, within, ap length is, length-take (most + 1) (drop index strings)))
 
-    -- the name is ended
+    -- the name is terminated
     parted : (ends : get_or front end 0 ≡ 0) → end < length front → drop index strings ≡ key ++ 0 ∷ drop (end + 1) (drop index strings)
     parted ends short =
         let long : end < length (drop index strings) = omega (arith, short, ap length is, length-take (most + 1) (drop index strings)) in
@@ -233,7 +235,7 @@ module _ (strings : List ℕ) (index end most : ℕ) (front : List ℕ) (inside 
         let all_of : drop index strings ≡ key = sym (take_all (most + 1) (drop index strings) whole) ∙ (sym is ∙ sym (key_all all)) in
         compared_is name ∙ (ap₂ begins all_of (ap (λ l. l ++ 0 ∷ []) b.1) ∙ unended_begins key b.0)
 
-    -- names in rising order
+    -- names in ascending order
     module _ (items : List LentName) (lend : MayBorrow items) (longest_is : most ≡ longest (named items)) where
       no_nul : (k : ℕ) (d : LentName) → k < length items → NoNul (lent_name (get_or items k d))
       no_nul k d below = (lend.names k d below).2
@@ -302,12 +304,12 @@ module _ (strings : List ℕ) (index end most : ℕ) (front : List ℕ) (inside 
           → address_named strings index (named items) ≡ Ok None
       unstopped all r finds not = none_of (λ k d below. other all (lent_name (get_or items k d)) (never_begun r finds not k d below))
 
-      -- what a search gives of ended bytes
+      -- the result of a search for terminated bytes
       pub said : get_or front end 0 ≡ 0 → end < length front → (r : Result ℕ ℕ) → FindsKey name_order lent_name items key r → (address : Option ℕ) → IsAddressAt items r address
           → address_named strings index (named items) ≡ Ok address
       said ends short (Ok i) finds address at = found ends short i finds at.0 at.1 ∙ ap (λ a. Ok a) (sym at.2)
       said ends short (Err i) finds address none = absent ends short i finds ∙ ap (λ a. Ok a) (sym none)
 
--- the greater of two numbers, as `max` answers it
+-- the greater of two numbers, as `max` returns it
 pub greater_is : (a b : ℕ) → ord_max nat_cmp a b ≡ max a b
 greater_is a b = grind (arith, nat_tests)

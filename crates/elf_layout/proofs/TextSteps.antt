@@ -6,7 +6,7 @@ use Rattle.std.proofs.Math.Seq.{take-append-add}
 use Rattle.std.specs.Io.KnownBytes.{Consumes, IsAtEnd, ReadConsumes}
 use Rattle.elf_layout.specs.Texts.{IsOneLine, IsLineStart, HasShortLines, IsWithinLine, IsCutBefore, EndsLines}
 
--- texts that have the same bytes before a place
+-- texts that have the same bytes before a position
 module _ (text other : List ℕ) (end : ℕ) (same : (k : ℕ) → k < end → get_or other k 0 ≡ get_or text k 0) where
   one_as : (from to : ℕ) → to ≤ end → IsOneLine text from to → IsOneLine other from to
   one_as from to inside one k low high e = one k low high (sym (same k (omega (arith, high, inside))) ∙ e)
@@ -63,7 +63,7 @@ short_more text at count few w short from to up inside one = elim (cases_lt at t
   | inr before ↦ short from to up before one
 ]
 
--- a piece behind a text
+-- a piece after a text
 pub behind_text : (before piece : List ℕ) (k : ℕ) → k < length before → get_or (before ++ piece) k 0 ≡ get_or before k 0
 behind_text before piece k below = get_or_append_left before piece 0 k below
 
@@ -77,7 +77,7 @@ short_begun before piece short =
     let e : length before ≡ length before + 0 = omega arith in
     subst (λ n. HasShortLines (before ++ piece) n) e (short_as before (before ++ piece) (length before) (behind_text before piece) short)
 
--- what a piece's byte is in the text
+-- a byte of a piece, in the text
 pub byte_of : (before piece : List ℕ) (i : ℕ) → get_or (before ++ piece) (length before + i) 0 ≡ get_or piece i 0
 byte_of before piece i = get_or-append-add before piece i 0
 
@@ -128,7 +128,7 @@ cut_put before piece new end count ends short is = cut
       one = one;
     }
 
--- more of the file behind a text that was cut
+-- more of the file after a text that was cut
 pub cut_before : (text file rest : List ℕ) → IsCutBefore text file → IsCutBefore text (file ++ rest)
 cut_before text file rest cut = record {
   front = cut.front ∙ sym (take-append-le (length text) file rest (omega (arith, cut.long)));
@@ -138,7 +138,7 @@ cut_before text file rest cut = record {
   one = λ k low high e. cut.one k low high (sym (behind_text file rest k (omega (arith, high, cut.long))) ∙ e);
 }
 
--- a byte more of a piece: a newline, or another in a line that is not yet too long
+-- one more byte of a piece: a newline, or another byte in a line that is not yet too long
 pub newline_more : (before piece : List ℕ) (i : ℕ) → get_or piece i 0 ≡ 10 → HasShortLines (before ++ piece) (length before + i)
     → IsWithinLine (before ++ piece) (length before + (i + 1)) 0 × HasShortLines (before ++ piece) (length before + (i + 1))
 newline_more before piece i new short =
@@ -155,7 +155,7 @@ other_more before piece i count other few within short =
       subst (HasShortLines (before ++ piece)) e (short_more (before ++ piece) (length before + i) count few within short),
     )
 
--- what a read gives of known bytes
+-- what a read returns of known bytes
 pub consumed : (old new : Option (List ℕ)) (rest bs : List ℕ) → old ≡ Some rest → Consumes old new bs → (more : List ℕ) × (new ≡ Some more) × (rest ≡ bs ++ more)
 consumed None new rest bs is consumes = absurd (cc)
 consumed (Some xs) None rest bs is consumes = absurd consumes
@@ -180,7 +180,7 @@ all_read bytes text rest old new (Ok m) n buf known is was zero room reads =
     at_end None xs e ended = absurd (cc)
     at_end (Some ys) xs e ended = let same : xs ≡ ys = cc in same ∙ ended
 
--- what a piece leaves of a file, where it is put whole, and where it has a line that is too long
+-- what a piece leaves of a file, if it is appended whole, and if it has a line that is too long
 pub read_more : (bytes text rest : List ℕ) (old after : Option (List ℕ)) (n m : ℕ) (buf : List ℕ) → bytes ≡ text ++ rest → old ≡ Some rest → m ≡ n
     → Consumes old after (take n buf) → (more : List ℕ) × (after ≡ Some more) × (bytes ≡ (text ++ take m buf) ++ more)
 read_more bytes text rest old after n m buf known is same reads =

@@ -1,4 +1,4 @@
--- Addresses, however they are kept, as a layout.
+-- Addresses as a layout, however they are stored.
 use Rattle.std.specs.Prelude.{◌≡◌}
 use Rattle.elf_model.specs.Prelude.{Compared, Layout, Searched}
 use Rattle.elf_model.specs.declared.relocation_types.RelocationBase.{RelocationBase}
@@ -9,7 +9,7 @@ use Rattle.elf_layout.specs.declared.addresses.AddressStorage.{AddressStorage}
 use Rattle.elf_layout.specs.declared.addresses.AddressStorage.TheVariants.{Fixed, Lent}
 use Rattle.elf_layout.specs.declared.addresses.BorrowedLayout.{BorrowedLayout}
 
--- what a caller lends is searched
+-- a borrowed layout is searched
 abbrev pub borrowed_as : BorrowedLayout → Layout
 borrowed_as lent = record {
   lookup = Searched;
@@ -20,12 +20,12 @@ borrowed_as lent = record {
   thread = lent.thread;
 }
 
--- what is kept
+-- what is stored
 abbrev pub kept_as : AddressStorage → Layout
 kept_as (Fixed layout) = layout.now
 kept_as (Lent lent) = borrowed_as lent.now
 
--- the names that are looked through for a base, and how a symbol's name is looked for among them
+-- the names that are searched for a base, and how a symbol's name is searched among them
 abbrev pub IsAmong : Layout → RelocationBase → Among → Type 0
 IsAmong layout base (among.Compared items) = (layout.lookup ≡ Compared) × (items.now ≡ names_for layout base)
 IsAmong layout base (among.Searched names) = (layout.lookup ≡ Searched) × (names.now ≡ names_for layout base)

@@ -1,4 +1,4 @@
--- The items that the lines of a text give, one a line, behind those of a layout.
+-- The items of a layout, followed by those of the lines of a text, one per line.
 use Rattle.std.specs.Prelude.{ℕ, ◌≡◌, ◌≢◌, ◌+◌, ◌<◌, ◌⊎◌, ⊤, List, [], ◌∷◌, ◌++◌, length, slice_index_or, All, Result, Ok, Err}
 use Rattle.std.specs.List.{AllZip}
 use Rattle.std.specs.List.Sorted.{IsPermutation}
@@ -22,7 +22,7 @@ use Rattle.elf_layout.specs.declared.texts.TextEnd.TheVariants.{Whole, Cut}
 abbrev as_searched : Layout → Layout
 as_searched layout = record (layout) { lookup = Searched }
 
--- the items of another layout behind those that are searched
+-- the items of another layout after those that are searched
 abbrev pub with_layout : Layout → Layout → Layout
 with_layout old layout = record {
   lookup = old.lookup;
@@ -33,7 +33,7 @@ with_layout old layout = record {
   thread = old.thread ++ layout.thread;
 }
 
--- an item behind those of its sort
+-- an item after those of its kind
 abbrev pub with_item : Layout → Item → Layout
 with_item old (Section index address) = record (old) { sections = old.sections ++ (index, address) ∷ [] }
 with_item old (Define name address) = record (old) { definitions = old.definitions ++ (name.now, address) ∷ [] }
@@ -41,7 +41,7 @@ with_item old (Entry name address) = record (old) { linkage = old.linkage ++ (na
 with_item old (Table name address) = record (old) { table = old.table ++ (name.now, address) ∷ [] }
 with_item old (Thread name address) = record (old) { thread = old.thread ++ (name.now, address) ∷ [] }
 
--- items behind those of their sorts, from the first to the last
+-- items after those of their kinds, from the first to the last
 abbrev pub with_items : Layout → List Item → Layout
 with_items old [] = old
 with_items old (item ∷ items) = with_items (with_item old item) items
@@ -52,29 +52,29 @@ pub record GiveItems (lines : List (List ℕ)) (old new : Layout) : Type 0 where
   pub spelled : AllZip ParsesItem lines items
   pub placed : new ≡ with_items old items
 
--- the line behind some spells no item: it is there and spells none, or the text was cut before it
+-- the line after some others is not an item: it is there and is none, or the text was cut before it
 abbrev IsFaulty : List (List ℕ) → List (List ℕ) → TextEnd → Type 0
 IsFaulty all front end =
     ((line : List ℕ) × (rest : List (List ℕ)) × (all ≡ front ++ line ∷ rest) × ((item : Item) → ParsesItem line item → ⊥))
     ⊎ ((all ≡ front) × (end ≡ Cut))
 
--- why lines give no items behind others: the first that spells none decides, by its number
+-- why lines give no items after others: the first that is not an item decides, by its number
 abbrev pub IsRefused : List (List ℕ) → Layout → TextEnd → LayoutFileFault → Type 0
 IsRefused lines old end (BadItem line) =
     (front : List (List ℕ)) × (new : Layout) × GiveItems front old new × IsFaulty lines front end × (line ≡ length front + 1)
 IsRefused lines old end Memory = ⊤
 IsRefused lines old end _ = ⊥
 
--- THE ITEMS of a layout, and behind them those of the lines of a text that ends with its file
+-- THE ITEMS of a layout, followed by those of the lines of a text that ends with its file
 abbrev pub Gathers : Layout → List ℕ → TextEnd → Result Layout LayoutFileFault → Type 0
 Gathers layout text end (Ok items) = GiveItems (lines text) (as_searched layout) items × (end ≡ Whole)
 Gathers layout text end (Err fault) = IsRefused (lines text) (as_searched layout) end fault
 
--- no key of some items is below the key of the item before it
+-- no key of some items is less than the key of the item before it
 abbrev pub KeysNeverDescend : {K : Type 0} → (K → K → Ordering) → List (K × ℕ) → Type 0
 KeysNeverDescend {K} order items = (i : ℕ) (d : K × ℕ) → i + 1 < length items → order (slice_index_or items (i + 1) d).0 (slice_index_or items i d).0 ≢ Less
 
--- items are sorted, sort by sort
+-- items are sorted, kind by kind
 pub record AreSorted (items : Layout) : Type 0 where
   pub sections : KeysNeverDescend nat_cmp items.sections
   pub definitions : KeysNeverDescend name_order items.definitions
@@ -82,7 +82,7 @@ pub record AreSorted (items : Layout) : Type 0 where
   pub table : KeysNeverDescend name_order items.table
   pub thread : KeysNeverDescend name_order items.thread
 
--- they are the same items, of each sort in another order
+-- they are the same items, of each kind in another order
 pub record AreReordered (old new : Layout) : Type 0 where
   pub lookup : new.lookup ≡ old.lookup
   pub sections : IsPermutation old.sections new.sections
@@ -91,11 +91,11 @@ pub record AreReordered (old new : Layout) : Type 0 where
   pub table : IsPermutation old.table new.table
   pub thread : IsPermutation old.thread new.thread
 
--- two of some items have a key
+-- two of some items have the same key
 abbrev pub HasTwice : {K : Type 0} → List (K × ℕ) → K → Type 0
 HasTwice {K} items key = (i j : ℕ) × (i < j) × (j < length items) × ((d : K × ℕ) → (slice_index_or items i d).0 ≡ key) × ((d : K × ℕ) → (slice_index_or items j d).0 ≡ key)
 
--- two items of an item's sort have its index, or its name
+-- two items of an item's kind have its index, or its name
 abbrev pub IsRepeated : Layout → Item → Type 0
 IsRepeated items (Section index address) = HasTwice items.sections index
 IsRepeated items (Define name address) = HasTwice items.definitions name.now
@@ -103,7 +103,7 @@ IsRepeated items (Entry name address) = HasTwice items.linkage name.now
 IsRepeated items (Table name address) = HasTwice items.table name.now
 IsRepeated items (Thread name address) = HasTwice items.thread name.now
 
--- two items are of one sort, and have one index or name
+-- two items are of one kind, and have one index or name
 abbrev pub AreAlike : Item → Item → Type 0
 AreAlike (Section index address) (Section other place) = index ≡ other
 AreAlike (Define name address) (Define other place) = name.now ≡ other.now
@@ -112,18 +112,19 @@ AreAlike (Table name address) (Table other place) = name.now ≡ other.now
 AreAlike (Thread name address) (Thread other place) = name.now ≡ other.now
 AreAlike _ _ = ⊥
 
--- a line spells an item of this sort, and of this index or name
+-- a line is an item of this kind, and of this index or name
 abbrev pub ParsesSameItem : Item → List ℕ → Type 0
 ParsesSameItem wanted line = (item : Item) × ParsesItem line item × AreAlike item wanted
 
--- the number of the last line that does, or 0 where none does
+-- the number of the last line that does, or 0 if none does
 abbrev pub IsLastAlike : List (List ℕ) → Item → ℕ → Type 0
 IsLastAlike lines wanted number =
     ((number ≡ 0) × All (λ line. ParsesSameItem wanted line → ⊥) lines)
     ⊎ ((front : List (List ℕ)) × (line : List ℕ) × (rest : List (List ℕ)) × (lines ≡ front ++ line ∷ rest) × ParsesSameItem wanted line
     × All (λ line. ParsesSameItem wanted line → ⊥) rest × (number ≡ length front + 1))
 
--- SORTED ITEMS as a layout; where two of a sort have one index or name, they are refused at the last line that has such an item
+-- SORTED ITEMS as a layout; if two of a kind have one index or name, they are rejected at the last
+-- line that has such an item
 abbrev pub LendsLayout : List ℕ → Layout → Result BorrowedLayout LayoutFileFault → Type 0
 LendsLayout text items (Ok lent) = borrowed_as lent ≡ items
 LendsLayout text items (Err (Repeats line)) = (item : Item) × IsRepeated items item × IsLastAlike (lines text) item line

@@ -1,4 +1,4 @@
--- The items of a layout, as words spell them.
+-- The items of a layout, as arguments.
 use Rattle.std.specs.Prelude.{ℕ, ◌≡◌, ◌≢◌, ◌≤◌, List, ◌∷◌, ◌++◌, length, All, codes}
 use Rattle.std.specs.Str.Parse.{IsNumeral, digits_value}
 use Rattle.elf_layout.specs.Layouts.{IsName}
@@ -9,11 +9,11 @@ use Rattle.elf_layout.specs.declared.layout.Item.TheVariants.{Section, Define, E
 abbrev pub EQUALS : ℕ
 EQUALS = 61
 
--- a word is two texts with an `=` between them, the last one in it
+-- an argument is two texts with an `=` between them, the last one in it
 abbrev pub IsSplitAtEquals : List ℕ → List ℕ → List ℕ → Type 0
 IsSplitAtEquals word key text = (word ≡ key ++ EQUALS ∷ text) × All (λ byte. byte ≢ EQUALS) text
 
--- digits of a radix, at least one and at most so many, and the number that they spell
+-- digits of a radix, at least one and at most the given number, and the number that they represent
 abbrev pub IsNumber : ℕ → ℕ → List ℕ → ℕ → Type 0
 IsNumber radix most digits value = IsNumeral radix digits × (length digits ≤ most) × (value ≡ digits_value radix digits)
 
@@ -25,8 +25,9 @@ IsAddress text address = (digits : List ℕ) × (text ≡ codes "0x" ++ digits) 
 abbrev pub IsIndex : List ℕ → ℕ → Type 0
 IsIndex digits index = IsNumber 10 5 digits index × (1 ≤ index) × (index ≤ 65279)
 
--- what an item is of: a section, by its index; by its name the definition of a symbol, or the symbol's entry in the procedure
--- linkage table, in the global offset table, or there of its offset from the thread pointer
+-- the key of an item: a section, by its index; or by a symbol's name its definition, or its entry
+-- in the procedure linkage table, in the global offset table, or there of its offset from the
+-- thread pointer
 abbrev pub IsItemOf : List ℕ → Item → Type 0
 IsItemOf key (Section index address) = (digits : List ℕ) × (key ≡ codes "at:" ++ digits) × IsIndex digits index
 IsItemOf key (Define name address) = (key ≡ codes "def:" ++ name.now) × IsName name.now
@@ -49,7 +50,7 @@ item_address (Entry name address) = address
 item_address (Table name address) = address
 item_address (Thread name address) = address
 
--- THE ITEM that a word spells: what it is of, and its address
+-- THE ITEM of an argument: its key and its address
 pub record ParsesItem (word : List ℕ) (item : Item) : Type 0 where
   pub key : List ℕ
   pub text : List ℕ

@@ -1,4 +1,4 @@
-//! The addresses that are given, however they are kept.
+//! The addresses that are given, however they are stored.
 ghost use Rattle.std.specs.Prelude.{◌≡◌, ◌<◌, ◌^◌};
 ghost use Rattle.elf_model.specs.Prelude.{address_in, has_base, layout_names_cost};
 ghost use Rattle.elf_layout.specs.Kept.{IsAmong, kept_as, borrowed_as};
@@ -10,8 +10,8 @@ use crate::named::NamedAddress;
 use elf_model::RelocationBase;
 use std::marker::Model;
 
-/// A layout that a caller lends, of any size: sections by rising index, and of each sort the names in
-/// the rising order of their bytes.
+/// A borrowed layout, of any size: sections by ascending index, and of each kind the names in
+/// ascending byte order.
 #[derive(Drop)]
 pub struct BorrowedLayout<'a> {
     /// The addresses of sections.
@@ -27,7 +27,7 @@ pub struct BorrowedLayout<'a> {
 }
 
 impl<'a> BorrowedLayout<'a> {
-    /// The names that are looked through for a base.
+    /// Returns the names that are searched for a base.
     #[tactic(auto, unfolding(crate::specs::Layouts::names_for))]
     fn names(&self, base: RelocationBase) -> &SortedNames<'a>
         ensures { result.now ≡ names_for (borrowed_as self.now) base }
@@ -40,7 +40,8 @@ impl<'a> BorrowedLayout<'a> {
         }
     }
 
-    /// Whether a base may have an address: one of an entry only where there is an item of its sort.
+    /// Returns `true` if a base may have an address: one of an entry only if there is an item of
+    /// its kind.
     #[tactic(auto, unfolding(elf_model::specs::Placing::has_base))]
     fn has_base(&self, base: RelocationBase) -> bool
         ensures { result ≡ has_base (borrowed_as self.now) base }
@@ -52,7 +53,7 @@ impl<'a> BorrowedLayout<'a> {
         }
     }
 
-    /// How many bytes one lookup among the names of each sort may ask for.
+    /// Returns how many bytes one lookup among the names of each kind may read.
     #[tactic(auto, unfolding(elf_model::specs::ApplyCost::layout_names_cost))]
     fn names_cost(&self) -> u128
         ensures value { result ≡ layout_names_cost (borrowed_as self.now) }
@@ -63,16 +64,16 @@ impl<'a> BorrowedLayout<'a> {
     }
 }
 
-/// How addresses are kept.
+/// How addresses are stored.
 #[derive(Clone, Copy)]
 enum AddressStorage<'a> {
     /// In a layout of fixed size.
     Fixed(&'a Layout),
-    /// In what a caller lends.
+    /// In a borrowed layout.
     Lent(&'a BorrowedLayout<'a>),
 }
 
-/// Names that are looked through for a base.
+/// The names that are searched for a base.
 #[derive(Clone, Copy)]
 pub enum Among<'a> {
     /// Each is compared with a symbol's name.
@@ -81,7 +82,7 @@ pub enum Among<'a> {
     Searched(&'a SortedNames<'a>),
 }
 
-/// The addresses that relocations are applied with, however they are kept.
+/// The addresses that relocations are applied with, however they are stored.
 #[derive(Drop)]
 pub struct Addresses<'a> {
     kept: AddressStorage<'a>,
@@ -97,7 +98,7 @@ impl<'a> Model for Addresses<'a> {
 }
 
 impl<'a> Addresses<'a> {
-    /// Those of a layout.
+    /// Creates the addresses of a layout.
     pub fn fixed(layout: &'a Layout) -> Addresses<'a>
         ensures { result ≡ layout.now }
     {
@@ -106,7 +107,7 @@ impl<'a> Addresses<'a> {
         }
     }
 
-    /// Those that a caller lends.
+    /// Creates the addresses of a borrowed layout.
     pub fn lent(layout: &'a BorrowedLayout<'a>) -> Addresses<'a>
         ensures { result ≡ borrowed_as layout.now }
     {
@@ -115,7 +116,7 @@ impl<'a> Addresses<'a> {
         }
     }
 
-    /// The address that is given for the section of an index, where there is one.
+    /// Returns the address that is given for a section index, if there is one.
     pub fn section_address(&self, section: u16) -> Option<u64>
         ensures { result ≡ address_in self.now.sections section }
     {
@@ -125,7 +126,7 @@ impl<'a> Addresses<'a> {
         }
     }
 
-    /// The names that are looked through for a base.
+    /// Returns the names that are searched for a base.
     pub fn names(&self, base: RelocationBase) -> Among<'_>
         ensures { IsAmong self.now base result }
     {
@@ -135,7 +136,8 @@ impl<'a> Addresses<'a> {
         }
     }
 
-    /// Whether a base may have an address: one of an entry only where there is an item of its sort.
+    /// Returns `true` if a base may have an address: one of an entry only if there is an item of
+    /// its kind.
     #[tactic(auto, unfolding(elf_model::specs::Placing::has_base))]
     pub fn has_base(&self, base: RelocationBase) -> bool
         ensures { result ≡ has_base self.now base }
@@ -146,7 +148,7 @@ impl<'a> Addresses<'a> {
         }
     }
 
-    /// How many bytes the lookups of one symbol may ask for at most.
+    /// Returns the maximum number of bytes that the lookups of one symbol may read.
     pub fn names_cost(&self) -> u128
         ensures value { result ≡ layout_names_cost self.now }
         ensures few { result < 2 ^ 75 }

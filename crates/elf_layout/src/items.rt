@@ -1,5 +1,5 @@
-//! Items of a layout, as many as there is memory for: those of another layout, and one of each line of
-//! a text.
+//! Items of a layout, as many as memory allows: those of another layout, and one for each line of a
+//! text.
 ghost use Rattle.std.specs.Prelude.{◌≡◌, ◌++◌, ◌∷◌, [], IfOk, IfErr, MatchBool};
 ghost use Rattle.std.specs.List.Sorted.{IsPermutation};
 ghost use Rattle.std.specs.Ordering.{nat_cmp};
@@ -22,22 +22,22 @@ use crate::texts::TextEnd;
 use std::alloc::{AllocError, Global};
 use std::marker::Model;
 
-/// Why a file gives no items.
+/// Why the items of a file could not be read.
 pub enum LayoutFileFault {
-    /// It can't be read, or is no text.
+    /// It can't be read, or is not text.
     Read,
     /// It has too many bytes.
     TooLarge,
-    /// The line of this number spells no item, or has too many bytes.
+    /// The line of this number is not an item, or has too many bytes.
     BadItem(u64),
-    /// The item of the line of this number is of the same sort, and has the same index or name, as one
-    /// of an earlier line or one that there was before.
+    /// The item of the line of this number is of the same kind, and has the same index or name, as
+    /// an earlier one.
     Repeats(u64),
-    /// There was no memory.
+    /// Memory is exhausted.
     Memory,
 }
 
-/// Items of a layout, as many as there is memory for, of each sort one behind the other.
+/// Items of a layout, as many as memory allows, those of each kind together.
 #[derive(Drop)]
 pub struct Items<'a> {
     sections: Vec<LentSection>,
@@ -69,12 +69,12 @@ impl<'a> Model for Items<'a> {
 }
 
 impl<'a> Items<'a> {
-    /// The items of a layout, and behind them those of the lines of a text, one of each line. Behind a
-    /// text that was cut stands a line that spells none.
+    /// Gathers the items of a layout, followed by those of the lines of a text, one for each line.
+    /// A text that was cut counts as followed by a line that is not an item.
     ///
     /// # Errors
-    /// `BadItem` with the number of the first line that spells no item, counted from 1; `Memory` where
-    /// there is none for the items.
+    /// - `BadItem` with the number of the first line that is not an item, counted from 1.
+    /// - `Memory` if there is not enough memory for the items.
     pub fn gather(
         alloc: Global,
         layout: &'a Layout,
@@ -91,7 +91,7 @@ impl<'a> Items<'a> {
         Ok(items)
     }
 
-    /// No item.
+    /// Creates an empty list of items.
     fn new(alloc: Global) -> Items<'a>
         ensures { result ≡ record {
           lookup = Searched;
@@ -111,7 +111,7 @@ impl<'a> Items<'a> {
         }
     }
 
-    /// Puts the items of a layout behind those that are there.
+    /// Appends the items of a layout to those that are there.
     fn push_layout(&mut self, layout: &'a Layout) -> Result<(), AllocError>
         ensures { IfOk result (λ _. self.new ≡ with_layout self.old layout.now) }
     {
@@ -122,7 +122,7 @@ impl<'a> Items<'a> {
         push_names(&mut self.thread, layout.tpoff_got())
     }
 
-    /// Puts an item behind those of its sort.
+    /// Appends an item to those of its kind.
     fn push(&mut self, item: Item<'a>) -> Result<(), AllocError>
         requires { OnName item IsName }
         ensures { IfOk result (λ _. self.new ≡ with_item self.old item.entry) }
@@ -136,8 +136,8 @@ impl<'a> Items<'a> {
         }
     }
 
-    /// Puts the items of lines behind those that are there, one of each line. Behind a text that was cut
-    /// stands a line that spells none.
+    /// Appends the items of lines to those that are there, one for each line. A text that was cut
+    /// counts as followed by a line that is not an item.
     fn push_lines(&mut self, text: &'a str, end: TextEnd) -> Result<(), LayoutFileFault>
         ensures given { IfOk result (λ _.
             GiveItems (lines text.now) self.old self.new × (end ≡ Whole)) }
@@ -159,7 +159,7 @@ impl<'a> Items<'a> {
         }
     }
 
-    /// Sorts them: sections by rising index, names in the rising order of their bytes.
+    /// Sorts them: sections by ascending index, names in ascending byte order.
     pub fn sort(&mut self)
         ensures same { AreReordered self.old self.new }
         ensures sorted { AreSorted self.new }
@@ -171,11 +171,11 @@ impl<'a> Items<'a> {
         sort_names(&mut self.thread);
     }
 
-    /// Sorted items as a layout. `text` is the one whose lines gave them.
+    /// Returns the sorted items as a layout. `text` is the one that they were read from.
     ///
     /// # Errors
-    /// `Repeats` where two items of one sort have the same index or name, with the number of the last
-    /// line that has such an item, counted from 1.
+    /// Returns `Repeats` if two items of one kind have the same index or name, with the number of
+    /// the last line that has such an item, counted from 1.
     pub fn lend<'s>(&'s self, text: &str) -> Result<BorrowedLayout<'s>, LayoutFileFault>
         requires { AreSorted self.now }
         ensures { LendsLayout text.now self.now result }
@@ -186,7 +186,7 @@ impl<'a> Items<'a> {
         }
     }
 
-    /// Sorted items as a layout, or one whose index or name two have.
+    /// Returns the sorted items as a layout, or one whose index or name occurs twice.
     fn lent<'s>(&'s self) -> Result<BorrowedLayout<'s>, Item<'s>>
         requires { AreSorted self.now }
         ensures lent { IfOk result (λ layout. borrowed_as layout ≡ self.now) }
@@ -225,7 +225,7 @@ impl<'a> Items<'a> {
     }
 }
 
-/// Puts a section behind others.
+/// Appends a section to others.
 fn push_section(items: &mut Vec<LentSection>, index: u16, address: u64) -> Result<(), AllocError>
     ensures { IfOk result (λ _.
         placed items.new.items ≡ placed items.old.items ++ (index, address) ∷ []) }
@@ -236,7 +236,7 @@ fn push_section(items: &mut Vec<LentSection>, index: u16, address: u64) -> Resul
     }
 }
 
-/// Puts a name behind others.
+/// Appends a name to others.
 fn push_name<'a>(
     items: &mut Vec<LentName<'a>>,
     name: &'a [u8],
@@ -253,7 +253,7 @@ fn push_name<'a>(
     }
 }
 
-/// Puts sections behind others.
+/// Appends sections to others.
 fn push_sections(items: &mut Vec<LentSection>, sections: &[(u16, u64)]) -> Result<(), AllocError>
     ensures { IfOk result (λ _. placed items.new.items ≡ placed items.old.items ++ sections.now) }
 {
@@ -263,7 +263,7 @@ fn push_sections(items: &mut Vec<LentSection>, sections: &[(u16, u64)]) -> Resul
     Ok(())
 }
 
-/// Puts names behind others.
+/// Appends names to others.
 fn push_names<'a>(
     items: &mut Vec<LentName<'a>>,
     names: &'a [NamedAddress],
@@ -278,7 +278,7 @@ fn push_names<'a>(
     Ok(())
 }
 
-/// Sorts sections by rising index.
+/// Sorts sections by ascending index.
 fn sort_sections(items: &mut Vec<LentSection>)
     ensures same { IsPermutation (placed items.old.items) (placed items.new.items) }
     ensures sorted { KeysNeverDescend nat_cmp (placed items.new.items) }
@@ -286,7 +286,7 @@ fn sort_sections(items: &mut Vec<LentSection>)
     items.sort_unstable();
 }
 
-/// Sorts names in the rising order of their bytes.
+/// Sorts names in ascending byte order.
 fn sort_names(items: &mut Vec<LentName<'_>>)
     ensures same { IsPermutation (named items.old.items) (named items.new.items) }
     ensures sorted { KeysNeverDescend name_order (named items.new.items) }
@@ -295,7 +295,7 @@ fn sort_names(items: &mut Vec<LentName<'_>>)
     items.sort_unstable();
 }
 
-/// Names in rising order, or one that two have.
+/// Returns the names in ascending order, or one that occurs twice.
 fn names<'a>(items: &'a [LentName<'a>]) -> Result<SortedNames<'a>, LentName<'a>>
     requires sorted { KeysNeverDescend name_order (named items.now) }
     requires named { HaveNames (named items.now) }
@@ -308,7 +308,7 @@ fn names<'a>(items: &'a [LentName<'a>]) -> Result<SortedNames<'a>, LentName<'a>>
     }
 }
 
-/// Whether two items are of one sort, and have the same index or name.
+/// Returns `true` if two items are of one kind, and have the same index or name.
 fn are_alike(one: &Item<'_>, other: &Item<'_>) -> bool
     ensures { MatchBool result (AreAlike one.now other.now) (AreAlike one.now other.now → ⊥) }
 {
@@ -322,7 +322,7 @@ fn are_alike(one: &Item<'_>, other: &Item<'_>) -> bool
     }
 }
 
-/// Whether a line spells an item of this sort and this index or name.
+/// Returns `true` if a line is an item of this kind and this index or name.
 fn spells_alike(line: &str, wanted: &Item<'_>) -> bool
     ensures { MatchBool result (ParsesSameItem wanted.now line.now)
         (ParsesSameItem wanted.now line.now → ⊥) }
@@ -333,7 +333,8 @@ fn spells_alike(line: &str, wanted: &Item<'_>) -> bool
     }
 }
 
-/// The number of the last line with an item of this sort and this index or name, 0 where there is none.
+/// Returns the number of the last line with an item of this kind and this index or name, 0 if there
+/// is none.
 fn last_line(text: &str, wanted: &Item<'_>) -> u64
     ensures { IsLastAlike (lines text.now) wanted.now result }
 {

@@ -10,12 +10,12 @@ use elf_model::RelocationBase;
 use std::marker::Model;
 use thiserror::Error;
 
-/// The most sections that a layout gives addresses for.
+/// The maximum number of sections that a layout gives addresses for.
 const MOST_SECTIONS: usize = 64;
-/// The most names that it defines, and the most entries of each sort.
+/// The maximum number of names that it defines, and of entries of each kind.
 const NAMES: usize = 32;
 
-/// What a layout gives an address for.
+/// An item of a layout: what an address is given for, and the address.
 #[derive(Clone, Copy)]
 pub enum Item<'a> {
     /// A section, by its index.
@@ -58,20 +58,22 @@ pub enum Item<'a> {
     },
 }
 
-/// Why an item was not put into a layout, which is then as it was.
+/// Why an item was not added to a layout, which is then unchanged.
 #[derive(Clone, Copy, Debug, PartialEq, Eq, Error)]
 pub enum LayoutFault {
-    /// There are as many items of this sort as a layout holds.
+    /// The layout is full: it has the maximum number of items of this kind.
     #[error("the layout is full")]
     Full,
-    /// There is an item of this sort with this index or name.
+    /// There is an item of this kind with this index or name.
     #[error("the layout has this item already")]
     Repeat,
 }
 
 /// Addresses for at most 64 sections, 32 definitions, 32 procedure linkage table entries, 32 global
 /// offset table entries and 32 of offsets from the thread pointer, in the order in which they were
-/// given. It takes no memory: it is fixed arrays of some 36,000 bytes, and holds copies of the names.
+/// given.
+///
+/// It does not allocate: it is fixed arrays of some 36,000 bytes, and holds copies of the names.
 #[derive(Drop)]
 pub struct Layout {
     sections: ArrayVec<(u16, u64), MOST_SECTIONS>,
@@ -101,7 +103,7 @@ impl Model for Layout {
 }
 
 impl Layout {
-    /// A layout without an item.
+    /// Creates an empty layout.
     pub fn new() -> Layout
         ensures { result ≡ record {
           lookup = Compared;
@@ -121,21 +123,22 @@ impl Layout {
         }
     }
 
-    /// The address that is given for the section of an index, where there is one.
+    /// Returns the address that is given for a section index, if there is one.
     pub fn section_address(&self, section: u16) -> Option<u64>
         ensures { result ≡ address_in self.now.sections section }
     {
         address_in(self.sections.as_slice(), section)
     }
 
-    /// The sections, each by its index with its address, in the order in which they were given.
+    /// Returns the sections, each by its index with its address, in the order in which they were
+    /// given.
     pub fn sections(&self) -> &[(u16, u64)]
         ensures { result.now ≡ self.now.sections }
     {
         self.sections.as_slice()
     }
 
-    /// The definitions, in the order in which they were given.
+    /// Returns the definitions, in the order in which they were given.
     pub fn definitions(&self) -> &[NamedAddress]
         ensures items { result.now ≡ self.now.definitions }
         ensures names { HaveNames result.now }
@@ -143,7 +146,7 @@ impl Layout {
         self.definitions.as_slice()
     }
 
-    /// The procedure linkage table entries, in the order in which they were given.
+    /// Returns the procedure linkage table entries, in the order in which they were given.
     pub fn plt(&self) -> &[NamedAddress]
         ensures items { result.now ≡ self.now.linkage }
         ensures names { HaveNames result.now }
@@ -151,7 +154,7 @@ impl Layout {
         self.entries.as_slice()
     }
 
-    /// The global offset table entries, in the order in which they were given.
+    /// Returns the global offset table entries, in the order in which they were given.
     pub fn got(&self) -> &[NamedAddress]
         ensures items { result.now ≡ self.now.table }
         ensures names { HaveNames result.now }
@@ -159,8 +162,8 @@ impl Layout {
         self.table.as_slice()
     }
 
-    /// The global offset table entries of offsets from the thread pointer, in the order in which they
-    /// were given.
+    /// Returns the global offset table entries of offsets from the thread pointer, in the order in
+    /// which they were given.
     pub fn tpoff_got(&self) -> &[NamedAddress]
         ensures items { result.now ≡ self.now.thread }
         ensures names { HaveNames result.now }
@@ -168,7 +171,7 @@ impl Layout {
         self.thread.as_slice()
     }
 
-    /// The names that are looked through for a base, in the order in which they were given.
+    /// Returns the names that are searched for a base, in the order in which they were given.
     #[tactic(auto, unfolding(crate::specs::Layouts::names_for))]
     pub(crate) fn names(&self, base: RelocationBase) -> &[NamedAddress]
         ensures names { result.now ≡ names_for self.now base }
@@ -182,7 +185,8 @@ impl Layout {
         }
     }
 
-    /// Whether a base may have an address: one of an entry only where there is an item of its sort.
+    /// Returns `true` if a base may have an address: one of an entry only if there is an item of
+    /// its kind.
     #[tactic(auto, unfolding(elf_model::specs::Placing::has_base))]
     pub fn has_base(&self, base: RelocationBase) -> bool
         ensures { result ≡ has_base self.now base }
@@ -194,8 +198,8 @@ impl Layout {
         }
     }
 
-    /// How many bytes a comparison with each of the names may ask for: for each as many as it has
-    /// with its NUL, in whole pieces of 64.
+    /// Returns how many bytes a comparison with each of the names may read: for each its length
+    /// with its NUL, rounded up to pieces of 64.
     #[tactic(auto, unfolding(crate::proofs::Words::costs))]
     pub fn names_cost(&self) -> u128
         ensures value { result ≡ layout_names_cost self.now }
@@ -208,12 +212,13 @@ impl Layout {
             + names_cost(self.names(RelocationBase::Thread))
     }
 
-    /// Puts an item behind those of its sort. A name is copied; it has 1 to 255 bytes, none a NUL.
+    /// Appends an item to those of its kind. A name is copied; it has 1 to 255 bytes, none a NUL.
     ///
     /// # Errors
-    /// `Repeat` where there is an item of this sort with this index or name; else `Full` where
-    /// there are 64 sections, 32 definitions or 32 entries of this sort. Either leaves the layout as
-    /// it was.
+    /// - `Repeat` if there is an item of this kind with this index or name.
+    /// - `Full` if there is none, but 64 sections, 32 definitions or 32 entries of this kind.
+    ///
+    /// Either leaves the layout unchanged.
     pub fn push(&mut self, item: Item<'_>) -> Result<(), LayoutFault>
         requires { OnName item IsName }
         ensures { Pushes item.entry self.old self.new result }
@@ -228,7 +233,7 @@ impl Layout {
     }
 }
 
-/// Puts a section behind others.
+/// Appends a section to others.
 fn push_section(
     items: &mut ArrayVec<(u16, u64), MOST_SECTIONS>,
     index: u16,
@@ -246,7 +251,7 @@ fn push_section(
     Ok(())
 }
 
-/// The address that is given for the section of an index, where there is one.
+/// Returns the address that is given for a section index, if there is one.
 fn address_in(items: &[(u16, u64)], section: u16) -> Option<u64>
     ensures { result ≡ address_in items.now section }
 {
@@ -260,14 +265,14 @@ fn address_in(items: &[(u16, u64)], section: u16) -> Option<u64>
     None
 }
 
-/// Whether one of some sections has this index.
+/// Returns `true` if one of the sections has this index.
 fn has_section(items: &[(u16, u64)], index: u16) -> bool
     ensures { MatchBool result (HasKey items.now index) (LacksKey items.now index) }
 {
     address_in(items, index).is_some()
 }
 
-/// Puts a name behind others.
+/// Appends a name to others.
 fn push_named(
     items: &mut ArrayVec<NamedAddress, NAMES>,
     name: &[u8],

@@ -1,4 +1,4 @@
-//! Items of a layout in rising order, which a caller lends.
+//! Borrowed items of a layout in ascending order.
 ghost use Rattle.std.specs.Prelude.{◌≡◌, ◌≢◌, ◌≤◌, ◌<◌, ◌+◌, ◌^◌, ℕ, List, All, MatchBool};
 ghost use Rattle.std.specs.Prelude.{IfOk, IfErr, [], length, slice_index, slice_index_or, take};
 ghost use Rattle.std.specs.Ordering.{nat_cmp};
@@ -16,7 +16,7 @@ use elf_model::Cause;
 use std::cmp::Ordering;
 use std::marker::Model;
 
-/// A section of a layout that a caller lends.
+/// A section of a borrowed layout.
 #[repr(C)]
 #[derive(Clone, Copy, PartialEq, Eq, PartialOrd, Ord)]
 pub struct LentSection {
@@ -26,7 +26,7 @@ pub struct LentSection {
     pub address: u64,
 }
 
-/// A name of a layout that a caller lends.
+/// A name of a borrowed layout.
 #[repr(C)]
 #[derive(Clone, Copy, PartialEq, Eq, PartialOrd, Ord)]
 pub struct LentName<'a> {
@@ -36,7 +36,7 @@ pub struct LentName<'a> {
     pub address: u64,
 }
 
-/// Sections with their addresses, by rising index.
+/// Sections with their addresses, by ascending index.
 #[derive(Drop)]
 pub struct SortedSections<'a> {
     items: &'a [LentSection],
@@ -55,10 +55,11 @@ impl<'a> Model for SortedSections<'a> {
 }
 
 impl<'a> SortedSections<'a> {
-    /// Sections, each by its index, with the address of its first byte.
+    /// Creates a view of sections, each by its index, with the address of its first byte.
     ///
     /// # Errors
-    /// The place of the first item whose index is not above the index of the item before it.
+    /// Returns the position of the first item whose index is not greater than that of the item
+    /// before it.
     pub fn new(items: &'a [LentSection]) -> Result<SortedSections<'a>, usize>
         ensures sorted { IfOk result (λ sections. sections ≡ placed items.now) }
         ensures rise { IfOk result (λ _. KeysAscend nat_cmp borrowed_index items.now) }
@@ -76,7 +77,7 @@ impl<'a> SortedSections<'a> {
         Ok(SortedSections { items })
     }
 
-    /// The address that is given for the section of an index, where there is one.
+    /// Returns the address that is given for a section index, if there is one.
     pub fn address(&self, section: u16) -> Option<u64>
         ensures { result ≡ address_in self.now section }
     {
@@ -87,7 +88,7 @@ impl<'a> SortedSections<'a> {
     }
 }
 
-/// Whether the index at a place is above the one before it.
+/// Returns `true` if the index at a position is greater than the one before it.
 fn section_follows(items: &[LentSection], i: usize) -> bool
     requires { i < length items.now }
     ensures { MatchBool result (Follows nat_cmp borrowed_index items.now i)
@@ -96,7 +97,7 @@ fn section_follows(items: &[LentSection], i: usize) -> bool
     i == 0 || items[i - 1].index < items[i].index
 }
 
-/// Where a section is among some, or would be.
+/// Returns the position of a section, or where it would be.
 fn search_section(items: &[LentSection], section: u16) -> Result<usize, usize>
     requires { KeysAscend nat_cmp borrowed_index items.now }
     ensures { FindsKey nat_cmp borrowed_index items.now section result }
@@ -104,7 +105,7 @@ fn search_section(items: &[LentSection], section: u16) -> Result<usize, usize>
     items.binary_search_by_key(&section, |item| item.index)
 }
 
-/// Names with their addresses, in the rising order of their bytes.
+/// Names with their addresses, in ascending byte order.
 #[derive(Drop)]
 pub struct SortedNames<'a> {
     items: &'a [LentName<'a>],
@@ -124,11 +125,11 @@ impl<'a> Model for SortedNames<'a> {
 }
 
 impl<'a> SortedNames<'a> {
-    /// Names of 1 to 255 bytes without a NUL, each with its address.
+    /// Creates a view of names of 1 to 255 bytes without a NUL, each with its address.
     ///
     /// # Errors
-    /// The place of the first item that has no such name, or whose name is not above the name of the
-    /// item before it.
+    /// Returns the position of the first item that has no such name, or whose name is not greater
+    /// than that of the item before it.
     pub fn new(items: &'a [LentName<'a>]) -> Result<SortedNames<'a>, usize>
         ensures sorted { IfOk result (λ names. names ≡ named items.now) }
         ensures lent { IfOk result (λ _. MayBorrow items.now) }
@@ -148,14 +149,14 @@ impl<'a> SortedNames<'a> {
         Ok(SortedNames { items, most })
     }
 
-    /// Whether there is no name.
+    /// Returns `true` if there are no names.
     pub fn is_empty(&self) -> bool
         ensures { MatchBool result (self.now ≡ []) (self.now ≢ []) }
     {
         self.items.is_empty()
     }
 
-    /// How many bytes the longest name has.
+    /// Returns the length in bytes of the longest name.
     pub fn longest(&self) -> usize
         ensures value { result ≡ longest self.now }
         ensures few { result ≤ 255 }
@@ -163,8 +164,8 @@ impl<'a> SortedNames<'a> {
         self.most
     }
 
-    /// How many bytes a lookup may ask for: as many as the longest name has with its NUL, in whole
-    /// pieces of 64; none where there is no name.
+    /// Returns how many bytes a lookup may read: the length of the longest name with its NUL,
+    /// rounded up to pieces of 64; none if there are no names.
     #[tactic(auto, unfolding(crate::proofs::Words::costs))]
     pub fn cost(&self) -> u128
         ensures value { result ≡ lookup_cost Searched self.now }
@@ -176,13 +177,13 @@ impl<'a> SortedNames<'a> {
         64 * (self.most as u128 + 1).div_ceil(64)
     }
 
-    /// The address of the name that stands at an index of a string table, where there is one. `front`
-    /// is what stands there: one byte more than the longest name has, or all bytes up to the table's
-    /// end where those are fewer.
+    /// Returns the address of the name at an index of a string table, if there is one. `front` has
+    /// the bytes at that index: one byte more than the longest name has, or all bytes up to the
+    /// table's end if those are fewer.
     ///
     /// # Errors
-    /// `NameUnended` where the table ends before the name and its NUL, and one of these names begins
-    /// with the bytes that are there.
+    /// Returns `NameUnended` if the table ends before the name and its NUL, and one of these names
+    /// begins with the bytes that are there.
     pub fn find(&self, front: &[u8]) -> Result<Option<u64>, Cause>
         ensures unended { IfErr result (λ cause. cause ≡ NameUnended) }
         ensures found { (strings : List ℕ) (index : ℕ) → index < length strings →
@@ -202,7 +203,7 @@ impl<'a> SortedNames<'a> {
     }
 }
 
-/// Where a name is among some, or would be.
+/// Returns the position of a name, or where it would be.
 fn search_name(items: &[LentName<'_>], name: &[u8]) -> Result<usize, usize>
     requires { KeysAscend name_order lent_name items.now }
     ensures { FindsKey name_order lent_name items.now name.now result }
@@ -210,7 +211,7 @@ fn search_name(items: &[LentName<'_>], name: &[u8]) -> Result<usize, usize>
     items.binary_search_by_key(&name, |item| item.name)
 }
 
-/// Whether there is a name at a place, and it is above the one before it.
+/// Returns `true` if there is a name at a position, and it is greater than the one before it.
 fn name_follows(items: &[LentName<'_>], i: usize) -> bool
     requires { i < length items.now }
     ensures { MatchBool result (MayFollow items.now i) (MayFollow items.now i → ⊥) }
@@ -219,7 +220,7 @@ fn name_follows(items: &[LentName<'_>], i: usize) -> bool
     is_name(name) && (i == 0 || is_below(name_at(items, i - 1), name))
 }
 
-/// The name of the item at a place.
+/// Returns the name of the item at a position.
 fn name_at<'a>(items: &[LentName<'a>], i: usize) -> &'a [u8]
     requires { i < length items.now }
     ensures { (d : IsLentName) → result.now ≡ lent_name (slice_index_or items.now i d) }
@@ -227,14 +228,14 @@ fn name_at<'a>(items: &[LentName<'a>], i: usize) -> &'a [u8]
     items[i].name
 }
 
-/// Whether bytes may be a name in a layout.
+/// Returns `true` if bytes are a valid name in a layout.
 pub(crate) fn is_name(name: &[u8]) -> bool
     ensures { MatchBool result (IsName name.now) (IsName name.now → ⊥) }
 {
     !name.is_empty() && name.len() <= ITEM_NAME_BYTES && name_end(name) == name.len()
 }
 
-/// Whether a name comes before another.
+/// Returns `true` if a name comes before another.
 fn is_below(before: &[u8], name: &[u8]) -> bool
     ensures { MatchBool result (name_order before.now name.now ≡ Less)
         (name_order before.now name.now ≢ Less) }
@@ -242,7 +243,7 @@ fn is_below(before: &[u8], name: &[u8]) -> bool
     before.cmp(name) == Ordering::Less
 }
 
-/// How many bytes stand before the first NUL, or all.
+/// Returns the number of bytes before the first NUL, or of all.
 fn name_end(bytes: &[u8]) -> usize
     ensures within { result ≤ length bytes.now }
     ensures before { (k : ℕ) → k < result → slice_index bytes.now k ≢ 0 }
@@ -255,7 +256,7 @@ fn name_end(bytes: &[u8]) -> usize
     end
 }
 
-/// The address of what a search found.
+/// Returns the address of the item that a search found.
 fn address_at(items: &[LentName<'_>], place: Result<usize, usize>) -> Option<u64>
     requires { IfOk place (λ i. i < length items.now) }
     ensures { IsAddressAt items.now place result }
@@ -266,7 +267,7 @@ fn address_at(items: &[LentName<'_>], place: Result<usize, usize>) -> Option<u64
     }
 }
 
-/// Where a search ended.
+/// Returns the position at which a search ended.
 fn place_of(place: Result<usize, usize>) -> usize
     ensures { result ≡ search_end place }
 {
@@ -274,7 +275,7 @@ fn place_of(place: Result<usize, usize>) -> usize
     i
 }
 
-/// Whether there is a name at a place that begins with some bytes.
+/// Returns `true` if there is a name at a position that begins with some bytes.
 fn begins_at(items: &[LentName<'_>], place: usize, front: &[u8]) -> bool
     ensures { MatchBool result (BeginsAt items.now place front.now)
         (BeginsAt items.now place front.now → ⊥) }
@@ -282,7 +283,7 @@ fn begins_at(items: &[LentName<'_>], place: usize, front: &[u8]) -> bool
     place < items.len() && begins(name_at(items, place), front)
 }
 
-/// Whether a name begins with some bytes.
+/// Returns `true` if a name begins with some bytes.
 fn begins(name: &[u8], front: &[u8]) -> bool
     ensures { MatchBool result (BeginsWith name.now front.now) (BeginsWith name.now front.now → ⊥) }
 {

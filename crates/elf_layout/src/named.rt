@@ -4,10 +4,10 @@ ghost use Rattle.elf_layout.specs.Layouts.{HasKey, LacksKey, items_cost};
 
 use std::marker::Model;
 
-/// The most bytes that a name in a layout has.
+/// The maximum number of bytes of a name in a layout.
 pub const ITEM_NAME_BYTES: usize = 255;
 
-/// A name of at most 255 bytes, which it holds itself, with the address that is given for it.
+/// A name of at most 255 bytes, stored inline, with the address that is given for it.
 #[derive(Drop)]
 pub struct NamedAddress {
     bytes: [u8; ITEM_NAME_BYTES],
@@ -38,7 +38,7 @@ impl Default for NamedAddress {
 }
 
 impl NamedAddress {
-    /// A name of at most 255 bytes with its address.
+    /// Creates a name of at most 255 bytes with its address.
     pub(crate) fn new(name: &[u8], address: u64) -> NamedAddress
         requires { length name.now ≤ 255 }
         ensures { result ≡ (name.now, address) }
@@ -53,7 +53,7 @@ impl NamedAddress {
         }
     }
 
-    /// The name.
+    /// Returns the name.
     pub fn name(&self) -> &[u8]
         ensures value { result.now ≡ self.now.0 }
         ensures few { length self.now.0 ≤ 255 }
@@ -61,14 +61,14 @@ impl NamedAddress {
         &self.bytes[..self.len]
     }
 
-    /// Whether it is this name.
+    /// Returns `true` if it is this name.
     fn is(&self, name: &[u8]) -> bool
         ensures { MatchBool result (self.now.0 ≡ name.now) (self.now.0 ≢ name.now) }
     {
         self.name() == name
     }
 
-    /// The address that is given for it.
+    /// Returns the address that is given for it.
     pub fn address(&self) -> u64
         ensures { result ≡ self.now.1 }
     {
@@ -76,7 +76,7 @@ impl NamedAddress {
     }
 }
 
-/// Whether one of some items has this name.
+/// Returns `true` if one of the items has this name.
 pub(crate) fn has_name(items: &[NamedAddress], name: &[u8]) -> bool
     ensures { MatchBool result (HasKey items.now name.now) (LacksKey items.now name.now) }
 {
@@ -88,8 +88,8 @@ pub(crate) fn has_name(items: &[NamedAddress], name: &[u8]) -> bool
     false
 }
 
-/// How many bytes a comparison with each of some names may ask for: for each as many as it has with
-/// its NUL, in whole pieces of 64.
+/// Returns how many bytes a comparison with each of the names may read: for each its length with
+/// its NUL, rounded up to pieces of 64.
 pub(crate) fn names_cost(items: &[NamedAddress]) -> u128
     ensures value { result ≡ items_cost items.now }
     ensures few { result < 2 ^ 73 }

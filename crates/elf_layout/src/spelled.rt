@@ -1,4 +1,4 @@
-//! Items of a layout, as words spell them.
+//! Items of a layout, parsed from arguments.
 ghost use Rattle.std.specs.Prelude.{◌≡◌, ◌≢◌, ◌≤◌, ◌^◌, ◌++◌, ℕ, List, IfSome, IsNone, length};
 ghost use Rattle.std.specs.Str.Parse.{IsNumeral};
 ghost use Rattle.elf_layout.specs.Layouts.{IsName};
@@ -12,12 +12,14 @@ use crate::lent::is_name;
 /// The largest index of a section.
 const LAST_INDEX: u64 = 65_279;
 
-/// The item that a word spells: `at:INDEX=ADDR`, the address of a section; `def:NAME=ADDR`, that of
-/// a symbol; `plt:NAME=ADDR`, that of a symbol's procedure linkage table entry; `got:NAME=ADDR`, that
-/// of its global offset table entry; `tpgot:NAME=ADDR`, that of the global offset table entry of its
-/// offset from the thread pointer. The last `=` parts them. INDEX is 1 to 5 decimal digits, from 1 to
+/// Parses an item of a layout.
+///
+/// `at:INDEX=ADDR` is the address of a section; `def:NAME=ADDR`, that of a symbol; `plt:NAME=ADDR`,
+/// that of a symbol's procedure linkage table entry; `got:NAME=ADDR`, that of its global offset
+/// table entry; `tpgot:NAME=ADDR`, that of the global offset table entry of its offset from the
+/// thread pointer. The argument is split at its last `=`. INDEX is 1 to 5 decimal digits, from 1 to
 /// 65279; NAME 1 to 255 bytes without NUL; ADDR `0x` and 1 to 16 hexadecimal digits of either case.
-/// None for another word.
+/// Returns None for any other argument.
 pub fn item(word: &str) -> Option<Item<'_>>
     ensures spelled { IfSome result (ParsesItem word.now) }
     ensures unspelled { IsNone result → (item : Item) → ParsesItem word.now item → ⊥ }
@@ -27,7 +29,7 @@ pub fn item(word: &str) -> Option<Item<'_>>
     item_of(key, address)
 }
 
-/// What stands before and behind the last `=`.
+/// Returns what is before and after the last `=`.
 fn parted(word: &str) -> Option<(&str, &str)>
     ensures parts { IfSome result (λ parts. IsSplitAtEquals word.now parts.0.now parts.1.now) }
     ensures none { IsNone result → (key text : List ℕ) → IsSplitAtEquals word.now key text → ⊥ }
@@ -35,7 +37,7 @@ fn parted(word: &str) -> Option<(&str, &str)>
     word.rsplit_once('=')
 }
 
-/// What stands behind a text that the word begins with.
+/// Returns what follows a text that the argument begins with.
 fn behind<'a>(word: &'a str, front: &str) -> Option<&'a str>
     ensures rest { IfSome result (λ rest. word.now ≡ front.now ++ rest.now) }
     ensures none { IsNone result → (rest : List ℕ) → word.now ≢ front.now ++ rest }
@@ -43,7 +45,7 @@ fn behind<'a>(word: &'a str, front: &str) -> Option<&'a str>
     word.strip_prefix(front)
 }
 
-/// The address that a text spells.
+/// Parses an address.
 fn address_of(text: &str) -> Option<u64>
     ensures address { IfSome result (IsAddress text.now) }
     ensures none { IsNone result → (address : ℕ) → IsAddress text.now address → ⊥ }
@@ -51,7 +53,7 @@ fn address_of(text: &str) -> Option<u64>
     number(behind(text, "0x")?, 16, 16)
 }
 
-/// The number that 1 to `most` digits spell.
+/// Parses a number of 1 to `most` digits.
 fn number(digits: &str, radix: u32, most: usize) -> Option<u64>
     requires { (2 ≤ radix) × (radix ≤ 36) × (radix ^ most ≤ 2 ^ 64) }
     ensures number { IfSome result (IsNumber radix most digits.now) }
@@ -63,7 +65,7 @@ fn number(digits: &str, radix: u32, most: usize) -> Option<u64>
     u64::from_str_radix(digits, radix).ok()
 }
 
-/// The item that stands before an address.
+/// Returns the item of a key before an address.
 fn item_of(key: &str, address: u64) -> Option<Item<'_>>
     ensures is_of { IfSome result (IsItemOf key.now) }
     ensures address { IfSome result (λ item. item_address item ≡ address) }
@@ -80,7 +82,7 @@ fn item_of(key: &str, address: u64) -> Option<Item<'_>>
     entry_of(key, address)
 }
 
-/// The item of a symbol's entry that stands before an address.
+/// Returns the item of a symbol's entry, by the key before an address.
 fn entry_of(key: &str, address: u64) -> Option<Item<'_>>
     ensures is_of { IfSome result (IsItemOf key.now) }
     ensures address { IfSome result (λ item. item_address item ≡ address) }
@@ -98,7 +100,7 @@ fn entry_of(key: &str, address: u64) -> Option<Item<'_>>
     Some(Item::Thread { name, address })
 }
 
-/// The index of a section that digits spell.
+/// Parses the index of a section.
 fn index_of(digits: &str) -> Option<u16>
     ensures index { IfSome result (IsIndex digits.now) }
     ensures none { IsNone result → (index : ℕ) → IsIndex digits.now index → ⊥ }
@@ -110,7 +112,7 @@ fn index_of(digits: &str) -> Option<u16>
     Some(index as u16)
 }
 
-/// The bytes of a name in a layout.
+/// Returns the bytes of a name in a layout.
 fn name_of(word: &str) -> Option<&[u8]>
     ensures name { IfSome result (λ name. (name.now ≡ word.now) × IsName word.now) }
     ensures none { IsNone result → IsName word.now → ⊥ }

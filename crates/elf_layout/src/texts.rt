@@ -1,4 +1,4 @@
-//! The text of a file of items, read no further than its lines may go.
+//! The text of a file of items, read up to its first line that is too long.
 ghost use Rattle.std.specs.Prelude.{◌≡◌, ◌≤◌, ◌<◌, ◌+◌, ◌++◌, [], ℕ, List, Some, length, vec_len};
 ghost use Rattle.elf_layout.specs.Texts.{EndsLines, HasShortLines, IsTextOf, IsWithinLine};
 ghost use Rattle.elf_layout.specs.Texts.{PutsPiece};
@@ -6,27 +6,30 @@ ghost use Rattle.elf_layout.specs.Texts.{PutsPiece};
 use crate::items::LayoutFileFault;
 use std::io::{ErrorKind, Read};
 
-/// The most bytes of a line. An item has 280 at most.
+/// The maximum number of bytes of a line. An item has at most 280.
 const LINE_BYTES: usize = 300;
 
-/// The most bytes of a text.
+/// The maximum number of bytes of a text.
 const TEXT_BYTES: usize = 67_108_864;
 
 /// How a text ends.
 #[derive(Clone, Copy, PartialEq)]
 pub enum TextEnd {
-    /// With its file.
+    /// At the end of its file.
     Whole,
     /// Before a line that has too many bytes.
     Cut,
 }
 
-/// Reads the text of a file, a piece at a time, as far as its lines have at most 300 bytes. `room` is
-/// where a piece is read; `text` is empty.
+/// Reads the text of a file, a piece at a time, as long as its lines have at most 300 bytes. `room`
+/// is the buffer for a piece; `text` is empty.
 ///
 /// # Errors
-/// `Read` where the file can't be read, `TooLarge` where it has more than 67,108,864 bytes, `Memory`
-/// where there is none for the text. What was read stays in `text`.
+/// - `Read` if the file can't be read.
+/// - `TooLarge` if it has more than 67,108,864 bytes.
+/// - `Memory` if there is not enough memory for the text.
+///
+/// What was read stays in `text`.
 pub fn read_text<I: Read>(
     file: &mut I,
     room: &mut [u8],
@@ -57,11 +60,12 @@ pub fn read_text<I: Read>(
     Err(LayoutFileFault::Read)
 }
 
-/// Puts a piece behind a text, up to a line that has too many bytes: of such a line nothing stays.
+/// Appends a piece to a text, up to a line that has too many bytes: nothing of such a line is kept.
 /// `line` has the number of bytes that the text's last line has so far.
 ///
 /// # Errors
-/// `TooLarge` where the text has too many bytes then, `Memory` where there is none for it.
+/// - `TooLarge` if the text then has too many bytes.
+/// - `Memory` if there is not enough memory for it.
 fn put_piece(piece: &[u8], line: &mut usize, text: &mut Vec<u8>) -> Result<TextEnd, LayoutFileFault>
     requires few { vec_len text.old ≤ 67108864 }
     requires within { IsWithinLine text.old.items (length text.old.items) line.old }
@@ -84,8 +88,8 @@ fn put_piece(piece: &[u8], line: &mut usize, text: &mut Vec<u8>) -> Result<TextE
     Ok(TextEnd::Cut)
 }
 
-/// Where in a piece a line has its first byte too many, with no such line the end of the piece. `line`
-/// has the number of bytes that its last line has so far.
+/// Returns the position in a piece at which a line has its first byte too many, or the end of the
+/// piece if there is no such line. `line` has the number of bytes that its last line has so far.
 fn lines_end(piece: &[u8], line: &mut usize) -> usize
     ensures within { result ≤ length piece.now }
     ensures ends { (before : List ℕ) → IsWithinLine before (length before) line.old

@@ -1,4 +1,4 @@
--- Whether a symbol answers, by what is read of it.
+-- Whether a symbol matches, by what is read of it.
 use Rattle.std.proofs.Common.{◌≡◌, ℕ, ◌<◌, ◌≤◌, nat_lt, Bool, true, false, List, Option, None, Some, Result, Ok, Err, refl, sym, ap, subst, ◌∙◌, arith}
 use Rattle.std.proofs.lemmas.Bool.Decides.{nat_tests}
 use Rattle.elf_model.specs.Prelude.{DynamicSymbols as AreSymbolsOf, SymbolQuery, VersionQuery, VersymTable as AreWordsOf, answers, field, fits, is_exported, same, st_name, symbol_offset, version_fits, versym_at}
@@ -15,7 +15,7 @@ use Rattle.elf_hash.specs.declared.answer.SymbolMatch.{SymbolMatch}
 use Rattle.elf_hash.specs.declared.symbols.VersymTable.{VersymTable}
 use Rattle.elf_loader.specs.Answering.{SaysOf, IsSymbolWithVersym, ReturnsAnswer, ReturnsFit}
 
--- without words each version fits
+-- without a version symbol table each version matches
 pub fits-none :
     (file : List ℕ) (told : Option AreWordsOf) (asked : VersionQuery) (is_wanted : ℕ → Bool) (y : ℕ) → AreVersymTable told None
     → version_fits file told asked is_wanted y ≡ Ok true
@@ -23,7 +23,7 @@ unfolding version_fits
 fits-none file None asked is_wanted y are = refl
 fits-none file (Some told) asked is_wanted y are = absurd are
 
--- a symbol without a word
+-- a symbol without a versym entry
 pub fits-cut :
     (file : List ℕ) (told : Option AreWordsOf) (words : VersymTable) (asked : VersionQuery) (is_wanted : ℕ → Bool) (y : ℕ) → AreVersymTable told (Some words)
     → words.words.count ≤ y → version_fits file told asked is_wanted y ≡ Err (record { at = words.head; cause = VersionCut })
@@ -34,7 +34,7 @@ fits-cut file (Some told) words asked is_wanted y are past =
     let out : nat_lt y told.count ≡ false = let count = are.count in grind (arith, nat_tests) in
     rw (out, head) refl
 
--- and one with a word
+-- and one with a versym entry
 pub fits-word :
     (file : List ℕ) (told : Option AreWordsOf) (words : VersymTable) (asked : VersionQuery) (is_wanted : ℕ → Bool) (y word : ℕ) → AreVersymTable told (Some words)
     → words.words.entry ≡ 2 → y < words.words.count → word ≡ field file (row_at words.words y) 2
@@ -46,7 +46,7 @@ fits-word file (Some told) words asked is_wanted y word are entry low is =
     let place : row_at words.words y ≡ versym_at told y = rw (entry, are.place) (omega arith) in
     rw (within, is, place) refl
 
--- of a symbol that is read
+-- for a symbol that is read
 module _ (file : List ℕ) (told : AreSymbolsOf) (symbols : DynamicSymbols) (wanted : SymbolQuery) (is_wanted : ℕ → Bool) (index : ℕ) (symbol : Sym)
     (is : IsDynamicSymbols file told symbols) (entry : symbols.table.entry ≡ 24) (low : index < symbols.table.count) (stands : IsSym file (row_at symbols.table index) symbol) where
   pub place-is : row_at symbols.table index ≡ symbol_offset told index
@@ -78,7 +78,7 @@ module _ (file : List ℕ) (told : AreSymbolsOf) (symbols : DynamicSymbols) (wan
   unfolding answers
   other-answers tells = let e = name-is ∙ tells in rw (e, answers) refl
 
-  -- it is not offered
+  -- it is not exported
   pub unoffered-answers :
       same (strings_in file symbols.names) symbol.st_name wanted.name ≡ Ok true → is_exported file (symbol_offset told index) ≡ false
       → answers file told wanted is_wanted index ≡ Ok false
@@ -92,12 +92,12 @@ module _ (file : List ℕ) (told : AreSymbolsOf) (symbols : DynamicSymbols) (wan
   unfolding answers
   offered-answers tells offered = let e = name-is ∙ tells in rw (e, offered, answers) refl
 
--- what the version says, the symbol does
+-- what the version decides, the symbol does
 pub fault-tells : (file : List ℕ) (symbols : DynamicSymbols) (words : Option VersymTable) (index : ℕ) (says version : Result Bool Refusal) (fault : Fault) → says ≡ version → ReturnsFit file words index version (Err fault) → ReturnsAnswer file symbols index says (Err fault)
 fault-tells file symbols words index says version (Refused refusal) e tells = λ other. e ∙ tells other
 fault-tells file symbols words index says version (Source fault at) e tells = tt
 
--- what is told of a symbol is what the trial tells
+-- the result for a symbol is that of the matcher
 pub tries-as :
     (file : List ℕ) (symbols : DynamicSymbols) (wanted : SymbolQuery) (is_wanted : ℕ → Bool) (says : ℕ → Result Bool Refusal) (index : ℕ) (result : Result (Option SymbolMatch) Fault)
     → (is : SaysOf file symbols wanted is_wanted says) → ReturnsAnswer file symbols index (answers file is.told wanted is_wanted index) result

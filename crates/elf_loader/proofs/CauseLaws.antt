@@ -42,7 +42,7 @@ entries_others file at refusal e = go (p_filesz file at == 0) refl
         let same : segment_dynamic_checks file at ≡ whole ∷ range ∷ [] = rw (f, segment_dynamic_checks) refl in
         more_others whole (range ∷ []) refl (more_others range [] refl none_others) refusal (sym (ap first_refusal same) ∙ e)
 
--- so where a file's symbols are told, its dynamic entries are not refused
+-- so if a file's symbols are known, its dynamic entries are not refused
 module _ (file : List ℕ) where
   fails_known : (refusal : Refusal) → lookup_tables_by_segments file ≡ Err refusal → has_none refusal.cause ≡ false → known_symbols file ≡ Err refusal
   unfolding known_symbols

@@ -1,4 +1,4 @@
--- The numbers of a wanted version, of all records of versions.
+-- The indices of a wanted version, from all version records.
 use Rattle.std.proofs.Common.{◌≡◌, ℕ, ◌+◌, ◌*◌, ◌≤◌, ◌||◌, Bool, true, false, List, [], Option, None, Some, Ok, Err, refl, sym, ◌∙◌, arith}
 use Rattle.elf_model.specs.Prelude.{CompareResult, LookupTables, VersionQuery, VersymTable as AreWordsOf, asked_name, compared_with, readings, version_indices}
 use Rattle.elf_source.specs.Source.{CountedState}
@@ -10,7 +10,7 @@ use Rattle.elf_hash.specs.Prelude.{AreVersymTable}
 use Rattle.elf_hash.specs.declared.symbols.VersymTable.{VersymTable}
 use Rattle.elf_loader.specs.Prelude.{CollectsNumbers, CompareCosts, has_number}
 
--- without words, or without a wanted version, there are none
+-- without a version symbol table, or without a wanted version, there are none
 pub no-words : (file : List ℕ) (scope : LookupTables) (asked : VersionQuery) → AreVersymTable scope.symbols.words None → version_indices file scope asked ≡ record { numbers = []; refused = None; read = 0 }
 unfolding version_indices
 no-words file scope asked are = go (asked_name asked) refl scope.symbols.words refl are
@@ -25,7 +25,7 @@ pub no-version : (file : List ℕ) (scope : LookupTables) (asked : VersionQuery)
 unfolding version_indices
 no-version file scope asked n = rw (n, version_indices) refl
 
--- else they are those that comparing gives
+-- otherwise they are those that comparing finds
 pub all-compared :
     (file : List ℕ) (scope : LookupTables) (asked : VersionQuery) (version : List ℕ) (words : VersymTable) → asked_name asked ≡ Some version → AreVersymTable scope.symbols.words (Some words)
     → version_indices file scope asked ≡ compared_with file version (readings file scope.symbols.records)

@@ -1,4 +1,4 @@
--- Comparing the records of versions with a wanted one, record by record.
+-- Comparing the version records with a wanted version, record by record.
 use Rattle.std.proofs.Common.{◌≡◌, ℕ, suc, ◌+◌, ◌%◌, ◌^◌, ◌≤◌, ◌==◌, ◌||◌, nat_lt, length, Bool, true, false, List, ◌∷◌, Result, Ok, Err, Some, refl, sym, ap, ◌∙◌, arith}
 use Rattle.std.proofs.lemmas.Bool.Decides.{nat_tests}
 use Rattle.std.specs.List.{position_or_len}
@@ -13,7 +13,7 @@ use Rattle.elf_note.specs.Prelude.{IsVersion}
 use Rattle.elf_note.specs.declared.record.VersionRecord.{VersionRecord}
 use Rattle.elf_loader.specs.Prelude.{CompareProgress, ComparesOne, has_number}
 
--- a number is one of some with another in front
+-- an index is one of some with another before them
 pub among-more : (n number : ℕ) (numbers : List ℕ) → is_among n (number ∷ numbers) ≡ (number == n || is_among n numbers)
 among-more n number numbers = go (number == n) refl (nat_lt (position_or_len (λ other. other == n) numbers) (length numbers)) refl
   where
@@ -25,7 +25,7 @@ among-more n number numbers = go (number == n) refl (nat_lt (position_or_len (λ
     go false e false is =
         let more : nat_lt (1 + position_or_len (λ other. other == n) numbers) (suc (length numbers)) ≡ false = grind (arith, nat_tests) in rw (e, is, more) refl
 
--- a record that is met is read, whatever it holds
+-- a record that is visited is read, whatever its contents
 pub compared-reads :
     (file wanted strings : List ℕ) (met : VisitedRecord) (others : List VersionRecordRead) → 1 ≤ (compared_with file wanted (Meets strings met ∷ others)).read
 compared-reads file wanted strings met others = go (names_version file met) refl (same strings (name_index file met) wanted) refl
@@ -80,7 +80,8 @@ as-wanted old new number all left is more =
     swap false true c = refl
     swap false false c = refl
 
--- a record as it is given: it names no version, another or the wanted one, or its name has a fault
+-- a record as it is yielded: it names no version, another or the wanted one, or its name has a
+-- fault
 pub one-none :
     (file wanted strings : List ℕ) (met : VisitedRecord) (others : List VersionRecordRead) (set : List ℕ) → names_version file met ≡ false
     → CompareProgress set set 1 (compared_with file wanted (Meets strings met ∷ others)) (compared_with file wanted others)

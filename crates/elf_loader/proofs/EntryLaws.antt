@@ -1,4 +1,4 @@
--- The first segment of dynamic entries, as a pass over its entries finds it.
+-- The first PT_DYNAMIC segment, as a pass over its entries finds it.
 use Rattle.std.proofs.Common.{◌≡◌, ℕ, ◌*◌, ◌/◌, ◌≤◌, List, Some, Ok, Err, refl, ap, arith}
 use Rattle.std.proofs.Math.Nat.{div-mul-le_self}
 use Rattle.elf_model.specs.Prelude.{dynamic_segment_index, p_filesz, p_offset, segment_at, segment_dynamic_checks, trait_entries_asked}
@@ -17,7 +17,7 @@ module _ (file : List ℕ) (i : ℕ) (e : dynamic_segment_index file ≡ Some i)
       record { index = i; first = e; fails = checked_fails (segment_dynamic_checks file at) (rows (p_offset file at) (p_filesz file at / 16) 16) (Refused refusal) h }
   entries_refused (Source fault at) h = tt
 
-  -- they pass, and what is asked for is what the table has
+  -- they pass, and what is requested is what the table has
   pub entries_within : (table : TableRange) → Ok table ≡ dynamic_table_at file (segment_at file i) → size_of table ≤ trait_entries_asked file
   unfolding trait_entries_asked
   entries_within table h =
@@ -28,7 +28,7 @@ module _ (file : List ℕ) (i : ℕ) (e : dynamic_segment_index file ≡ Some i)
       let low = div-mul-le_self (p_filesz file at) 16 in
       omega (arith, asked, size, low)
 
--- a fault of a read tells nothing
+-- a fault of a read implies nothing
 pub read_entries : (file : List ℕ) (fault : Fault) → IsOfRead fault → ReturnsTraitEntries file (Err fault)
 read_entries file (Refused refusal) budget = λ other. absurd (other budget)
 read_entries file (Source fault at) budget = tt

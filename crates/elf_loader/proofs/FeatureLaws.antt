@@ -1,4 +1,4 @@
--- The first list of properties among segments, and the word of features in it.
+-- The first list of properties among segments, and the feature bits in it.
 use Rattle.std.proofs.Common.{◌≡◌, ℕ, suc, ◌+◌, ◌-◌, ◌*◌, ◌<◌, ◌≤◌, ◌==◌, Bool, true, false, List, length, Option, None, Some, Result, Ok, Err, refl, sym, ap, subst, ◌∙◌, arith, mul-le-mul, add-mul}
 use Rattle.elf_model.specs.Prelude.{EM_X86_64, PT_NOTE, PropertyList, e_machine, e_phnum, features_in, listed_from, listed_in, p_type, properties_asked, property_list, segment_at, sum_over, x86_feature_word}
 use Rattle.elf_model.specs.declared.causes.Refusal.{Refusal}
@@ -19,7 +19,7 @@ module _ (file : List ℕ) where
   unfolding listed_from
   from_none first = refl
 
-  -- what is told from a program header on, by what it tells itself
+  -- the result starting at a program header, by its own result
   abbrev behind : ℕ → ℕ → Result (Option PropertyList) Refusal → Result (Option PropertyList) Refusal
   behind first n (Err refusal) = Err refusal
   behind first n (Ok (Some list)) = Ok (Some list)
@@ -52,7 +52,7 @@ module _ (file : List ℕ) where
   unfolding property_list
   list_is = refl
 
-  -- what the notes of the segments gone by ask for, and of one more, is within what all do
+  -- what the notes of the segments so far request, and of one more, is within what all do
   pub asked_next : (i : ℕ) → sum_over (notes_asked file) 0 i + notes_asked file i ≡ sum_over (notes_asked file) 0 (i + 1)
   asked_next i =
       let last = last_cost (notes_asked file) 0 i in
@@ -63,7 +63,7 @@ module _ (file : List ℕ) where
   pub asked_all : (i : ℕ) → i ≤ e_phnum file → sum_over (notes_asked file) 0 i ≤ all_notes_asked file
   asked_all i within = sums_grow (notes_asked file) 0 i (e_phnum file) within
 
-  -- THE WORD OF FEATURES
+  -- THE FEATURE BITS
   pub other_machine : (e_machine file == EM_X86_64) ≡ false → x86_feature_word file ≡ Ok 0
   unfolding x86_feature_word
   other_machine isnt = rw (isnt, x86_feature_word) refl
@@ -81,12 +81,12 @@ module _ (file : List ℕ) where
     unfolding x86_feature_word
     word_some list e = rw (is, e, x86_feature_word) refl
 
-    -- a fault of the list is one of the word
+    -- a fault of the list is one of the feature bits
     pub list_fails : (fault : Fault) → ReturnsList file (property_list file) (Err fault) → ReturnsValue {X = ℕ} (x86_feature_word file) (Err fault)
     list_fails (Refused refusal) tells = λ other. word_fails refusal (tells other)
     list_fails (Source fault at) tells = tt
 
-    -- what is asked for
+    -- what is requested
     pub asked_least : all_notes_asked file ≤ properties_asked file
     unfolding properties_asked
     asked_least =
@@ -97,7 +97,7 @@ module _ (file : List ℕ) where
     unfolding properties_asked
     asked_list list e = rw (is, e, properties_asked) refl
 
--- one segment more, in a source of a size
+-- one more segment, in a source of a size
 pub product_next : (i count size : ℕ) → i < count → i * size + size ≤ count * size
 product_next i count size below =
     let one : (i + 1) * size ≡ i * size + 1 * size = add-mul i 1 size in
@@ -107,7 +107,7 @@ product_next i count size below =
 pub product_most : (i count size : ℕ) → i ≤ count → i * size ≤ count * size
 product_most i count size below = mul-le-mul below (omega arith)
 
--- A LOOP over segments: what is told from one on
+-- A LOOP over segments: the result starting at one
 module _ (file : List ℕ) where
   pub lists_begin : property_list file ≡ listed_from file 0 (e_phnum file - 0)
   lists_begin = let all : e_phnum file ≡ e_phnum file - 0 = omega arith in list_is file ∙ ap (listed_from file 0) all
@@ -137,6 +137,6 @@ module _ (file : List ℕ) where
   pub lists_end : (i : ℕ) → e_phnum file ≤ i → property_list file ≡ listed_from file i (e_phnum file - i) → property_list file ≡ Ok None
   lists_end i behind left = let none : e_phnum file - i ≡ 0 = omega arith in left ∙ (ap (listed_from file i) none ∙ from_none file i)
 
--- what is told of a value, in other words
+-- the result for a value, in other terms
 pub value_of : {X : Type 0} (told other : Result X Refusal) (result : Result X Fault) → told ≡ other → ReturnsValue told result → ReturnsValue other result
 value_of told other result same tells = subst (λ t. ReturnsValue t result) same tells

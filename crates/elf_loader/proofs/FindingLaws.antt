@@ -1,4 +1,4 @@
--- The stages of a file's traits, one behind another.
+-- The stages of a file's traits, one after another.
 use Rattle.std.proofs.Common.{◌≡◌, ℕ, ◌+◌, ◌-◌, ◌*◌, ◌/◌, ◌≤◌, List, Option, None, Some, Result, Ok, Err, IfErr, IfOk, refl, sym, ap, subst, ◌∙◌, arith, mul-le-mul}
 use Rattle.elf_source.specs.Source.{CountedState, ReadsUpTo}
 use Rattle.elf_table.specs.Prelude.{CallDid, IsOfRead, IsReadFault, TableRange, fault_of_result}
@@ -17,7 +17,7 @@ use Rattle.elf_loader.proofs.CauseLaws.{entries_pass}
 use Rattle.elf_loader.proofs.EntryLaws.{read_entries}
 use Rattle.elf_loader.proofs.ValueLaws.{values_are}
 
--- what a pass over the entries of a table tells
+-- the result of a pass over the entries of a table
 abbrev pub ReturnsListed : List ℕ → TableRange → Result TraitTags Fault → Type 0
 ReturnsListed file table (Ok found) = AreListedValues file table found
 ReturnsListed file table (Err fault) = IsOfRead fault
@@ -33,7 +33,7 @@ pub listed_finds : (file : List ℕ) (i : ℕ) → dynamic_segment_index file �
 listed_finds file i e table place count (Ok found) are = values_are file i e table place count found are
 listed_finds file i e table place count (Err fault) read = read_entries file fault read
 
--- THE SYMBOLS THAT ARE KNOWN are told before all else
+-- THE SYMBOLS THAT ARE KNOWN come before all else
 module _ (file : List ℕ) where
   pub known_is : (found : Option CountedSymbols) → ReturnsKnown file (Ok found) → (scope : Option IsScopeOf) × (known_symbols file ≡ Ok scope)
   known_is None tells = (None, tells)
@@ -80,7 +80,7 @@ module _ (file : List ℕ) where
       pub traits_are : (marks : SymbolTraits) → ReturnsMarks (marks_told file) (Ok marks) → loaded_traits file ≡ Ok (traits_with file word (symbol_traits_of marks))
       traits_are marks tells = marks_are (symbol_traits_of marks) (sym reported_is ∙ tells)
 
-  -- WHAT SYMBOLS ASK FOR: the counts of their hash table, and what is behind them
+  -- WHAT SYMBOLS REQUEST: the counts of their hash table, and what follows
   pub symbols_cost : counts_asked file + marks_asked file ≤ symbols_asked file
   unfolding symbols_asked hash_words_asked
   symbols_cost = go (known_symbols file) refl
@@ -125,7 +125,7 @@ module _ (file : List ℕ) where
               ap (λ (k : HashStyle). elim k as (λ x. ℕ) [ GnuTable ↦ 16 + 4 * gnu_nbucket file scope.table.place + 4 * hashed_symbol_count file scope | SysvTable ↦ 8 ]) is in
               omega (arith, a, b, d, l, x, w)
 
--- WHAT KNOWN SYMBOLS TELL
+-- THE RESULT BY KNOWN SYMBOLS
 module _ (file : List ℕ) where
   reported_none : known_symbols file ≡ Ok None → marks_told file ≡ Ok no_symbol_traits
   unfolding find_symbol_traits
@@ -145,7 +145,7 @@ module _ (file : List ℕ) where
     pub marks_some : (count : ℕ) → count ≡ hashed_symbol_count file scope → marks_from file scope.symbols no_symbol_traits 1 (count - 1) ≡ marks_told file
     marks_some count is = ap (λ (n : ℕ). marks_from file scope.symbols no_symbol_traits 1 (n - 1)) is ∙ sym told_some
 
--- and what they ask for at most, in a source of a size
+-- and what they request at most, in a source of a size
 pub rows_most : (known : CountedSymbols) (size count : ℕ) → KnownLies size known → count ≤ (place_of_table known.table).symbols → (count - 1) * 88 ≤ size / 24 * 88
 rows_most known size count lies few =
     let entry = ap (λ (n : ℕ). known.symbols.table.count * n) known.symbols.rows in

@@ -18,7 +18,7 @@ use Rattle.elf_loader.specs.declared.resolved_version_name.ResolvedVersionName.{
 use Rattle.elf_loader.specs.declared.found.VersionName.TheVariants.{Told, Unnamed, Wanted}
 use Rattle.elf_loader.specs.declared.found.VersionName.{VersionName}
 
--- where a version is wanted, it is told as it is wanted
+-- if a version is wanted, it is returned as it is wanted
 pub in-wanted :
     (file : List ℕ) (scope : LookupTables) (asked : VersionQuery) (records y : ℕ) (walked : ChainResult) (words : VersymTable) (version : List ℕ) → asked_name asked ≡ Some version
     → found_in file scope asked records y walked (Some words)
@@ -26,7 +26,7 @@ pub in-wanted :
 unfolding found_in
 in-wanted file scope asked records y walked words version n = rw (n, found_in) refl
 
--- where its number is 0 or 1, it has no name
+-- if its version index is 0 or 1, it has no name
 pub in-unnamed :
     (file : List ℕ) (scope : LookupTables) (asked : VersionQuery) (records y : ℕ) (walked : ChainResult) (words : VersymTable) → asked_name asked ≡ None
     → nat_lt (number_in (versym file (versym_at words y))) 2 ≡ true
@@ -35,7 +35,7 @@ pub in-unnamed :
 unfolding found_in
 in-unnamed file scope asked records y walked words n low = rw (n, low, found_in) refl
 
--- else it is that of its number
+-- otherwise it is that of its index
 pub in-told :
     (file : List ℕ) (scope : LookupTables) (asked : VersionQuery) (records y : ℕ) (walked : ChainResult) (words : VersymTable) → asked_name asked ≡ None
     → nat_lt (number_in (versym file (versym_at words y))) 2 ≡ false
@@ -44,7 +44,7 @@ pub in-told :
 unfolding found_in
 in-told file scope asked records y walked words n high = rw (n, high, found_in) refl
 
--- what telling it reads, whatever it answers
+-- what finding it reads, for any result
 pub told-spends : (file : List ℕ) (scope : LookupTables) (words : VersymTable) (y : ℕ) (walked : ChainResult) (naming : NumberNameSource) → LookupSpends (named_by_record file scope words y walked naming) walked naming.read (is_some naming.found)
 unfolding named_by_record
 told-spends file scope words y walked naming = go naming.found refl naming.refused refl
@@ -58,7 +58,7 @@ told-spends file scope words y walked naming = go naming.found refl naming.refus
     go None f None r = rw (f, r, named_by_record) (record { tried = refl; chain_words = refl; records = refl; is_named = refl })
     go None f (Some refusal) r = rw (f, r, named_by_record) (record { tried = refl; chain_words = refl; records = refl; is_named = refl })
 
--- the version of a symbol that is found is told without a read
+-- the version of a symbol that is found is returned without a read
 finds-here :
     (file : List ℕ) (scope : LookupTables) (asked : VersionQuery) (words : VersymTable) (y word : ℕ) (told : List ℕ) (c : CountedState) (code : Words) (named : VersionName)
     → IsVersymTable words code → word ≡ versym file (versym_at words y) → IsRelocationReported file told 0 named → CallReads c c None 0
@@ -99,7 +99,7 @@ finds-unnamed file scope asked words y word told c code n is here low none =
     below : (number : ℕ) → number < 2 → nat_lt number 2 ≡ true
     below number low = grind (arith, nat_tests)
 
--- by the name of its number
+-- by the name of its version index
 above : (number : ℕ) → 2 ≤ number → nat_lt number 2 ≡ false
 above number high = grind (arith, nat_tests)
 
@@ -128,7 +128,7 @@ finds-told file scope asked words y word told a b code name n is here high tells
       stands = tells.2;
     }
 
--- or it is not told
+-- or it is not returned
 finds-fault :
     (file : List ℕ) (scope : LookupTables) (asked : VersionQuery) (words : VersymTable) (y word : ℕ) (told : List ℕ) (a b : CountedState) (fault : Fault)
     → asked_name asked ≡ None → word ≡ versym file (versym_at words y) → 2 ≤ number_in word
@@ -164,7 +164,7 @@ finds-fault file scope asked words y word told a b fault n here high tells =
     refused (Refused refusal) t walked lookup e = λ other. let told_so = e ∙ t.1 other walked in rw told_so refl
     refused (Source fault at) t walked lookup e = tt
 
--- the same of a number that is the one in the word
+-- the same for an index that is the one in the versym entry
 pub finds-told-by :
     (file : List ℕ) (scope : LookupTables) (asked : VersionQuery) (words : VersymTable) (y word number : ℕ) (told : List ℕ) (a b : CountedState) (code : Words) (name : ResolvedVersionName)
     → number ≡ number_in word → asked_name asked ≡ None → IsVersymTable words code → word ≡ versym file (versym_at words y) → 2 ≤ number
@@ -183,7 +183,7 @@ finds-fault-by file scope asked words y word number told a b fault e n here high
     finds-fault file scope asked words y word told a b fault n here (subst (λ (m : ℕ). 2 ≤ m) e high)
     (subst (λ (m : ℕ). ReturnsVersionName file scope words y (naming_of file m (readings file scope.symbols.records)) a b told (Err fault)) e tells)
 
--- where a word stands
+-- the offset of a versym entry
 pub word-at : (told : VersymTable) (code : Words) (y : ℕ) → IsVersymTable told code → code.words.entry ≡ 2 → row_at code.words y ≡ versym_at told y
 word-at told code y is entry = rw (entry, is.place) (omega arith)
 
@@ -191,7 +191,7 @@ pub word-is : (file : List ℕ) (told : VersymTable) (code : Words) (y word : �
     → word ≡ versym file (versym_at told y)
 word-is file told code y word is entry stands = stands ∙ ap (λ (at : ℕ). field file at 2) (word-at told code y is entry)
 
--- the same where there may be no versions
+-- the same if there may be no versions
 pub finds-none : (file : List ℕ) (scope : LookupTables) (asked : VersionQuery) (y : ℕ) (told : List ℕ) (c : CountedState) → AreVersymTable scope.symbols.words None → FindsVersion (λ (version : Option FoundVersion). version) file scope asked scope.symbols.words y c c told (Ok None)
 unfolding found_in
 finds-none file scope asked y told c are = go scope.symbols.words refl are

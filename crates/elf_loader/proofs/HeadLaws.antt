@@ -1,4 +1,4 @@
--- What stops the read of a property's head.
+-- What stops the read of a property header.
 use Rattle.std.proofs.Common.{◌≡◌, ℕ, List, Err, refl}
 use Rattle.elf_model.specs.Prelude.{NoProperty, next_property, slice}
 use Rattle.elf_model.specs.declared.causes.Cause.TheVariants.{NoteCut}
@@ -7,7 +7,7 @@ use Rattle.elf_table.specs.declared.fault.Fault.{Fault}
 use Rattle.elf_table.specs.declared.fault.Fault.TheVariants.{Refused, Source}
 use Rattle.elf_loader.specs.Features.{ReadsHead}
 
--- no property stands there
+-- there is no whole property
 pub refused_at : (file : List ℕ) (at left : ℕ) → next_property (slice file at left) ≡ NoProperty
     → ReadsHead file at left (Err (Refused (record { at = at; cause = NoteCut })))
 refused_at file at left none = λ budget. (refl, none)

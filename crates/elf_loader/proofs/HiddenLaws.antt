@@ -1,4 +1,4 @@
--- What a lookup does while what the file header tells of section headers is hidden.
+-- The effect of a lookup while the header's fields for section headers are masked.
 use Rattle.std.proofs.Common.{◌≡◌, ℕ, Bool, true, false, List, Result, refl, subst}
 use Rattle.elf_model.specs.Prelude.{SymbolQuery, looked_at, without_sections}
 use Rattle.elf_source.specs.Source.{CountedState, MasksSectionHeaders}
@@ -8,7 +8,7 @@ use Rattle.elf_table.specs.declared.fault.Fault.{Fault}
 use Rattle.elf_loader.specs.Prelude.{LooksUp}
 use Rattle.elf_loader.specs.declared.lookup.SymbolLookup.{SymbolLookup}
 
--- the file that is looked at
+-- the file that is searched
 all_shown : (by_segments : Bool) (file : List ℕ) → by_segments ≡ false → looked_at by_segments file ≡ file
 all_shown true file h = cc
 all_shown false file h = refl
@@ -27,7 +27,7 @@ module _ {headers : ℕ} {wanted : SymbolQuery} {told : List ℕ} {result : Resu
     known = λ file held. rw (all_shown by_segments file shown) (did.known file held);
   }
 
-  -- and where section headers are hidden meanwhile
+  -- and if section headers are masked meanwhile
   pub looked_hidden : {a b c d : CountedState} (most : ℕ → ℕ) → by_segments ≡ true → MasksSectionHeaders a b true → MasksSectionHeaders c d a.hides
       → CallDid b c (fault_of_result result) (most b.seen.size) (λ file. LooksUp file headers wanted told b c result)
       → CallDid a d (fault_of_result result) (most a.seen.size) (λ file. LooksUp (looked_at by_segments file) headers wanted told a d result)

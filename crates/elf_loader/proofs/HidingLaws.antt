@@ -1,4 +1,4 @@
--- What is found while what the file header tells of section headers is hidden.
+-- What is found while the header's fields for section headers are masked.
 use Rattle.std.proofs.Common.{◌≡◌, ℕ, List, Result, refl, subst, true}
 use Rattle.elf_model.specs.Prelude.{e_shnum, segment_traits_cost, traits_by_segments, traits_cost, traits_of, without_sections}
 use Rattle.elf_model.specs.declared.traits.Hardening.{Hardening}

@@ -1,4 +1,5 @@
--- The symbols that a loader knows, by what a lookup is made in and the counts of its hash table.
+-- The symbols that a loader knows, by the tables that a lookup searches and the counts of its hash
+-- table.
 use Rattle.std.proofs.Common.{◌≡◌, ℕ, ◌≤◌, Bool, true, false, List, [], ◌∷◌, Option, None, Some, Ok, Err, refl, ap, arith}
 use Rattle.elf_model.specs.Prelude.{GnuTable, HashStyle, IsBudgetRefusal, LookupTables as IsScopeOf, SysvTable, counts_check, first_refusal, has_none, known_symbols, least_size, lookup_tables_by_segments}
 use Rattle.elf_model.specs.declared.causes.Refusal.{Refusal}
@@ -12,7 +13,7 @@ use Rattle.elf_hash.specs.declared.table.HashTable.{HashTable}
 use Rattle.elf_hash.specs.declared.lookup_tables.LookupTables.{LookupTables}
 use Rattle.elf_loader.specs.Known.{AreKnown, ReturnsKnown, counts_asked, passed_over}
 
--- a file without a hash table is passed over: then a call did not stop
+-- a file without a hash table is accepted: then a call did not stop
 pub passed_did : {a b : CountedState} {n : ℕ} {P : List ℕ → Type 0} (fault : Fault) → CallDid a b (Some fault) n P → CallDid a b (fault_of_result (passed_over fault)) n P
 passed_did (Source fault at) did = did
 passed_did {a} {b} {n} {P} (Refused refusal) did = go (has_none refusal.cause) refl
@@ -33,7 +34,7 @@ not_both : (b : Bool) → b ≡ true → b ≡ false → ⊥
 not_both true t f = cc
 not_both false t f = cc
 
--- the cause of it is not want of budget
+-- its cause is not `Budget`
 not_budget : (refusal : Refusal) → has_none refusal.cause ≡ true → IsBudgetRefusal refusal → ⊥
 not_budget refusal is budget = not_both (has_none refusal.cause) is (ap has_none budget)
 
@@ -41,7 +42,7 @@ least_most : (kind : HashStyle) → least_size kind ≤ 16
 least_most GnuTable = omega arith
 least_most SysvTable = omega arith
 
--- what counts ask for at most
+-- what counts request at most
 pub counts_most : (kind : Kind) → counts_bytes kind ≤ 16
 counts_most kind = least_most (hash_style_of kind)
 
@@ -63,7 +64,7 @@ module _ (file : List ℕ) where
       go false isnt = rw (isnt, passed_over) (λ other. known_fails refusal (finds other) isnt)
 
   module _ (told : IsScopeOf) (scope : LookupTables) (found : lookup_tables_by_segments file ≡ Ok told) (is : IsLookupTables file told scope) where
-    -- where its hash table is
+    -- the location of its hash table
     pub its_place : IsPlaceIn told scope.hash
     its_place = record { kind = is.kind; head = is.head; table = record { start = is.place; size = is.size; symbols = is.count } }
 
@@ -83,7 +84,7 @@ module _ (file : List ℕ) where
     counts_refused (Refused refusal) has = λ other. known_misshapen refusal (has other)
     counts_refused (Source fault at) has = tt
 
-    -- and what they ask for
+    -- and what they request
     pub counts_within : counts_bytes scope.hash.kind ≤ counts_asked file
     counts_within = go (first_refusal (counts_check file told ∷ [])) refl
       where

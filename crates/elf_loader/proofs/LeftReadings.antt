@@ -13,7 +13,7 @@ use Rattle.elf_note.specs.Prelude.{GivesVersion, LeadsOn, StartsVersions, Versio
 use Rattle.elf_note.specs.declared.record_position.RecordPosition.{RecordPosition}
 use Rattle.elf_note.specs.declared.record.VersionRecord.{VersionRecord}
 
--- what a walk stands at is a record that is in the table, or none
+-- the record at the position of a walk is in the table, or there is none
 abbrev pub cut_at : RecordCursorState → Refusal
 cut_at stand = record { at = stand.from; cause = VersionCut }
 
@@ -23,7 +23,7 @@ visited_of versions = versions.met
 abbrev cut_of : Versions → Option Refusal
 cut_of versions = versions.cut
 
--- what is left from where a walk stands, of so many records at most, in front of others
+-- what is left at the position of a walk, of a number of records at most, before others
 unfoldable pub left_readings : List ℕ → List ℕ → (table size : ℕ) → Option RecordCursorState → ℕ → List VersionRecordRead → List VersionRecordRead
 left_readings file strings table size None left others = others
 left_readings file strings table size (Some stand) zero others = Misses (cut_at stand) ∷ others
@@ -36,13 +36,13 @@ left_readings file strings table size (Some stand) (suc left) others =
       ]
     ]
 
--- a record that is not in the table is refused at what led there
+-- a record that is not in the table is refused at the structure that led there
 past : (file : List ℕ) (table size : ℕ) (stand : RecordCursorState) → nat_lt size (stand.place + record_size stand.kind) ≡ true
     → first_refusal (record_checks file table size stand) ≡ Some (cut_at stand)
 unfolding record_checks
 past file table size stand far = rw far refl
 
--- what is left, as the definitions have it: what is met, and how it ends
+-- what is left, in the terms of the model: what is visited, and how it ends
 left_as : List ℕ → (told : VersionRecordTable) → (done : ℕ) → Versions → List VersionRecordRead → List VersionRecordRead
 left_as file told done versions others =
     meetings told.strings versions.met
@@ -101,7 +101,7 @@ all-left file told others =
     let e : 0 + length met ≡ length met = omega arith in
     rw e at (left-is file told others (max_records told.kind told.size) 0 (first_position told.kind told.head told.size) (omega arith) refl)
 
--- a record that is met is the first that is left
+-- a record that is visited is the first that is left
 pub meets-left :
     (file strings : List ℕ) (table size : ℕ) (standing : Option RecordPosition) (left : ℕ) (next : Option RecordCursorState) (met : VisitedRecord) (rest : Versions) (others : List VersionRecordRead)
     → visited_from file table size (option_map record_position_of standing) (suc left) ≡ with_visited met rest
@@ -124,7 +124,7 @@ meets-left file strings table size (Some s) left next met rest others first lead
         let same : visited_at table (record_position_of s) ≡ met = cc in
         rw (near, c, leads, same, left_readings) refl
 
--- where none is left to be met, and nothing is refused, the others are
+-- if none is left to be visited, and nothing is refused, the others are
 pub ended-left :
     (file strings : List ℕ) (table size : ℕ) (standing : Option RecordPosition) (left : ℕ) (others : List VersionRecordRead)
     → visited_from file table size (option_map record_position_of standing) left ≡ no_versions None
@@ -168,7 +168,7 @@ refused-left file strings table size (Some s) (suc left) others refusal P is rea
         rw (near, c, e, left_readings) read
     go near None c = let e = ap visited_of (sym (met-record file table size (record_position_of s) left c) ∙ is) in absurd (cc)
 
--- a record that is in the table is read: it is met, or refused
+-- a record that is in the table is read: it is visited, or refused
 pub read-left :
     (file strings : List ℕ) (table size : ℕ) (standing : Option RecordPosition) (left : ℕ) (others : List VersionRecordRead) (P : List VersionRecordRead → Type 0)
     → 0 < left → MatchOption standing ⊥ (λ s. s.place + record_size s.kind ≤ size)
@@ -186,7 +186,7 @@ read-left file strings table size (Some s) (suc left) others P some inside refus
     go (Some refusal) = refused refusal
     go None = met (visited_at table (record_position_of s)) (left_readings file strings table size (next_position file table (record_position_of s)) left others)
 
--- what is left of a cursor's walk, in the names of some strings and in front of others
+-- what is left of a cursor's walk, in the names of some strings and before others
 abbrev pub left_of : List ℕ → List ℕ → List VersionRecordRead → VersionCursorState → List VersionRecordRead
 left_of file strings others c = left_readings file strings c.held.table.at c.held.table.count (option_map record_position_of c.standing) c.left others
 
@@ -205,7 +205,7 @@ start-left file told records others c starts is =
     let size = sym is.size in
     all-left file told others ∙ (rw (its_table, standing, left, kind, head, place, size) refl)
 
--- then the record that is given is the first of them
+-- then the record that is yielded is the first of them
 pub step-left :
     (file strings : List ℕ) (others : List VersionRecordRead) (old new : VersionCursorState) (given : VersionRecord) → new.held ≡ old.held → new.left + 1 ≡ old.left
     → (gives : GivesVersion file (versions_left file old) (versions_left file new) given) → LeadsOn file old new

@@ -24,7 +24,7 @@ use Rattle.elf_loader.specs.declared.trait_notes.PropertyRange.{PropertyRange}
 abbrev pub note_checks : List ℕ → ℕ → List Check
 note_checks file at = unless_empty (p_filesz file at) (range_checks_of (length file) (p_offset file at) (p_filesz file at) at)
 
--- what stands before the first NUL is no longer
+-- the bytes before the first NUL are no longer
 length-take-le-all : (name : List ℕ) → length (before_nul name) ≤ length name
 length-take-le-all name = omega (arith, length-take (position_or_len (λ b. b == 0) name) name)
 
@@ -105,7 +105,7 @@ first_moved a base place (note ∷ notes) = go (first_moved a base (place + padd
         ∙ (ap (λ n. first_listing (note_rows a n notes)) on
         ∙ (more ∙ sym (ap (option_map (row_moved base)) (first_more a place note notes isnt))))
 
--- what is told of a row, or of the place where notes are cut
+-- the result for a row, or for the offset of a malformed note
 abbrev told : Option NoteRow → Option ℕ → Result (Option PropertyList) Refusal
 told (Some row) cut = Ok (Some (record { place = row.descriptor_at; bytes = row.note.descriptor }))
 told None (Some place) = Err (record { at = place; cause = NoteCut })
@@ -119,7 +119,7 @@ among_is a at walk = go (first_listing (note_rows a at walk.notes)) walk.cut ref
     go None (Some place) e f = rw (e, f, list_among) refl
     go None None e f = rw (e, f, list_among) refl
 
--- no note is left, or what is left at an offset is none
+-- no note is left, or what is left at an offset is malformed
 pub among_none : (a at : ℕ) → list_among a at no_notes ≡ Ok None
 among_none a at = among_is a at no_notes ∙ ap (λ found. told found None) (first_none a at)
 
@@ -131,12 +131,12 @@ pub among_here : (a at : ℕ) (note : Note) (walk : NoteScan) → is_property_no
     → list_among a at (with_note note walk) ≡ Ok (Some (record { place = at + descriptor_start a (length note.name) (length note.descriptor); bytes = note.descriptor }))
 among_here a at note walk is = among_is a at (with_note note walk) ∙ ap (λ found. told found walk.cut) (first_here a at note walk.notes is)
 
--- or it does not, and those behind it tell
+-- or it does not, and those after it decide
 among_more : (a at : ℕ) (note : Note) (walk : NoteScan) → is_property_note note ≡ false → list_among a at (with_note note walk) ≡ list_among a (at + padded_size a note) walk
 among_more a at note walk isnt =
     among_is a at (with_note note walk) ∙ (ap (λ found. told found walk.cut) (first_more a at note walk.notes isnt) ∙ sym (among_is a (at + padded_size a note) walk))
 
--- those stand where it ends with its padding, or there is none of them
+-- those are at its end with its padding, or there are none
 pub among_after : (a at left after next : ℕ) (note : Note) (walk : NoteScan) → is_property_note note ≡ false
     → after + note_size a (length note.name) (length note.descriptor) left ≡ left → next + after ≡ at + left → (after ≡ 0 → walk ≡ no_notes)
     → list_among a at (with_note note walk) ≡ list_among a next walk
@@ -151,7 +151,7 @@ among_after a at left after next note walk isnt takes same ends = among_more a a
         let here : at + size ≡ next = omega (arith, takes, same, some) in
         ap (λ n. list_among a n walk) here
 
--- THE FIRST LIST of a segment, where its range lies within the file
+-- THE FIRST LIST of a segment, if its range lies within the file
 module _ (file : List ℕ) (at : ℕ) (table : TableRange) (place : table.at ≡ p_offset file at) (count : table.count ≡ p_filesz file at) where
   abbrev a : ℕ
   a = note_align (p_align file at)
@@ -206,7 +206,8 @@ module _ (file : List ℕ) (at : ℕ) (table : TableRange) (place : table.at ≡
   unfolding listed_in
   listed_fails refusal fails = rw (fails, listed_in) refl
 
--- a name that is shown whole is what stands before the first NUL, and one that is cut is too long
+-- a name that is shown whole is the bytes before the first NUL, and one that is truncated is too
+-- long
 and_false : (b c : Bool) → c ≡ false → (b && c) ≡ false
 and_false true c e = e
 and_false false c e = refl
@@ -234,7 +235,7 @@ notes_begin file align table w is =
     λ n. list_among (note_align align) table.at (walk_from (note_align align) (suc (length (slice file table.at n))) table.at (slice file table.at n)) in
     rw is (ap start all)
 
--- a step that gave a note
+-- a step that yielded a note
 pub record NoteStep (file : Option (List ℕ)) (a cap : ℕ) (old new : NoteCursorState) (name : List ℕ) : Type 0 where
   pub going : new.failed ≡ None
   pub agrees : StillHolds file old.ahead new.ahead
@@ -255,7 +256,7 @@ step_note file a cap old new name answer is same steps =
       gives = λ bytes held agrees. rw same at (step.tells bytes held agrees);
     }
 
--- it failed: a read, or where no note stands
+-- it failed: a read, or there is no whole note
 pub list_stops : (file : List ℕ) (a align : ℕ) (table : TableRange) (w : WindowState) (fault : Fault) → first_list file align table ≡ list_among a w.at (notes_left a file w)
     → StopsNote w.at fault → (fault ≡ note_cut w.at → notes_left a file w ≡ cut_at w.at) → ReturnsList file (first_list file align table) (Err fault)
 list_stops file a align table w (Refused refusal) left (inl read) cut = λ other. absurd (other read)
@@ -263,7 +264,7 @@ list_stops file a align table w (Unread fault at) left (inl read) cut = tt
 list_stops file a align table w fault left (inr is) cut =
     rw is (λ other. left ∙ (ap (list_among a w.at) (cut is) ∙ among_cut a w.at w.at))
 
--- whether a note that is given lists properties, and where its descriptor stands
+-- whether a note that is yielded lists properties, and the offset of its descriptor
 module _ (file : List ℕ) (a : ℕ) (old new : NoteCursorState) (name : List ℕ) (row : ListingWrote) (shows : ShowsNote new row) (note : Note)
     (is : IsNoteFound file a 63 old.ahead.at note new.found name new.descriptor) where
   pub kind_is : row.head.kind ≡ note.kind
@@ -307,12 +308,12 @@ module _ (file : List ℕ) (a : ℕ) (old new : NoteCursorState) (name : List �
           let start : ℕ → NoteScan = λ n. walk_from a (suc (length (slice file new.ahead.at n))) new.ahead.at (slice file new.ahead.at n) in
           ap start none ∙ nothing-ends a new.ahead.at
 
--- no list stands there, or one does
+-- there is no list, or one
 pub list_none : (file : List ℕ) (a align : ℕ) (table : TableRange) (w : WindowState) → first_list file align table ≡ list_among a w.at (notes_left a file w)
     → notes_left a file w ≡ no_notes → first_list file align table ≡ Ok None
 list_none file a align table w left none = left ∙ (ap (list_among a w.at) none ∙ among_none a w.at)
 
--- the bytes of a segment, as its program header tells of them
+-- the bytes of a segment, by its program header
 module _ (file : List ℕ) (at : ℕ) where
   pub range_fails : (fault : Fault) → Err fault ≡ byte_table_at file at → RefusedBy (note_checks file at) fault
   range_fails fault h =

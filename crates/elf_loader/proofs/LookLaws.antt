@@ -1,4 +1,4 @@
--- What a lookup gives, stage by stage.
+-- The result of a lookup, stage by stage.
 use mathlib.Core.Path.{fun_ext}
 use Rattle.std.proofs.Common.{◌≡◌, ℕ, ◌+◌, ◌*◌, ◌≤◌, Bool, false, List, [], ◌∷◌, ◌++◌, Option, None, Some, Result, Ok, Err, refl, sym, ap, subst, ◌∙◌, arith}
 use Rattle.elf_model.specs.Prelude.{ChainResult as NoteScan, CompareResult, LoaderLookup, LookupTables as IsScopeOf, SymbolQuery, answers, asked_name, before_headers, cost_where, counts_check, e_shnum, early_checks, first_refusal, found_in, header_checks, is_among, load_checks, loaded_in, loader_cost, loader_looked, looked_by, lookup_asks, lookup_tables_of, record_cost, refused_lookup, section_name_checks, segments_asked, symbol_offset, version_indices, walk_in}
@@ -25,7 +25,7 @@ use Rattle.elf_loader.specs.declared.lookup.SymbolLookup.{SymbolLookup}
 use Rattle.elf_loader.proofs.CollectLaws.{no-version}
 use Rattle.elf_loader.proofs.ReadLaws.{asks_all, asks_least, asks_records, by_absent, by_found, by_refused, looked_reads}
 
--- one call behind another
+-- one call after another
 pub looks_then :
     {file : List ℕ} {wanted : SymbolQuery} {looked : LoaderLookup} {told : List ℕ} {a b c : CountedState} {result : Result SymbolLookup Fault} (n few before few_behind before_behind : ℕ)
     → before + n + few_behind ≤ before_behind + few → CallReads a b None n → LooksAfter file wanted few_behind before_behind looked told b c result
@@ -54,7 +54,7 @@ module _ (file : List ℕ) (scope : IsScopeOf) (wanted : SymbolQuery) where
       → looked_with file scope wanted compared ≡ looked_by file scope wanted.asked compared.read (walk_in file scope wanted (λ number. is_among number compared.numbers))
   with_told compared e = rw (e, looked_with) refl
 
--- WHAT IS ANSWERED by a walk, before which so many records were read
+-- THE RESULT BY A WALK, before which a number of records were read
 module _ (file : List ℕ) (told : IsScopeOf) (wanted : SymbolQuery) (before : ℕ) (walk : NoteScan) (first : asked_name wanted.asked ≡ None → before ≡ 0) where
   abbrev looked : LoaderLookup
   looked = looked_by file told wanted.asked before walk
@@ -121,7 +121,7 @@ module _ (file : List ℕ) (told : IsScopeOf) (wanted : SymbolQuery) (before : �
         tells (Refused refusal) found = λ other. ap (λ (l : LoaderLookup). l.lookup.answer) is_found ∙ found other
         tells (Source fault at) found = tt
 
-  -- a walk that gives no answer
+  -- a walk that has no result
   pub looks_unwalked : {a b : CountedState} {stands : ℕ → SymbolMatch → Type 0} (name : List ℕ) (fault : Fault) → WalksChain stands 12 (match_bytes wanted) walk a b (Err fault)
       → LooksAfter file wanted 12 (before * record_cost wanted.asked) looked name a b (Err fault)
   looks_unwalked {stands = stands} name fault walks = record {
@@ -140,7 +140,7 @@ module _ (file : List ℕ) (told : IsScopeOf) (wanted : SymbolQuery) (before : �
   looks_walked name w result walks looks =
       looks_then (walk_bytes 12 walk.read walk.tried (match_bytes wanted)) 12 (before * record_cost wanted.asked) 0 asked_before (omega arith) walks.costs looks
 
--- THE NUMBERS of the version that is asked for
+-- THE INDICES of the wanted version
 module _ (file : List ℕ) (told : IsScopeOf) (wanted : SymbolQuery) where
   abbrev compared : CompareResult
   compared = version_indices file told wanted.asked
@@ -203,7 +203,7 @@ module _ (file : List ℕ) (told : IsScopeOf) (wanted : SymbolQuery) (kind : Has
       let is = shaped file told wanted counts.0 in
       rw is (looks_then (counts_bytes kind) 28 0 12 0 (omega (arith, few)) costs looks)
 
--- WHAT THE LOOKUP IS MADE IN
+-- THE TABLES THAT THE LOOKUP SEARCHES
 module _ (file : List ℕ) (headers : ℕ) (wanted : SymbolQuery) where
   scope_within : scope_cost file headers ≤ loader_cost file headers wanted
   unfolding loader_cost
@@ -262,7 +262,7 @@ module _ (file : List ℕ) (headers : ℕ) (wanted : SymbolQuery) where
           tells = rw looked_there looks.tells;
         }
 
--- the walk for the symbol that answers, as it is made
+-- the walk for the symbol that matches, as it is made
 pub walks_as :
     {a b : CountedState} {stands : ℕ → SymbolMatch → Type 0} (file : List ℕ) (told : IsScopeOf) (wanted : SymbolQuery) (is_wanted : ℕ → Bool) (cost : ℕ) (result : Result ChainResult Fault)
     → WalksChain stands 12 cost (walked_in file told wanted.name (answers file told.symbols wanted is_wanted)) a b result → WalksChain stands 12 cost (walk_in file told wanted is_wanted) a b result

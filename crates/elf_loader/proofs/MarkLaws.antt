@@ -1,4 +1,4 @@
--- What symbols tell, one after another.
+-- The result for symbols, one after another.
 use Rattle.std.proofs.Common.{◌≡◌, ℕ, zero, suc, ◌+◌, ◌==◌, Bool, List, Result, Ok, Err, refl, sym, ap, subst, ◌∙◌, arith}
 use Rattle.elf_model.specs.Prelude.{Cut, DisplayedName, DynamicSymbols, SymbolTraitFlags, marked_by, marked_with_symbol, marks_from, shown, st_name, st_shndx, symbol_offset}
 use Rattle.elf_model.specs.declared.causes.Cause.{Cause}
@@ -46,7 +46,7 @@ module _ (file : List ℕ) (symbols : DynamicSymbols) where
       → marks_with file at symbols.strings marks ≡ Err (record { at = at; cause = cause })
   with_fails at marks cause e = rw (e, marks_with) refl
 
-  -- the rows from a symbol on are the symbols from its index on
+  -- the rows at and after a symbol are the symbols at and after its index
   pub rows_are : (count index : ℕ) (marks : SymbolTraitFlags) → marks_in file (symbol_offset symbols index) symbols.strings marks count ≡ marks_from file symbols marks index count
   rows_are zero index marks = in_none file symbols.strings (symbol_offset symbols index) marks ∙ sym (from_none marks index)
   rows_are (suc count) index marks = go (λ next. rows_are count (suc index) next) (shown symbols.strings (st_name file (symbol_offset symbols index)) 63) refl
@@ -63,7 +63,7 @@ module _ (file : List ℕ) (symbols : DynamicSymbols) where
           in_more file symbols.strings at count marks next (with_more at marks name e)
           ∙ (ap (λ n. marks_in file n symbols.strings next count) on ∙ (more next ∙ sym (from_more marks index count name e)))
 
--- what a symbol tells by what is read of its name
+-- the result for a symbol by what is read of its name
 module _ (file strings : List ℕ) (at : ℕ) (marks : SymbolTraits) where
   pub with_whole : (name : List ℕ) (undefined : Bool) (result : SymbolTraits) → shown strings (st_name file at) 63 ≡ Ok (Whole name) → undefined ≡ (st_shndx file at == 0)
       → symbol_traits_of result ≡ marked_by (symbol_traits_of marks) name undefined → ReturnsMarks (marks_with file at strings (symbol_traits_of marks)) (Ok result)
@@ -81,7 +81,7 @@ module _ (file strings : List ℕ) (at : ℕ) (marks : SymbolTraits) where
       told ∙ ap (λ (n : ℕ). Err (record { at = n; cause = refusal.cause })) (sym r.0)
   with_fault (Source fault offset) refuses = tt
 
--- A LOOP over symbols: what those that are left tell
+-- A LOOP over symbols: the result for those that are left
 module _ (file strings : List ℕ) (at n left : ℕ) (marks : SymbolTraits) (some : left ≡ suc n) where
   pub mark_more : (there : ℕ) → there ≡ at → (more : SymbolTraits) (next : ℕ) → next ≡ at + 24 → ReturnsMarks (marks_with file there strings (symbol_traits_of marks)) (Ok more)
       → marks_in file at strings (symbol_traits_of marks) left ≡ marks_in file next strings (symbol_traits_of more) n
@@ -100,7 +100,7 @@ module _ (file strings : List ℕ) (at n left : ℕ) (marks : SymbolTraits) (som
 pub mark_none : (file strings : List ℕ) (at left : ℕ) (marks : SymbolTraitFlags) → left ≡ 0 → marks_in file at strings marks left ≡ Ok marks
 mark_none file strings at left marks none = ap (marks_in file at strings marks) none ∙ in_none file strings at marks
 
--- marks in other words, and a fault of a read
+-- traits in other terms, and a fault of a read
 pub marks_as : (told other : Result SymbolTraitFlags Refusal) (result : Result SymbolTraits Fault) → told ≡ other → ReturnsMarks told result → ReturnsMarks other result
 marks_as told other result same tells = subst (λ t. ReturnsMarks t result) same tells
 
@@ -112,7 +112,7 @@ pub at_is_read : (fault : Fault) (at : ℕ) → IsAt at fault → IsOfRead fault
 at_is_read (Refused refusal) at is = rw is refl
 at_is_read (Source fault offset) at is = tt
 
--- the symbols but for the first, as rows of a table
+-- the symbols except the first, as rows of a table
 pub rows_from : (file : List ℕ) (symbols : DynamicSymbols) (at n : ℕ) (strings : List ℕ) (marks none : SymbolTraitFlags) → at ≡ symbols.place + 24 → strings ≡ symbols.strings → marks ≡ none
     → marks_in file at strings marks n ≡ marks_from file symbols none 1 n
 rows_from file symbols at n strings marks none place same is =

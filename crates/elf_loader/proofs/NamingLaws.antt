@@ -1,4 +1,4 @@
--- Looking for the record that names the version of a number, record by record.
+-- Searching the record that names the version of an index, record by record.
 use Rattle.std.proofs.Common.{◌≡◌, ℕ, ◌+◌, ◌-◌, ◌*◌, ◌≤◌, Bool, true, false, List, [], ◌∷◌, Option, None, Some, Result, Ok, Err, refl, ◌∙◌, arith}
 use Rattle.elf_model.specs.Prelude.{IsBudgetRefusal, Meets, Misses, NumberNameSource, Refuses, VersionRecordRead, VersionRecordTable, VisitedRecord, file_before, file_or, names_version_index, naming_of, one_later, readings_of}
 use Rattle.elf_model.specs.declared.causes.Refusal.{Refusal}
@@ -17,7 +17,7 @@ use Rattle.elf_loader.proofs.TablesLaws.{more-pays}
 use Rattle.elf_loader.proofs.LeftReadings.{ended-left, left_of, refused-left, start-left}
 use Rattle.elf_loader.proofs.RecordWalk.{walk-read}
 
--- a record that has the number, and one that has not
+-- a record that has the index, and one that does not
 naming-here :
     (file strings : List ℕ) (number : ℕ) (met : VisitedRecord) (others : List VersionRecordRead) → names_version_index file number met ≡ true
     → naming_of file number (Meets strings met ∷ others) ≡ record { found = Some (strings, met); refused = None; read = 1 }
@@ -30,7 +30,7 @@ naming-later :
 unfolding naming_of
 naming-later file strings number met others n = rw (n, naming_of) refl
 
--- each that is met is read
+-- each that is visited is read
 naming-reads : (file strings : List ℕ) (number : ℕ) (met : VisitedRecord) (others : List VersionRecordRead) → 1 ≤ (naming_of file number (Meets strings met ∷ others)).read
 naming-reads file strings number met others = go (names_version_index file number met) refl
   where
@@ -42,7 +42,7 @@ refused-reads : (file : List ℕ) (number : ℕ) (refusal : Refusal) (others : L
 unfolding naming_of
 refused-reads file number refusal others = omega arith
 
--- what a fault says of what is left
+-- what a fault implies for what is left
 abbrev pub FaultNames : NumberNameSource → Fault → Type 0
 FaultNames left (Refused refusal) = (IsBudgetRefusal refusal → ⊥) → (left.found ≡ None) × (left.refused ≡ Some refusal)
 FaultNames left (Source fault at) = Unit {0}
@@ -69,7 +69,7 @@ fault-left file strings number others old new (Refused refusal) tells =
     (refused-names file number refusal others) (missed-names file number refusal others)
 fault-left file strings number others old new (Source fault at) tells = tt
 
--- a step that gives none reads no more than is left to be read
+-- a step that yields none reads no more than is left to be read
 pub spent-read :
     (file strings : List ℕ) (number : ℕ) (others : List VersionRecordRead) (old new : VersionCursorState) → SpendsRecord old new
     → old.left - new.left ≤ (naming_of file number (left_of file strings others old)).read
@@ -86,7 +86,7 @@ start-as file number told records others c done none starts is =
     let e = start-left file told records others c starts is in
     rw (none, e) (record { found = refl; refused = refl; read = omega arith })
 
--- a record more that has not the number
+-- one more record that does not have the index
 pub later-as :
     (file names : List ℕ) (number : ℕ) (met : VisitedRecord) (old new : List VersionRecordRead) (n k : ℕ) (all : NumberNameSource) → n + 1 ≡ k → old ≡ Meets names met ∷ new
     → names_version_index file number met ≡ false → NamedAs n all (naming_of file number old) → NamedAs k all (naming_of file number new)
@@ -137,7 +137,7 @@ pub some-of :
     → NamesBefore file a b naming left (Ok (Some by))
 some-of file a b naming all mid left by e p = rw e p
 
--- the needs behind the definitions, none of which has the number
+-- the needs after the definitions, none of which has the index
 pub names-then :
     (file : List ℕ) (a b c : CountedState) (naming all mid left : NumberNameSource) (result : Result (Option VersionNameRecord) Fault) → naming ≡ all
     → NamesBefore file a b all mid (Ok None) → NamesBefore file b c mid left result → NamesBefore file a c naming left result
@@ -157,12 +157,13 @@ names-then file a b c naming all mid left (Err (Refused refusal)) e p q =
 names-then file a b c naming all mid left (Err (Source fault at)) e p q =
     rw e (CallReads-then _ (more-pays p.0 28 all.read mid.read p.2.read) p.1 q)
 
--- no record has the number where there is none
+-- no record has the index if there is none
 pub naming-nothing : (file : List ℕ) (number : ℕ) → naming_of file number [] ≡ record { found = None; refused = None; read = 0 }
 unfolding naming_of
 naming-nothing file number = refl
 
--- THE NEEDED FILE of a version: before the first record, behind one that has not the number, at one that has it, and behind all
+-- THE NEEDED FILE of a version: before the first record, after one that does not have the index, at
+-- one that has it, and after all
 module _ (file : List ℕ) (number : ℕ) where
   pub file-starts : (told : VersionRecordTable) (records : Given) (others : List VersionRecordRead) (c : VersionCursorState) (met : Option VisitedRecord)
       → StartsVersions records.kind records.head records.table c → IsVersionRecordTable file told records

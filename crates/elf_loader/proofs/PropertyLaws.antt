@@ -13,7 +13,7 @@ module _ (file : List ℕ) (at left : ℕ) (within : at + left ≤ length file) 
   sized : length (slice file at left) ≡ left
   sized = slice-size file at left within
 
-  -- fewer bytes than a head has
+  -- fewer bytes than a header has
   pub too_few : 0 < left → left < 8 → next_property (slice file at left) ≡ NoProperty
   unfolding next_property
   too_few some short =
@@ -30,7 +30,7 @@ module _ (file : List ℕ) (at left : ℕ) (within : at + left ≤ length file) 
       let here : at + 0 ≡ at = omega arith in
       field-slice file at left 0 4 (omega arith) ∙ (ap (λ (n : ℕ). field file n 4) here ∙ sym is)
 
-  -- fewer bytes than its data has with its head
+  -- fewer bytes than its data has with its header
   pub too_long : (datasz : ℕ) → 8 ≤ left → datasz ≡ field file (at + 4) 4 → left < 8 + datasz → next_property (slice file at left) ≡ NoProperty
   unfolding next_property
   too_long datasz head is long =
@@ -73,19 +73,20 @@ from_one : (most offset : ℕ) (rest : List ℕ) (property : Property) (size : �
 unfolding properties_from
 from_one most offset rest property size e = rw (e, properties_from) refl
 
--- the word of all properties, where one may be found before them
+-- the feature bits of all properties, if they may be found before them
 abbrev pub word_after : Option ℕ → List Property → ℕ
 word_after (Some word) properties = word
 word_after None properties = property_word (first_property GNU_PROPERTY_X86_FEATURE_1_AND properties)
 
--- the word of the rest of a list that begins at a place, or where it is cut
+-- the feature bits of the rest of a list that begins at an offset, or the offset of a malformed
+-- property
 abbrev pub features_after : ℕ → Option ℕ → PropertyWalk → Result ℕ Refusal
 features_after place found walk = elim walk.cut [
   | Some offset ↦ Err (record { at = place + offset; cause = NoteCut })
   | None ↦ Ok (word_after found walk.properties)
 ]
 
--- the word of a property and of those behind it
+-- the feature bits of a property and of those after it
 word_step : (found : Option ℕ) (property : Property) (properties : List Property) → word_after found (property ∷ properties) ≡ word_after (found_after found property) properties
 unfolding first_property
 word_step (Some word) property properties = refl
@@ -103,7 +104,7 @@ after_step place found property walk = go walk.cut refl
     go (Some offset) e = rw e refl
     go None e = rw e (ap Ok (word_step found property walk.properties))
 
--- what is told of a list, once so many bytes of it are gone through and a word may be found
+-- the result for a list, once a number of its bytes are read and feature bits may be found
 abbrev pub LeftOf : List ℕ → (at size done : ℕ) → Option ℕ → Type 0
 LeftOf file at size done found =
     (most : ℕ) × (size - done < most)
@@ -133,7 +134,7 @@ module _ (file : List ℕ) (at size : ℕ) where
         let then = after_step at found property (properties_from most (done + n) (drop n (slice file (at + done) (size - done)))) in
         (most, omega arith, told ∙ (step ∙ (then ∙ rw (rest, place, count, is_next, is_now) refl)))
 
-    -- none stands there
+    -- there is no whole one
     pub left_cut : LeftOf file at size done found → next_property (slice file (at + done) (size - done)) ≡ NoProperty
         → features_in (record { place = at; bytes = slice file at size }) ≡ Err (record { at = at + done; cause = NoteCut })
     left_cut (zero, few, told) stands = absurd (omega arith)
@@ -154,7 +155,7 @@ module _ (file : List ℕ) (at size : ℕ) where
       let none : length (slice file (at + done) (size - done)) ≡ 0 = omega (arith, sized) in
       told ∙ ap (features_after at found) (from_end most done (slice file (at + done) (size - done)) (ends _ none))
 
--- the word that is found when no property is left
+-- the feature bits that are found when no property is left
 pub word_end : (found : Option ℕ) → word_after found [] ≡ unwrap_or found 0
 unfolding first_property
 word_end None = refl

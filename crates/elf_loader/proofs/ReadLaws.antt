@@ -1,4 +1,4 @@
--- How much a lookup reads, and how much that is at most.
+-- How much a lookup reads, and an upper bound of that.
 use Rattle.std.proofs.Common.{◌≡◌, ℕ, zero, suc, ◌+◌, ◌*◌, ◌/◌, ◌<◌, ◌≤◌, nat_lt, Bool, false, inl, inr, List, Option, None, Some, Result, Ok, Err, IfSome, length, refl, sym, ap, subst, arith, mul-le-mul_right}
 use Rattle.std.proofs.lemmas.Bool.{cases_Bool}
 use Rattle.elf_model.specs.Prelude.{Absent, ChainResult, LoaderLookup, LookupTables, SymbolQuery, VersionQuery, VersymTable, asked_name, cost_where, found_in, loader_ceiling, looked_by, lookup_asks, max_records, naming_of, number_in, pad64, readings, record_cost, refused_lookup, versym, versym_at}
@@ -29,7 +29,7 @@ most_in (Some records) size within =
 pub most_all : (symbols : DynamicSymbols) (size : ℕ) → DynamicSymbolsInBounds size symbols → max_versions_of symbols ≤ size / 8
 most_all symbols size lies = omega (arith, most_in symbols.definitions size lies.definitions, most_in symbols.needs size lies.needs)
 
--- they are read to be compared or to tell a version
+-- they are read to be compared or to find a version
 pub one_of_both : (asked : VersionQuery) (most : ℕ) → comparing_bytes asked most + telling_bytes asked most ≤ most * record_cost asked + parsed_member_bytes
 one_of_both asked most = go (asked_name asked) refl
   where
@@ -37,7 +37,7 @@ one_of_both asked most = go (asked_name asked) refl
     go None n = rw (n, comparing_bytes, telling_bytes) (omega arith)
     go (Some version) n = rw (n, comparing_bytes, telling_bytes) (omega arith)
 
--- all that is asked for behind the counts
+-- all that is requested after the counts
 pub after_within :
     (wanted : SymbolQuery) (symbols : DynamicSymbols) (place table size : ℕ) → DynamicSymbolsInBounds size symbols → place + table ≤ size
     → comparing_bytes wanted.asked (max_versions_of symbols) + (walk_bytes 12 (table / 4) (table / 4) (match_bytes wanted) + telling_bytes wanted.asked (max_versions_of symbols))
@@ -54,7 +54,7 @@ pub ceiling_is : (size headers : ℕ) (wanted : SymbolQuery) → loader_ceiling 
 unfolding loader_ceiling
 ceiling_is size headers wanted = omega arith
 
--- what a lookup gives by its walk
+-- the result of a lookup by its walk
 module _ (file : List ℕ) (scope : LookupTables) (asked : VersionQuery) (before : ℕ) (walked : ChainResult) where
   pub by_absent : walked.answer ≡ Ok None → (looked_by file scope asked before walked).lookup ≡ record { answer = Absent; compared = walked.tried }
   unfolding looked_by
@@ -72,7 +72,7 @@ module _ (file : List ℕ) (scope : LookupTables) (asked : VersionQuery) (before
   by_found y e =
       subst (λ (answer : Result (Option ℕ) Refusal). looked_by file scope asked before (with_answer answer) ≡ found_in file scope asked before y (with_answer answer) scope.symbols.words) (sym e) refl
 
--- WHAT A LOOKUP READS by its walk, whatever it gives, and the records that were read before
+-- WHAT A LOOKUP READS by its walk, for any result, and the records that were read before
 pub record ReadsWalk (looked : LoaderLookup) (walked : ChainResult) (before : ℕ) : Type 0 where
   pub tried : looked.lookup.compared ≡ walked.tried
   pub chain_words : looked.chain_words ≡ walked.read

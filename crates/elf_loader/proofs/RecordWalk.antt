@@ -1,4 +1,5 @@
--- A walk over the records of a table that reads each alone: what its steps ask for, and which record they give.
+-- A walk over the records of a table that reads each alone: what its steps request, and which
+-- record they yield.
 use Rattle.std.proofs.Common.{◌≡◌, ℕ, zero, suc, ◌+◌, ◌-◌, ◌*◌, ◌<◌, ◌≤◌, false, List, ◌∷◌, inl, inr, None, Some, Ok, Err, ◌∙◌, arith, mul-le-mul_right, suc-mul}
 use Rattle.std.proofs.lemmas.Bool.{cases_lt}
 use Rattle.elf_model.specs.Prelude.{Meets, Refuses, VersionRecordRead, VersionRecordTable, VisitedRecord, max_records}
@@ -13,7 +14,7 @@ use Rattle.elf_note.specs.Prelude.{BufferedTable, GivesVersion, KeepsWalk, Leads
 use Rattle.elf_note.specs.declared.record.VersionRecord.{VersionRecord}
 use Rattle.elf_loader.proofs.LeftReadings.{left_of, read-left, step-left}
 
--- where such a walk stands
+-- the position of such a walk
 pub record StepsRelocationWalk (records : Given) (c : VersionCursorState) : Type 0 where
   pub going : c.failed ≡ None
   pub its_table : c.held.table ≡ records.table
@@ -21,7 +22,7 @@ pub record StepsRelocationWalk (records : Given) (c : VersionCursorState) : Type
   pub each : c.each ≡ bytes_each records.kind
   pub fewer : c.left ≤ max_records records.kind records.table.count
 
--- how many records are gone by
+-- how many records are passed
 abbrev pub gone_by : Given → VersionCursorState → ℕ
 gone_by records c = max_records records.kind records.table.count - c.left
 
@@ -43,7 +44,7 @@ strings-known file told records left is some few = is.names (go records.table.co
     go zero few = absurd (omega (arith, some, few))
     go (suc count) few = omega arith
 
--- what a step of a cursor asks for that holds no bytes
+-- what a step of a cursor that holds no bytes requests
 one-more : (most new each pad : ℕ) → suc new ≤ most → each ≤ 28 → (most - suc new) * (28 + pad) + (suc new * each - new * each) + pad ≤ (most - new) * (28 + pad)
 one-more most new each pad few small =
     let more : most - new ≡ suc (most - suc new) = omega (arith, few) in
@@ -73,7 +74,7 @@ spent-pays h most old new each pad alone one fewer small =
       | inr same ↦ let e : old ≡ new = omega (arith, fewer, same) in rw (alone, e) (none-more most new each pad)
     ]
 
--- how many bytes a record asks for at most
+-- how many bytes a record requests at most
 each-small : (kind : VersionKind) → bytes_each kind ≤ 28
 each-small Definition = omega arith
 each-small File = omega arith
@@ -83,7 +84,7 @@ module _ {records : Given} {old new : VersionCursorState} (w : StepsRelocationWa
   small : old.each ≤ 28
   small = let each = w.each in rw each (each-small records.kind)
 
-  -- behind a record
+  -- after a record
   pub walk-next : (given : VersionRecord) → LeavesWalk old new (Ok (Some given)) → StepsRelocationWalk records new
   walk-next given leaves =
       let same = keeps.same_held in
@@ -95,7 +96,7 @@ module _ {records : Given} {old new : VersionCursorState} (w : StepsRelocationWa
         fewer = omega (arith, leaves.2, w.fewer);
       }
 
-  -- what it asked for is that of one more, also with so many bytes of its name
+  -- what it requested is that of one more, also with a number of bytes of its name
   pub walk-pays : (given : VersionRecord) (pad : ℕ) → LeavesWalk old new (Ok (Some given))
       → gone_by records old * (28 + pad) + (unread old - unread new) + pad ≤ gone_by records new * (28 + pad)
   walk-pays given pad leaves =
@@ -103,7 +104,8 @@ module _ {records : Given} {old new : VersionCursorState} (w : StepsRelocationWa
       let same_each = keeps.same_each in
       rw (same, same_each) (step-pays old.held (max_records records.kind records.table.count) old.left new.left old.each pad w.alone leaves.2 w.fewer small)
 
-  -- what a step that fails asked for is that of the record that it read, if it did, and of no more than all
+  -- what a step that fails requested is that of the record that it read, if it did, and of no more
+  -- than all
   pub walk-spends : {fault : Fault} (pad : ℕ) → LeavesWalk old new (Err fault)
       → (gone_by records old * (28 + pad) + (unread old - unread new) ≤ (gone_by records old + (old.left - new.left)) * (28 + pad))
       × ((gone_by records old + (old.left - new.left)) * (28 + pad) ≤ max_records records.kind records.table.count * (28 + pad))
@@ -114,7 +116,7 @@ module _ {records : Given} {old new : VersionCursorState} (w : StepsRelocationWa
         mul-le-mul_right (28 + pad) (omega (arith, keeps.fewer, w.fewer)),
       )
 
-  -- the record that is given is the first of those that are left
+  -- the record that is yielded is the first of those that are left
   pub walk-gives :
       {given : VersionRecord} (file : List ℕ) (told : VersionRecordTable) (others : List VersionRecordRead) → IsVersionRecordTable file told records → LeavesWalk old new (Ok (Some given))
       → (gives : GivesVersion file (versions_left file old) (versions_left file new) given) → LeadsOn file old new
@@ -123,7 +125,7 @@ module _ {records : Given} {old new : VersionCursorState} (w : StepsRelocationWa
       let known = strings-known file told records old.left is (omega (arith, leaves.2)) w.fewer in
       rw known (step-left file told.strings others old new given keeps.same_held leaves.2 gives leads)
 
--- a step that gives none reads no more than is left to be read
+-- a step that yields none reads no more than is left to be read
 pub walk-read :
     (file strings : List ℕ) (others : List VersionRecordRead) (old new : VersionCursorState) (read : List VersionRecordRead → ℕ)
     → ((refusal : Refusal) → 1 ≤ read (Refuses refusal ∷ others)) → ((met : VisitedRecord) (more : List VersionRecordRead) → 1 ≤ read (Meets strings met ∷ more))

@@ -1,4 +1,4 @@
--- The first segment that may be written and run, one after another.
+-- The first segment that is writable and executable, one after another.
 use Rattle.std.proofs.Common.{◌≡◌, ℕ, suc, ◌+◌, ◌-◌, ◌<◌, ◌≤◌, true, false, List, None, Some, refl, ap, ◌∙◌, arith}
 use Rattle.elf_model.specs.Prelude.{e_phnum, first_that, is_writable_code}
 

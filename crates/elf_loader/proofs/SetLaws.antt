@@ -1,4 +1,4 @@
--- A number is put into a set of bits.
+-- A version index is inserted into a set of bits.
 use Rattle.std.proofs.Common.{◌≡◌, ◌≢◌, ℕ, suc, ◌*◌, ◌/◌, ◌%◌, ◌^◌, ◌<◌, ◌≤◌, ◌==◌, ◌||◌, false, List, length, get_or, inl, inr, refl, ap, sym, arith}
 use Rattle.std.proofs.lemmas.Bool.{cases_eq, cases_lt}
 use Rattle.std.proofs.lemmas.Bool.Decides.{nat_tests}
@@ -11,7 +11,7 @@ use Rattle.std.specs.Int.RustNames.{bit_or}
 use Rattle.elf_model.specs.Versions.{VERSION_NUMBERS}
 use Rattle.elf_loader.specs.NumberSets.{has_number}
 
--- a word with a bit more
+-- a word with one more bit
 bit-more : (word j k : ℕ) → (bit_at (bit_or word (2 ^ j)) k == 1) ≡ (j == k || bit_at word k == 1)
 bit-more word j k =
     let joined = bit_at_or word (2 ^ j) k in
@@ -21,7 +21,7 @@ bit-more word j k =
       | inr other ↦ let none = bit_at-pow_other j k (λ e. other (sym e)) in rw (joined, none) (grind (arith, nat_tests))
     ]
 
--- numbers of one word are the same where their bits are
+-- indices of one word are the same if their bits are
 alike-places : (number other : ℕ) → number / 64 ≡ other / 64 → (number % 64 == other % 64) ≡ (number == other)
 alike-places number other same =
     elim (cases_eq (number % 64) (other % 64)) [
@@ -33,7 +33,7 @@ alike-places number other same =
 differ-words : (number other : ℕ) → other / 64 ≢ number / 64 → (number == other) ≡ false
 differ-words number other apart = let e : number ≢ other = λ e. apart (ap (λ (n : ℕ). n / 64) (sym e)) in grind (arith, nat_tests)
 
--- its word has one bit more, and the others are as they were
+-- its word has one more bit, and the others are unchanged
 pub has-more :
     (words : List ℕ) (number other : ℕ) → number / 64 < length words
     → has_number (set words (number / 64) (bit_or (get_or words (number / 64) 0) (2 ^ (number % 64)))) other
@@ -55,14 +55,14 @@ has-more words number other inside =
 pub bit-fits : (number : ℕ) → 1 * 2 ^ (number % 64) % 2 ^ 64 ≡ 2 ^ (number % 64)
 bit-fits number = let small = pow-lt {i = number % 64} {j = 64} (omega arith) in omega (arith, small)
 
--- a number past all words is not in it
+-- an index past all words is not in it
 pub past-none : (words : List ℕ) (number : ℕ) → length words ≡ 16 → VERSION_NUMBERS ≤ number → has_number words number ≡ false
 past-none words number many past =
     let none = get_or_past words (number / 64) 0 (omega (arith, many, past)) in
     let zero = bit_at-zero (number % 64) in
     rw (none, zero) refl
 
--- none is, where none below that is
+-- none is, if none below that is
 pub none-all : (words : List ℕ) → length words ≡ 16 → ((number : ℕ) → number < VERSION_NUMBERS → has_number words number ≡ false) → (number : ℕ) → has_number words number ≡ false
 none-all words many few number =
     elim (cases_lt number VERSION_NUMBERS) [

@@ -1,4 +1,4 @@
--- What a file that tells of no section headers tells, up to its load, and what asking for it costs.
+-- What a file without section headers implies, up to its load, and the cost of finding it.
 use Rattle.std.proofs.Common.{◌≡◌, ℕ, ◌+◌, ◌*◌, ◌/◌, ◌≤◌, List, ◌++◌, Option, None, Some, Err, refl, ap, arith, mul-add}
 use Rattle.elf_model.specs.Prelude.{before_headers, e_phnum, e_shnum, first_refusal, header_checks, load_checks, loaded_traits, properties_asked, segment_traits_cost, segments_asked, symbols_asked, trait_entries_asked, traits_by_segments, traits_ceiling}
 use Rattle.elf_model.specs.declared.traits.Hardening.{Hardening}
@@ -11,7 +11,7 @@ use Rattle.elf_hash.proofs.LoadedLaws.{segments_cost}
 use Rattle.elf_hash.proofs.LoadingLaws.{cost_passed, early_pass}
 use Rattle.elf_loader.specs.Features.{ReturnsValue}
 
--- all that is asked for is within what is never passed
+-- all that is requested is within the upper bound
 pub ceiling_is : (size headers : ℕ) → traits_ceiling size headers ≡ 64 + (headers * 56 + headers * size) + 4 * size + 16 + size / 24 * 88
 unfolding traits_ceiling
 ceiling_is size headers = ap (λ (n : ℕ). 64 + n + 4 * size + 16 + size / 24 * 88) (mul-add headers 56 size)
@@ -29,7 +29,7 @@ module _ (file : List ℕ) (headers : ℕ) where
   load_stops (Refused refusal) store loads = λ other. refused refusal (loads other)
   load_stops (Source fault at) store loads = tt
 
-  -- what it costs: the load, and where its early checks pass what stands behind
+  -- the cost: the load, and if its early checks pass what follows
   pub load_least : e_shnum file ≡ 0 → segments_load_cost file headers ≤ segment_traits_cost file headers
   unfolding segment_traits_cost
   load_least none = go (first_refusal (before_headers file headers)) refl

@@ -1,4 +1,4 @@
--- What reads cost behind others, within an account of all.
+-- What reads cost after others, within the sum of all.
 use Rattle.std.proofs.Common.{◌≡◌, ℕ, ◌+◌, ◌-◌, ◌*◌, ◌≤◌, List, [], Option, None, refl, sym, ap, ◌∙◌, arith}
 use Rattle.elf_source.specs.Source.{CountedState, ReadsUpTo}
 use Rattle.elf_source.proofs.ReadsLaws.{ReadsUpTo-to}
@@ -9,14 +9,15 @@ use Rattle.elf_model.specs.Traits.{SymbolTraitFlags}
 use Rattle.elf_note.specs.Ahead.{ReadAheadState, IsAheadOf}
 use Rattle.elf_loader.specs.Marks.{marks_in}
 
--- a call behind reads that leave so much of what all may ask for
+-- a call after reads that leave a number of bytes of what all may request
 pub charges_after : {a b c : CountedState} {stop : Option Fault} {n m : ℕ} (k : ℕ) → ReadsUpTo a b n → b.asked + m ≤ a.asked + k → CallReads b c stop m → CallReads a c stop k
 charges_after {a} {b} k reads within costs =
     CallReads-then k (omega (arith, reads.grows, within))
     (record { reads = ReadsUpTo-to {k = b.asked - a.asked} reads (omega (arith, reads.grows)); says = tt })
     costs
 
--- the account of a loop over rows: what was asked for, the credit, what is unread, and what the rows that are left ask for
+-- the sum of a loop over rows: what was requested, the credit, what is unread, and what the rows
+-- that are left request
 pub account_start : (c : CursorState) (rows : TableRange) → rows.entry ≡ 24 → c.failed ≡ None → c.unread ≡ size_of rows → c.left ≡ rows.count
     → unread_bytes c + c.left * 64 ≡ rows.count * 88
 account_start c rows entry none unread left = rw (none, unread, left, entry) (omega arith)
@@ -41,7 +42,7 @@ row_place file c rows strings marks table index left =
     first : (at entry : ℕ) → at + 0 * entry ≡ at
     first at entry = omega arith
 
--- the next row stands behind the one that a step gives
+-- the next row follows the one that a step yields
 pub next_is : (file : Option (List ℕ)) (old new : CursorState) → GivesRow file old new → old.table.entry ≡ 24 → next_row new ≡ next_row old + 24
 next_is file old new g e =
     let next = g.next_index in
@@ -49,7 +50,7 @@ next_is file old new g e =
     ap (λ (t : TableRange). t.at + new.index * t.entry) g.same_table ∙ ap (λ (x : ℕ). old.table.at + new.index * x) e ∙ moved
     ∙ ap (λ (x : ℕ). old.table.at + old.index * x + 24) (sym e)
 
--- the rows but for the first lie where all do
+-- the rows except the first lie where all do
 pub rows_lie : (table : TableRange) (size count : ℕ) → table.entry ≡ 24 → TableInBounds size table → count ≤ table.count
     → TableInBounds size (record { at = table.at + 24; count = count - 1; entry = 24 })
 rows_lie table size count entry within few some =

@@ -1,4 +1,4 @@
--- A table of versions is compared, step by step of its cursor.
+-- A version table is compared, step by step of its cursor.
 use Rattle.std.proofs.Common.{◌≡◌, ℕ, ◌+◌, ◌-◌, ◌*◌, ◌≤◌, List, ◌∷◌, None, Some, Ok, Err, ◌∙◌, arith, mul-le-mul_right}
 use Rattle.elf_model.specs.Prelude.{CompareResult, IsBudgetRefusal, Meets, VersionRecordRead, VersionRecordTable, VisitedRecord, compared_with, readings_of}
 use Rattle.elf_source.specs.Source.{CountedState}
@@ -23,14 +23,14 @@ start-as file wanted set told records others c done none starts is =
     let e = start-left file told records others c starts is in
     rw (none, e) (as-none set (compared_with file wanted (left_of file told.strings others c)))
 
--- then a record more is compared
+-- then one more record is compared
 pub step-as :
     (file wanted a b d names : List ℕ) (met : VisitedRecord) (old new : List VersionRecordRead) (n k : ℕ) (all : CompareResult) → n + 1 ≡ k → old ≡ Meets names met ∷ new
     → CompareProgress a b n all (compared_with file wanted old) → ComparesOne b d (compared_with file wanted (Meets names met ∷ new)) (compared_with file wanted new) (Ok tt)
     → CompareProgress a d k all (compared_with file wanted new)
 step-as file wanted a b d names met old new n k all sum first before one = as-then a b d n 1 k all _ _ sum (rw first at before) one
 
--- what a fault says of what is left
+-- what a fault implies for what is left
 abbrev pub FaultIs : CompareResult → Fault → Type 0
 FaultIs left (Refused refusal) = (IsBudgetRefusal refusal → ⊥) → left.refused ≡ Some refusal
 FaultIs left (Source fault at) = Unit {0}
@@ -53,7 +53,7 @@ fault-compares each records m old mid new all left others (Source fault at) comp
     read-more : (records m : ℕ) (all left : CompareResult) → all.read ≡ records + left.read → m ≤ left.read → records + m ≤ all.read
     read-more records m all left e few = omega (arith, e, few)
 
--- a step that gives none reads no more than is left to be read
+-- a step that yields none reads no more than is left to be read
 pub spent-read :
     (file wanted strings : List ℕ) (others : List VersionRecordRead) (old new : VersionCursorState) → SpendsRecord old new
     → old.left - new.left ≤ (compared_with file wanted (left_of file strings others old)).read

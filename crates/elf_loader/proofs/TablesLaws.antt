@@ -1,4 +1,4 @@
--- Tables of versions, one behind the other.
+-- Consecutive version tables.
 use Rattle.std.proofs.Common.{◌≡◌, ℕ, ◌+◌, ◌*◌, ◌≤◌, List, [], ◌∷◌, ◌++◌, None, Result, Ok, Err, refl, ap, ◌∙◌, arith}
 use Rattle.elf_model.specs.Loader.{CompareResult, VersionRecordRead, VersionRecordTable as IsTableOf, compared_with, readings, readings_of}
 use Rattle.elf_source.specs.Source.{CountedState}
@@ -11,7 +11,7 @@ use Rattle.elf_hash.specs.declared.symbols.VersionRecordTable.{VersionRecordTabl
 use Rattle.elf_loader.specs.Prelude.{CompareCosts, readings_before}
 use Rattle.elf_loader.proofs.CompareLaws.{as-none, as-then}
 
--- a front of some tables, and the others
+-- a prefix of some tables, and the others
 pub record Parted (file : List ℕ) (told : List IsTableOf) (first second : List VersionRecordTable) : Type 0 where
   pub front : List IsTableOf
   pub back : List IsTableOf
@@ -32,7 +32,7 @@ part file (one ∷ told) (table ∷ first) second are =
       are_back = rest.are_back;
     }
 
--- what is read of all is read of the front and then of the others
+-- what is read of all is read of the prefix and then of the others
 read-both : (file : List ℕ) (front back : List IsTableOf) → readings file (front ++ back) ≡ readings_before file front (readings_before file back [])
 unfolding readings readings_before
 read-both file [] [] = refl
@@ -64,7 +64,7 @@ compared-one-table a b file wanted old new each [] others records result compare
 compared-one-table a b file wanted old new each (one ∷ []) others records result compares are = compares one others are.0
 compared-one-table a b file wanted old new each (one ∷ two ∷ told) others records result compares are = absurd are.1
 
--- what two numbers of records ask for, their sum does
+-- what two numbers of records request, their sum does
 pub sum-pays : (n m each : ℕ) → n * each + m * each ≤ (n + m) * each
 sum-pays n m each = grind arith
 
@@ -88,7 +88,7 @@ pub compares-fault :
 compares-fault a b each old mid new whole all between left (Refused refusal) e p = rw e p
 compares-fault a b each old mid new whole all between left (Source fault at) e p = rw e p
 
--- what is so of each table, and where there is none, is so of one if there is one
+-- what holds of each table, and if there is none, holds of one if there is one
 pub none-before :
     (file : List ℕ) (told : List IsTableOf) (others : List VersionRecordRead) (P : List VersionRecordRead → Type 0) → P others → AreVersionRecordTables file told []
     → P (readings_before file told others)

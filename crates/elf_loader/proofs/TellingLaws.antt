@@ -1,4 +1,4 @@
--- The name of a symbol's version is told.
+-- Reading the name of a symbol's version.
 use Rattle.std.proofs.Common.{◌≡◌, ℕ, ◌+◌, ◌*◌, ◌-◌, ◌^◌, ◌<◌, ◌≤◌, min, true, false, is_some, List, [], length, take, drop, None, Some, Result, Ok, Err, refl, sym, ap, subst, ◌∙◌, arith, length-take, length-drop}
 use Rattle.std.proofs.lemmas.List.{take-take}
 use Rattle.elf_model.specs.Prelude.{ChainResult, Cut as ShownCut, DisplayedName, IsNameBytesAt, LookupTables, NumberNameSource, TOLD_BYTES, VersymTable, VisitedRecord, found_lookup, name_index, named_at, named_by_record, refused_lookup, shown, slice, versym, versym_at}
@@ -19,7 +19,7 @@ use Rattle.elf_table.proofs.LedgerLaws.{CallReads-more, CallReads-then}
 use Rattle.elf_loader.specs.Prelude.{NamesBefore, ReturnsVersionName, parsed_member_bytes}
 use Rattle.elf_loader.specs.declared.version_name_record.VersionNameRecord.{VersionNameRecord}
 
--- the first record that has the number tells its name
+-- the first record that has the index has its name
 told-shown :
     (file : List ℕ) (scope : LookupTables) (words : VersymTable) (y : ℕ) (walked : ChainResult) (naming : NumberNameSource) (strings : List ℕ) (met : VisitedRecord) (name : DisplayedName)
     → naming.found ≡ Some (strings, met) → shown strings (name_index file met) TOLD_BYTES ≡ Ok name
@@ -36,7 +36,7 @@ told-fault :
 unfolding named_by_record
 told-fault file scope words y walked naming strings met cause found told = rw (found, named_by_record) (rw (told, named_by_record) refl)
 
--- or none has it, or what comes before is refused
+-- or none has it, or an earlier one is refused
 told-none :
     (file : List ℕ) (scope : LookupTables) (words : VersymTable) (y : ℕ) (walked : ChainResult) (naming : NumberNameSource) → naming.found ≡ None → naming.refused ≡ None
     → named_by_record file scope words y walked naming ≡ refused_lookup walked.tried walked.read naming.read false (record { at = versym_at words y; cause = VersionIndex })
@@ -73,7 +73,7 @@ none-tells file scope words y at naming left a b name here nothing p =
       λ other walked. let none : is_some naming.found ≡ false = ap is_some n.found in rw (none, here) (told-none file scope words y walked naming n.found n.refused),
     )
 
--- the bytes that are shown of a name stand in the file, where its strings do
+-- the bytes that are shown of a name are in the file, at their offset in its strings
 abbrev shown_bytes : Result DisplayedName Cause → List ℕ
 shown_bytes (Ok (ShownWhole bytes)) = bytes
 shown_bytes (Ok (ShownCut bytes)) = bytes
@@ -115,7 +115,7 @@ shown-stands file at size off cap name told = go (view (slice file at size) off 
         so (slice table off cap) (ap shown_bytes (sym e ∙ told)) (slice-stands file at size off cap (omega (arith, below))) (omega (arith, below, few))
     go (is_unended below end none e) = let no = sym e ∙ told in absurd (cc)
 
--- where the strings end below 2^64, the name's offset is a number of 64 bits
+-- if the strings end below 2^64, the name's offset fits into 64 bits
 pub stands-there :
     (file : List ℕ) (strings : StringTableRange) (off cap at : ℕ) (name : DisplayedName) → shown (strings_in file strings) off cap ≡ Ok name
     → strings.at + strings.size < 2 ^ 64 → at ≡ min (strings.at + off) (2 ^ 64 - 1) → IsNameBytesAt file at (shown_bytes (Ok name))
@@ -125,7 +125,7 @@ stands-there file strings off cap at name told ends is =
     let here : strings.at + off ≡ at = omega (arith, inside, ends, is) in
     subst (λ (n : ℕ). IsNameBytesAt file n (shown_bytes (Ok name))) here stands.0
 
--- its name is read, and stands there
+-- its name is read, and is there
 pub name-tells :
     (file : List ℕ) (scope : LookupTables) (words : VersymTable) (y at : ℕ) (naming left : NumberNameSource) (a b c : CountedState) (name : List ℕ) (by : VersionNameRecord) (end : NameEnd)
     → NamesBefore file a b naming left (Ok (Some by)) → CallReads b c None parsed_member_bytes

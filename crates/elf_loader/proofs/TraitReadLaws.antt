@@ -1,4 +1,4 @@
--- What reads of a list of properties tell of it.
+-- What reads of a list of properties imply for it.
 use Rattle.std.proofs.Common.{ℕ, ◌+◌, ◌-◌, ◌<◌, List, Option, Result, Err, ap, sym, ◌∙◌}
 use Rattle.elf_model.specs.Prelude.{features_in, slice}
 use Rattle.elf_model.specs.declared.causes.Refusal.{Refusal}
@@ -9,7 +9,7 @@ use Rattle.elf_loader.specs.declared.property.PropertyHeader.{PropertyHeader}
 use Rattle.elf_loader.proofs.PropertyLaws.{LeftOf, left_cut}
 
 module _ (file : List ℕ) (at size done : ℕ) (found : Option ℕ) (below : done < size) (left : LeftOf file at size done found) where
-  -- no property stands there, or a read failed
+  -- there is no whole property, or a read failed
   pub head_tells : (fault : Fault) → ReadsHead file (at + done) (size - done) (Err fault)
       → ReturnsValue {X = ℕ} (features_in (record { place = at; bytes = slice file at size })) (Err fault)
   head_tells (Refused refusal) reads =

@@ -39,7 +39,7 @@ module _ (file : List ℕ) (table : TableRange) (old new : DynCursorState) (foun
   taken one other tag is goes =
       ap (λ (x : Option ℕ). first_value x (dynamic_value file (next_row new.cursor) (entries_left file new) tag)) is ∙ (value-step file old new tag other less next ∙ goes)
 
-  -- one entry more is gone by
+  -- one more entry is passed
   pub values_step : LeftValues file table new more
   values_step = record {
     soname = taken _ _ _ t.soname e.soname;
@@ -51,7 +51,7 @@ module _ (file : List ℕ) (table : TableRange) (old new : DynCursorState) (foun
     flags_1 = taken _ _ _ t.flags_1 e.flags_1;
   }
 
--- behind the last entry
+-- after the last entry
 pub values_end : (file : List ℕ) (table : TableRange) (d : DynCursorState) (found : TraitTags) → entries_left file d ≡ 0 → LeftValues file table d found → AreListedValues file table found
 values_end file table d found none e = record {
   soname = sym (value-end file d _ found.soname none) ∙ e.soname;
@@ -63,13 +63,13 @@ values_end file table d found none e = record {
   flags_1 = sym (value-end file d _ found.flags_1 none) ∙ e.flags_1;
 }
 
--- the entry stands at an offset that is told in other words
+-- the entry is at an offset that is given in other terms
 module _ (file : List ℕ) where
   value_none : (tag : ℕ) → dynamic_segment_index file ≡ None → None ≡ dynamic_entry_value file tag
   unfolding dynamic_entry_value
   value_none tag e = rw (e, dynamic_entry_value) refl
 
-  -- there is no segment of dynamic entries
+  -- there is no PT_DYNAMIC segment
   pub values_none : dynamic_segment_index file ≡ None → AreTraitEntries file no_values
   values_none e = record {
     soname = value_none _ e;

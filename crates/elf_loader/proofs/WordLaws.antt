@@ -1,4 +1,4 @@
--- The word of a property.
+-- The feature bits of a property.
 use Rattle.std.proofs.Common.{◌≡◌, ◌≢◌, ℕ, ◌+◌, ◌≤◌, ◌==◌, true, false, List, length, Option, None, Some, Err, refl, sym, ap, ◌∙◌, ne_eqb, eq-eqb}
 use Rattle.std.specs.Prelude.{is_some}
 use Rattle.elf_model.specs.Prelude.{GNU_PROPERTY_X86_FEATURE_1_AND, Property, field, number, property_word, slice}
@@ -25,7 +25,7 @@ pub missing : (file : List ℕ) (at : ℕ) (head : PropertyHeader) (found : Opti
 missing file at head (Some word) none other = absurd (cc none)
 missing file at head None none other = other_type (property_at file at head) other
 
--- its data has not four bytes
+-- its data does not have four bytes
 pub other_size : (file : List ℕ) (at : ℕ) (head : PropertyHeader) (found : Option ℕ) → at + 8 + head.datasz ≤ length file → is_some found ≡ false → head.kind ≡ 0xc0000002 → head.datasz ≢ 4
     → Some 0 ≡ found_after found (property_at file at head)
 other_size file at head (Some word) within none this other = absurd (cc none)

@@ -1,4 +1,4 @@
--- The values of the first dynamic entries with each of the tags by which a file is hardened.
+-- The values of the first dynamic entries with each of the tags that affect hardening.
 use Rattle.std.specs.Prelude.{ℕ, ◌≡◌, List, Option, None, Some, Result, Ok, Err}
 use Rattle.elf_model.specs.Prelude.{DT_BIND_NOW, DT_FLAGS, DT_FLAGS_1, DT_RPATH, DT_RUNPATH, DT_SONAME, DT_TEXTREL, IsBudgetRefusal, dynamic_entry_value, dynamic_segment_index, first_refusal, listed_value, segment_at, segment_dynamic_checks, trait_entries_asked}
 use Rattle.elf_model.specs.declared.causes.Refusal.{Refusal}
@@ -9,7 +9,7 @@ use Rattle.elf_table.specs.declared.fault.Fault.TheVariants.{Refused, Source}
 use Rattle.elf_note.specs.DynCursors.{first_value, value_here}
 use Rattle.elf_loader.specs.declared.trait_tags.TraitTags.{TraitTags}
 
--- something is so of the value with each tag
+-- a predicate holds of the value with each tag
 pub record EachValue (P : Option ℕ → ℕ → Type 0) (found : TraitTags) : Type 0 where
   pub soname : P found.soname DT_SONAME
   pub rpath : P found.rpath DT_RPATH
@@ -23,7 +23,7 @@ pub record EachValue (P : Option ℕ → ℕ → Type 0) (found : TraitTags) : T
 abbrev pub no_values : TraitTags
 no_values = record { soname = None; rpath = None; runpath = None; textrel = None; bind_now = None; flags = None; flags_1 = None }
 
--- the entry at an offset is taken in behind others
+-- the entry at an offset is added after others
 pub record TakesValues (file : List ℕ) (at : ℕ) (old new : TraitTags) : Type 0 where
   pub soname : new.soname ≡ first_value old.soname (value_here file at DT_SONAME)
   pub rpath : new.rpath ≡ first_value old.rpath (value_here file at DT_RPATH)
@@ -41,13 +41,13 @@ AreListedValues file table found = EachValue (λ value tag. value ≡ listed_val
 abbrev pub AreTraitEntries : List ℕ → TraitTags → Type 0
 AreTraitEntries file found = EachValue (λ value tag. value ≡ dynamic_entry_value file tag) found
 
--- the first segment of dynamic entries is refused
+-- the first PT_DYNAMIC segment is refused
 pub record EntriesRefused (file : List ℕ) (refusal : Refusal) : Type 0 where
   pub index : ℕ
   pub first : dynamic_segment_index file ≡ Some index
   pub fails : first_refusal (segment_dynamic_checks file (segment_at file index)) ≡ Some refusal
 
--- the values are those of a file, or its entries are refused, unless that is for want of budget
+-- the values are those of a file, or its entries are refused, unless that is `Budget`
 abbrev pub ReturnsTraitEntries : List ℕ → Result TraitTags Fault → Type 0
 ReturnsTraitEntries file (Ok found) = AreTraitEntries file found
 ReturnsTraitEntries file (Err (Refused refusal)) = (IsBudgetRefusal refusal → ⊥) → EntriesRefused file refusal

@@ -20,14 +20,14 @@ pub record AreKnown (file : List ℕ) (known : CountedSymbols) : Type 0 where
   pub symbols : IsDynamicSymbols file scope.symbols known.symbols
   pub table : IsTable file scope known.table
 
--- symbols, or none, are those of the definitions, and so is a refusal, unless that is for want of budget
+-- symbols, or none, are those of the definitions, and so is a refusal, unless that is `Budget`
 abbrev pub ReturnsKnown : List ℕ → Result (Option CountedSymbols) Fault → Type 0
 ReturnsKnown file (Ok None) = known_symbols file ≡ Ok None
 ReturnsKnown file (Ok (Some known)) = AreKnown file known
 ReturnsKnown file (Err (Refused refusal)) = (IsBudgetRefusal refusal → ⊥) → known_symbols file ≡ Err refusal
 ReturnsKnown file (Err (Source fault at)) = Unit {0}
 
--- they lie within a source of this size, with their hash table, which is of as many
+-- they lie within a source of this size, with their hash table, which covers as many
 pub record KnownLies (size : ℕ) (known : CountedSymbols) : Type 0 where
   pub table : HashTableInBounds size known.table
   pub count : known.symbols.table.count ≡ (place_of_table known.table).symbols
@@ -36,7 +36,7 @@ pub record KnownLies (size : ℕ) (known : CountedSymbols) : Type 0 where
 abbrev pub KnownLie : ℕ → Option CountedSymbols → Type 0
 KnownLie size found = IfSome found (KnownLies size)
 
--- how many bytes the counts of the hash table ask for
+-- how many bytes the counts of the hash table request
 abbrev pub counts_asked : List ℕ → ℕ
 counts_asked file = elim (known_symbols file) [
   | Err refusal ↦ 16

@@ -7,16 +7,17 @@ use Rattle.elf_table.specs.declared.fault.Fault.{Fault}
 use Rattle.elf_table.specs.declared.fault.Fault.TheVariants.{Refused, Source}
 use Rattle.elf_loader.specs.declared.resolved_version_name.ResolvedVersionName.{ResolvedVersionName}
 
--- how many bytes reading a name may ask for
+-- how many bytes reading a name may request
 abbrev pub parsed_member_bytes : ℕ
 parsed_member_bytes = pad64 (TOLD_BYTES + 1)
 
--- how many bytes finding a version may ask for, with so many records: none where one is asked for by its name
+-- how many bytes finding a version may request, with a number of records: none if the query names
+-- one
 abbrev pub telling_bytes : VersionQuery → ℕ → ℕ
 telling_bytes asked records = elim (asked_name asked) [ None ↦ records * 28 + parsed_member_bytes | Some version ↦ 0 ]
 
--- THE NAME of the version of a symbol that a walk gives, by what looking for it gives: the name, and where its bytes stand; or
--- why there is none, unless a read failed
+-- THE NAME of the version of a symbol that a walk finds, by the result of searching it: the name,
+-- and the offset of its bytes; or why there is none, unless a read failed
 abbrev pub ReturnsVersionName : List ℕ → LookupTables → VersymTable → ℕ → NumberNameSource → CountedState → CountedState → List ℕ → Result ResolvedVersionName Fault → Type 0
 ReturnsVersionName file scope words y naming before after name (Ok told) =
     CallReads before after None (naming.read * 28 + parsed_member_bytes)

@@ -1,4 +1,4 @@
--- The traits of a file, stage by stage, and what asking for them costs.
+-- The traits of a file, stage by stage, and the cost of finding them.
 use Rattle.std.specs.Prelude.{ℕ, ◌+◌, ◌-◌, ◌*◌, ◌/◌, List, None, Some, Result, Ok, Err}
 use Rattle.elf_model.specs.Prelude.{SYMBOL_SIZE, SymbolTraitFlags, TRAIT_NAME_BYTES, find_symbol_traits, hashed_symbol_count, known_symbols, loaded_traits, name_bytes, properties_asked, segment_traits_cost, symbols_asked, trait_entries_asked, traits_by_segments, traits_cost, traits_of}
 use Rattle.elf_model.specs.declared.traits.Hardening.{Hardening}
@@ -11,15 +11,16 @@ use Rattle.elf_loader.specs.Features.{ReturnsValue}
 use Rattle.elf_loader.specs.Marks.{ReturnsMarks}
 use Rattle.elf_loader.specs.declared.symbol_traits.SymbolTraits.{SymbolTraits}
 
--- how many bytes symbols ask for in a file of this size: the words of their hash table, and each with its name
+-- how many bytes symbols request in a file of this size: the words of their hash table, and each
+-- with its name
 abbrev pub marks_bytes : ℕ → ℕ
 marks_bytes size = size + size / 24 * 88
 
--- how many bytes are asked for behind the program headers, so many of them, in a file of this size
+-- how many bytes are requested after a number of program headers, in a file of this size
 abbrev pub view_bytes : (segments size : ℕ) → ℕ
 view_bytes segments size = size + 16 + size + (segments * size + size) + marks_bytes size
 
--- the same of a known file, behind the counts of its hash table
+-- the same for a known file, after the counts of its hash table
 abbrev pub marks_asked : List ℕ → ℕ
 marks_asked file = elim (known_symbols file) [
   | Err refusal ↦ 0
@@ -28,11 +29,11 @@ marks_asked file = elim (known_symbols file) [
       extent_bytes file scope + (hashed_symbol_count file scope - 1) * (SYMBOL_SIZE + name_bytes TRAIT_NAME_BYTES)
 ]
 
--- the marks of the symbols of a file, where they are known
+-- the traits of the symbols of a file, if they are known
 abbrev pub marks_told : List ℕ → Result SymbolTraitFlags Refusal
 marks_told file = elim (known_symbols file) [ Err refusal ↦ Err refusal | Ok scope ↦ find_symbol_traits file scope ]
 
--- THE MARKS OF THE SYMBOLS of a known file
+-- THE TRAITS OF THE SYMBOLS of a known file
 pub record FindsMarks (file : List ℕ) (old new : CountedState) (result : Result SymbolTraits Fault) : Type 0 where
   pub costs : CallReads old new (fault_of_result result) (marks_asked file)
   pub finds : ReturnsMarks (marks_told file) result

@@ -1,4 +1,4 @@
-//! Which symbols are offered to others.
+//! Exported symbols.
 ghost use Rattle.std.specs.Prelude.{◌≡◌, ℕ, ◌∷◌, [], List};
 ghost use Rattle.elf_model.specs.Prelude.{STB_GLOBAL, STB_GNU_UNIQUE, STB_WEAK, STT_COMMON, STT_FUNC, STT_GNU_IFUNC, STT_NOTYPE, STT_OBJECT, STT_TLS, STV_DEFAULT, STV_PROTECTED, is_among, is_exported};
 ghost use Rattle.elf_record.specs.Sym.{IsSym};
@@ -10,12 +10,12 @@ use elf_record::numbers::{
     STT_TLS, STV_DEFAULT, STV_PROTECTED,
 };
 
-/// Whether a symbol is offered to other files, as a loader of the GNU system takes it. It is not
-/// undefined and of thread-local storage; it has a value, or it is absolute or of thread-local
-/// storage, where 0 is a value; its type is none, that of an object, of a function, of a common
-/// block, of thread-local storage or of an indirect function; it is global, weak or unique; and its
-/// visibility is the default one or protected (gABI 4, Symbol Table). An undefined symbol with a
-/// value is offered: it is a function whose address the program gives out.
+/// Returns `true` if a symbol is exported to other files, by the rules of GNU's dynamic loader. It
+/// is not both undefined and of thread-local storage; it has a value, or it is absolute or of
+/// thread-local storage, for which 0 is a value; its type is none, that of an object, of a
+/// function, of a common block, of thread-local storage or of an indirect function; it is global,
+/// weak or unique; and its visibility is default or protected (gABI 4, Symbol Table). An undefined
+/// symbol with a value is exported: it is a function whose address the program publishes.
 #[tactic(auto, unfolding(elf_model::specs::Loader::is_exported))]
 pub fn is_exported(symbol: &Sym) -> bool
     ensures { (file : List ℕ) (at : ℕ) → IsSym file at symbol.now → result ≡ is_exported file at }
@@ -28,7 +28,7 @@ pub fn is_exported(symbol: &Sym) -> bool
         && has_offered_visibility(symbol.visibility())
 }
 
-// Whether a type is one of symbols for others.
+// Returns `true` if symbols of a type may be exported.
 fn has_offered_type(kind: u8) -> bool
     ensures { result ≡ is_among kind
         (STT_NOTYPE ∷ STT_OBJECT ∷ STT_FUNC ∷ STT_COMMON ∷ STT_TLS ∷ STT_GNU_IFUNC ∷ []) }
@@ -41,14 +41,14 @@ fn has_offered_type(kind: u8) -> bool
         || kind == STT_GNU_IFUNC
 }
 
-// Whether a binding is one of symbols for others.
+// Returns `true` if symbols of a binding may be exported.
 fn has_offered_binding(binding: u8) -> bool
     ensures { result ≡ is_among binding (STB_GLOBAL ∷ STB_WEAK ∷ STB_GNU_UNIQUE ∷ []) }
 {
     binding == STB_GLOBAL || binding == STB_WEAK || binding == STB_GNU_UNIQUE
 }
 
-// Whether a visibility is one of symbols for others.
+// Returns `true` if symbols of a visibility may be exported.
 fn has_offered_visibility(visibility: u8) -> bool
     ensures { result ≡ is_among visibility (STV_DEFAULT ∷ STV_PROTECTED ∷ []) }
 {

@@ -30,19 +30,19 @@ pub enum VersionName {
 /// The version of a symbol that is found (Linux Standard Base Core, Symbol Version Table).
 #[derive(Clone, Copy)]
 pub struct FoundVersion {
-    /// The index of the section of the words of versions, or of the program header of the dynamic
-    /// entries.
+    /// The index of the section of versym entries, or of the program header of the dynamic entries.
     pub index: u16,
-    /// The word: the number, with the bit that hides it.
+    /// The versym entry: the version index, with the hidden bit.
     pub word: u16,
     /// Its name.
     pub name: VersionName,
-    /// The file offset of the bytes that a buffer holds of its name; 0 where it holds none.
+    /// The file offset of the bytes that a buffer holds of its name; 0 if it holds none.
     pub name_at: u64,
 }
 
-/// The version of a symbol that a walk finds, where there are versions. A symbol without a word has
-/// none; in a file that stays as it is there is no such symbol where there are versions.
+/// Returns the version of a symbol that a walk finds, if there are versions. A symbol without a
+/// versym entry has none; in a file that does not change there is no such symbol if there are
+/// versions.
 ///
 /// # Errors
 /// Those of [`found_version`].
@@ -71,8 +71,9 @@ pub(crate) fn version_of<S: Source>(
     Ok(Some(version))
 }
 
-/// Finds the version of a symbol whose word is known: under the wanted name where one is wanted,
-/// without one where its number is 0 or 1, else by the name of its number, into `name`.
+/// Finds the version of a symbol whose versym entry is known: under the wanted name if one is
+/// wanted, without one if its version index is 0 or 1, otherwise by the name of its index, into
+/// `name`.
 ///
 /// # Errors
 /// Those of [`parsed_member_name`].
@@ -104,7 +105,7 @@ fn found_version<S: Source>(
     Ok(reported_as(words, word, VersionName::Told(told.end), told.at))
 }
 
-// A version by its word, its name and where that stands.
+// Returns a version by its versym entry, its name and the offset of that.
 fn reported_as(words: &VersymTable, word: u16, name: VersionName, name_at: u64) -> FoundVersion
     ensures { result
         ≡ record { index = words.now.index; word = word; name = name; name_at = name_at } }

@@ -1,4 +1,4 @@
-//! The traits of a file.
+//! The hardening of a file.
 ghost use Rattle.std.specs.Prelude.{◌≡◌, ℕ, ◌<◌, ◌^◌, Ok};
 ghost use Rattle.elf_table.specs.Prelude.{CallDid, HoldsProgramHeaders, fault_of_result};
 ghost use Rattle.elf_model.specs.Prelude.{e_shnum, traits_ceiling};
@@ -17,22 +17,22 @@ use elf_model::Hardening;
 use elf_source::{Counted, Source};
 use elf_table::{ExecutionView, Fault, HeaderStore};
 
-/// How a file is hardened, as a loader of the GNU system sees it: by its program headers, its first
-/// segment of dynamic entries, the first list of properties in its notes, and its dynamic symbols,
-/// which are those that its hash table knows. The fields of its header that locate section headers are
-/// hidden meanwhile. The program headers are loaded into the store.
+/// Returns how a file is hardened, as GNU's dynamic loader sees it: by its program headers, its
+/// first PT_DYNAMIC segment, the first list of properties in its notes, and its dynamic symbols,
+/// which are those that its hash table covers. The fields of its header that locate section headers
+/// are masked meanwhile. The program headers are loaded into the store.
 ///
-/// Where the source's file is known the traits are the file's own, and so is the refusal; no more is
-/// asked for than they cost, also where the source fails.
+/// If the source's file is known the traits are those of the file, and so is the refusal; no more
+/// is read than they cost, also if the source fails.
 ///
 /// # Errors
-/// The first that fails: those of [`load_by_segments`]; `LoadOverlap` at the program header
-/// of a LOAD segment that lies over another; those of the first segment of dynamic entries; those of
+/// Returns the first check that fails: those of [`load_by_segments`]; `LoadOverlap` at the program
+/// header of a LOAD segment that overlaps another; those of the first PT_DYNAMIC segment; those of
 /// the hash table, of the symbols and of their strings, each at the dynamic entry that locates it;
-/// of a file of x86-64 `TableOutside` at the program header of a segment of notes that ends past the
-/// end of the file, and `NoteCut` where no note stands before a list of properties, or no property in
-/// it; a fault of a symbol's name, at the symbol. Else a fault of the source, or `Budget` where a
-/// limit has no room for a read, at the offset that was asked for.
+/// for a file for x86-64 `TableOutside` at the program header of a segment of notes that ends past
+/// the end of the file, and `NoteCut` if there is no whole note before a list of properties, or no
+/// whole property in it; a fault of a symbol's name, at the symbol. Otherwise returns a fault of
+/// the source, or `Budget` if a read exceeds the limit, at the offset of the read.
 pub fn find_traits<S: Source>(
     src: &mut Counted<S>,
     store: &mut HeaderStore,
@@ -49,7 +49,7 @@ pub fn find_traits<S: Source>(
     found
 }
 
-/// The traits of the file that the source shows, whose header locates no section headers.
+/// Returns the traits of the file that the source shows, whose header locates no section headers.
 ///
 /// # Errors
 /// Those of [`find_traits`].
@@ -67,10 +67,10 @@ fn shown_traits<S: Source>(
     find_traits_by_segments(src, &ExecutionView { loaded, store })
 }
 
-/// The traits of a file whose program headers are loaded.
+/// Returns the traits of a file whose program headers are loaded.
 ///
 /// # Errors
-/// Those of [`find_traits`] behind the load.
+/// Those of [`find_traits`] after the load.
 fn find_traits_by_segments<S: Source>(
     src: &mut Counted<S>,
     view: &ExecutionView<'_>,
@@ -89,10 +89,10 @@ fn find_traits_by_segments<S: Source>(
     Ok(traits_with(view, &entries, word, marks))
 }
 
-/// The marks of the symbols that a loader knows, if there are such.
+/// Returns the traits of the symbols that a loader knows, if there are any.
 ///
 /// # Errors
-/// Those of [`find_symbol_traits`]. Else a fault of a read.
+/// Those of [`find_symbol_traits`]. Otherwise a fault of a read.
 fn counted_symbol_traits<S: Source>(
     src: &mut Counted<S>,
     known: Option<CountedSymbols>,

@@ -1,4 +1,4 @@
-//! The numbers of the version that is asked for, of all records of versions.
+//! The indices of the wanted version, from all version records.
 ghost use Rattle.std.specs.Prelude.{◌≤◌, length, IfSome};
 ghost use Rattle.elf_table.specs.Ledger.{CallDid, fault_of_result};
 ghost use Rattle.elf_loader.specs.Comparing.{CollectsNumbers, ComparesRecords, comparing_bytes};
@@ -48,12 +48,13 @@ fn compare_all<S: Source>(
     compare_any(src, &symbols.needs, version, numbers)
 }
 
-/// The numbers of the version that is asked for by its name, where one is and the symbols have
-/// versions; else none. All records of versions are read then.
+/// Returns the indices of the version that the query names, if it names one and the symbols have
+/// versions; otherwise none. All version records are read then.
 ///
 /// # Errors
-/// The first record that is refused, as [`elf_note::VersionCursor::advance`] has it, or whose
-/// name has a fault, at what holds the name: of the definitions and then of the needs.
+/// Returns the first record that is refused, as [`elf_note::VersionCursor::advance`] does, or whose
+/// name has a fault, at the structure that holds the name: of the definitions and then of the
+/// needs.
 pub fn version_indices<S: Source>(
     src: &mut Counted<S>,
     symbols: &DynamicSymbols,

@@ -8,7 +8,8 @@ use elf_record::{Cause, Refusal};
 use elf_source::{Counted, Source};
 use elf_table::{ExecutionView, Fault};
 
-/// The symbols that a loader knows, with the hash table that it looks them up by. It holds no bytes.
+/// The symbols that a loader knows, with the hash table by which it looks them up. It holds no
+/// bytes.
 #[derive(Clone, Copy)]
 pub(crate) struct CountedSymbols {
     /// The symbols.
@@ -17,10 +18,10 @@ pub(crate) struct CountedSymbols {
     pub(crate) table: HashTable,
 }
 
-/// The symbols that a loader knows; none in a file without a hash table.
+/// Returns the symbols that a loader knows; none in a file without a hash table.
 ///
 /// # Errors
-/// Those of [`find_in_segments`] but `NoHash`, and those of [`counts`].
+/// Those of [`find_in_segments`] except `NoHash`, and those of [`counts`].
 pub(crate) fn known_symbols<S: Source>(
     src: &mut Counted<S>,
     view: &ExecutionView<'_>,
@@ -43,7 +44,7 @@ pub(crate) fn known_symbols<S: Source>(
     }))
 }
 
-/// No symbols where there is no hash table, else the fault.
+/// Returns no symbols if there is no hash table, otherwise the fault.
 fn without_hash(fault: Fault) -> Result<Option<CountedSymbols>, Fault>
     ensures { result ≡ passed_over fault }
 {

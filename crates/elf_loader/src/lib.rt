@@ -1,8 +1,8 @@
-//! The lookup of a name in a file as a loader of the GNU system does it: by the symbol's record, its
-//! name and its version. No call takes memory.
+//! The lookup of a name in a file as GNU's dynamic loader does it: by the symbol's record, its name
+//! and its version. No call allocates.
 //!
-//! How a file is hardened, as a loader of the GNU system sees it: by its program headers, its dynamic
-//! entries, the properties in its notes and its dynamic symbols. No call takes memory.
+//! How a file is hardened, as GNU's dynamic loader sees it: by its program headers, its dynamic
+//! entries, the properties in its notes and its dynamic symbols. No call allocates.
 #![tactic(auto)]
 
 mod exported;

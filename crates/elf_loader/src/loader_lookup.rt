@@ -1,4 +1,4 @@
-//! The call that looks a name up as a loader does.
+//! The call that looks up a name as a loader does.
 ghost use Rattle.std.specs.Prelude.{◌≡◌, ℕ, ◌+◌, ◌*◌, ◌/◌, None, Ok};
 ghost use Rattle.elf_hash.specs.Prelude.{GivesWalked, IsTable, LookupTablesInBounds, place_of_table, walk_bytes};
 ghost use Rattle.elf_loader.specs.Answering.{IsSymbolWithVersym};
@@ -20,30 +20,31 @@ use elf_options::SymbolQuery;
 use elf_source::{Counted, Source};
 use elf_table::{Fault, HeaderStore, NameBuf};
 
-/// Looks a name up in a file, alone or with a version, as a loader of the GNU system does (gABI 5,
-/// Dynamic Linking; Linux Standard Base Core, Symbol Versioning): by the file's hash table, of the
-/// GNU system or else of the gABI, the first symbol of the name's chain that has the name, is offered
-/// to others ([`crate::is_exported`]) and whose version fits. The tables that it searches are
-/// those of [`find_lookup_tables`], and the headers are loaded into the store. With `by_segments` they are
-/// found by the program headers also where there are section headers: the file is read with zeros for
-/// e_shoff, e_shnum and e_shstrndx. The name and the version that is
-/// asked for have at most 4,096 bytes each. Where the name of the symbol's version is read, `name`
-/// holds it, or its first 256 bytes; else `name` holds any bytes.
+/// Looks up a name in a file, alone or with a version, as GNU's dynamic loader does (gABI 5,
+/// Dynamic Linking; Linux Standard Base Core, Symbol Versioning): by the file's hash table, the GNU
+/// one or otherwise the SysV one, the first symbol of the name's chain that has the name, is
+/// exported ([`crate::is_exported`]) and whose version matches. The tables that it searches are
+/// those of [`find_lookup_tables`], and the headers are loaded into the store. With `by_segments`
+/// they are found by the program headers also if there are section headers: the file is read with
+/// zeros for e_shoff, e_shnum and e_shstrndx. The name and the version of the query have at most
+/// 4,096 bytes each. If the name of the symbol's version is read, `name` holds it, or its first 256
+/// bytes; otherwise the contents of `name` are unspecified.
 ///
-/// Where the source's file is known the answer is the file's own, and so is the refusal; no more is
-/// asked for than the lookup costs, also where the source fails.
+/// If the source's file is known the result is that of the file, and so is the refusal; no more is
+/// read than the lookup costs, also if the source fails.
 ///
 /// # Errors
-/// The first that fails: what [`find_lookup_tables`] refuses; `HashShape` at the header or entry that locates
-/// the hash table where its counts are no table's of its size; where a version is asked for, what
-/// [`elf_note::VersionCursor::advance`] refuses of the definitions and the needs, and a fault of
-/// a version's name at the record that holds it; on the way `HashIndex` at the word that leads to a
-/// symbol index which no symbol and no chain word has, in a table of the gABI `HashCycle` at the
-/// bucket's word where the chain goes round, a fault of a symbol's name at the symbol, `VersionCut`
-/// at the header or entry that locates the words of versions where a symbol has none; where the name
-/// of the symbol's version is read, what is refused of the records before the one with its number and
-/// of its name, and `VersionIndex` at the symbol's word where no record has the number. Else a fault of the
-/// source, or `Budget` where a limit has no room for a read, at the offset that was asked for.
+/// Returns the first check that fails: those of [`find_lookup_tables`]; `HashShape` at the header
+/// or entry that locates the hash table if its counts do not fit its size; if the query names a
+/// version, those of [`elf_note::VersionCursor::advance`] for the definitions and the needs, and a
+/// fault of a version's name at the record that holds it; on the way `HashIndex` at the word that
+/// leads to a symbol index which no symbol and no chain word has, in a SysV hash table `HashCycle`
+/// at the bucket's word if the chain is cyclic, a fault of a symbol's name at the symbol,
+/// `VersionCut` at the header or entry that locates the version symbol table if a symbol has no
+/// entry; if the name of the symbol's version is read, the refusals of the records before the one
+/// with its version index and of its name, and `VersionIndex` at the symbol's versym entry if no
+/// record has the index. Otherwise returns a fault of the source, or `Budget` if a read exceeds the
+/// limit, at the offset of the read.
 pub fn look_up<S: Source>(
     src: &mut Counted<S>,
     store: &mut HeaderStore,
@@ -104,8 +105,8 @@ fn look_in<S: Source>(
     search_hash_table(src, scope, &table, wanted, name)
 }
 
-/// Looks up in a hash table with its counts: finds the numbers of the version that is asked for, and
-/// goes along the chain.
+/// Looks up in a hash table with its counts: finds the indices of the wanted version, and walks
+/// along the chain.
 ///
 /// # Errors
 /// Those of [`version_indices`], and of [`search_chain`].
@@ -127,7 +128,7 @@ fn search_hash_table<S: Source>(
     search_chain(src, scope, table, wanted, &numbers, name)
 }
 
-/// Goes along the chain of the wanted name for the symbol that answers, and finds its version.
+/// Walks along the chain of the wanted name for the symbol that matches, and finds its version.
 ///
 /// # Errors
 /// Those of [`walk`], and of [`version_of`].
@@ -160,7 +161,7 @@ fn search_chain<S: Source>(
     answer_of(src, scope, wanted, &walked, name)
 }
 
-/// What is answered by a walk, with the version of the symbol that it finds.
+/// Returns the result of a lookup by a walk, with the version of the symbol that it finds.
 ///
 /// # Errors
 /// Those of [`version_of`].

@@ -1,4 +1,4 @@
-//! What a lookup answers.
+//! The result of a lookup.
 use crate::found::FoundVersion;
 use elf_record::Sym;
 
@@ -7,27 +7,28 @@ use elf_record::Sym;
 pub struct FoundSymbol {
     /// The index of the symbols' section, or of the program header of the dynamic entries.
     pub section: u16,
-    /// The machine of the file (gABI 4, ELF Header), by which some numbers of symbols have names.
+    /// The machine of the file (gABI 4, ELF Header), on which the names of some constants of
+    /// symbols depend.
     pub machine: u16,
     /// The symbol's index among the symbols.
     pub index: u64,
     /// The symbol.
     pub symbol: Sym,
-    /// Its version, where the file has versions.
+    /// Its version, if the file has versions.
     pub version: Option<FoundVersion>,
-    /// How many symbols were tried, at least 1.
+    /// The number of symbols that were tried, at least 1.
     pub tried: u64,
 }
 
-/// What a lookup answers, with the number of symbols that were tried: those of the hash of the wanted
-/// name in the name's chain.
+/// The result of a lookup, with the number of symbols that were tried: those in the name's chain
+/// that have the hash of the wanted name.
 #[derive(Clone, Copy)]
 pub enum SymbolLookup {
-    /// The first symbol of the chain that answers.
+    /// The first symbol of the chain that matches.
     Found(FoundSymbol),
-    /// None does.
+    /// No symbol matches.
     Absent {
-        /// How many symbols were tried.
+        /// The number of symbols that were tried.
         tried: u64,
     },
 }

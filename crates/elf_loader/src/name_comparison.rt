@@ -1,4 +1,4 @@
-//! The numbers of the version that is asked for by its name.
+//! The indices of the version that the query names.
 ghost use Rattle.std.specs.Prelude.{ℕ, ◌+◌, ◌<◌, ◌≤◌, ◌∷◌, List, length};
 ghost use Rattle.elf_table.specs.Prelude.{CallDid, StringsInBounds, fault_of_result, strings_in};
 ghost use Rattle.elf_loader.specs.Comparing.{ComparesOne, ComparesRecords};
@@ -14,8 +14,8 @@ use elf_record::version_number;
 use elf_source::{Counted, Source};
 use elf_table::{Fault, Names};
 
-/// Compares the records of a table that name a version with the wanted one, and puts the numbers of
-/// those that are it into a set.
+/// Compares the records of a table that name a version with the wanted one, and inserts the indices
+/// of those that match into a set.
 ///
 /// # Errors
 /// As for [`VersionCursor::advance`], and a fault of a name at the record that holds it.

@@ -1,4 +1,4 @@
-//! The list of properties of a note of the GNU system.
+//! The list of properties of a GNU note.
 ghost use Rattle.std.specs.Prelude.{◌≡◌, ◌+◌, ◌^◌, ◌<◌, ◌≤◌};
 ghost use Rattle.elf_table.specs.Ledger.{CallDid, fault_of_result};
 ghost use Rattle.elf_model.specs.Prelude.{bytes_to_alignment, features_in, slice};
@@ -8,23 +8,23 @@ use crate::property::{read_head, word_in};
 use elf_source::{Counted, Source};
 use elf_table::Fault;
 
-/// The word of the features of x86 in a list of properties (Linux Extensions to gABI, Program
-/// Property; x86-64 psABI, Program Property): that of the first property with its type, 0 where there
-/// is none or its data has not four bytes. Bit 0 is IBT, bit 1 is SHSTK. The list is the descriptor of
-/// a note; it has `size` bytes from the file offset `at` on, and ends at or below the source's
-/// length. The whole list is gone through, and each byte of it is asked for at most once.
+/// Returns the x86 feature bits of a list of properties (Linux Extensions to gABI, Program
+/// Property; x86-64 psABI, Program Property): those of the first property with their type, 0 if
+/// there is none or its data does not have four bytes. Bit 0 is IBT, bit 1 is SHSTK. The list is
+/// the descriptor of a note; it has `size` bytes at the file offset `at`, and ends at or below the
+/// source's length. The whole list is read, each byte of it at most once.
 ///
 /// # Errors
-/// `NoteCut` at the file offset of the property whose head or data does not fit into the list; the
-/// padding of the last may be missing. Else a fault of the source, or `Budget` where a limit has no
-/// room for a read, at the offset that was asked for.
+/// Returns `NoteCut` at the file offset of the property whose header or data does not fit into the
+/// list; the padding of the last may be missing. Otherwise returns a fault of the source, or
+/// `Budget` if a read exceeds the limit, at the offset of the read.
 pub(crate) fn features_in<S: Source>(src: &mut Counted<S>, at: u64, size: u64) -> Result<u32, Fault>
     requires { at + size ≤ src.old.seen.size }
     ensures { CallDid src.old src.new (fault_of_result result) size
         (λ file. ReturnsValue
         (features_in (record { place = at; bytes = slice file at size })) result) }
 {
-    // No source is longer than a number of 64 bits can be.
+    // The length of a source fits into 64 bits.
     let _ = src.length();
     let mut found = None;
     let mut done: u64 = 0;
@@ -37,7 +37,7 @@ pub(crate) fn features_in<S: Source>(src: &mut Counted<S>, at: u64, size: u64) -
     Ok(found.unwrap_or(0))
 }
 
-/// The size of a property with its padding, for the size of its data.
+/// Returns the size of a property with its padding, for the size of its data.
 fn padded(datasz: u32) -> u64
     ensures { result ≡ 8 + datasz + bytes_to_alignment 8 (8 + datasz) }
 {

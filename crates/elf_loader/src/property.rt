@@ -8,13 +8,13 @@ use elf_record::Cause;
 use elf_source::{Counted, Source};
 use elf_table::{Fault, refused};
 
-/// The size of a property's head in bytes.
+/// The size of a property header in bytes.
 const HEAD_BYTES: u64 = 8;
 
-/// The type of the property of the features of x86 (x86-64 psABI, Program Property).
+/// The type of the property of the x86 features (x86-64 psABI, Program Property).
 const X86_FEATURE_1_AND: u32 = 0xc000_0002;
 
-/// The head of a property (Linux Extensions to gABI, Program Property).
+/// The header of a property (Linux Extensions to gABI, Program Property).
 #[derive(Clone, Copy)]
 pub(crate) struct PropertyHeader {
     /// Its type.
@@ -23,12 +23,12 @@ pub(crate) struct PropertyHeader {
     pub(crate) datasz: u32,
 }
 
-/// Reads the head of the property at an offset, where `left` bytes of its list are left, at least
+/// Reads the header of the property at an offset, if `left` bytes of its list are left, at least
 /// one.
 ///
 /// # Errors
-/// `NoteCut` at the offset where its head or its data does not fit into what is left. Else a fault of
-/// a read.
+/// Returns `NoteCut` at the offset if its header or its data does not fit into what is left.
+/// Otherwise returns a fault of a read.
 pub(crate) fn read_head<S: Source>(
     src: &mut Counted<S>,
     at: u64,
@@ -54,11 +54,11 @@ pub(crate) fn read_head<S: Source>(
     Ok(PropertyHeader { kind, datasz })
 }
 
-/// The word of the features of x86, where it was found before or is that of the property with a head
-/// at an offset: 0 where this has not four bytes of data.
+/// Returns the x86 feature bits, if they were found before or are those of the property with a
+/// header at an offset: 0 if that does not have four bytes of data.
 ///
 /// # Errors
-/// A fault of the read.
+/// Returns a fault of the read.
 pub(crate) fn word_in<S: Source>(
     src: &mut Counted<S>,
     at: u64,

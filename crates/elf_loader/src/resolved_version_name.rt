@@ -12,7 +12,7 @@ use elf_record::Cause;
 use elf_source::{Counted, Source};
 use elf_table::{Fault, NameBuf, NameEnd, NameLimit, refused};
 
-/// How many bytes of the name of a version are kept.
+/// The number of bytes of the name of a version that are kept.
 const TOLD_BYTES: u16 = 256;
 
 /// The name of a version that is read.
@@ -24,14 +24,14 @@ pub(crate) struct ResolvedVersionName {
     pub(crate) at: u64,
 }
 
-/// Tells the name of the version of a number, which the word of a symbol's version at a file offset
-/// has: into `name`, its first 256 bytes, by the first record that has the number; and where they stand
-/// in the file. After a fault `name` holds any bytes.
+/// Reads the name of the version of an index, which the versym entry at a file offset has, into
+/// `name`, its first 256 bytes, by the first record that has the index; returns the offset of these
+/// bytes in the file. After a fault the contents of `name` are unspecified.
 ///
 /// # Errors
-/// Those of the records before, as [`elf_note::VersionCursor::advance`] has them; those of the
-/// name, as [`elf_table::Names::read`] has them, at what holds it; `VersionIndex` at the word where
-/// no record has the number. Else a fault of a read.
+/// Those of the records before, as for [`elf_note::VersionCursor::advance`]; those of the name, as
+/// for [`elf_table::Names::read`], at the structure that holds it; `VersionIndex` at the versym
+/// entry if no record has the index. Otherwise a fault of a read.
 pub(crate) fn parsed_member_name<S: Source>(
     src: &mut Counted<S>,
     symbols: &DynamicSymbols,

@@ -1,20 +1,20 @@
-//! The marks of hardening that one symbol has.
+//! The hardening traits of one symbol.
 ghost use Rattle.std.specs.Prelude.{◌≡◌};
 ghost use Rattle.elf_model.specs.Traits.{marked_by, no_symbol_traits};
 ghost use Rattle.elf_loader.specs.Marks.{symbol_traits_of};
 
 use crate::symbol_names::{is_fortify_call, is_stack_protector};
 
-/// The marks of symbols.
+/// The hardening traits of symbols.
 #[derive(Clone, Copy)]
 pub(crate) struct SymbolTraits {
-    /// One is a guard's.
+    /// Whether one is of the stack protector.
     pub(crate) canary: bool,
-    /// One that is undefined is a checked call's.
+    /// Whether an undefined one is a fortified function.
     pub(crate) fortify: bool,
 }
 
-/// The marks with those of one more symbol, by its name, and whether it is undefined.
+/// Returns the traits with those of one more symbol, by its name, and whether it is undefined.
 pub(crate) fn marked_by(marks: SymbolTraits, name: &[u8], undefined: bool) -> SymbolTraits
     ensures { symbol_traits_of result ≡ marked_by (symbol_traits_of marks) name.now undefined }
 {
@@ -24,7 +24,7 @@ pub(crate) fn marked_by(marks: SymbolTraits, name: &[u8], undefined: bool) -> Sy
     }
 }
 
-/// The marks of no symbol.
+/// Returns the traits of no symbol.
 pub(crate) fn no_symbol_traits() -> SymbolTraits
     ensures { symbol_traits_of result ≡ no_symbol_traits }
 {

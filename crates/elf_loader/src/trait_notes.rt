@@ -14,11 +14,10 @@ use elf_record::numbers::{EM_X86_64, PT_NOTE};
 use elf_source::{Counted, Source};
 use elf_table::{ExecutionView, Fault, NameBuf, NameEnd, Table};
 
-/// The type of a note of the GNU system that lists properties (Linux Extensions to gABI, Program
-/// Property).
+/// The type of a GNU note that lists properties (Linux Extensions to gABI, Program Property).
 const NT_GNU_PROPERTY_TYPE_0: u32 = 5;
 
-/// Where a list of properties stands. It holds no bytes.
+/// The range of a list of properties. It holds no bytes.
 #[derive(Clone, Copy)]
 pub(crate) struct PropertyRange {
     /// The file offset of its first byte.
@@ -27,12 +26,11 @@ pub(crate) struct PropertyRange {
     pub(crate) size: u64,
 }
 
-/// The word of the features of x86 in the first list of properties in the notes of a file's segments;
-/// 0 where there is none, and in a file of another machine than x86-64.
+/// Returns the x86 feature bits of the first list of properties in the notes of a file's segments;
+/// 0 if there is none, and in a file for another machine than x86-64.
 ///
 /// # Errors
-/// Those of [`segment_list`], for the segments up to the first with a list, and of
-/// [`features_in`].
+/// Those of [`segment_list`], for the segments up to the first with a list, and of [`features_in`].
 pub(crate) fn x86_feature_word<S: Source>(
     src: &mut Counted<S>,
     view: &ExecutionView<'_>,
@@ -52,7 +50,7 @@ pub(crate) fn x86_feature_word<S: Source>(
     features_in(src, list.at, list.size)
 }
 
-/// The first list of properties in the notes of a file's segments.
+/// Returns the first list of properties in the notes of a file's segments.
 ///
 /// # Errors
 /// Those of [`segment_list`], for the segments up to the first with a list.
@@ -78,11 +76,12 @@ fn property_list<S: Source>(
     Ok(None)
 }
 
-/// The first list of properties in the notes of a segment, if it holds notes.
+/// Returns the first list of properties in the notes of a segment, if it holds notes.
 ///
 /// # Errors
-/// `TableOutside` at its program header where it ends past the end of the file. `NoteCut` at the file
-/// offset where no note stands, before a list. Else a fault of a read.
+/// Returns `TableOutside` at its program header if it ends past the end of the file. Returns
+/// `NoteCut` at the file offset at which there is no whole note, before a list. Otherwise returns a
+/// fault of a read.
 fn segment_list<S: Source>(
     src: &mut Counted<S>,
     view: &ExecutionView<'_>,
@@ -103,10 +102,11 @@ fn segment_list<S: Source>(
     first_list(src, table, header.p_align)
 }
 
-/// The first list of properties in a table of notes of the alignment that its header has.
+/// Returns the first list of properties in a table of notes with the alignment of its header.
 ///
 /// # Errors
-/// `NoteCut` at the file offset where no note stands, before a list. Else a fault of a read.
+/// Returns `NoteCut` at the file offset at which there is no whole note, before a list. Otherwise
+/// returns a fault of a read.
 fn first_list<S: Source>(
     src: &mut Counted<S>,
     table: Table,
@@ -132,8 +132,8 @@ fn first_list<S: Source>(
     Ok(None)
 }
 
-/// Whether a note lists properties: its type, and its name, which is `GNU` and a NUL. The name is
-/// given as it is shown.
+/// Returns `true` if a note lists properties: by its type, and its name, which is `GNU` and a NUL.
+/// The name is given as it is shown.
 fn is_property_note(row: &NoteRow<'_>, name: &[u8]) -> bool
     ensures { (note : Note) → row.now.head.kind ≡ note.kind →
         row.now.head.namesz ≡ length note.name →
@@ -146,8 +146,8 @@ fn is_property_note(row: &NoteRow<'_>, name: &[u8]) -> bool
     }
 }
 
-/// Whether a note lists properties, by its type, the size of its name, and what stands in that before
-/// the first NUL.
+/// Returns `true` if a note lists properties, by its type, the size of its name, and its bytes
+/// before the first NUL.
 fn is_gnu_list(kind: u32, namesz: u32, name: &[u8]) -> bool
     ensures { result ≡ (kind == 5 && (namesz == 4
         && (length name.now == 3 && starts_with nat_eq name.now (codes "GNU")))) }

@@ -12,12 +12,12 @@ use elf_table::ExecutionView;
 /// The type of the segment with the permissions of the stack (Linux Standard Base Core, Program
 /// Header).
 const PT_GNU_STACK: u32 = 0x6474_e551;
-/// A segment's permission to be run (gABI 5, Segment Permissions).
+/// A segment's execute permission (gABI 5, Segment Permissions).
 const PF_X: u64 = 1;
-/// A segment's permission to be written.
+/// A segment's write permission.
 const PF_W: u64 = 2;
 
-/// Whether there is a program header of a type.
+/// Returns `true` if there is a program header of a type.
 pub(crate) fn has_segment(view: &ExecutionView<'_>, kind: u32) -> bool
     ensures { (file : List ℕ) → HoldsProgramHeaders file view.now.loaded view.now.store.now →
         result ≡ is_some (segment_of file kind) }
@@ -25,7 +25,7 @@ pub(crate) fn has_segment(view: &ExecutionView<'_>, kind: u32) -> bool
     view.first_segment(kind).is_some()
 }
 
-/// Whether a loader makes the stack executable: by the first segment with its permissions, and where
+/// Returns `true` if a loader makes the stack executable: by the first PT_GNU_STACK segment, and if
 /// there is none (Linux Standard Base Core, Program Header).
 #[tactic(auto, unfolding(elf_model::specs::Traits::is_stack_executable))]
 pub(crate) fn is_stack_executable(view: &ExecutionView<'_>) -> bool
@@ -38,7 +38,7 @@ pub(crate) fn is_stack_executable(view: &ExecutionView<'_>) -> bool
     has_bits(u64::from(view.segment(segment).p_flags), PF_X)
 }
 
-/// Whether a LOAD segment may be written and run (gABI 5, Segment Permissions).
+/// Returns `true` if a LOAD segment is writable and executable (gABI 5, Segment Permissions).
 #[tactic(auto, unfolding(elf_model::specs::Traits::has_wx_load))]
 pub(crate) fn has_wx_load(view: &ExecutionView<'_>) -> bool
     ensures { (file : List ℕ) → HoldsProgramHeaders file view.now.loaded view.now.store.now →
@@ -47,7 +47,7 @@ pub(crate) fn has_wx_load(view: &ExecutionView<'_>) -> bool
     first_writable_code(view).is_some()
 }
 
-/// The index of the first LOAD segment that may be written and run, if there is one.
+/// Returns the index of the first LOAD segment that is writable and executable, if there is one.
 fn first_writable_code(view: &ExecutionView<'_>) -> Option<u16>
     ensures { (file : List ℕ) → HoldsProgramHeaders file view.now.loaded view.now.store.now →
         result ≡ first_that (is_writable_code file) 0 (e_phnum file) }
@@ -63,7 +63,7 @@ fn first_writable_code(view: &ExecutionView<'_>) -> Option<u16>
     None
 }
 
-/// Whether a segment is a LOAD segment that may be written and run.
+/// Returns `true` if a segment is a LOAD segment that is writable and executable.
 fn is_writable_code(header: &Phdr) -> bool
     ensures { (file : List ℕ) (i : ℕ) → IsPhdr file (segment_at file i) header.now →
         result ≡ is_writable_code file i }

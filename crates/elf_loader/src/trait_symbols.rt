@@ -1,4 +1,4 @@
-//! The marks of hardening that the symbols of a file have.
+//! The hardening traits of the symbols of a file.
 ghost use Rattle.std.specs.Prelude.{◌≡◌, ℕ, ◌+◌, ◌-◌, ◌*◌, ◌≤◌, List, length, IfErr};
 ghost use Rattle.elf_table.specs.Prelude.{CallDid, IsReadFault, StringsInBounds, TableInBounds, fault_of_result, strings_in};
 ghost use Rattle.elf_model.specs.Prelude.{DynamicSymbols as AreSymbolsOf, marks_from, no_symbol_traits, slice};
@@ -17,11 +17,11 @@ use elf_record::sizes::SYMBOL_BYTES;
 use elf_source::{Counted, Source};
 use elf_table::{Cursor, Fault, NameBuf, NameEnd, Names, Row, Table};
 
-/// The marks of so many symbols, all but the first, which is none (gABI 4, Symbol Table). There are no
-/// fewer. Each with its name asks for 88 bytes at most.
+/// Returns the traits of `count` symbols, all except the first, which is not a symbol (gABI 4,
+/// Symbol Table). There are at least that many. Each reads at most 88 bytes, with its name.
 ///
 /// # Errors
-/// Those of [`ReadAhead::name`], at the symbol. Else a fault of a read.
+/// Those of [`ReadAhead::name`], at the symbol. Otherwise a fault of a read.
 pub(crate) fn find_symbol_traits<S: Source>(
     src: &mut Counted<S>,
     symbols: &DynamicSymbols,
@@ -40,7 +40,7 @@ pub(crate) fn find_symbol_traits<S: Source>(
     symbol_traits_of_rows(src, rows, symbols.names, no_symbol_traits())
 }
 
-/// So many rows of a table of symbols but for the first of them; there are two at least.
+/// Returns `count` rows of a table of symbols except the first of them; there are at least two.
 fn rows_after_first(table: &Table, count: u64) -> Table
     requires entry { table.now.entry ≡ 24 }
     requires some { 2 ≤ count }
@@ -51,10 +51,10 @@ fn rows_after_first(table: &Table, count: u64) -> Table
     Table::new(table.place(1), count - 1, SYMBOL_BYTES)
 }
 
-/// The marks of the symbols of a table, with those before.
+/// Returns the traits of the symbols of a table, with those before.
 ///
 /// # Errors
-/// Those of [`ReadAhead::name`], at the symbol. Else a fault of a read.
+/// Those of [`ReadAhead::name`], at the symbol. Otherwise a fault of a read.
 fn symbol_traits_of_rows<S: Source>(
     src: &mut Counted<S>,
     rows: Table,
@@ -79,7 +79,7 @@ fn symbol_traits_of_rows<S: Source>(
     Ok(marks)
 }
 
-/// The marks with those of the symbol whose bytes a row has, 24 of them.
+/// Returns the traits with those of the symbol in a row of 24 bytes.
 ///
 /// # Errors
 /// Those of [`ReadAhead::name`].
@@ -113,7 +113,7 @@ fn with_symbol<S: Source>(
     }
 }
 
-/// The symbol whose bytes a row has, 24 of them.
+/// Decodes the symbol in a row of 24 bytes.
 fn symbol_in(row: &Row<'_>) -> Sym
     requires { length row.now.bytes.now ≡ 24 }
     ensures { (file : List ℕ) (at : ℕ) → row.now.bytes.now ≡ slice file at 24 →

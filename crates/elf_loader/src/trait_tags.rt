@@ -1,4 +1,4 @@
-//! The dynamic entries by which a file is hardened.
+//! The dynamic entries that affect hardening.
 ghost use Rattle.std.specs.Prelude.{◌≡◌, ℕ, List, Some, IfErr, IfOk};
 ghost use Rattle.elf_record.specs.Dyn.{IsDyn};
 ghost use Rattle.elf_source.specs.Source.{ReadsUpTo};
@@ -13,34 +13,34 @@ use elf_record::numbers::{
 use elf_source::{Counted, Source};
 use elf_table::{ExecutionView, Fault, Table};
 
-/// The tag of further flags, of the GNU system.
+/// The tag of further flags, a GNU extension.
 const DT_FLAGS_1: u64 = 0x6fff_fffb;
 
-/// The values of the first dynamic entries with some tags, where there are such (gABI 5, Dynamic
+/// The values of the first dynamic entries with some tags, if there are such (gABI 5, Dynamic
 /// Section).
 #[derive(Clone, Copy)]
 pub(crate) struct TraitTags {
     /// DT_SONAME: the name of a library.
     pub(crate) soname: Option<u64>,
-    /// DT_RPATH: where libraries are looked for.
+    /// DT_RPATH: the directories in which libraries are searched.
     pub(crate) rpath: Option<u64>,
     /// DT_RUNPATH: the same, in its place.
     pub(crate) runpath: Option<u64>,
     /// DT_TEXTREL: relocations change a segment that is not writable.
     pub(crate) textrel: Option<u64>,
-    /// DT_BIND_NOW: all symbols are bound at once.
+    /// DT_BIND_NOW: all symbols are bound at load time.
     pub(crate) bind_now: Option<u64>,
     /// DT_FLAGS.
     pub(crate) flags: Option<u64>,
-    /// DT_FLAGS_1, of the GNU system.
+    /// DT_FLAGS_1, a GNU extension.
     pub(crate) flags_1: Option<u64>,
 }
 
-/// The values that the first segment of dynamic entries has, those up to and with the first DT_NULL;
-/// none where there is no such segment. Each of its bytes is asked for at most once.
+/// Returns the values in the first PT_DYNAMIC segment, up to and including the first DT_NULL; none
+/// if there is no such segment. Each of its bytes is read at most once.
 ///
 /// # Errors
-/// Those of [`ExecutionView::dynamic`]. Else a fault of a read, or a refusal for want of budget, at an
+/// Those of [`ExecutionView::dynamic`]. Otherwise a fault of a read, or the refusal `Budget`, at an
 /// entry's offset.
 pub(crate) fn trait_entries<S: Source>(
     src: &mut Counted<S>,
@@ -58,10 +58,10 @@ pub(crate) fn trait_entries<S: Source>(
     listed_values(src, table)
 }
 
-/// The values of the first listed entries of a table with some tags.
+/// Returns the values of the first listed entries of a table with some tags.
 ///
 /// # Errors
-/// A fault of a read, or a refusal for want of budget, at an entry's offset.
+/// Returns a fault of a read, or the refusal `Budget`, at an entry's offset.
 fn listed_values<S: Source>(src: &mut Counted<S>, table: Table) -> Result<TraitTags, Fault>
     requires rows { table.entry ≡ 16 }
     requires within { TableInBounds src.old.seen.size table }
@@ -80,7 +80,7 @@ fn listed_values<S: Source>(src: &mut Counted<S>, table: Table) -> Result<TraitT
     Ok(found)
 }
 
-/// No entry.
+/// Returns no entries.
 fn nothing() -> TraitTags
     ensures { result ≡ no_values }
 {
@@ -95,7 +95,7 @@ fn nothing() -> TraitTags
     }
 }
 
-/// The values, with an entry behind those that they are of.
+/// Returns the values, with one more entry after those that were read.
 fn with_entry(found: &TraitTags, entry: &Dyn) -> TraitTags
     ensures { (file : List ℕ) (at : ℕ) → IsDyn file at entry.now →
         TakesValues file at found.now result }

@@ -1,4 +1,4 @@
-//! The traits by what was read of a file.
+//! The traits of a file, computed from what was read.
 ghost use Rattle.std.specs.Prelude.{◌≡◌, ℕ, List, is_some, unwrap_or, Option};
 ghost use Rattle.elf_table.specs.Load.{HoldsProgramHeaders};
 ghost use Rattle.elf_model.specs.Prelude.{binds_now, has_bits, has_text_relocations, kind_of_shared, path_of, program_kind, relro_of, segment_traits, traits_with};
@@ -13,25 +13,25 @@ use elf_model::{Hardening, ProgramKind, Relro, SearchPath, SegmentTraits};
 use elf_record::numbers::{ET_CORE, ET_DYN, ET_EXEC, ET_REL, PT_INTERP};
 use elf_table::ExecutionView;
 
-/// The type of the segment that is read-only once it is relocated (Linux Standard Base Core, Program
-/// Header).
+/// The type of the segment that is read-only once it is relocated (Linux Standard Base Core,
+/// Program Header).
 const PT_GNU_RELRO: u32 = 0x6474_e552;
-/// The flag of DT_FLAGS of relocations that change a segment which is not writable (gABI 5,
+/// The flag of DT_FLAGS for relocations that change a segment which is not writable (gABI 5,
 /// DT_FLAGS).
 const DF_TEXTREL: u64 = 0x4;
-/// The flag of DT_FLAGS of symbols that are all bound at once.
+/// The flag of DT_FLAGS for symbols that are all bound at load time.
 const DF_BIND_NOW: u64 = 0x8;
-/// The same of DT_FLAGS_1, of the GNU system.
+/// The same of DT_FLAGS_1, a GNU extension.
 const DF_1_NOW: u64 = 0x1;
-/// The flag of DT_FLAGS_1 of a program that stands at any address.
+/// The flag of DT_FLAGS_1 for a position-independent program.
 const DF_1_PIE: u64 = 0x800_0000;
-/// The feature of x86 that indirect branches go to marked places alone (x86-64 psABI, Program
+/// The x86 feature by which indirect branches only go to marked places (x86-64 psABI, Program
 /// Property).
 const FEATURE_IBT: u64 = 0x1;
-/// The feature of x86 that returns go by a shadow stack.
+/// The x86 feature by which returns use a shadow stack.
 const FEATURE_SHSTK: u64 = 0x2;
 
-/// The traits of a file, by the word of its features of x86 and the marks of its symbols.
+/// Returns the traits of a file, by its x86 feature bits and the traits of its symbols.
 #[tactic(auto, unfolding(elf_model::specs::Hardening::traits_with))]
 pub(crate) fn traits_with(
     view: &ExecutionView<'_>,
@@ -53,7 +53,7 @@ pub(crate) fn traits_with(
     }
 }
 
-/// What a file is, by its type (gABI 4, ELF Header).
+/// Returns the kind of a file, by its type (gABI 4, ELF Header).
 #[tactic(auto, unfolding(elf_model::specs::Hardening::program_kind))]
 fn program_kind(view: &ExecutionView<'_>, entries: &TraitTags) -> ProgramKind
     ensures { (file : List ℕ) → HoldsProgramHeaders file view.now.loaded view.now.store.now →
@@ -77,8 +77,8 @@ fn program_kind(view: &ExecutionView<'_>, entries: &TraitTags) -> ProgramKind
     }
 }
 
-/// What a file is that may stand at any address: a library where it has a name as one; else a program
-/// where it asks for an interpreter, and where it says so.
+/// Returns the kind of a position-independent file: a library if it has a DT_SONAME; otherwise a
+/// program if it requests an interpreter, or if DT_FLAGS_1 says so.
 #[tactic(auto, unfolding(elf_model::specs::Hardening::kind_of_shared))]
 fn kind_of_shared(view: &ExecutionView<'_>, entries: &TraitTags) -> ProgramKind
     ensures { (file : List ℕ) → HoldsProgramHeaders file view.now.loaded view.now.store.now →
@@ -96,7 +96,7 @@ fn kind_of_shared(view: &ExecutionView<'_>, entries: &TraitTags) -> ProgramKind
     ProgramKind::Lib
 }
 
-/// The traits by program headers, where there are any.
+/// Returns the traits by program headers, if there are any.
 #[tactic(auto, unfolding(elf_model::specs::Hardening::segment_traits))]
 fn segment_traits(view: &ExecutionView<'_>, entries: &TraitTags) -> Option<SegmentTraits>
     ensures { (file : List ℕ) → HoldsProgramHeaders file view.now.loaded view.now.store.now →
@@ -113,7 +113,7 @@ fn segment_traits(view: &ExecutionView<'_>, entries: &TraitTags) -> Option<Segme
     })
 }
 
-/// How much is read-only once it is relocated.
+/// Returns how much is read-only after relocation.
 #[tactic(auto, unfolding(elf_model::specs::Hardening::relro_of))]
 fn relro_of(view: &ExecutionView<'_>, entries: &TraitTags) -> Relro
     ensures { (file : List ℕ) → HoldsProgramHeaders file view.now.loaded view.now.store.now →
@@ -128,7 +128,7 @@ fn relro_of(view: &ExecutionView<'_>, entries: &TraitTags) -> Relro
     Relro::Partial
 }
 
-/// Whether all symbols are bound before the program begins.
+/// Returns `true` if all symbols are bound before the program begins.
 #[tactic(auto, unfolding(elf_model::specs::Hardening::binds_now))]
 fn binds_now(entries: &TraitTags) -> bool
     ensures { (file : List ℕ) → AreTraitEntries file entries.now → result ≡ binds_now file }
@@ -138,7 +138,7 @@ fn binds_now(entries: &TraitTags) -> bool
         || value_has(entries.flags_1, DF_1_NOW)
 }
 
-/// Whether relocations change a segment that is not writable.
+/// Returns `true` if relocations change a segment that is not writable.
 #[tactic(auto, unfolding(elf_model::specs::Hardening::has_text_relocations))]
 fn has_text_relocations(entries: &TraitTags) -> bool
     ensures { (file : List ℕ) → AreTraitEntries file entries.now →
@@ -147,7 +147,7 @@ fn has_text_relocations(entries: &TraitTags) -> bool
     entries.textrel.is_some() || value_has(entries.flags, DF_TEXTREL)
 }
 
-/// Where libraries are looked for first.
+/// Returns where libraries are searched first.
 #[tactic(auto, unfolding(elf_model::specs::Hardening::path_of))]
 fn path_of(entries: &TraitTags) -> SearchPath
     ensures { (file : List ℕ) → AreTraitEntries file entries.now → result ≡ path_of file }
@@ -161,7 +161,7 @@ fn path_of(entries: &TraitTags) -> SearchPath
     SearchPath::Absent
 }
 
-/// Whether the value of an entry has all of some flags; one that is not there has none.
+/// Returns `true` if the value of an entry has all of some flags; an absent one has none.
 fn value_has(value: Option<u64>, bits: u64) -> bool
     ensures { result ≡ has_bits (unwrap_or value 0) bits }
 {

@@ -1,4 +1,4 @@
-//! A set of numbers of versions.
+//! A set of version indices.
 ghost use Rattle.std.specs.Prelude.{◌≡◌, ℕ, ◌<◌, ◌==◌, ◌||◌, false, true, MatchBool};
 ghost use Rattle.elf_loader.specs.NumberSets.{has_number};
 ghost use Rattle.elf_model.specs.Versions.{VERSION_NUMBERS};
@@ -6,10 +6,10 @@ ghost use Rattle.elf_model.specs.Versions.{VERSION_NUMBERS};
 use elf_record::VERSION_NUMBERS;
 use std::marker::Model;
 
-/// How many words of 64 bits hold a bit for each.
+/// The number of words of 64 bits that hold a bit for each.
 const WORDS: usize = 16;
 
-/// A set of numbers of versions, of which each is below 1,024: a bit for each.
+/// A set of version indices, each below 1,024: a bit for each.
 #[derive(Drop)]
 pub struct VersionIndexSet {
     words: [u64; WORDS],
@@ -26,21 +26,21 @@ impl Model for VersionIndexSet {
 }
 
 impl VersionIndexSet {
-    /// No number.
+    /// Creates an empty set.
     pub fn new() -> VersionIndexSet
         ensures { (number : ℕ) → has_number result number ≡ false }
     {
         VersionIndexSet { words: [0; WORDS] }
     }
 
-    /// Whether a number is in the set.
+    /// Returns `true` if a version index is in the set.
     pub fn contains(&self, number: u16) -> bool
         ensures { result ≡ has_number self.now number }
     {
         number < VERSION_NUMBERS && self.words[usize::from(number / 64)] >> (number % 64) & 1 == 1
     }
 
-    /// Whether no number is in the set.
+    /// Returns `true` if the set is empty.
     pub fn is_empty(&self) -> bool
         ensures { MatchBool result ((number : ℕ) → has_number self.now number ≡ false)
             ((number : ℕ) × (has_number self.now number ≡ true)) }
@@ -54,7 +54,7 @@ impl VersionIndexSet {
         true
     }
 
-    /// Puts a number below 1,024 into the set.
+    /// Inserts a version index below 1,024 into the set.
     pub(crate) fn insert(&mut self, number: u16)
         requires { number < VERSION_NUMBERS }
         ensures { (other : ℕ) → has_number self.new other

@@ -1,4 +1,4 @@
-//! Which versions fit what is asked for.
+//! Which versions match a query.
 ghost use Rattle.std.specs.Prelude.{◌≡◌, ℕ, ◌+◌, ◌≤◌, List, IfSome};
 ghost use Rattle.elf_table.specs.Prelude.{CallDid, IsRead, TableInBounds, fault_of_result};
 ghost use Rattle.elf_loader.specs.Answering.{ReturnsFit};
@@ -15,22 +15,22 @@ use elf_record::{Cause, u16_at, version_number};
 use elf_source::{Counted, Source};
 use elf_table::{Fault, fill, refused};
 
-/// Whether the version of a symbol fits what is asked for, with the version's word.
+/// Whether the version of a symbol matches a query, with its versym entry.
 #[derive(Clone, Copy)]
 pub(crate) struct VersionMatch {
-    /// Whether it fits.
+    /// Whether it matches.
     pub(crate) fits: bool,
-    /// The word, where there are words of versions.
+    /// The versym entry, if there is a version symbol table.
     pub(crate) version: Option<VersymEntry>,
 }
 
-/// Whether the version of the symbol of an index fits what is asked for, where the numbers of the
-/// wanted version are known: its word is read, where there are words of versions. Without such each
-/// symbol's version fits.
+/// Returns whether the version of the symbol of an index matches a query, if the indices of the
+/// wanted version are known: its versym entry is read, if there is a version symbol table. Without
+/// one each symbol's version matches.
 ///
 /// # Errors
-/// `VersionCut` at the header or entry that locates the words, where the symbol has none. Else a
-/// fault of the read.
+/// Returns `VersionCut` at the header or entry that locates the version symbol table, if the symbol
+/// has no entry. Otherwise returns a fault of the read.
 pub(crate) fn version_fits<S: Source>(
     src: &mut Counted<S>,
     words: &Option<VersymTable>,
@@ -61,7 +61,7 @@ pub(crate) fn version_fits<S: Source>(
     })
 }
 
-// Whether a version, by its word, fits what is asked for.
+// Returns `true` if a version, by its versym entry, matches a query.
 #[tactic(auto, unfolding(elf_model::specs::Loader::fits))]
 fn fits(asked: &VersionQuery<'_>, numbers: &VersionIndexSet, word: u16) -> bool
     ensures { result ≡ fits (asked_of asked.now) (has_number numbers.now) word }
@@ -78,7 +78,7 @@ fn fits(asked: &VersionQuery<'_>, numbers: &VersionIndexSet, word: u16) -> bool
 /// Reads the word of two bytes at an offset, and only these.
 ///
 /// # Errors
-/// A fault of the read, or a refusal for want of budget, at the offset.
+/// Returns a fault of the read, or the refusal `Budget`, at the offset.
 pub fn read_half<S: Source>(src: &mut Counted<S>, at: u64) -> Result<u16, Fault>
     requires { at + 2 ≤ src.old.seen.size }
     ensures { CallDid src.old src.new (fault_of_result result) 2
@@ -89,7 +89,7 @@ pub fn read_half<S: Source>(src: &mut Counted<S>, at: u64) -> Result<u16, Fault>
     Ok(half(&bytes))
 }
 
-// The number of a word of two bytes.
+// Returns the number in a word of two bytes.
 fn half(bytes: &[u8; 2]) -> u16
     ensures { (file : List ℕ) (at : ℕ) → bytes.now ≡ slice file at 2 → result ≡ field file at 2 }
 {

@@ -1,4 +1,4 @@
-//! Which symbols answer.
+//! Which symbols match.
 ghost use Rattle.std.specs.Prelude.{◌≡◌, ◌+◌, ◌<◌, ◌≤◌, length};
 ghost use Rattle.elf_table.specs.Ledger.{CallDid, fault_of_result};
 ghost use Rattle.elf_loader.specs.Answering.{SaysOf, IsSymbolWithVersym, ReturnsAnswer};
@@ -15,14 +15,14 @@ use elf_options::SymbolQuery;
 use elf_source::{Counted, Source};
 use elf_table::Fault;
 
-/// The trial of symbols by what is wanted of them, where the numbers of the wanted version are known.
+/// A matcher of symbols for a query, with the indices of the wanted version.
 #[derive(Clone, Copy)]
 pub struct VersionMatcher<'a> {
     /// The symbols.
     pub symbols: &'a DynamicSymbols,
-    /// What is wanted.
+    /// The query.
     pub wanted: &'a SymbolQuery<'a>,
-    /// The numbers of the wanted version.
+    /// The indices of the wanted version.
     pub numbers: &'a VersionIndexSet,
 }
 
@@ -48,14 +48,14 @@ impl<'a> Matcher for VersionMatcher<'a> {
     }
 }
 
-// The symbol of an index, if it answers: it has the wanted name, it is offered, and its version
-// fits, where the numbers of the wanted version are known. It asks for the symbol, for its name and
-// for the word of its version.
+// Returns the symbol of an index, if it matches: it has the wanted name, it is exported, and its
+// version matches, if the indices of the wanted version are known. It reads the symbol, its name
+// and its versym entry.
 //
 // # Errors
-// A refusal of the symbol's name, as [`elf_table::Names::equals`] has it, at the symbol;
-// `VersionCut` at the header or entry that locates the words of versions, where the symbol has none.
-// Else a fault of a read.
+// Returns a refusal of the symbol's name, as [`elf_table::Names::equals`] does, at the symbol;
+// `VersionCut` at the header or entry that locates the version symbol table, if the symbol has no
+// entry. Otherwise returns a fault of a read.
 fn answering<S: Source>(
     src: &mut Counted<S>,
     symbols: &DynamicSymbols,

@@ -1,4 +1,4 @@
-//! The record that names the version of a number.
+//! The record that names the version of an index.
 ghost use Rattle.std.specs.Prelude.{◌≡◌, ℕ, List, Option, None, Some, IfOk, IfSome};
 ghost use Rattle.elf_loader.specs.Naming.{HasFile, IsFileIf, NamedInBounds, NamesFile, NamesRecord};
 ghost use Rattle.elf_loader.specs.Tables.{OfAnyTable, OfTable, OfTables, max_records_of, max_versions_of};
@@ -12,22 +12,23 @@ use elf_record::{VersionKind, version_number};
 use elf_source::{Counted, Source};
 use elf_table::{Fault, Names};
 
-/// A record that names the version of a number, with the strings of its name.
+/// A record that names the version of an index, with the strings of its name.
 #[derive(Clone, Copy)]
 pub struct VersionNameRecord {
     /// The record.
     pub record: VersionRecord,
     /// The strings of its name.
     pub names: Names,
-    /// The record of the needed file that it is a version of; none of a definition.
+    /// The record of the needed file whose version it is; none for a definition.
     pub file: Option<VersionRecord>,
 }
 
-/// The first record of a table that names the version of a number, if one does, with the strings of
-/// its name. No record behind it is read. `file` is the last record of a needed file that was met.
+/// Returns the first record of a table that names the version of an index, if one does, with the
+/// strings of its name. No record after it is read. `file` is the last record of a needed file that
+/// was visited.
 ///
 /// # Errors
-/// As for [`VersionCursor::advance`], of what comes before.
+/// As for [`VersionCursor::advance`], for the records before it.
 pub(crate) fn name_in_table<S: Source>(
     src: &mut Counted<S>,
     records: &VersionRecordTable,
@@ -55,7 +56,7 @@ pub(crate) fn name_in_table<S: Source>(
     Ok(None)
 }
 
-/// The record of the needed file that the next record is a version of, behind one more record.
+/// Returns the record of the needed file of the next record, after one more record.
 fn file_of(given: &VersionRecord, before: Option<VersionRecord>) -> Option<VersionRecord>
     ensures { (bytes : List ℕ) (met : VisitedRecord) (told : Option VisitedRecord) →
         IsVersion bytes met given.now →
@@ -67,11 +68,11 @@ fn file_of(given: &VersionRecord, before: Option<VersionRecord>) -> Option<Versi
     }
 }
 
-/// The first record of the definitions, and else of the needs, that names the version of a number, if
-/// one does, with the strings of its name. No record behind it is read.
+/// Returns the first record of the definitions, and otherwise of the needs, that names the version
+/// of an index, if one does, with the strings of its name. No record after it is read.
 ///
 /// # Errors
-/// As for [`VersionCursor::advance`], of what comes before.
+/// As for [`VersionCursor::advance`], for the records before it.
 pub fn name_of<S: Source>(
     src: &mut Counted<S>,
     symbols: &DynamicSymbols,
@@ -91,7 +92,8 @@ pub fn name_of<S: Source>(
     name_in_any(src, &symbols.needs, number, &mut file)
 }
 
-// The first record of a table that names the version of a number, if there is a table and one does.
+// Returns the first record of a table that names the version of an index, if there is a table and
+// one does.
 fn name_in_any<S: Source>(
     src: &mut Counted<S>,
     records: &Option<VersionRecordTable>,
@@ -111,7 +113,7 @@ fn name_in_any<S: Source>(
     }
 }
 
-// Whether a record names the version of a number.
+// Returns `true` if a record names the version of an index.
 fn names_version_index(given: &VersionRecord, number: u16) -> bool
     ensures { (file : List ℕ) (met : VisitedRecord) → IsVersion file met given.now →
         result ≡ names_version_index file number met }

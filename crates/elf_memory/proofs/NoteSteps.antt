@@ -1,4 +1,4 @@
--- What a step over the notes of a file says of those that are left.
+-- What a step over the notes of a file implies for those that are left.
 use Rattle.std.proofs.Common.{◌≡◌, ℕ, ◌+◌, ◌-◌, ◌<◌, ◌≤◌, min, true, false, List, length, drop, ap, sym, ◌∙◌, refl, arith}
 use Rattle.elf_model.specs.Prelude.{OneNote, alignment_gap, are_zeros, bytes_to_alignment, descriptor_start, first_end, first_note, n_descsz, n_namesz, slice, with_note}
 use Rattle.elf_model.proofs.Slices.{slice-size, slice-slice, slice-rest}
@@ -18,7 +18,7 @@ ends a at bytes few z = walk-ends a at bytes (next-ends a bytes few z)
 pub tails : (a at : ℕ) (bytes : List ℕ) → length bytes < 12 → are_zeros bytes ≡ false → notes_from a at bytes ≡ cut_at at
 tails a at bytes few z = walk-broken a at bytes (next-tails a bytes few z)
 
--- where the head says that the note ends
+-- the end of the note, by its header
 end-is : (a : ℕ) (bytes : List ℕ) (head : NoteHead) → IsNoteHead bytes 0 head → first_end a bytes ≡ descriptor_start a head.namesz head.descsz + head.descsz
 end-is a bytes head s = rw (s.namesz, s.descsz) refl
 
@@ -28,7 +28,7 @@ past a at bytes head s many few =
     let e = end-is a bytes head s in
     walk-broken a at bytes (next-past a bytes many (omega (arith, e, few)))
 
--- a note stands there, and those behind it are left
+-- there is a note, and those after it are left
 pub found : (a : ℕ) (file : List ℕ) (at left : ℕ) (head : NoteHead) → IsNoteHead (slice file at left) 0 head → 12 ≤ length (slice file at left)
     → descriptor_start a head.namesz head.descsz + head.descsz ≤ length (slice file at left) → length (slice file at left) ≤ left → (size : ℕ)
     → size ≡ note_size a head.namesz head.descsz (length (slice file at left))
@@ -42,7 +42,7 @@ found a file at left head s many fits whole size sized =
     walk-found a at bytes (first_note a bytes) size next
     ∙ ap (λ (x : List ℕ). with_note (first_note a bytes) (walk a (at + size) x)) behind
 
--- its name and its descriptor stand where the row tells
+-- its name and its descriptor are at the row's offsets
 pub tells : (a : ℕ) (file : List ℕ) (old : NotePosition) (head : NoteHead) (row : Row) → IsNoteHead (slice file old.at old.left) 0 head
     → descriptor_start a head.namesz head.descsz + head.descsz ≤ length (slice file old.at old.left) → length (slice file old.at old.left) ≤ old.left
     → row.at ≡ old.at → row.header ≡ old.header → row.kind ≡ head.kind → row.namesz ≡ head.namesz → row.descsz ≡ head.descsz → row.name_at ≡ old.at + 12
@@ -70,7 +70,7 @@ tells a file old head row s fits whole place header kind namesz descsz name_at d
 pub end-of : (a n d gp end : ℕ) → gp ≡ alignment_gap a n d → end ≡ 12 + n + gp + d → end ≡ descriptor_start a n d + d
 end-of a n d gp end g e = e ∙ ap (λ (x : ℕ). 12 + n + x + d) g
 
--- how many bytes it takes
+-- its size in bytes
 pub sized : (a n d len gp pad end : ℕ) → gp ≡ alignment_gap a n d → end ≡ 12 + n + gp + d → pad ≡ min (bytes_to_alignment a end) (len - end) → end ≤ len → end + pad ≡ note_size a n d len
 sized a n d len gp pad end g e p fits =
     ap (λ (x : ℕ). end + x) p ∙ sym (size-parts end (bytes_to_alignment a end) len fits) ∙ ap (λ (x : ℕ). min (x + bytes_to_alignment a x) len) (end-of a n d gp end g e)

@@ -6,21 +6,21 @@ use Rattle.elf_record.specs.Prelude.{IsEhdr}
 use Rattle.elf_record.specs.declared.ehdr.Ehdr.{Ehdr}
 use Rattle.elf_table.specs.Load.{PassesLoadChecks}
 
--- how many headers may be permitted at most
+-- the largest limit on headers
 abbrev pub MAX_HEADERS : ℕ
 MAX_HEADERS = 65279
 
--- the first check that fails before a file's section headers and program headers are read, with as many of them permitted
--- as can be
+-- the first check that fails before a file's section headers and program headers are read, with the
+-- largest limit on headers
 abbrev pub first_refused : List ℕ → Option Refusal
 first_refused file = first_refusal (before_headers file MAX_HEADERS)
 
--- the file header, or its first check that fails
+-- the checked file header, or its first failing check
 abbrev pub HeaderChecked : List ℕ → Result Ehdr Refusal → Type 0
 HeaderChecked file (Ok header) = (first_refusal (header_checks file) ≡ None) × IsEhdr file 0 header
 HeaderChecked file (Err refusal) = first_refusal (header_checks file) ≡ Some refusal
 
--- the file header, whose headers lie within the file, or the first check that fails
+-- the file header, if its headers lie within the file, or the first failing check
 abbrev pub CountsChecked : List ℕ → Result Ehdr Refusal → Type 0
 CountsChecked file (Ok header) = (first_refused file ≡ None) × IsEhdr file 0 header × PassesLoadChecks (length file) MAX_HEADERS header
 CountsChecked file (Err refusal) = first_refused file ≡ Some refusal

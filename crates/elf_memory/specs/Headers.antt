@@ -24,7 +24,7 @@ pub record IsHeader (file : List ℕ) (header : Header) : Type 0 where
   pub shnum : header.shnum ≡ e_shnum file
   pub shstrndx : header.shstrndx ≡ e_shstrndx file
 
--- the fields of the section header that stands at an offset of a file (gABI 4, Section Header)
+-- the fields of the section header at an offset of a file (gABI 4, Section Header)
 pub record IsSection (file : List ℕ) (at : ℕ) (section : Section) : Type 0 where
   pub name : section.name ≡ sh_name file at
   pub kind : section.kind ≡ sh_type file at
@@ -37,7 +37,7 @@ pub record IsSection (file : List ℕ) (at : ℕ) (section : Section) : Type 0 w
   pub addralign : section.addralign ≡ sh_addralign file at
   pub entsize : section.entsize ≡ sh_entsize file at
 
--- the fields of the program header that stands at an offset of a file (gABI 5, Program Header)
+-- the fields of the program header at an offset of a file (gABI 5, Program Header)
 pub record IsSegment (file : List ℕ) (at : ℕ) (segment : Segment) : Type 0 where
   pub kind : segment.kind ≡ p_type file at
   pub flags : segment.flags ≡ p_flags file at
@@ -48,31 +48,33 @@ pub record IsSegment (file : List ℕ) (at : ℕ) (segment : Segment) : Type 0 w
   pub memsz : segment.memsz ≡ p_memsz file at
   pub align : segment.align ≡ p_align file at
 
--- WHAT A CALLER HAS of the file header: its fields, or the first of its checks that fails
+-- THE RESULT of reading the file header: its fields, or its first failing check
 abbrev pub ReadsHeader : List ℕ → Result (Option Header) Refusal → Type 0
 ReadsHeader file (Ok (Some header)) = (first_refusal (header_checks file) ≡ None) × IsHeader file header
 ReadsHeader file (Ok None) = ⊥
 ReadsHeader file (Err refusal) = first_refusal (header_checks file) ≡ Some refusal
 
--- where the section header of an index stands, within the file; that the file has none; or the first check that fails
+-- the offset of the section header of an index, within the file; none if the file has no such
+-- section; or the first failing check
 abbrev pub FindsSection : List ℕ → ℕ → Result (Option ℕ) Refusal → Type 0
 FindsSection file index (Ok (Some at)) = (first_refused file ≡ None) × (index < e_shnum file) × (at ≡ section_at file index) × (at + 64 ≤ length file)
 FindsSection file index (Ok None) = (first_refused file ≡ None) × (e_shnum file ≤ index)
 FindsSection file index (Err refusal) = first_refused file ≡ Some refusal
 
--- the same of the program header of an index
+-- the same for the program header of an index
 abbrev pub FindsSegment : List ℕ → ℕ → Result (Option ℕ) Refusal → Type 0
 FindsSegment file index (Ok (Some at)) = (first_refused file ≡ None) × (index < e_phnum file) × (at ≡ segment_at file index) × (at + 56 ≤ length file)
 FindsSegment file index (Ok None) = (first_refused file ≡ None) × (e_phnum file ≤ index)
 FindsSegment file index (Err refusal) = first_refused file ≡ Some refusal
 
--- WHAT A CALLER HAS of the section header of an index: its fields; that the file has none; or the first check that fails
+-- THE RESULT of reading the section header of an index: its fields; none if the file has no such
+-- section; or the first failing check
 abbrev pub ReadsSection : List ℕ → ℕ → Result (Option Section) Refusal → Type 0
 ReadsSection file index (Ok (Some section)) = (first_refused file ≡ None) × (index < e_shnum file) × IsSection file (section_at file index) section
 ReadsSection file index (Ok None) = (first_refused file ≡ None) × (e_shnum file ≤ index)
 ReadsSection file index (Err refusal) = first_refused file ≡ Some refusal
 
--- the same of the program header of an index
+-- the same for the program header of an index
 abbrev pub ReadsSegment : List ℕ → ℕ → Result (Option Segment) Refusal → Type 0
 ReadsSegment file index (Ok (Some segment)) = (first_refused file ≡ None) × (index < e_phnum file) × IsSegment file (segment_at file index) segment
 ReadsSegment file index (Ok None) = (first_refused file ≡ None) × (e_phnum file ≤ index)

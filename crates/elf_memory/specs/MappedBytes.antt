@@ -1,4 +1,4 @@
--- Where the bytes at an address lie in a file in memory.
+-- The range of the bytes at an address, in a file in memory.
 use Rattle.std.specs.Prelude.{ℕ, ◌≡◌, ◌+◌, ◌≤◌, ◌⊎◌, true, false, List, length, Option, None, Some, Result, Ok, Err}
 use Rattle.elf_model.specs.Prelude.{is_outside, mapped_at, mapped_offset, p_vaddr}
 use Rattle.elf_model.specs.declared.causes.Refusal.{Refusal}
@@ -6,14 +6,15 @@ use Rattle.elf_model.specs.declared.causes.Cause.TheVariants.{TableOutside}
 use Rattle.elf_memory.specs.Checked.{first_refused}
 use Rattle.elf_memory.specs.declared.name.ByteRange.{ByteRange}
 
--- the place of the first program header that holds so many bytes from an address on, within the file and not above the address;
--- or there is none
+-- the offset of the first program header that holds `size` bytes at an address, within the file and
+-- not above the address; or there is none
 abbrev pub FindsMapping : List ℕ → ℕ → ℕ → Option ℕ → Type 0
 FindsMapping file address size (Some at) = (mapped_at file address size ≡ Some at) × (at + 56 ≤ length file) × (p_vaddr file at ≤ address)
 FindsMapping file address size None = mapped_at file address size ≡ None
 
--- WHAT A CALLER HAS of an address: where so many bytes from it on lie in the file, by the first program header that holds them;
--- that none does; or the first check that fails, at the last that they end past the end of the file
+-- THE RESULT for an address: the range in the file of `size` bytes there, by the first program
+-- header that holds them; none if none does; or the first failing check, the last of which is that
+-- the range ends within the file
 abbrev pub ReadsMapped : List ℕ → ℕ → ℕ → Result (Option ByteRange) Refusal → Type 0
 ReadsMapped file address size (Ok (Some range)) =
     (first_refused file ≡ None)

@@ -13,8 +13,8 @@ section_range file at = record { at = sh_offset file at; len = sh_size file at }
 abbrev pub HasBytes : List ℕ → ℕ → Type 0
 HasBytes file index = (index < e_shnum file) × (has_no_bytes file (section_at file index) ≡ false)
 
--- WHAT A CALLER HAS of a section's bytes: their range, which lies within the file; that the file has no such section, or that it
--- has no bytes there; or the first check that fails
+-- THE RESULT for a section's bytes: their range, which lies within the file; none if the file has
+-- no such section or it has no bytes there; or the first failing check
 abbrev pub ReadsSectionBytes : List ℕ → ℕ → Result (Option ByteRange) Refusal → Type 0
 ReadsSectionBytes file index (Ok (Some range)) =
     (first_refused file ≡ None) × HasBytes file index × (first_refusal (range_checks file (section_at file index)) ≡ None)

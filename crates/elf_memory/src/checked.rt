@@ -1,4 +1,4 @@
-//! The checks of a file that lies in memory, before its section headers and program headers are
+//! The checks of a file in memory that come before its section headers and program headers are
 //! read.
 ghost use Rattle.elf_memory.specs.Checked.{HeaderChecked, CountsChecked};
 
@@ -6,13 +6,13 @@ use crate::bytes::chunk_at;
 use elf_record::{Ehdr, Refusal};
 use elf_table::{check_before_load, refused_length};
 
-/// How many section headers, and as many program headers, are permitted at most.
+/// The largest limit on section headers, and on program headers.
 const MAX_HEADERS: u16 = 65_279;
 
-/// The file header (gABI 4, ELF Header).
+/// Reads the file header and checks it (gABI 4, ELF Header).
 ///
 /// # Errors
-/// The first check of it that fails.
+/// Returns the first check of it that fails.
 pub fn checked_header(file: &[u8]) -> Result<Ehdr, Refusal>
     ensures { HeaderChecked file.now result }
 {
@@ -22,12 +22,12 @@ pub fn checked_header(file: &[u8]) -> Result<Ehdr, Refusal>
     }
 }
 
-/// The file header, where the section headers and the program headers that it tells of lie within
-/// the file (gABI 4, ELF Header).
+/// Reads the file header and checks that its section headers and program headers lie within the
+/// file (gABI 4, ELF Header).
 ///
 /// # Errors
-/// The first check that fails in a listing that permits as many headers as can be, before these are
-/// read.
+/// Returns the first check that fails before the headers are read, with the largest limit on
+/// headers.
 pub(crate) fn checked_counts(file: &[u8]) -> Result<Ehdr, Refusal>
     ensures { CountsChecked file.now result }
 {

@@ -1,4 +1,4 @@
-//! Where the bytes of a section lie in a file.
+//! The range of a section's bytes in a file.
 ghost use Rattle.std.specs.Prelude.{◌≡◌, ℕ, List};
 ghost use Rattle.elf_model.specs.Apply.{has_no_bytes};
 ghost use Rattle.elf_memory.specs.Headers.{IsSection};
@@ -10,14 +10,13 @@ use elf_record::numbers::{SHT_NOBITS, SHT_NULL};
 use elf_record::{Cause, Refusal};
 use elf_table::is_out_of_bounds;
 
-/// Where the bytes of a section lie in a file that lies in memory; None where the file has no such
-/// section, or one of the type NOBITS or NULL, which has none there. No other section header is
-/// looked at (gABI 4, Section Header).
+/// Returns the range of a section's bytes in a file in memory; `None` if the file has no such
+/// section, or if its type is NOBITS or NULL, so that it has no bytes there. No other section
+/// header is read (gABI 4, Section Header).
 ///
 /// # Errors
-/// The first check that fails of those that a listing makes before it reads the headers, as many of
-/// them permitted as can be; then `TableOutside` at the section header where the section ends past
-/// the end of the file.
+/// Returns the first check that fails before the headers are read, with the largest limit on
+/// headers; then `TableOutside` at the section header if the section ends past the end of the file.
 pub fn section_bytes(file: &[u8], section: u16) -> Result<Option<ByteRange>, Refusal>
     ensures { ReadsSectionBytes file.now section result }
 {
@@ -40,7 +39,7 @@ pub fn section_bytes(file: &[u8], section: u16) -> Result<Option<ByteRange>, Ref
     }))
 }
 
-/// Whether a section has no bytes in its file, by its type.
+/// Returns `true` if a section has no bytes in its file, by its type.
 fn has_no_bytes(header: &Section) -> bool
     ensures { (file : List ℕ) (at : ℕ) → IsSection file at header.now →
         result ≡ has_no_bytes file at }

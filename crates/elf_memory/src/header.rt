@@ -8,7 +8,7 @@ use crate::bytes::chunk_at;
 use crate::checked::checked_header;
 use elf_record::{Ehdr, Refusal};
 
-/// A file header, field by field (gABI 4, ELF Header).
+/// A file header as plain fields (gABI 4, ELF Header).
 #[repr(C)]
 #[derive(Clone, Copy)]
 pub struct Header {
@@ -36,17 +36,16 @@ pub struct Header {
     pub shentsize: u16,
     /// The number of section headers.
     pub shnum: u16,
-    /// The section of the section names.
+    /// The index of the section that holds the section names.
     pub shstrndx: u16,
     /// The identification.
     pub ident: [u8; 16],
 }
 
-/// The file header of a file that lies in memory; there is always one, or a refusal (gABI 4, ELF
-/// Header).
+/// Reads the file header of a file in memory; the result is never `None` (gABI 4, ELF Header).
 ///
 /// # Errors
-/// The first check of it that fails.
+/// Returns the first check of it that fails.
 pub fn read_header(file: &[u8]) -> Result<Option<Header>, Refusal>
     ensures { ReadsHeader file.now result }
 {
@@ -54,7 +53,7 @@ pub fn read_header(file: &[u8]) -> Result<Option<Header>, Refusal>
     Ok(Some(fields_of(&header, *chunk_at(file, 0))))
 }
 
-/// The fields of a file header with this identification.
+/// Returns the fields of a file header with this identification.
 fn fields_of(header: &Ehdr, ident: [u8; 16]) -> Header
     ensures { (file : List ℕ) → IsEhdr file 0 header.now → ident ≡ slice file 0 16 →
         IsHeader file result }

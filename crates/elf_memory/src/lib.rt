@@ -1,6 +1,6 @@
-//! An ELF64 file that lies in memory, read where it stands: its headers, the notes of a table, where the
-//! bytes of a section and of an address lie, and names in string tables. No number that a caller sets is
-//! a wrong one: each call tests them.
+//! Access to an ELF64 file in memory, without a copy: its headers, the notes of a table, the ranges
+//! of a section's bytes and of the bytes at an address, and names in string tables. Callers may set
+//! the numbers of any argument as they like: each call checks them.
 #![tactic(auto)]
 
 mod bytes;

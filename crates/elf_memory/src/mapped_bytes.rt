@@ -1,4 +1,4 @@
-//! Where the bytes at an address lie in a file: the segments load them.
+//! The range of the bytes at an address in a file, by the segments that load them.
 ghost use Rattle.std.specs.Prelude.{◌≡◌, ◌≤◌, ℕ, List, length, true};
 ghost use Rattle.elf_model.specs.Mapped.{is_mapped_by};
 ghost use Rattle.elf_record.specs.Ehdr.{IsEhdr};
@@ -13,14 +13,13 @@ use crate::segment::{Segment, segment_at};
 use elf_record::numbers::PT_LOAD;
 use elf_record::{Cause, Ehdr, Refusal};
 
-/// Where the `size` bytes from an address on lie in a file that lies in memory, by the first LOAD
-/// program header that holds them all among the bytes that it has in the file; None where none does
-/// (gABI 5, Program Loading).
+/// Returns the range in a file in memory of the `size` bytes at an address, by the first LOAD
+/// program header whose bytes in the file include them all; `None` if there is none (gABI 5,
+/// Program Loading).
 ///
 /// # Errors
-/// The first check that fails of those that a listing makes before it reads the headers, as many of
-/// them permitted as can be; then `TableOutside` at that program header where they end past the end
-/// of the file.
+/// Returns the first check that fails before the headers are read, with the largest limit on
+/// headers; then `TableOutside` at that program header if the bytes end past the end of the file.
 pub fn find_mapped(file: &[u8], address: u64, size: u64) -> Result<Option<ByteRange>, Refusal>
     ensures { ReadsMapped file.now address size result }
 {
@@ -42,7 +41,7 @@ pub fn find_mapped(file: &[u8], address: u64, size: u64) -> Result<Option<ByteRa
     }))
 }
 
-/// Where the first LOAD program header stands that holds `size` bytes from an address on.
+/// Returns the offset of the first LOAD program header that holds `size` bytes at an address.
 fn mapping(file: &[u8], header: &Ehdr, address: u64, size: u64) -> Option<usize>
     requires same { IsEhdr file.now 0 header.now }
     requires within { PassesLoadChecks (length file.now) MAX_HEADERS header.now }
@@ -60,8 +59,8 @@ fn mapping(file: &[u8], header: &Ehdr, address: u64, size: u64) -> Option<usize>
     None
 }
 
-/// Whether a segment is a LOAD segment whose bytes in the file hold the `size` bytes from an address
-/// on. The sums are whole numbers (gABI 5, Program Loading).
+/// Returns `true` if a segment is a LOAD segment whose bytes in the file include the `size` bytes
+/// at an address. The sums do not wrap (gABI 5, Program Loading).
 fn holds(segment: &Segment, address: u64, size: u64) -> bool
     ensures value { (file : List ℕ) (at : ℕ) → IsSegment file at segment.now →
         result ≡ is_mapped_by file at address size }

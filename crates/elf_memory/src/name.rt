@@ -1,4 +1,4 @@
-//! Where a name in a string table lies.
+//! The range of a name in a string table.
 ghost use Rattle.std.specs.Prelude.{◌≡◌, ◌+◌, ◌<◌, ◌≤◌, length};
 ghost use Rattle.elf_model.specs.Bytes.{slice};
 ghost use Rattle.elf_memory.specs.Names.{FindsName};
@@ -6,32 +6,29 @@ ghost use Rattle.elf_memory.specs.Names.{FindsName};
 use elf_record::{Cause, Refusal};
 use elf_table::find_nul;
 
-/// Bytes of a file.
+/// A range of bytes of a file.
 #[repr(C)]
 #[derive(Clone, Copy)]
 pub struct ByteRange {
-    /// The file offset of the first.
+    /// The file offset of the first byte.
     pub at: u64,
-    /// How many there are.
+    /// The number of bytes.
     pub len: u64,
 }
 
-/// Where the name at an offset in a string table lies, without its NUL; there is always one, or a
-/// refusal. The string table is the bytes of `strings`, as far as they lie within the file (gABI 4,
-/// String Table).
+/// Returns the range of the name at an offset in a string table, without its NUL; the result is
+/// never `None`. The string table is the part of `strings` that lies within the file (gABI 4,
+/// String Table). The name at 0 of an empty table has no bytes, and is at 0.
 ///
 /// # Errors
-/// `NameOutside` where the offset is not below the table's size, `NameUnended` where no NUL is
-/// behind it. The offset that is named is that where the name was to begin, at most 2^64 - 1.
+/// Returns `NameOutside` if the offset is not below the table's size, `NameUnended` if no NUL
+/// follows. The fault's offset is the file offset at which the name would begin, at most 2^64 - 1.
 pub fn find_name(file: &[u8], strings: ByteRange, offset: u64) -> Result<Option<ByteRange>, Refusal>
     ensures { FindsName file.now strings offset result }
 {
     let table = bytes_of(file, strings);
     if table.is_empty() && offset == 0 {
-        return Ok(Some(ByteRange {
-            at: strings.at,
-            len: 0,
-        }));
+        return Ok(Some(ByteRange { at: 0, len: 0 }));
     }
     let at = strings.at.saturating_add(offset);
     if offset >= table.len() as u64 {
@@ -52,7 +49,7 @@ pub fn find_name(file: &[u8], strings: ByteRange, offset: u64) -> Result<Option<
     }
 }
 
-/// The bytes of a range, as far as they lie within the file.
+/// Returns the bytes of a range, as far as they lie within the file.
 pub fn bytes_of(file: &[u8], range: ByteRange) -> &[u8]
     ensures bytes { result.now ≡ slice file.now range.at range.len }
     ensures within { 0 < length result.now → range.at + length result.now ≤ length file.now }

@@ -1,4 +1,4 @@
-//! The tables of notes that headers tell of.
+//! The tables of notes that section headers and program headers describe.
 ghost use Rattle.std.specs.Prelude.{◌≡◌};
 ghost use Rattle.elf_memory.specs.NoteRows.{InFile, ReadsSectionNotes, ReadsSegmentNotes};
 
@@ -9,13 +9,12 @@ use elf_record::numbers::{PT_NOTE, SHT_NOTE};
 use elf_record::{Cause, Refusal};
 use elf_table::is_out_of_bounds;
 
-/// The notes of a section of a file that lies in memory; None where it has no such section, or one
-/// of another type than NOTE (gABI 5, Note Section).
+/// Returns the position of the first note of a section of a file in memory; `None` if the file has
+/// no such section, or if its type is not NOTE (gABI 5, Note Section).
 ///
 /// # Errors
-/// The first check that fails of those that a listing makes before it reads the headers, as many of
-/// them permitted as can be; then `TableOutside` at the section header where the section ends past
-/// the end of the file.
+/// Returns the first check that fails before the headers are read, with the largest limit on
+/// headers; then `TableOutside` at the section header if the section ends past the end of the file.
 pub fn section_notes(file: &[u8], section: u16) -> Result<Option<NotePosition>, Refusal>
     ensures { ReadsSectionNotes file.now section result }
 {
@@ -36,7 +35,7 @@ pub fn section_notes(file: &[u8], section: u16) -> Result<Option<NotePosition>, 
     within(file.len() as u64, place as u64, notes)
 }
 
-/// The notes of a segment, as [`section_notes`] gives those of a section.
+/// Returns the position of the first note of a segment, as [`section_notes`] does for a section.
 ///
 /// # Errors
 /// As for [`section_notes`], at the program header.
@@ -60,7 +59,7 @@ pub fn segment_notes(file: &[u8], segment: u16) -> Result<Option<NotePosition>, 
     within(file.len() as u64, place as u64, notes)
 }
 
-/// The notes, where their table lies within a file of `size` bytes; one of no bytes is not checked.
+/// Checks that a table of notes lies within a file of `size` bytes; an empty table is not checked.
 fn within(size: u64, place: u64, notes: NotePosition) -> Result<Option<NotePosition>, Refusal>
     ensures { InFile size place notes result }
 {

@@ -9,23 +9,23 @@ use crate::name::{ByteRange, bytes_of};
 use elf_note::{alignment_gap, are_zeros, padding};
 use elf_record::{Cause, NoteHead, Refusal};
 
-/// A place in a table of notes: plain numbers, as [`Rows`](crate::Rows) are.
+/// A position in a table of notes: plain numbers, as those of [`Rows`](crate::Rows).
 #[repr(C)]
 #[derive(Clone, Copy)]
 pub struct NotePosition {
     /// The file offset of the next note.
     pub at: u64,
-    /// How many bytes of the table are left from there on.
+    /// The number of bytes from there to the end of the table.
     pub left: u64,
     /// The alignment of the notes: 8, or any other number for 4.
     pub align: u64,
-    /// The index of the header that tells of the table.
+    /// The index of the header that describes the table.
     pub header: u32,
     /// 0.
     pub none: u32,
 }
 
-/// A note: where it and its parts stand (gABI 5, Note Section).
+/// A note: its offset and those of its parts (gABI 5, Note Section).
 #[repr(C)]
 #[derive(Clone, Copy)]
 pub struct Note {
@@ -33,23 +33,24 @@ pub struct Note {
     pub at: u64,
     /// The file offset of its name.
     pub name_at: u64,
-    /// The file offset of its descriptor; where that is empty the note's end.
+    /// The file offset of its descriptor; if that is empty, the end of the note.
     pub desc_at: u64,
     /// The size of its name in bytes, with any NUL.
     pub namesz: u32,
     /// The size of its descriptor in bytes.
     pub descsz: u32,
-    /// Its type; the name decides what it means.
+    /// Its type; what it means depends on the name.
     pub kind: u32,
-    /// The index of the header that tells of its table.
+    /// The index of the header that describes its table.
     pub header: u32,
 }
 
-/// Reads the next note and steps over it with its padding; None where fewer than 12 bytes are left,
-/// all zero (gABI 5, Note Section).
+/// Reads the next note and moves past it and its padding; returns `None` if fewer than 12 bytes are
+/// left, all of them zero (gABI 5, Note Section).
 ///
 /// # Errors
-/// `NoteCut` at the offset of the next note where none stands there. Then the place is as it was.
+/// Returns `NoteCut` at the offset of the next note if there is no whole note. The position is then
+/// unchanged.
 pub fn next_note(file: &[u8], notes: &mut NotePosition) -> Result<Option<Note>, Refusal>
     ensures { TakesNote file.now notes.old notes.new result }
 {
@@ -88,7 +89,7 @@ pub fn next_note(file: &[u8], notes: &mut NotePosition) -> Result<Option<Note>, 
     Ok(Some(note))
 }
 
-/// The alignment of notes, by that which their header tells.
+/// Returns the alignment of notes, by that of their header.
 fn note_align(align: u64) -> u64
     ensures value { result ≡ note_align align }
     ensures some { 0 < result }
@@ -96,7 +97,7 @@ fn note_align(align: u64) -> u64
     if align == 8 { 8 } else { 4 }
 }
 
-/// The refusal of a table of notes at an offset.
+/// Returns the refusal of a table of notes at an offset.
 fn cut(at: u64) -> Refusal
     ensures { result ≡ record { at = at; cause = NoteCut } }
 {

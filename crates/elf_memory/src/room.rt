@@ -1,16 +1,16 @@
-//! How much room a file's headers want.
+//! The number of header slots that a file needs.
 ghost use Rattle.std.specs.Prelude.{◌≡◌, ◌≤◌, ℕ};
 ghost use Rattle.elf_model.specs.Checks.{first_refusal, before_headers};
 ghost use Rattle.elf_memory.specs.Rooms.{slots_for};
 
 use crate::checked::checked_header;
 
-/// How many slots for headers a file wants where so many headers are permitted: one for each section
-/// header or program header, whichever are more, at least one and at most as many as are permitted;
-/// one for bytes that have no file header (gABI 4, ELF Header).
+/// Returns the number of header slots that a file needs if `headers` is the limit on headers: the
+/// larger of the numbers of section headers and of program headers, at least one and at most the
+/// limit; one if there is no valid file header (gABI 4, ELF Header).
 pub fn slots_for(file: &[u8], headers: u16) -> u16
     ensures slots { result ≡ slots_for file.now headers }
-    // With so many slots, or more, the checks before the headers are read answer the same.
+    // With at least that many slots, the checks before the headers are read have the same result.
     ensures enough { (slots : ℕ) → result ≤ slots → slots ≤ headers →
         first_refusal (before_headers file.now slots)
         ≡ first_refusal (before_headers file.now headers) }

@@ -7,7 +7,7 @@ use crate::bytes::chunk_at;
 use crate::checked::checked_counts;
 use elf_record::{Refusal, Shdr};
 
-/// A section header of a file, field by field (gABI 4, Section Header).
+/// A section header of a file as plain fields (gABI 4, Section Header).
 #[repr(C)]
 #[derive(Clone, Copy)]
 pub struct Section {
@@ -27,18 +27,18 @@ pub struct Section {
     pub name: u32,
     /// Its type.
     pub kind: u32,
-    /// The index of a section that it refers to.
+    /// The index of a section that it links to.
     pub link: u32,
     /// Further information.
     pub info: u32,
 }
 
-/// The section header of an index from a file that lies in memory; None where there is none of it. No
-/// other section header is looked at (gABI 4, Section Header).
+/// Reads the section header of an index from a file in memory; `None` if there is none. No other
+/// section header is read (gABI 4, Section Header).
 ///
 /// # Errors
-/// The first check that fails of those that a listing makes before it reads the headers, as many of
-/// them permitted as can be.
+/// Returns the first check that fails before the headers are read, with the largest limit on
+/// headers.
 pub fn read_section(file: &[u8], index: u16) -> Result<Option<Section>, Refusal>
     ensures { ReadsSection file.now index result }
 {
@@ -48,7 +48,8 @@ pub fn read_section(file: &[u8], index: u16) -> Result<Option<Section>, Refusal>
     }
 }
 
-/// Where the section header of an index stands, within the file; None where there is none of it.
+/// Returns the offset of the section header of an index, which lies within the file; `None` if
+/// there is none.
 ///
 /// # Errors
 /// As for [`read_section`].
@@ -62,7 +63,7 @@ pub(crate) fn section_place(file: &[u8], index: u16) -> Result<Option<usize>, Re
     Ok(Some(header.e_shoff as usize + 64 * index as usize))
 }
 
-/// The section header at an offset of the file.
+/// Reads the section header at an offset of the file.
 pub(crate) fn section_at(file: &[u8], at: usize) -> Section
     requires { at + 64 ≤ length file.now }
     ensures { IsSection file.now at result }
@@ -70,7 +71,7 @@ pub(crate) fn section_at(file: &[u8], at: usize) -> Section
     fields_of(&Shdr::decode(chunk_at(file, at)))
 }
 
-/// The fields of a section header.
+/// Returns the fields of a section header.
 fn fields_of(header: &Shdr) -> Section
     ensures { (file : List ℕ) (at : ℕ) → IsShdr file at header.now → IsSection file at result }
 {

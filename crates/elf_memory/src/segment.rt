@@ -7,7 +7,7 @@ use crate::bytes::chunk_at;
 use crate::checked::checked_counts;
 use elf_record::{Phdr, Refusal};
 
-/// A program header of a file, field by field (gABI 5, Program Header).
+/// A program header of a file as plain fields (gABI 5, Program Header).
 #[repr(C)]
 #[derive(Clone, Copy)]
 pub struct Segment {
@@ -17,9 +17,9 @@ pub struct Segment {
     pub vaddr: u64,
     /// Its physical address.
     pub paddr: u64,
-    /// How many bytes it has in the file.
+    /// The number of bytes that it has in the file.
     pub filesz: u64,
-    /// How many bytes it has in memory.
+    /// The number of bytes that it has in memory.
     pub memsz: u64,
     /// Its alignment in bytes.
     pub align: u64,
@@ -29,12 +29,12 @@ pub struct Segment {
     pub flags: u32,
 }
 
-/// The program header of an index from a file that lies in memory; None where there is none of it. No
-/// other program header is looked at (gABI 5, Program Header).
+/// Reads the program header of an index from a file in memory; `None` if there is none. No other
+/// program header is read (gABI 5, Program Header).
 ///
 /// # Errors
-/// The first check that fails of those that a listing makes before it reads the headers, as many of
-/// them permitted as can be.
+/// Returns the first check that fails before the headers are read, with the largest limit on
+/// headers.
 pub fn read_segment(file: &[u8], index: u16) -> Result<Option<Segment>, Refusal>
     ensures { ReadsSegment file.now index result }
 {
@@ -44,7 +44,8 @@ pub fn read_segment(file: &[u8], index: u16) -> Result<Option<Segment>, Refusal>
     }
 }
 
-/// Where the program header of an index stands, within the file; None where there is none of it.
+/// Returns the offset of the program header of an index, which lies within the file; `None` if
+/// there is none.
 ///
 /// # Errors
 /// As for [`read_segment`].
@@ -58,7 +59,7 @@ pub fn segment_place(file: &[u8], index: u16) -> Result<Option<usize>, Refusal>
     Ok(Some(header.e_phoff as usize + 56 * index as usize))
 }
 
-/// The program header at an offset of the file.
+/// Reads the program header at an offset of the file.
 pub fn segment_at(file: &[u8], at: usize) -> Segment
     requires { at + 56 ≤ length file.now }
     ensures { IsSegment file.now at result }
@@ -66,7 +67,7 @@ pub fn segment_at(file: &[u8], at: usize) -> Segment
     fields_of(&Phdr::decode(chunk_at(file, at)))
 }
 
-/// The fields of a program header.
+/// Returns the fields of a program header.
 fn fields_of(header: &Phdr) -> Segment
     ensures { (file : List ℕ) (at : ℕ) → IsPhdr file at header.now → IsSegment file at result }
 {

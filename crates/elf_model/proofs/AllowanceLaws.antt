@@ -1,4 +1,4 @@
--- What is left for the members behind a member is less by what that may cost.
+-- What is left for the members after a member is reduced by what that may cost.
 use Rattle.std.proofs.Common.{◌≡◌, ℕ, ◌+◌, ◌-◌, ◌*◌, ◌/◌, ◌≤◌, if◌then◌else◌, Bool, true, false, ap, arith}
 use Rattle.std.proofs.Math.Nat.{mul-le-mul_left, mul-le-mul_right, mul-add, add-mul}
 use Rattle.elf_model.specs.Prelude.{ListingStyle, allowance, archive_ceiling, data_most, long_name_bytes, name_bytes, style_ceiling, suffixes_most}
@@ -65,7 +65,7 @@ allowed room rest size headers style within =
 pub header_allowed : (room headers : ℕ) (style : ListingStyle) → 60 ≤ room → 60 + long_name_bytes style.cap ≤ allowance room headers style
 header_allowed room headers style within = omega (arith, allowed room 0 0 headers style (omega arith))
 
--- an allowance of all bytes behind the magic string is within the ceiling
+-- an allowance of all bytes after the magic string is within the ceiling
 pub allowance_within : (size headers : ℕ) (style : ListingStyle) → 8 + allowance (size - 8) headers style ≤ archive_ceiling size headers style
 unfolding archive_ceiling
 allowance_within size headers style =

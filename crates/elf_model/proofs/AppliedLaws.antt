@@ -1,4 +1,4 @@
--- How long a section is with its relocations applied.
+-- The length of a section with its relocations applied.
 use Rattle.std.proofs.Common.{◌≡◌, ℕ, List, length, Option, None, Some, Result, Ok, Err, refl}
 use Rattle.elf_model.specs.Prelude.{AllInside, AppliedKeepsLength, StoredBytes, applied, before_entries, changes_of, first_refusal, held_bytes, patched, patches_of, section_at, target_of}
 use Rattle.elf_model.specs.declared.causes.Refusal.{Refusal}

@@ -1,10 +1,10 @@
--- Applying stage by stage: the answer, the section's bytes, the order of the offsets and the cost.
+-- Applying stage by stage: the result, the section's bytes, the order of the offsets and the cost.
 use Rattle.std.proofs.Common.{◌≡◌, ℕ, ◌+◌, ◌*◌, ◌==◌, inl, inr, true, false, List, [], ◌∷◌, ◌++◌, None, Some, Ok, Err, refl, ap}
 use Rattle.std.proofs.lemmas.Bool.{cases_Bool}
 use Rattle.elf_model.specs.Prelude.{Layout, R_X86_64_NONE, StoredBytes, applied, apply_cost, apply_cost_by_order, apply_cost_in_order, before_entries, changes_of, cost_of_passes, cost_with, e_shnum, early_checks, first_refusal, header_checks, held_bytes, offsets_at, offsets_never_fall, patched, patches_of, r_offset, r_type, section_at, target_of}
 use Rattle.elf_model.specs.declared.causes.Refusal.{Refusal}
 
--- the stages of the answer
+-- the stages of the result
 module _ (file : List ℕ) (headers section : ℕ) (layout : Layout) where
   pub applied-refused :
       (refusal : Refusal) → first_refusal (before_entries file headers section) ≡ Some refusal

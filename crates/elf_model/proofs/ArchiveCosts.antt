@@ -1,4 +1,4 @@
--- Where a member's data lie, and what the members of an archive cost at most.
+-- The position of a member's data, and what the members of an archive cost at most.
 use Rattle.std.proofs.Common.{◌≡◌, ℕ, zero, suc, ◌+◌, ◌-◌, ◌≤◌, nat_le, nat_lt, if◌then◌else◌, Bool, true, false, List, length, Option, None, Some, Result, Ok, Err, refl, ap, arith}
 use Rattle.std.proofs.lemmas.Bool.Decides.{nat_tests}
 use Rattle.elf_model.specs.Prelude.{ArchiveCostIsWithinCeiling, DataLieInTheFile, DisplayedName, FileRange, ListingStyle, Member, MemberWalkState, NextMember, OneMember, allowance, archive_checks, archive_cost, before_members, behind, bytes_in, cost_where, data_after, header_cost, is_elf, is_elsewhere, listing_cost, lists_members, long_name_bytes, member_cost, member_data, member_name, member_named, member_size, members_cost, name_field, name_in_data, next_member, parsed_member_size, pass, style_ceiling}
@@ -9,7 +9,7 @@ use Rattle.elf_model.proofs.AllowanceLaws.{allowed, allowance_within, header_all
 use Rattle.elf_model.proofs.CostLemmas.{cost_within}
 use Rattle.elf_model.proofs.Slices.{slice-size}
 
--- an answer is a size, and an extent
+-- a result is a size, and a range
 abbrev IsSize : Result ℕ Cause → ℕ → Type 0
 IsSize answer size = answer ≡ Ok size
 
@@ -35,7 +35,7 @@ size_lies file at size is = by_room (nat_lt (length file) (at + 60)) is
     by_room true same = absurd cc
     by_room false same = by_told (parsed_member_size file at) same
 
--- and what is left of the data behind a name too
+-- and so does the rest of the data after a name
 behind_lies : (at size name : ℕ) (e : FileRange) → data_after at size name ≡ Ok e → (at ≤ e.at) × (e.at + e.size ≤ at + size)
 unfolding data_after
 behind_lies at size name e is = by_room (nat_lt size name) refl is
@@ -113,7 +113,7 @@ member_most file headers style parts m lies =
     let all = where_most (lists_members style parts) (4 + cost_where (is_elf content) (listing_cost content headers style parts)) in
     omega (arith, same, file_cost, shown, all)
 
--- and the members from a place on no more than the bytes from there on
+-- and the members at a position cost no more than the bytes from there
 members_within : (most : ℕ) (file : List ℕ) (headers : ℕ) (style : ListingStyle) (parts : ℕ) (p : MemberWalkState)
     → members_cost most file headers style parts p ≤ allowance (length file - p.at) headers style
 unfolding members_cost

@@ -1,9 +1,9 @@
--- Which refusals are for want of budget.
+-- Which refusals are budget refusals.
 use Rattle.std.proofs.Common.{◌≡◌, inl, inr, ◌⊎◌, refl}
 use Rattle.elf_model.specs.declared.causes.Cause.TheVariants.{BadClass, BadData, BadLink, BadVersion, Budget, EntrySize, ExtendedNumbering, HashCycle, HashIndex, HashShape, LoadOverlap, MemberCut, NameOutside, NameUnended, NoHash, NotArchive, NotElf, NotRel, NotStrings, NoteCut, Overflow, PlaceOutside, Short, SizeNotWhole, SymbolIndex, TableOutside, Thin, TooLong, TooManyHeaders, Undefined, Unmapped, Unplaced, Unsupported, VersionCut, VersionIndex}
 use Rattle.elf_model.specs.declared.causes.Cause.{Cause}
 
--- whether a refusal is for want of budget
+-- whether a refusal is a budget refusal
 pub is_budget_fault : (cause : Cause) → (cause ≡ Budget) ⊎ (cause ≡ Budget → ⊥)
 is_budget_fault Short = inr (λ e. cc)
 is_budget_fault NotElf = inr (λ e. cc)

@@ -34,7 +34,7 @@ fails_inside : (size : ℕ) (refusal : Refusal) → IsInsideChange size (Fails r
 unfolding IsInsideChange
 fails_inside size refusal = tt
 
--- what holds of all that each of some items gives holds of all
+-- a property of everything that each item gives is a property of all
 all_given : {A : Type 0} (P : A → Type 0) (f : ℕ → List A) (xs : List ℕ) → ((x : ℕ) → All P (f x)) → All P (flat_map f xs)
 all_given P f [] each = All-nil P
 all_given P f (x ∷ xs) each = All-append P (f x) (flat_map f xs) (each x) (all_given P f xs each)
@@ -160,7 +160,7 @@ entry_stores_value target at rela patch e =
           value_stored target at rela _ patch refl (cc)
     ]
 
--- where no change is a fault, the patches are what the changes store
+-- if no change is a fault, the patches are what the changes store
 stored_inside :
     (size : ℕ) (patch : StoredBytes) (patches : List StoredBytes) (rest : Result (List StoredBytes) Refusal)
     → IsInside size patch → ((ps : List StoredBytes) → rest ≡ Ok ps → AllInside size ps)

@@ -9,7 +9,7 @@ unfolding places_from
 length-places_from place i zero = refl
 length-places_from place i (suc n) = ap suc (length-places_from place (suc i) n)
 
--- patches before what further changes give
+-- patches before those of further changes
 abbrev pub before_more : List StoredBytes → Result (List StoredBytes) Refusal → Result (List StoredBytes) Refusal
 before_more first (Err refusal) = Err refusal
 before_more first (Ok second) = Ok (first ++ second)
@@ -24,7 +24,7 @@ unfolding and_patches
 parted patch (Err refusal) all e = absurd (cc)
 parted patch (Ok others) all e = record { others = others; rest_is = refl; all_are = cc }
 
--- a fault is the answer, whatever stands behind it
+-- a fault is the result, no matter what follows it
 faulty : (patch : StoredBytes) (rest : Result (List StoredBytes) Refusal) (refusal : Refusal) → and_patches patch rest ≡ Err refusal → rest ≡ Err refusal
 unfolding and_patches
 faulty patch (Err other) refusal e = cc

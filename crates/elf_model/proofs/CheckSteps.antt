@@ -1,11 +1,11 @@
--- Checks one list behind the other.
+-- Two lists of checks, one after the other.
 use Rattle.std.proofs.Common.{◌≡◌, Bool, true, false, List, [], ◌∷◌, ◌++◌, Option, None, Some, refl, sym, ◌∙◌, inl, inr}
 use Rattle.std.specs.Prelude.{is_none}
 use Rattle.std.proofs.lemmas.Bool.{cases_Bool}
 use Rattle.elf_model.specs.Prelude.{Check, first_refusal, pass}
 use Rattle.elf_model.specs.declared.causes.Refusal.{Refusal}
 
--- a refusal in the first list is the answer
+-- a refusal in the first list is the result
 pub first_refusal-some :
     (front back : List Check) (refusal : Refusal) → first_refusal front ≡ Some refusal
     → first_refusal (front ++ back) ≡ Some refusal
@@ -16,7 +16,7 @@ first_refusal-some (check ∷ front) back refusal e =
       | inr passes ↦ rw passes (first_refusal-some front back refusal (rw passes at e))
     ]
 
--- a first list that passes leaves the answer to the second
+-- if the first list passes, the second decides
 pub first_refusal-none :
     (front back : List Check) → first_refusal front ≡ None → first_refusal (front ++ back) ≡ first_refusal back
 first_refusal-none [] back e = refl
@@ -26,7 +26,7 @@ first_refusal-none (check ∷ front) back e =
       | inr passes ↦ rw passes (first_refusal-none front back (rw passes at e))
     ]
 
--- where both lists pass one behind the other, the second passes
+-- if both lists pass together, the second passes
 pub first_refusal-back : (front back : List Check) → first_refusal (front ++ back) ≡ None → first_refusal back ≡ None
 first_refusal-back front back e = go (first_refusal front) refl
   where
@@ -34,7 +34,7 @@ first_refusal-back front back e = go (first_refusal front) refl
     go None f = sym (first_refusal-none front back f) ∙ e
     go (Some refusal) f = let g = first_refusal-some front back refusal f in absurd (cc)
 
--- where two lists of checks pass, the first does
+-- if two lists of checks pass, the first does
 pub passes_front : (front rest : List Check) → first_refusal (front ++ rest) ≡ None → first_refusal front ≡ None
 passes_front front rest h = by_cases (first_refusal front) (λ refusal fails. first_refusal-some front rest refusal fails)
   where

@@ -24,7 +24,7 @@ cut_names_are_none (_ ∷ names) front behind = cut_names_are_none names front b
 pub order_chooses_nothing : OrderChoosesNothing
 order_chooses_nothing names others same name behind = list_any-IsPermutation (is_named name behind) names others same
 
--- where the sign stands in a text, by its first byte
+-- whether the sign is in a text, by its first byte
 sign_here : (byte : ℕ) (text : List ℕ) → (byte == AT_SIGN) ≡ true → position (λ byte. byte == AT_SIGN) (byte ∷ text) ≡ Some 0
 sign_here byte text is =
     let at : position_or_len (λ byte. byte == AT_SIGN) (byte ∷ text) ≡ 0 = rw is refl in
@@ -42,7 +42,8 @@ sign_behind byte text place is found =
     by None found at = grind (arith, nat_tests)
     by (Some place) found at = grind (arith, nat_tests)
 
--- a text that begins with the sign asks for a version of the empty name; another first byte is one of the name
+-- a text that begins with the sign is a version of the empty name; any other first byte is one of
+-- the name
 starts : (byte : ℕ) (text : List ℕ) → (byte == AT_SIGN) ≡ true → parse_query (byte ∷ text) ≡ record { name = []; asked = asked_after text }
 unfolding parse_query
 starts byte text is = rw (sign_here byte text is, parse_query) refl
@@ -57,7 +58,7 @@ goes_on byte text is = by (position (λ byte. byte == AT_SIGN) text) refl
     by None e = rw (e, sign_behind byte text None is e, parse_query) refl
     by (Some place) e = rw (e, sign_behind byte text (Some place) is e, parse_query) refl
 
--- what a text fits, told without parting it
+-- what a text matches, without splitting it
 fits : (name : List ℕ) (suffix : Suffix) (text : List ℕ) → Bool
 fits name NoSuffix text = bytes_eq name text
 fits name (Suffixed is_default (Cut _)) text = bytes_eq name text
@@ -73,7 +74,7 @@ or-none : (b c : Bool) → b || (c && false) ≡ b
 or-none true c = refl
 or-none false c = and-false c
 
--- the version behind one sign is not the one behind two
+-- the version after one sign is not the one after two
 no_sign_first : (version text : List ℕ) → not (has_sign_first version) && bytes_eq version (AT_SIGN ∷ text) ≡ false
 no_sign_first [] text = refl
 no_sign_first (first ∷ version) text = elim (cases_Bool (first == AT_SIGN)) [ inl sign ↦ rw sign refl | inr other ↦ rw other refl ]
@@ -87,7 +88,7 @@ one_sign (first ∷ version) text byte other = elim (cases_Bool (first == AT_SIG
   | inr plain ↦ rw plain refl
 ]
 
--- a version that is asked for behind the sign
+-- a version after the sign
 behind_fits : (suffix : Suffix) (text : List ℕ) → suits (asked_after text) suffix ≡ fits [] suffix (AT_SIGN ∷ text)
 unfolding fits
 behind_fits NoSuffix [] = refl
@@ -107,7 +108,7 @@ behind_fits (Suffixed is_default (Whole version)) (byte ∷ text) = elim (cases_
       rw (other, differs, one_sign version text byte other) (sym (or-none (bytes_eq version (byte ∷ text)) is_default))
 ]
 
--- where both are gone through, byte by byte
+-- if both are compared, byte by byte
 fits_end : (first : ℕ) (name : List ℕ) (behind : Suffix) → fits (first ∷ name) behind [] ≡ false
 unfolding fits
 fits_end first name NoSuffix = refl
@@ -135,7 +136,7 @@ fits_more first name (Suffixed is_default (Whole version)) byte text =
     shared true a n b d c = refl
     shared false a n b d c = or-none (n && false) d ∙ and-false n
 
--- WHAT A TEXT FITS: a name without the sign that is the text, or that is with its version
+-- WHAT A TEXT MATCHES: a name without the sign that is the text, or that is with its version
 nothing_fits : (name : List ℕ) (behind : Suffix) → is_named (Whole name) behind (parse_query []) ≡ not (has_sign name) && fits name behind []
 unfolding fits parse_query
 nothing_fits [] NoSuffix = refl
@@ -218,7 +219,7 @@ pub versions_are_chosen : VersionsAreChosen
 versions_are_chosen texts name is_default version =
     any_fits texts name (Suffixed is_default version) ∙ ap (λ b. not (has_sign name) && b) (any_version texts name is_default version)
 
--- a name that is asked for alone fits whatever stands behind it
+-- a name alone matches, no matter what follows it
 alone_fits : (name : DisplayedName) (behind : Suffix) (wanted : SymbolQuery) → is_named name NoSuffix wanted ≡ true → is_named name behind wanted ≡ true
 alone_fits name behind wanted fit = by (is_whole name wanted.name) wanted.asked fit
   where

@@ -10,15 +10,16 @@ use Rattle.elf_model.proofs.CheckSteps.{all_pass, pass-behind}
 use Rattle.elf_model.proofs.StyleLemmas.{view_length}
 use Rattle.elf_model.proofs.SumLemmas.{cost_where-le, cost_where-within, cost_where-and, sum_over-le, and-second, and-first, fewer, headers_within, one_kind, two_kinds, one_segment_kind}
 
--- what one table costs at most, in a file of so many bytes
+-- what one table costs at most, in a file of this many bytes
 abbrev pub table_bound : ℕ → ℕ → ℕ
 table_bound size cap = size + size / 16 * (32 + name_bytes cap)
 
--- what the tables of one section header cost at most, with or without versions behind the names of symbols
+-- what the tables of one section header cost at most, with or without versions after the names of
+-- symbols
 abbrev pub most_bound : Bool → (size cap : ℕ) → ℕ
 most_bound versions size cap = table_bound size cap + (if versions then suffixes_most size cap else 0)
 
--- a cost of more, under the same conditions
+-- a larger cost, under the same conditions
 cost_more : (has passes : Bool) (amount other most : ℕ) → (passes ≡ true → other ≤ amount + most)
     → cost_where (has && passes) other ≤ cost_where (has && passes) amount + cost_where has most
 cost_more true true amount other most h = h refl
@@ -61,7 +62,7 @@ table_within bytes at size place entry_size h =
     whole_within size (sh_offset bytes at) (sh_size bytes at) place entry_size
     (pass-second (not (sh_entsize bytes at == entry_size)) (record { at = place; cause = EntrySize }) (whole_checks_of size (sh_offset bytes at) (sh_size bytes at) place entry_size) h)
 
--- a table costs nothing where the header is of another kind
+-- a table costs nothing if the header is of another kind
 kind-le : (kind : TableKind) (headers : HeaderTable) (i size cap bound : ℕ)
     → (pass (kind.checks.own (headers.bytes i) (headers.at i) size) ≡ true → kind.asks headers i size cap ≤ bound)
     → table_cost kind headers i size cap ≤ cost_where (kind.has_table (headers.bytes i) (headers.at i)) bound
@@ -74,7 +75,7 @@ records_within : (entry each cap size table : ℕ) → 16 ≤ entry → each ≤
 records_within entry each cap size table e f t =
     let m : table / entry * each ≤ size / 16 * (32 + cap) = mul-le-mul (fewer entry size table e t) f in omega arith
 
--- one walk over records in a file of so many bytes
+-- one walk over records in a file of this many bytes
 walk_within : (headers : HeaderTable) (size type entry bytes : ℕ) → 16 ≤ entry → walk_cost headers size type entry bytes ≤ size / entry * bytes
 unfolding walk_cost
 walk_within headers size type entry bytes e = by_found (first_typed headers type)
@@ -140,7 +141,7 @@ module _ (headers : HeaderTable) (i size cap : ℕ) where
       kind-le version_needs headers i size cap bound (λ h.
       records_within 16 (16 + name_bytes cap) (name_bytes cap) size (header_field headers sh_size i) (omega arith) (omega arith) (range_fits h))
 
-  -- the symbols that a section of version numbers links to
+  -- the symbols that a versym section links to
   linked_fits : has_symbol_table headers i size ≡ true → header_field headers sh_size (header_field headers sh_link i) ≤ size
   linked_fits h =
       let link : ℕ = header_field headers sh_link i in
@@ -175,7 +176,7 @@ module _ (headers : HeaderTable) (i size cap : ℕ) where
       cost_where-within (has_symbol_table headers i size && not (header_field headers sh_size i == 0)) _ bound (λ some.
       rows_fit (and-first (has_symbol_table headers i size) (not (header_field headers sh_size i == 0)) some)))
 
-  -- all of them without versions behind names, whatever the parts
+  -- all of them without versions after names, for any parts
   plain_kinds-le : (parts : ℕ) → kinds_cost (section_kinds false) headers i size cap parts ≤ bound
   unfolding kinds_cost
   plain_kinds-le parts =
@@ -192,7 +193,7 @@ module _ (headers : HeaderTable) (i size cap : ℕ) where
       asked : (parts : ℕ) (kind : TableKind) → cost_where (has parts kind.part) (table_cost kind headers i size cap) ≤ table_cost kind headers i size cap
       asked parts kind = cost_where-le (has parts kind.part) (table_cost kind headers i size cap)
 
-  -- the versions behind the names of so many symbols
+  -- the versions after the names of this many symbols
   suffixes_fit : (table names : ℕ) → names ≤ size / 24 → suffixes_cost headers table names size cap ≤ suffixes_most size cap
   unfolding suffixes_cost walks_cost
   suffixes_fit table names few = by_found (first_numbers headers table)
@@ -224,7 +225,7 @@ module _ (headers : HeaderTable) (i size cap : ℕ) where
       let within = table_fits i 24 h in
       omega (arith, suffixes_fit (header_field headers sh_link i) (header_field headers sh_size i / 24) (omega arith)))
 
-  -- all of them with versions behind names
+  -- all of them with versions after names
   pub suffixed_kinds-le : (parts : ℕ)
       → kinds_cost (section_kinds true) headers i size cap parts ≤ kinds_cost (section_kinds false) headers i size cap parts + suffixes_most size cap
   unfolding kinds_cost suffixed_symbols symbols relocations_with_versions relocations
@@ -238,7 +239,7 @@ module _ (headers : HeaderTable) (i size cap : ℕ) where
   section_kinds-le true parts = omega (arith, suffixed_kinds-le parts, plain_kinds-le parts)
   section_kinds-le false parts = omega (arith, plain_kinds-le parts)
 
--- so many entries of 16 bytes, each gone through twice and with a name
+-- this many entries of 16 bytes, each processed twice and with a name
 twice_within : (size table name : ℕ) → table ≤ size → table / 16 * (2 * 16 + name) ≤ size + size / 16 * (32 + name)
 twice_within size table name t = records_within 16 (2 * 16 + name) name size table (omega arith) (omega arith) t
 
@@ -264,7 +265,7 @@ module _ (headers : HeaderTable) (i size cap : ℕ) where
       let b = cost_where-le (has parts segment_dynamic.part) (table_cost segment_dynamic headers i size cap) in
       omega (arith, one, a, b, segment_notes_fit, segment_dynamic_fits)
 
--- the numbers of headers are permitted
+-- the numbers of headers are allowed
 pub loadable-within : (file : List ℕ) (headers : ℕ) → is_loadable file headers ≡ true → (e_shnum file ≤ headers) × (e_phnum file ≤ headers)
 unfolding is_loadable
 loadable-within file headers h =
@@ -283,7 +284,7 @@ pub headers_some : (versions : Bool) (file : List ℕ) → (e_shnum file == 0) �
 unfolding table_headers
 headers_some versions file h = rw (h, table_headers) refl
 
--- where there are no sections all tables are those of the program headers
+-- if there are no sections, all tables are those of the program headers
 without_sections : (file : List ℕ) (style : ListingStyle) (parts headers : ℕ) → (e_shnum file == 0) ≡ true → e_phnum file ≤ headers
     → sections_cost file style.cap parts + segments_cost file parts + tables_cost file style parts
     ≤ headers * (120 + name_bytes style.cap + most_bound style.versions (length file) style.cap)
@@ -303,7 +304,7 @@ without_sections file style parts headers z p =
     mul-le-mul_left headers (omega arith) in
     omega arith
 
--- where there are sections they are those of the section headers
+-- if there are sections, they are those of the section headers
 with_sections : (file : List ℕ) (style : ListingStyle) (parts headers : ℕ) → (e_shnum file == 0) ≡ false → e_shnum file ≤ headers → e_phnum file ≤ headers
     → sections_cost file style.cap parts + segments_cost file parts + tables_cost file style parts
     ≤ headers * (120 + name_bytes style.cap + most_bound style.versions (length file) style.cap)
@@ -324,7 +325,7 @@ with_sections file style parts headers z s p =
     ap (λ k. headers * k) (omega arith) ∙ mul-add headers 56 (64 + n + bound) in
     omega arith
 
--- what is asked for behind the file header is within the ceiling
+-- what is read after the file header is within the ceiling
 after_header : (file : List ℕ) (style : ListingStyle) (parts headers : ℕ) (none : Bool) → (e_shnum file == 0) ≡ none → is_loadable file headers ≡ true
     → sections_cost file style.cap parts + segments_cost file parts + tables_cost file style parts
     ≤ headers * (120 + name_bytes style.cap + most_bound style.versions (length file) style.cap)
@@ -356,7 +357,7 @@ style_ceiling-is size headers style = by_cases style.versions
         ap (λ (k : ℕ). headers * k) (omega arith) in
         omega (arith, same)
 
--- what a listing asks for is within it
+-- what a listing reads is within it
 after_within : (file : List ℕ) (headers : ℕ) (style : ListingStyle) (parts : ℕ) → 64 + asked_after file headers style parts ≤ style_ceiling (length file) headers style
 after_within file headers style parts =
     let within = cost_where-within (has_tables parts && is_loadable file headers)

@@ -78,17 +78,17 @@ pub count-first : (file : List ℕ) (at n i : ℕ) → i < n → ((j : ℕ) → 
 count-first file at n i l none h =
     listed_is_counted file at n (suc i) (record { within = l; none_before = λ j m. none j (omega arith); ended = λ m. (i, refl, h) })
 
--- no entry tells no value
+-- no entry has no value
 pub value-none : (file : List ℕ) (at tag : ℕ) → dynamic_value file at zero tag ≡ None
 unfolding dynamic_value
 value-none file at tag = refl
 
--- the first entry tells its value where it has the tag
+-- the first entry gives its value if it has the tag
 pub value-here : (file : List ℕ) (at n tag : ℕ) → d_tag file at ≡ tag → dynamic_value file at (suc n) tag ≡ Some (d_un file at)
 unfolding dynamic_value
 value-here file at n tag h = let t : (d_tag file at == tag) ≡ true = grind (arith, nat_tests) in rw (t, dynamic_value) refl
 
--- else those behind it do
+-- otherwise those after it do
 pub value-more : (file : List ℕ) (at n tag : ℕ) → d_tag file at ≢ tag → dynamic_value file at (suc n) tag ≡ dynamic_value file (at + 16) n tag
 unfolding dynamic_value
 value-more file at n tag h = let t : (d_tag file at == tag) ≡ false = grind (arith, nat_tests) in rw (t, dynamic_value) refl

@@ -1,4 +1,4 @@
--- Lookups in a hash table of the GNU system: what is calculated is the one lookup, and it is bounded.
+-- Lookups in a GNU hash table: what is computed is the only lookup, and it is bounded.
 use Rattle.std.proofs.Common.{◌≡◌, ℕ, zero, suc, ◌+◌, ◌-◌, ◌*◌, ◌<◌, ◌≤◌, ◌⊎◌, inl, inr, Bool, true, false, not, List, nat_lt, if◌then◌else◌, Option, None, Some, Result, Ok, Err, refl, sym, ap, ◌∙◌, arith}
 use Rattle.std.proofs.lemmas.Bool.{cases_eq, cases_lt, cases_Bool, and_parts, ltb-true}
 use Rattle.elf_model.specs.Prelude.{Answers, ChainResult, EndsInChain, GnuAbsentMeansNone, GnuFoundAnswers, GnuFoundIsFirst, GnuLookupAnswers, GnuLookupIsBounded, GnuLookupIsOne, HashTable, IsFirst, IsFound, IsGnuLookup, IsHeld, IsWithinTable, Last, NotThere, Untried, WalkEnd, before_chains, chain_word, end_of_chain, end_of_match, gnu_end, gnu_first, gnu_looked_up, gnu_start, gnu_symbol, gnu_tried, gnu_walk_end, gnu_walked_at, gnu_walked_by, hash_bits_match, holds_none, in_chains, is_chain_end, is_chained, nothing_tried, walk_word}
@@ -18,7 +18,7 @@ by_rising ends start i e f = record {
   none_before = λ j l. ap ends (sym (rises start j)) ∙ f.none_before j l;
 }
 
--- what a trial says
+-- the result of a trial
 trial_says : (r : Result Bool Refusal) → (r ≡ Ok true) ⊎ ((r ≡ Ok false) ⊎ ((e : Refusal) × (r ≡ Err e)))
 trial_says (Ok true) = inl refl
 trial_says (Ok false) = inr (inl refl)
@@ -49,7 +49,7 @@ module _ (file : List ℕ) (table : HashTable) (hash : ℕ) (trial : ℕ → Res
   unfolding gnu_end
   end-tried y t f = rw (t, gnu_end) (rw (f) refl)
 
-  -- an end other than that no symbol is there
+  -- an end that means that a symbol is there
   end_is_there : (y : ℕ) (end : Option WalkEnd) → gnu_end file table hash trial y ≡ end → (end ≡ Some NotThere → ⊥) → is_chained file table y ≡ true
   end_is_there y end e other =
       elim (cases_Bool (is_chained file table y)) [
@@ -60,7 +60,7 @@ module _ (file : List ℕ) (table : HashTable) (hash : ℕ) (trial : ℕ → Res
   goes_on_there : (y : ℕ) → gnu_end file table hash trial y ≡ None → is_chained file table y ≡ true
   goes_on_there y e = end_is_there y None e (λ n. cc)
 
--- what a symbol index of a table is
+-- the facts about a symbol index of a table
 record IsThere (file : List ℕ) (table : HashTable) (y : ℕ) : Type 0 where
   from_first : gnu_first file table.place ≤ y
   below : y < table.symbols
@@ -80,7 +80,7 @@ is_there file table y e =
     }
 
 module _ (file : List ℕ) (table : HashTable) (hash : ℕ) (trial : ℕ → Result Bool Refusal) where
-  -- the walk ends at one of the words looked at
+  -- the walk ends at one of the words examined
   ends_somewhere : gnu_walk_end file table hash trial ≡ None → ⊥
   unfolding gnu_walk_end walk_word
   ends_somewhere e =
@@ -109,7 +109,7 @@ module _ (file : List ℕ) (table : HashTable) (hash : ℕ) (trial : ℕ → Res
   unfolding gnu_looked_up
   looked_up-walked f = rw (f, gnu_looked_up) refl
 
-  -- what the search for the end says
+  -- the result of the search for the end
   answered :
       (end : Option (ℕ × WalkEnd)) → holds_none file table.place hash ≡ false → gnu_walk_end file table hash trial ≡ end
       → EndsInChain file table hash trial (gnu_walked_by file table.place hash end)
@@ -146,7 +146,7 @@ tried_le file place hash count =
     omega arith
 
 module _ (file : List ℕ) (table : HashTable) (hash : ℕ) (trial : ℕ → Result Bool Refusal) where
-  -- so many words can be read as symbols are there
+  -- this many words can be read if symbols are there
   within : (i : ℕ) → ((j : ℕ) → j < i → is_chained file table (gnu_symbol file table.place hash j) ≡ true) → (i ≤ table.symbols) × (4 * i ≤ table.size)
   within zero h = (omega arith, omega arith)
   within (suc i) h =
@@ -190,7 +190,7 @@ module _ (file : List ℕ) (table : HashTable) (hash : ℕ) (trial : ℕ → Res
 pub gnu_lookup_is_bounded : GnuLookupIsBounded
 gnu_lookup_is_bounded file table hash trial = bounded_by file table hash trial (gnu_looked_up file table hash trial) (gnu_lookup_answers file table hash trial)
 
--- what a symbol that is found is
+-- the facts about a symbol that is found
 module _ (file : List ℕ) (table : HashTable) (hash : ℕ) (trial : ℕ → Result Bool Refusal) where
   found_at : (i y : ℕ) (end : WalkEnd) → (gnu_walked_at file table.place hash i end).answer ≡ Ok (Some y)
       → (end ≡ Answers) × (y ≡ gnu_symbol file table.place hash i)
@@ -207,7 +207,7 @@ module _ (file : List ℕ) (table : HashTable) (hash : ℕ) (trial : ℕ → Res
   absent_at i Answers e = absurd (cc)
   absent_at i Last e = refl
 
-  -- a symbol that is not tried does not end a walk as one that answers
+  -- a symbol that is not tried does not end a walk like one that answers
   passed_no_answer : (y : ℕ) → is_chained file table y ≡ true → hash_bits_match (chain_word file table.place y) hash ≡ false
       → gnu_end file table hash trial y ≡ Some Answers → ⊥
   passed_no_answer y is f e =
@@ -250,7 +250,7 @@ pub gnu_found_answers : GnuFoundAnswers
 gnu_found_answers file table hash trial y e =
     found_by file table hash trial (gnu_looked_up file table hash trial) y (gnu_lookup_answers file table hash trial) e
 
--- a symbol that answers and that the table holds: the walk does not pass it
+-- a symbol that answers and is in the table is not skipped by the walk
 module _ (file : List ℕ) (table : HashTable) (hash : ℕ) (trial : ℕ → Result Bool Refusal) where
   held_end : (y : ℕ) → trial y ≡ Ok true → hash_bits_match (chain_word file table.place y) hash ≡ true → is_chained file table y ≡ true
       → gnu_end file table hash trial y ≡ Some Answers

@@ -1,11 +1,11 @@
--- How listings are put together.
+-- How listings are concatenated.
 use Rattle.std.proofs.lemmas.Nat.{and_assoc}
 use Rattle.std.specs.Int.RustNames.{bit_and}
 use Rattle.elf_model.specs.Prelude.{Check, FILE_HEADER_SIZE, Fault, HEADER, HeaderAloneIsListed, HeaderFaultIsListedAlone, LastRowIsLast, Line, ListingItem, ListingStyle, ListingsAppend, LoadFaultIsListedSecond, NothingAfterTheFault, OtherBitsMeanNothing, RowsSplit, after_header, all_parts, each, fault_of, file_header_items, first_refusal, guarded, has, has_tables, header_checks, header_line, known_parts, lines_of, listing, listing_cost, load_checks, load_items, loaded_items, refusal_line, report_of, viewed, where_asked}
 use Rattle.elf_model.specs.declared.causes.Refusal.{Refusal}
 use Rattle.std.proofs.Common.{◌≡◌, ℕ, suc, zero, ◌+◌, ◌==◌, Bool, true, false, List, [], ◌∷◌, ◌++◌, Some, None, arith, refl, ap, sym, ◌∙◌, append-nil, append_assoc, add-zero, zero-add}
 
--- rows are put together
+-- rows are concatenated
 pub rows_split : RowsSplit
 unfolding each
 rows_split row first zero more = rw (zero-add more, add-zero first)
@@ -22,12 +22,12 @@ unfolding each
 last_row row first count =
     rows_split row first count 1 ∙ ap (λ rest. each row first count ++ rest) (append-nil (row (first + count)))
 
--- a check that fails stands in the place of the items
+-- a failed check replaces the items
 pub guarded-fault : (checks : List Check) (members : List ListingItem) (refusal : Refusal) → first_refusal checks ≡ Some refusal
     → guarded checks members ≡ Fault refusal ∷ []
 guarded-fault checks members refusal h = rw (h, guarded) refl
 
--- where all checks pass, the items stand
+-- if all checks pass, the items are unchanged
 pub guarded-passes : (checks : List Check) (members : List ListingItem) → first_refusal checks ≡ None → guarded checks members ≡ members
 guarded-passes checks members h = rw (h, guarded) refl
 
@@ -93,7 +93,7 @@ listings_append (Line text ∷ front) back h =
     (ap (λ more. text ++ more) n.0 ∙ sym (append_assoc text (lines_of front) (lines_of back)), n.1)
 listings_append (Fault first ∷ front) back h = cc
 
--- the parts that a style knows are known once; the file header is one of them
+-- the known parts of the known parts of a style are the same; the file header is one of them
 all_of_all : (gnu : Bool) → bit_and (all_parts gnu) (all_parts gnu) ≡ all_parts gnu
 all_of_all true = refl
 all_of_all false = refl

@@ -1,4 +1,4 @@
--- What a loader's lookup asks for is within its ceiling.
+-- What a loader's lookup reads is within its ceiling.
 use Rattle.std.proofs.Common.{◌≡◌, ℕ, suc, ◌+◌, ◌*◌, ◌/◌, ◌<◌, ◌≤◌, ◌==◌, nat_lt, Bool, true, false, List, [], ◌∷◌, ◌++◌, length, Option, None, Some, Result, Ok, Err, inl, inr, refl, ap, arith}
 use Rattle.std.proofs.Math.Nat.{mul-le-mul, mul-add}
 use Rattle.std.proofs.lemmas.Bool.{cases_Bool, and_parts, ltb-true, ltb-false, eqb-true}
@@ -92,7 +92,7 @@ record IsShort (size : ℕ) (walked : ChainResult) : Type 0 where
   few_words : 4 * walked.read ≤ size
 
 module _ (file : List ℕ) (scope : LookupTables) where
-  -- the counts of a hash table of the gABI fit it
+  -- the counts of a gABI hash table fit it
   counts_fit : (none short : Bool) → (sysv_nbucket file scope.table.place == 0) ≡ none
       → nat_lt scope.table.size (8 + 4 * sysv_nbucket file scope.table.place + 4 * sysv_nchain file scope.table.place) ≡ short
       → scope.kind ≡ SysvTable → first_refusal (counts_check file scope ∷ []) ≡ None → 4 * sysv_nchain file scope.table.place ≤ scope.table.size
@@ -202,7 +202,7 @@ looked_up_few file headers wanted = go (lookup_tables_of file headers) refl
     go (Err refusal) s = rw (s, loader_looked) (record { few_tried = omega arith; few_words = omega arith; few_records = omega arith })
     go (Ok scope) s = rw (s, loader_looked) (loaded_few file scope wanted (length file) (scope_inside file headers scope s))
 
--- so many bytes of words, symbols and records
+-- this many bytes of words, symbols and records
 asked_within : (words tried records name version size : ℕ) → tried ≤ words → 4 * words ≤ size → records ≤ size / 8
     → 4 * words + tried * (26 + name) + records * version ≤ size / 4 * (30 + name) + size / 8 * version
 asked_within words tried records name version size t w r =

@@ -8,7 +8,7 @@ use Rattle.elf_model.specs.Hash.{Refused}
 use Rattle.elf_model.proofs.GnuHashLaws.{gnu_found_answers}
 use Rattle.elf_model.proofs.SysvWalkLaws.{sysv_found_answers}
 
--- an answer is that a symbol is found, told in this way
+-- a result is that a symbol is found, returned in this way
 record IsSymbol (scope : LookupTables) (y section index symbol : ℕ) : Type 0 where
   section_is : section ≡ scope.symbols.index
   index_is : index ≡ y
@@ -40,7 +40,7 @@ module _ (file : List ℕ) (symbols : DynamicSymbols) (wanted : SymbolQuery) (is
   answer_parts : answers file symbols wanted is_wanted y ≡ Ok true → Parts
   answer_parts e = parts_by _ _ refl refl e
 
--- a symbol that a walk of either kind gives answers
+-- a symbol that a walk of either kind finds answers
 walk_by : (file : List ℕ) (scope : LookupTables) (wanted : SymbolQuery) (is_wanted : ℕ → Bool) (y : ℕ) (kind : HashStyle) → scope.kind ≡ kind
     → (walk_in file scope wanted is_wanted).answer ≡ Ok (Some y) → answers file scope.symbols wanted is_wanted y ≡ Ok true
 unfolding walk_in
@@ -50,7 +50,7 @@ walk_by file scope wanted is_wanted y GnuTable k e =
 walk_by file scope wanted is_wanted y SysvTable k e =
     sysv_found_answers file scope.table (sysv_hash wanted.name) (answers file scope.symbols wanted is_wanted) y (rw (k, walk_in) at e)
 
--- the symbol that is told is the one that the walk gives
+-- the symbol in the result is the one that the walk finds
 module _ (file : List ℕ) (scope : LookupTables) (words : VersymTable) (y : ℕ) (walked : ChainResult) where
   told-shown :
       (naming : NumberNameSource) (found : List ℕ × VisitedRecord) → naming.found ≡ Some found
@@ -96,7 +96,7 @@ module _ (file : List ℕ) (scope : LookupTables) (asked : VersionQuery) (record
   found_is None section index symbol e = is_symbol scope y section index symbol e
   found_is (Some words) section index symbol e = found-with words _ refl section index symbol e
 
--- what a walk gives where a symbol is found
+-- the result of a walk that finds a symbol
 record FoundBy (scope : LookupTables) (walked : ChainResult) (section index symbol : ℕ) : Type 0 where
   gives : walked.answer ≡ Ok (Some index)
   section_is : section ≡ scope.symbols.index

@@ -16,7 +16,7 @@ unfoldable pub max_records_of : List VersionRecordTable → ℕ
 max_records_of [] = 0
 max_records_of (table ∷ tables) = max_records table.kind table.size + max_records_of tables
 
--- the hash table and the records of versions lie within the file
+-- the hash table and the version records lie within the file
 pub record IsInside (size : ℕ) (scope : LookupTables) : Type 0 where
   pub table_inside : scope.table.size ≤ size
   pub few_records : max_records_of scope.symbols.records ≤ size / 8
@@ -69,7 +69,7 @@ module _ (file : List ℕ) where
       let same : records_of_type file type kind others ≡ table ∷ others = rw (f, records_of_type) refl in
       rw same (omega arith)
 
-  -- the checks of the words of versions, then those of the records
+  -- the checks of the versym entries, then those of the records
   words_front : (at i : ℕ) → List Check
   words_front at i =
       unless_empty (sh_size file (section_at file i)) (table_checks file (section_at file i) VERSYM_SIZE)
@@ -142,7 +142,8 @@ module _ (file : List ℕ) where
       let same : records_of_tag file at tag kind others ≡ table ∷ others = rw (f, records_of_tag) refl in
       rw same (omega arith)
 
-  -- the checks of the rows that words of versions are at, and of those of the records; then all that come behind the first check
+  -- the checks of the rows of the versym entries, and of those of the records; then all that come
+  -- after the first check
   version_rows : (at row : ℕ) → List Check
   version_rows at row =
       rest_checks file row
@@ -215,7 +216,7 @@ module _ (file : List ℕ) where
     few_records = rows_inside index at table_row _ refl (first_refusal-back (sized_rest kind table_row) (rows_checks file at table_row) e);
   }
 
--- Where a lookup is made.
+-- The lookup tables.
 module _ (file : List ℕ) where
   sections_by : (found : Option (HashStyle × ℕ)) → hash_section file ≡ found → (scope : LookupTables) → scope_by_sections file ≡ Ok scope
       → IsInside (length file) scope

@@ -1,4 +1,4 @@
--- Lookups: what is calculated is the one lookup.
+-- Lookups: what is computed is the only lookup.
 use Rattle.std.proofs.Common.{◌≡◌, ℕ, zero, suc, ◌<◌, ◌≤◌, ◌⊎◌, inl, inr, Bool, true, false, List, [], ◌∷◌, ◌++◌, length, drop, nat_lt, ◌==◌, Option, None, Some, Result, Ok, Err, refl, sym, ap, ◌∙◌, arith}
 use Rattle.std.proofs.lemmas.Bool.{cases_eq, cases_lt, cases_Bool, and_parts, ltb-true}
 use Rattle.elf_model.specs.Prelude.{Absent, ChainEnd, ComparedWithinChains, CycleExactly, CycleIsEndless, Found, IsEndless, IsFirst, IsLookup, Lookup, LookupAnswers, LookupEnd, LookupIsBounded, LookupIsOne, Nameless, NoIndex, Outcome, Wanted, begins, cycle, end_at_word, end_of_name, is_empty_at_zero, is_index, linked_at, looked_up, lookup_at, lookup_by, lookup_end, lookup_word, nchain, same, same_symbol}
@@ -36,7 +36,7 @@ cycle_is_endless file at wanted some goes =
     long_walk_never_ends _ _ _ (nchain file at) (lookup_is_bounded file at wanted) some goes
 
 module _ (file : List ℕ) (at : ℕ) (wanted : List ℕ) where
-  -- it ends at none of the words looked at: it never ends
+  -- it ends at none of the words examined: it never ends
   pub endless_where :
       lookup_end file at wanted (suc (nchain file at)) ≡ None → IsEndless (end_at_word file at wanted) (lookup_word file at wanted)
   unfolding lookup_end
@@ -49,7 +49,7 @@ module _ (file : List ℕ) (at : ℕ) (wanted : List ℕ) where
   unfolding lookup_end
   first_where i end e = searched_first _ _ _ (nchain file at) i end e
 
-  -- what the search for the end says
+  -- the result of the search for the end
   answered :
       (end : Option (ℕ × LookupEnd)) → lookup_end file at wanted (suc (nchain file at)) ≡ end
       → IsLookup file at wanted (lookup_by file at wanted end)
@@ -70,7 +70,7 @@ lookup_is_one file at wanted first second (inr a) (inl b) =
 lookup_is_one file at wanted first second (inr a) (inr b) = a.gives ∙ sym b.gives
 
 module _ (file : List ℕ) (at : ℕ) (wanted : List ℕ) where
-  -- one symbol more than words are passed over is compared at most
+  -- at most one symbol more is compared than words are skipped
   compared_le : (i : ℕ) (end : LookupEnd) → (lookup_at file at wanted i end).compared ≤ suc i
   unfolding lookup_at
   compared_le i ChainEnd = omega arith
@@ -153,7 +153,7 @@ same_no_cycle table index wanted e =
       ]
     ]
 
--- the cause of a refusal; of another answer another cause than the cycle's
+-- the cause of a refusal; for any other outcome a cause other than the cycle's
 cause_of : Outcome → Cause
 cause_of (Found section index symbol) = NoHash
 cause_of Absent = NoHash
@@ -203,7 +203,7 @@ cycle_exactly file at wanted = (
       (lookup_answers file at wanted) (inr (record { endless = endless; gives = refl })),
 )
 
--- What a lookup gives by the first word at which it ends.
+-- The result of a lookup by the first word at which it ends.
 module _ (file : List ℕ) (at : ℕ) (wanted : List ℕ) where
   pub ends_with :
       (number : ℕ) (end : LookupEnd) → IsFirst (end_at_word file at wanted) (lookup_word file at wanted) number end

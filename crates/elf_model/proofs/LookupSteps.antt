@@ -1,11 +1,11 @@
--- A lookup step by step: the answer after each stage, and the words as they are read.
+-- A lookup step by step: the result after each stage, and the words as they are read.
 use Rattle.std.proofs.Common.{◌≡◌, ℕ, zero, suc, ◌+◌, ◌*◌, ◌<◌, ◌≤◌, inl, inr, Bool, true, false, List, ◌++◌, length, Option, None, Some, refl, ap, arith}
 use Rattle.std.proofs.lemmas.Bool.{cases_eq}
 use Rattle.elf_model.specs.Prelude.{GoesOn, e_shnum, early_checks, find_cost, first_hash, first_refusal, first_that, hash_checks, header_checks, load_checks, looked, looked_in, looked_up, pad64, refused_after, section_at, shape_checks}
 use Rattle.elf_model.specs.declared.causes.Cause.TheVariants.{NoHash}
 use Rattle.elf_model.specs.declared.causes.Refusal.{Refusal}
 
--- one word more goes on
+-- one more word goes on
 pub goes_on_more : {E : Type 0} (ends : ℕ → Option E) (words : ℕ → ℕ) (n : ℕ) → GoesOn ends words n → ends (words n) ≡ None → GoesOn ends words (suc n)
 goes_on_more ends words n goes here i low =
     elim (cases_eq i n) [ inl same ↦ rw same here | inr other ↦ goes i (omega arith) ]
@@ -55,7 +55,7 @@ module _ (file : List ℕ) (at : ℕ) (wanted : List ℕ) where
   unfolding looked_in
   looked_in-passed e = rw (e, looked_in) refl
 
--- the first number that passes a test, where the ones before it do not
+-- the first number that passes a test, if the ones before it do not
 pub first_that-some :
     (test : ℕ → Bool) (first count i : ℕ) → first ≤ i → i < first + count → ((j : ℕ) → first ≤ j → j < i → test j ≡ false)
     → test i ≡ true → first_that test first count ≡ Some i
@@ -80,7 +80,7 @@ first_that-none test first (suc count) before =
     let f : test first ≡ false = before first (omega arith) (omega arith) in
     rw (f, first_that) (first_that-none test (suc first) count (λ j l h. before j (omega arith) (omega arith)))
 
--- a search that finds finds what it seeks
+-- a search that finds something finds what it searches for
 pub first_that-holds : (test : ℕ → Bool) (first count i : ℕ) → first_that test first count ≡ Some i → (test i ≡ true) × (first ≤ i) × (i < first + count)
 unfolding first_that
 first_that-holds test first zero i h = cc

@@ -7,7 +7,7 @@ use Rattle.elf_model.specs.Names.DisplayedName.{Whole}
 use Rattle.elf_model.proofs.Nuls.{free, none-free, free-none, some-free, free-append, free-take, free-within, split_at_nul}
 use Rattle.elf_model.proofs.NameLemmas.{View, is_empty, is_outside, is_whole, is_cut, is_unended, view, named-drop, named-inside, shown-empty, shown-outside}
 
--- the first NUL at a name's index is the one behind the name
+-- the first NUL at a name's index is the one after the name
 named-free : (table : List ℕ) (index : ℕ) (name : List ℕ) → IsNulTerminatedAt table index name
     → (free (drop index table) ≡ length name) × (length name < length (drop index table)) × (take (length name) (drop index table) ≡ name)
 named-free table index name h =
@@ -26,7 +26,7 @@ one_name table index a b (inl ha) (inr hb) = let i = named-inside table index a 
 one_name table index a b (inr ha) (inl hb) = let i = named-inside table index b hb in let l = ap length ha.0.0 in absurd (omega arith)
 one_name table index a b (inr ha) (inr hb) = ha.1 ∙ sym hb.1
 
--- a front that is a name, a NUL and more has the name at its start
+-- a prefix that is a name, a NUL and more has the name at its start
 stands-front : (bytes name rest : List ℕ) (cap : ℕ) → take (cap + 1) bytes ≡ name ++ 0 ∷ rest → take (length (name ++ 0 ∷ [])) bytes ≡ name ++ 0 ∷ []
 stands-front bytes name rest cap e =
     let n : ℕ = length (name ++ 0 ∷ []) in

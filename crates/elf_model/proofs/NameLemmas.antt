@@ -48,7 +48,7 @@ pub shown-outside : (table : List ℕ) (index cap : ℕ) → IsNameOutside table
 unfolding shown
 shown-outside table index cap h = rw (outside-full table index h, outside-above table index h.0) refl
 
--- which bytes stand at an index below the table's size
+-- the bytes at an index below the table's size
 length-front : (table : List ℕ) (index cap : ℕ) → index < length table → length (slice table index (cap + 1)) ≡ min (cap + 1) (length table - index)
 length-front table index cap h = simp (length-take, length-drop)
 
@@ -97,7 +97,7 @@ view table index cap = split (place_of table index)
     split (empty h) = is_empty h (shown-empty table index cap h)
     split (outside h) = is_outside h (shown-outside table index cap h)
 
--- what stands at a name's index
+-- what is at a name's index
 pub named-drop : (table : List ℕ) (index : ℕ) (name : List ℕ) → IsNulTerminatedAt table index name → (rest : List ℕ) × (drop index table ≡ name ++ 0 ∷ rest)
 named-drop table index name h =
     let n : ℕ = length (name ++ 0 ∷ []) in

@@ -9,7 +9,7 @@ use Rattle.elf_model.proofs.Nuls.{free, none-free, free-none, some-free, free-so
 use Rattle.elf_model.proofs.NameLemmas.{shown-inside}
 use Rattle.elf_model.proofs.NameLaws.{shown_cut, shown_unended}
 
--- The first NUL by places: what a search for it answers.
+-- The first NUL by position: the result of a search for it.
 test-false : (b : ℕ) → b ≢ 0 → (b == 0) ≡ false
 test-false b h = grind (arith, nat_tests)
 
@@ -26,7 +26,7 @@ pub nul_in-nowhere : (bytes : List ℕ) → ((i : ℕ) → i < length bytes → 
 nul_in-nowhere bytes before =
     free-none bytes (position_or_len_is (λ b. b == 0) bytes (length bytes) 0 (omega arith) (λ i l. test-false (get_or bytes i 0) (before i l)) (λ l. absurd (omega arith)))
 
--- The first NUL of a front and a piece behind it.
+-- The first NUL of a prefix and a piece after it.
 pub nul_in-append-none : (front piece : List ℕ) → nul_in front ≡ None → nul_in piece ≡ None → nul_in (front ++ piece) ≡ None
 nul_in-append-none front piece p q =
     let e = free-append front piece (none-free front p) in
@@ -55,7 +55,7 @@ nul_in-append-front front rest place h =
 pub nul_in-whole : (bytes : List ℕ) (n place : ℕ) → nul_in (take n bytes) ≡ Some place → nul_in bytes ≡ Some place
 nul_in-whole bytes n place h = ap nul_in (sym (take-append-drop n bytes)) ∙ nul_in-append-front (take n bytes) (drop n bytes) place h
 
--- What is shown, from a front of the bytes at the index.
+-- What is shown, from a prefix of the bytes at the index.
 pub shown-found : (table : List ℕ) (index cap n place : ℕ) → index < length table → n ≤ cap + 1 → nul_in (slice table index n) ≡ Some place
     → shown table index cap ≡ Ok (Whole (slice table index place))
 shown-found table index cap n place i l h =

@@ -83,7 +83,7 @@ notes-more a note notes first rest p (inr s) =
       short = s.short;
     })
 
--- what stands at the end
+-- what is at the end
 outcome-ends : (a place : ℕ) (rest : List ℕ) → next_note a rest ≡ Ends → Outcome a place rest (walk a place rest)
 outcome-ends a place rest e = go (next_view a rest)
   where
@@ -118,7 +118,7 @@ outcome-short a place rest note size e s l z few =
       short = short;
     })))
 
--- a padded note in front of an outcome
+-- a padded note before an outcome
 outcome-more : (a place : ℕ) (rest : List ℕ) (note : Note) (size : ℕ) → next_note a rest ≡ OneNote note size → size ≤ length rest
     → Padded a note (take size rest) → Outcome a (place + size) (drop size rest) (walk a (place + size) (drop size rest))
     → Outcome a place rest (walk a place rest)
@@ -211,7 +211,7 @@ walk-is-cut a table place h = go (table-outcome a table)
 pub walked_is_cut : WalkedIsCut
 walked_is_cut a table place h = rw (walked-is a table) (walk-is-cut a table place (rw (walked-is a table) at h))
 
--- padded notes alone are what is walked of them
+-- padded notes alone are walked unchanged
 padded-walked : (a : ℕ) (notes : List Note) (front : List ℕ) → AllPadded a notes front → walk a 0 front ≡ record { notes = notes; cut = None }
 padded-walked a notes front p = filled-walked a notes front (record { front = front; tail = []; parts = sym (append-nil front); padded = p; few = omega arith; zeros = refl })
 

@@ -1,4 +1,4 @@
--- What a loop over a note table needs: the rows and the cut that are left, one note at a time.
+-- What a loop over a note table needs: the remaining rows and the cut, one note at a time.
 use Rattle.std.proofs.Common.{take, length-take, le_of_eq, take-take, min, ◌≡◌, ℕ, ◌+◌, ◌<◌, ◌≤◌, List, [], ◌∷◌, length, drop, ◌⊎◌, inl, inr, Option, Some, None, ap, sym, ◌∙◌, arith}
 use Rattle.std.proofs.lemmas.List.{drop_all, take_all}
 use Rattle.std.proofs.lemmas.Bool.{cases_lt}
@@ -11,7 +11,7 @@ use Rattle.elf_model.proofs.Walks.{walk, walk-found}
 use Rattle.elf_model.proofs.NoteLaws.{nothing-ends}
 use Rattle.elf_model.proofs.NoteRowLaws.{note-whole, note-cut, row_of, rows-nil, rows-cons, first-padded}
 
--- the rows and the cut that are left from a place on
+-- the remaining rows and the cut from a position on
 abbrev pub rows_left : ℕ → ℕ → List ℕ → List NoteRow
 rows_left a place rest = note_rows a place (walk a place rest).notes
 
@@ -29,7 +29,7 @@ found-first a rest note size e = go (next_view a rest)
     go (past n) = cc
     go (found h l n) = (cc, cc, h, l)
 
--- behind the last note, whose padding may be missing, no row is left at any place
+-- after the last note, whose padding may be missing, no row is left at any position
 rows-end : (a at n : ℕ) (rest : List ℕ) → rest ≡ [] → note_rows a n (walk a at rest).notes ≡ []
 rows-end a at n rest e = rw (e) (ap (λ (w : NoteScan). note_rows a n w.notes) (nothing-ends a at) ∙ rows-nil a n)
 
@@ -59,7 +59,7 @@ rows-found a place rest note size e =
       ap (λ (x : NoteScan). x.cut) w,
     )
 
--- A note's name as it is shown, from a front of it.
+-- A note's name as it is shown, from a prefix of it.
 pub before_nul-some : (name : List ℕ) (place : ℕ) → nul_in name ≡ Some place → before_nul name ≡ take place name
 before_nul-some name place h = let f = some-free name place h in ap (λ n. take n name) f.0
 
@@ -77,7 +77,7 @@ note-shown-all cap note h l =
     let b = before_nul-none note.name h in
     note-whole cap note (rw b l) ∙ ap (λ (x : List ℕ). Whole x) b
 
--- without a NUL among the first cap + 1 bytes the first one stands behind them, if anywhere
+-- without a NUL among the first cap + 1 bytes the first one is after them, if anywhere
 none-in-front : (name : List ℕ) (n : ℕ) → nul_in (take n name) ≡ None → n ≤ length name → n ≤ free name
 none-in-front name n h l = go (cases_lt (free name) n)
   where

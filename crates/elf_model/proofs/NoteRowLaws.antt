@@ -11,7 +11,7 @@ use Rattle.elf_model.proofs.Spellings.{NextView, ends, tails, past, found, next_
 use Rattle.elf_model.proofs.Walks.{walk, walk-ends, walk-broken, walk-found}
 use Rattle.elf_model.proofs.NoteLaws.{walked-is, nothing-ends}
 
--- a note's row at a place
+-- a note's row at a position
 abbrev pub row_of : ℕ → ℕ → Note → NoteRow
 row_of a place note = record { at = place; note = note; descriptor_at = place + descriptor_start a (length note.name) (length note.descriptor) }
 
@@ -27,7 +27,7 @@ rows-cons a place note notes = refl
 no-rows-stand : (a place : ℕ) (table : List ℕ) → All (IsNoteInTable a table) (note_rows a place [])
 no-rows-stand a place table = rw (rows-nil a place) (All-nil (IsNoteInTable a table))
 
--- what is found stands in the table
+-- what is found is in the table
 row-stands : (a place : ℕ) (table : List ℕ) → place ≤ length table → 12 ≤ length (drop place table) → first_end a (drop place table) ≤ length (drop place table)
     → IsNoteInTable a table (row_of a place (first_note a (drop place table)))
 row-stands a place table i h l =
@@ -106,14 +106,14 @@ rows-from a (suc most) place table i h = step (λ n. rows-from a most n table)
 pub rows_stand : RowsStand
 rows_stand a table = rw (walked-is a table) (rows-from a (suc (length table)) 0 table zero-le (omega arith))
 
--- what is reached by the bytes to the next multiple is one
+-- an offset plus the bytes to the next multiple is a multiple
 next-four : (n : ℕ) → (n + bytes_to_alignment 4 n) % 4 ≡ 0
 next-four n = omega arith
 
 next-eight : (n : ℕ) → (n + bytes_to_alignment 8 n) % 8 ≡ 0
 next-eight n = omega arith
 
--- what is known of multiples of an alignment
+-- facts about multiples of an alignment
 record Multiples (a : ℕ) : Type 0 where
   next : (n : ℕ) → (n + bytes_to_alignment a n) % a ≡ 0
   sum : (m n : ℕ) → m % a ≡ 0 → n % a ≡ 0 → (m + n) % a ≡ 0

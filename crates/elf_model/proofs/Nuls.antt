@@ -6,7 +6,7 @@ use Rattle.std.proofs.lemmas.List.Sums.{prefix_len-le-length, split_at_first, pr
 use Rattle.std.proofs.lemmas.Bool.Decides.{nat_tests}
 use Rattle.elf_model.specs.Names.{nul_in}
 
--- the place of the first NUL, or how many bytes there are
+-- the position of the first NUL, or the number of bytes
 abbrev pub free : List ℕ → ℕ
 free bytes = position_or_len (λ b. b == 0) bytes
 
@@ -25,7 +25,7 @@ some-free bytes place h = grind (arith, nat_tests)
 pub free-some : (bytes : List ℕ) → free bytes < length bytes → nul_in bytes ≡ Some (free bytes)
 free-some bytes h = grind (arith, nat_tests)
 
--- behind bytes without a NUL the first one is the first of the rest
+-- after bytes without a NUL the first one is the first of the rest
 pub free-append : (bytes rest : List ℕ) → free bytes ≡ length bytes → free (bytes ++ rest) ≡ length bytes + free rest
 free-append bytes rest h = let e = prefix_len-append (λ b. not (b == 0)) bytes rest in grind (arith, nat_tests)
 
@@ -44,7 +44,7 @@ split_at_nul bytes h =
     let zero_there : get_or bytes (free bytes) 0 ≡ 0 = grind (arith, nat_tests) in
     rw zero_there at (split_at_first (λ b. b == 0) bytes 0 h)
 
--- a front that reaches past the first NUL has it at the same place
+-- a prefix that reaches past the first NUL has it at the same position
 pub free-within : (bytes : List ℕ) (n : ℕ) → free bytes < n → free bytes < length bytes → free (take n bytes) ≡ free bytes
 free-within bytes n below inside =
     let whole = take-append-drop n bytes in
@@ -53,6 +53,6 @@ free-within bytes n below inside =
     let l = length-take n bytes in
     grind (arith, nat_tests)
 
--- a NUL in a front is the first of the whole
+-- a NUL in a prefix is the first of the whole
 pub free-front : (front rest : List ℕ) → free front < length front → free (front ++ rest) ≡ free front
 free-front front rest h = let e = prefix_len-append (λ b. not (b == 0)) front rest in grind (arith, nat_tests)

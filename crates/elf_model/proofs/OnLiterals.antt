@@ -1,4 +1,4 @@
--- What opens each definition, so that it computes on a file that is written out.
+-- What unfolds each definition, so that it computes on a file given byte by byte.
 use Rattle.std.specs.Fmt.{digits}
 use Rattle.elf_model.specs.Prelude.{address_in, address_named, aligned_note, and_patches, applied, apply_checks, apply_cost, apply_cost_by_order, apply_cost_in_order, archive_ceiling, archive_cost, archive_fault, archive_items, archive_of, bare_header, base_value, begins, begun, bindings, bsd_name, bsd_name_length, bucket_of, build_note, cause_word, ceiling, change_of, changes_of, closing, cost_with, data_after, defined_layout, defined_name, definition, descriptor_text, digit, dynamic_count, dynamic_prefix, dynamic_row, dynamic_tag_text, dynamic_tags, dynamic_value, each, empty_layout, end_among, end_at_word, entries_for, entries_in, entry_changes, entry_checks, entry_layout, entry_value, escaped, falling_relocations, field, file_header, file_header_items, file_magic, file_type_text, file_types, find_cost, first_fault, first_hash, first_that, fits_in_range, flags_column, flags_word, full_layout, further_relocation_types, further_section_flags, further_section_types, gnu_bindings, gnu_dynamic_tags, gnu_section_flags, gnu_section_types, gnu_segment_types, gnu_symbol_types, halfwords, has_base, hash_checks, hash_file, hash_with_cycle, hash_with_end, hash_word, header_cost, header_line, held_bytes, hex, hex_bytes, hostile_library, is_elsewhere, is_loadable, is_system_specific, kind_in, kind_of, kind_text, kinds, kinds_cost, kinds_rows, layout_names_cost, left_in, letter_or_dash, letters_and_mark, letters_of, library, library_header, library_strings, library_without_sections, line_described, line_named, linked_to_first, linked_to_zero, listing, listing_cost, little, load_items, loaded, loaded_at, loaded_items, loaded_section, loads_from, long_name, long_names, long_offset, longest, looked, looked_in, looked_up, lookup_at, lookup_cost, lookup_end, mapped_from, mapped_strings, member, member_cost, member_data, member_header, member_key, member_name, member_prefix, member_size, members_cost, members_from, members_items, members_of, modulo_2_64, name_byte_text, name_distance, name_end, name_in_data, name_index, name_of, name_text, named_by, named_section, named_value, names_version, needed_file, needed_library, needed_version, needed_with, never_fall_from, next_member, next_note, next_position, next_word, note_prefix, note_row, note_rows, note_segment, note_shown, note_tail, notes_rows, number, number_sign, number_word, numbered_row, numbers_from, object, object_with, odd_name, offsets_at, offsets_never_fall, one_call, one_load, one_segment, one_symbol_table, one_table, overlap_checks, overlapping_in_other_order, overlapping_relocations, overlaps_from, padded_number, padded_to, parse_padded_decimal, parsed_member_name, parsed_member_size, patch_of, patched, patches_of, path_front, place_value, placed_layout, places, places_from, plain_note, plt_entry_value, processor_section_flags, program_header, put, quoted, record_checks, refusal_line, relocated, relocation, relocation_prefix, relocation_row, relocation_type_text, relocation_types, relocations, relocations_with_versions, repeated_tags, right_decimal, right_in, rising_relocations, same, same_symbol, section_changes, section_dynamic, section_flags, section_flags_text, section_header, section_name, section_notes, section_prefix, section_row, section_symbol_value, section_type_text, section_types, sections_cost, segment_dynamic, segment_flags_text, segment_line, segment_notes, segment_row, segment_type_text, segment_types, segments_cost, shape_checks, short_name, shown, signed_text, special_layout, special_places, standard_bindings, standard_dynamic_tags, standard_places, standard_relocation_types, standard_section_flags, standard_section_types, standard_segment_types, standard_symbol_types, steps_line, string_byte, string_text, strings_at, suffixed_symbols, suffixes_cost, sum_over, symbol, symbol_named, symbol_prefix, symbol_row, symbol_types, symbol_value, symbol_version_prefix, symbol_version_row, symbol_version_rows, symbol_versions, symbols, symbols_with_versions, system_value, sysv_hash, table_cost, table_headers, table_items, table_layout, table_rows, tables_cost, tables_over_headers, tagged, tells_of_sections, third_overflows, trimmed, two_relocation_sections, unnamed_value, unplaced_layout, value, version_definitions, version_named, version_needs, version_of, version_prefix, version_row, version_strings, version_word, versioned_body, versioned_cost, versioned_dynamic, versioned_hash, versioned_library, versioned_records, versioned_sections, versioned_segments, versioned_strings, versioned_without_sections, versions_in, versions_rows, view_checks, visibilities, visited_from, visited_rows, walk_cost, walk_from, walk_items, walk_rows, walk_word, walked, walks_cost, where_based, whole, with_bytes, with_entries_header, with_field, with_hash_header, with_strings_header, with_symbol, with_symbols_header, without_sections_from, without_slash, word_at, words, x86_64_places, x86_64_section_flags, x86_64_section_types, zeros}
 

@@ -1,4 +1,5 @@
--- What opens the definitions of a loader's lookup, beside `OnLiterals`, so that they compute on a file that is written out.
+-- What unfolds the definitions of a loader's lookup, besides `OnLiterals`, so that they compute on
+-- a file given byte by byte.
 use Rattle.std.specs.Int.RustNames.{count_ones}
 use Rattle.elf_model.specs.Prelude.{answers, compared_with, counts_check, dynamic_segment_index, filter_may_contain, fits, found_in, found_version_line, gnu_bucket_of, gnu_end, gnu_hash, gnu_looked_up, gnu_tried, gnu_walk_end, gnu_walked_at, gnu_word_at, hash_row, hash_section, is_complete, is_exported, loaded_in, loader_answer_for, loader_ceiling, loader_cost, loader_looked, looked_by, lookup_asks, lookup_tables_by_segments, lookup_tables_of, meetings, named_by_record, naming_of, parse_query, position_after, readings, readings_of, rest_checks, rest_size, rows_checks, scope_by_sections, scope_in_segment, scope_in_segments, section_lookup_tables, section_words, segment_checks, segment_lookup_tables, segment_strings, segment_strings_at, segment_symbols, segment_words, segments_asked, sysv_bucket_of, sysv_end, sysv_walk_end, sysv_walked, sysv_walked_at, sysv_word_at, tagged_row, version_checks, version_fits, version_indices, walk_in, words_row, words_section}
 

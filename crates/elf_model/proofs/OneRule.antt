@@ -1,4 +1,4 @@
--- Rules that stand in two definitions, one for lookups and one for listings, are one.
+-- Rules that are in two definitions, one for lookups and one for listings, are the same.
 use Rattle.std.proofs.Common.{◌≡◌, ℕ, zero, suc, ◌+◌, ◌/◌, ◌==◌, List, [], ◌∷◌, ◌++◌, append-nil, Option, None, Some, refl, ap, sym, ◌∙◌, arith, inl, inr}
 use Rattle.std.proofs.lemmas.Bool.{cases_Bool}
 use Rattle.std.specs.Option.{option_map}
@@ -9,7 +9,8 @@ use Rattle.elf_model.proofs.VersionLaws.{named-here, named-later, named-none}
 abbrev record_of : NumberNameSource → Option VisitedRecord
 record_of naming = option_map (λ found. found.1) naming.found
 
--- of records that are met the first that names the number names it, and else one of those behind them
+-- of visited records the first that names the version index names it, otherwise one of those after
+-- them
 named-meetings :
     (file : List ℕ) (number : ℕ) (strings : List ℕ) (met : List VisitedRecord) (others : List VersionRecordRead) (rest : List VisitedRecord)
     → record_of (naming_of file number others) ≡ named_by file number rest
@@ -24,7 +25,7 @@ named-meetings file number strings (m ∷ met) others rest alike =
           (named-meetings file number strings met others rest alike ∙ sym (named-later file number m (met ++ rest) not_names))
     ]
 
--- a walk that comes to its end reads the records that are met, and no more
+-- a walk that ends without a refusal reads the visited records, and no more
 readings-met :
     (file : List ℕ) (table : VersionRecordTable) (others : List VersionRecordRead) → (records_in file table).cut ≡ None
     → readings_of file table others ≡ meetings table.strings (records_in file table).met others
@@ -58,7 +59,7 @@ first-entry at = omega arith
 next-entry : (at k : ℕ) → dynamic_at at k + DYNAMIC_SIZE ≡ dynamic_at at (suc k)
 next-entry at k = omega arith
 
--- the value at an index, and at the place of that
+-- the value at an index, and at its offset
 value-at-place :
     (file : List ℕ) (at : ℕ) (index : Option ℕ)
     → option_map (λ i. d_un file (dynamic_at at i)) index ≡ option_map (d_un file) (option_map (dynamic_at at) index)

@@ -1,4 +1,4 @@
--- LOAD segments that lie over each other, header by header.
+-- LOAD segments that overlap, header by header.
 use Rattle.std.proofs.Common.{◌≡◌, ℕ, suc, zero, ◌+◌, ◌/◌, ◌≤◌, ◌<◌, ◌&&◌, nat_lt, Bool, true, false, List, [], ◌∷◌, ◌++◌, if◌then◌else◌, refl, ap, ◌∙◌, arith, append-nil, zero-add}
 use Rattle.std.proofs.Math.Nat.{div-mul-le_self}
 use Rattle.std.proofs.lemmas.Bool.{ltb-false}
@@ -7,13 +7,13 @@ use Rattle.elf_model.specs.Prelude.{Check, Fault, HEADER, Line, ListingItem, Lis
 use Rattle.elf_model.specs.declared.causes.Cause.TheVariants.{LoadOverlap}
 use Rattle.elf_model.proofs.ListingLemmas.{guarded-fault, guarded-passes, asked-true, load_some}
 
--- a segment ends behind the page that it begins on, or on it
+-- a segment ends after the page that it begins on, or on it
 page_grows : (file : List ℕ) (at : ℕ) → first_page file at ≤ page_behind file at
 page_grows file at =
     let d = div-mul-le_self (p_vaddr file at) 4096 in
     le-div (p_vaddr file at / 4096) (p_vaddr file at + p_memsz file at + 4095) 4096 (omega arith) (omega arith)
 
--- the program headers behind one
+-- the program headers after one
 pub loads_taken : (file : List ℕ) (first count : ℕ) → takes_memory file (segment_at file first) ≡ true
     → loads_from file first (suc count) ≡ segment_at file first ∷ loads_from file (suc first) count
 unfolding loads_from
@@ -24,7 +24,7 @@ pub loads_passed : (file : List ℕ) (first count : ℕ) → takes_memory file (
 unfolding loads_from
 loads_passed file first count t = rw t refl
 
--- a check passes, and those behind it
+-- a check passes, and those after it
 check_passed : (file : List ℕ) (page at : ℕ) (loads : List ℕ) → pass (overlaps_from file page (at ∷ loads)) ≡ true
     → (page ≤ first_page file at) × (pass (overlaps_from file (page_behind file at) loads) ≡ true)
 unfolding overlaps_from
@@ -36,7 +36,7 @@ check_passed file page at loads h = by_cases (nat_lt (first_page file at) page) 
     by_cases true b h = cc
     by_cases false b h = let low = ltb-false (first_page file at) page b in (omega arith, h)
 
--- every one of some program headers that takes up memory begins behind a page
+-- every one of some program headers that takes up memory begins after a page
 abbrev Above : (file : List ℕ) (page first count : ℕ) → Type 0
 Above file page first count =
     pass (overlaps_from file page (loads_from file first count)) ≡ true → (more : ℕ) → more < count
@@ -66,7 +66,7 @@ above file first zero page = λ h more m t. omega (arith, m)
 above file first (suc count) page =
     above_step file page first count (above file (suc first) count) (takes_memory file (segment_at file first)) refl
 
--- of two of them the later begins behind the earlier
+-- of two of them the later begins after the earlier
 abbrev Apart : (file : List ℕ) (page first count : ℕ) → Type 0
 Apart file page first count =
     pass (overlaps_from file page (loads_from file first count)) ≡ true → (a b : ℕ) → a < b → b < count

@@ -1,4 +1,5 @@
--- Patches: the bytes of a patched section, of a window of it, and of the parts that no patch touches.
+-- Patches: the bytes of a patched section, of a window of it, and of the parts that no patch
+-- changes.
 use Rattle.std.proofs.Common.{◌≡◌, ℕ, ◌+◌, ◌-◌, ◌<◌, ◌≤◌, inl, inr, true, false, nat_lt, nat_le, ◌&&◌, min, List, [], ◌∷◌, ◌++◌, length, get_or, take, drop, map, refl, sym, ap, ◌∙◌, arith, length-append, length-drop, length-take, take-take, drop-drop}
 use Rattle.std.proofs.lemmas.Bool.{cases_lt, le-leb, lt-leb, lt-ltb, le-ltb, and_from, and_left, and_right}
 use Rattle.std.proofs.lemmas.List.{get_or_append_left, get_or-append_right, get_or-take, get_or-drop, ext_get_or, take-append-le}
@@ -53,7 +54,7 @@ module _ (patch : StoredBytes) (base : List ℕ) (i : ℕ) (inside : IsInside (l
       get_or-append_right (take patch.at base) (patch.bytes ++ drop (patch.at + length patch.bytes) base) patch.at i 0 first_part low
       ∙ get_or_append_left patch.bytes (drop (patch.at + length patch.bytes) base) 0 (i - patch.at) (omega arith)
 
-  -- a byte behind the patch
+  -- a byte after the patch
   byte_behind : patch.at + length patch.bytes ≤ i → get_or (put patch base) i 0 ≡ get_or base i 0
   unfolding put
   byte_behind high =

@@ -1,4 +1,5 @@
--- What a lookup reads of the records of versions, and what comparing gives of these, by the records that a listing meets.
+-- What a lookup reads of the version records, and the result of comparing them, by the records that
+-- a listing visits.
 use Rattle.std.proofs.Common.{◌≡◌, ℕ, zero, suc, ◌+◌, Bool, true, false, cond, List, [], ◌∷◌, ◌++◌, append-nil, length, map, filter, Option, None, Some, Result, Ok, Err, refl, sym, ap, ◌∙◌, arith, inl, inr}
 use Rattle.std.proofs.lemmas.List.Elements.{All-nil, All-cons}
 use Rattle.elf_model.specs.Prelude.{CompareResult, ComparedNumbersAreRecords, ComparingEndsAtTheFirst, EndsReadings, IsComparable, IsRefusedAt, Meets, Misses, ReadingsAreRecords, RecordCursorState, Refuses, StandsAtItsEnd, VersionRecordRead, VersionRecordTable, Versions, VisitedRecord, WalksStandAtRecords, WalksStandAtTheirEnd, compared_until, compared_with, end_reading, first_position, first_refusal, has_record, max_records, meetings, name_index, named_at, names_version, names_wanted, next_position, number_in, number_word, numbers_under, one_more, position_after, readings, readings_of, record_checks, records_in, records_read, same, versions_in, visited_at, visited_from, with_number}
@@ -9,18 +10,18 @@ use Rattle.elf_model.proofs.VersionSteps.{met-ended, met-most, met-record, met-r
 abbrev visited_of : Versions → List VisitedRecord
 visited_of versions = versions.met
 
--- where a record leads, a walk stands next
+-- if there is a record, a walk continues there
 pub stands-next :
     (file : List ℕ) (table : VersionRecordTable) (done : ℕ) (stand : RecordCursorState) → position_after file table done ≡ Some stand
     → position_after file table (suc done) ≡ next_position file table.place stand
 unfolding position_after
 stands-next file table done stand is = rw is refl
 
--- a walk stands at a record behind so many
+-- the position of a walk after this many records
 abbrev StandsAtVisited : List ℕ → VersionRecordTable → ℕ → VisitedRecord → Type 0
 StandsAtVisited file table done met = (stand : RecordCursorState) × (position_after file table done ≡ Some stand) × (visited_at table.place stand ≡ met)
 
--- no record is met
+-- no record is visited
 none-met : (file : List ℕ) (table : VersionRecordTable) (done : ℕ) (before : List VisitedRecord) (met : VisitedRecord) (others : List VisitedRecord) → [] ≡ before ++ met ∷ others → StandsAtVisited file table done met
 none-met file table done [] met others none = absurd (cc)
 none-met file table done (first ∷ before) met others none = absurd (cc)
@@ -61,7 +62,7 @@ walks_stand_at_records file table before met others all =
     rw count at
     (stands-from file table (max_records table.kind table.size) 0 (first_position table.kind table.head table.size) before met others refl all)
 
--- a walk from where it stands ends where it stands then
+-- a walk from its position ends where it did
 ends-from :
     (file : List ℕ) (table : VersionRecordTable) (most done : ℕ) (stand : Option RecordCursorState) → done + most ≡ max_records table.kind table.size
     → position_after file table done ≡ stand
@@ -99,7 +100,7 @@ walks_stand_at_their_end file table =
     rw count at
     (ends-from file table (max_records table.kind table.size) 0 (first_position table.kind table.head table.size) (omega arith) refl)
 
--- met records in front of others
+-- visited records before others
 meetings-are : (strings : List ℕ) (met : List VisitedRecord) (others : List VersionRecordRead) → meetings strings met others ≡ map (Meets strings) met ++ others
 unfolding meetings
 meetings-are strings [] others = refl
@@ -124,7 +125,7 @@ readings_are_records file = (
       ),
 )
 
--- what comparing gives at each kind of record
+-- the result of comparing each kind of record
 pub compared-none :
     (file wanted strings : List ℕ) (met : VisitedRecord) (others : List VersionRecordRead) → names_version file met ≡ false
     → compared_with file wanted (Meets strings met ∷ others) ≡ one_more (compared_with file wanted others)
@@ -171,7 +172,7 @@ refused_in compared = compared.refused
 abbrev read_in : CompareResult → ℕ
 read_in compared = compared.read
 
--- the numbers with one record more, which has the wanted name or not
+-- the indices with one more record, which has the wanted name or not
 numbers-with :
     (file wanted strings : List ℕ) (one : VisitedRecord) (met : List VisitedRecord) → names_wanted file wanted strings one ≡ true
     → numbers_under file wanted strings (one ∷ met) ≡ number_in (number_word file one) ∷ numbers_under file wanted strings met
@@ -184,13 +185,13 @@ numbers-without :
 numbers-without file wanted strings one met e =
     ap (λ (b : Bool). map (λ (m : VisitedRecord). number_in (number_word file m)) (cond b (one ∷ filter (names_wanted file wanted strings) met) (filter (names_wanted file wanted strings) met))) e
 
--- comparing that is not refused gives the numbers of some, and those of the others
+-- a comparison that is not refused gives the indices of some records, and those of the others
 record Splits (file wanted : List ℕ) (numbers : List ℕ) (count : ℕ) (all others : List VersionRecordRead) : Type 0 where
   later : (compared_with file wanted others).refused ≡ None
   numbers_are : (compared_with file wanted all).numbers ≡ numbers ++ (compared_with file wanted others).numbers
   read_is : (compared_with file wanted all).read ≡ count + (compared_with file wanted others).read
 
--- of records that are met
+-- of records that are visited
 split-met :
     (file wanted strings : List ℕ) (met : List VisitedRecord) (others : List VersionRecordRead)
     → (compared_with file wanted (map (Meets strings) met ++ others)).refused ≡ None
@@ -244,7 +245,7 @@ split-met file wanted strings (one ∷ met) others none =
           read_is = let more : suc (length met) + (compared_with file wanted others).read ≡ suc (length met + (compared_with file wanted others).read) = omega arith in ap read_in e ∙ ap suc all.read_is ∙ sym more;
         }
 
--- where a walk is refused comparing is
+-- if a walk is refused, so is the comparison
 whole :
     (file wanted : List ℕ) (cut : Option Refusal) (last others : List VersionRecordRead) → EndsReadings cut last
     → (compared_with file wanted (last ++ others)).refused ≡ None → last ≡ []

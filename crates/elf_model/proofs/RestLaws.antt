@@ -1,4 +1,4 @@
--- What is left of a lookup: the lookup as it goes on from a word, by what it meets there.
+-- The rest of a lookup: how it goes on from a word, by what it finds there.
 use Rattle.std.proofs.Common.{◌≡◌, ℕ, zero, suc, ◌+◌, ◌<◌, ◌≤◌, Bool, true, false, List, None, Some, Result, Ok, Err, refl, sym, ap, ◌∙◌, arith}
 use Rattle.std.proofs.lemmas.Bool.{and_parts, ltb-true}
 use Rattle.elf_model.specs.Prelude.{Absent, ChainEnd, Found, GoesOn, Lookup, Nameless, NoIndex, Wanted, bucket_of, chain_at, cycle, end_among, end_at_word, end_of_name, field, is_index, linked_at, looked_up, lookup_at, lookup_by, lookup_end, lookup_word, nchain, next_in_chain, refused_after, same_symbol, sh_link, symbol_at, walk_word, word_at}
@@ -13,18 +13,18 @@ is_low : (file : List ℕ) (at word : ℕ) → is_index file at word ≡ true �
 is_low file at word is = let low = ltb-true word (nchain file at) (and_parts _ _ is).0 in omega (arith, low)
 
 module _ (file : List ℕ) (at : ℕ) (wanted : List ℕ) where
-  -- at a word behind so many steps: the chain's end, no index, or as it goes on
+  -- at a word after this many steps: the chain's end, no index, or going on
   abbrev pub by_word : ℕ → ℕ → ℕ → Lookup → Lookup
   by_word steps place zero on = record { answer = Absent; compared = steps }
   by_word steps place (suc k) on = elim (is_index file at (suc k)) [ true ↦ on | false ↦ refused_after steps (record { at = place; cause = HashIndex }) ]
 
-  -- at the name of a symbol: the wanted one, one that can't be compared, or as it goes on
+  -- at the name of a symbol: the wanted one, one that can't be compared, or going on
   abbrev pub by_name : ℕ → ℕ → Result Bool Cause → Lookup → Lookup
   by_name steps word (Ok true) on = record { answer = Found (sh_link file at) word (symbol_at file (linked_at file at) word); compared = suc steps }
   by_name steps word (Ok false) on = on
   by_name steps word (Err cause) on = refused_after (suc steps) (record { at = symbol_at file (linked_at file at) word; cause = cause })
 
-  -- what a lookup gives that has come to a word behind so many steps, with so many left
+  -- the result of a lookup at a word after this many steps, with this many left
   unfoldable pub rest : ℕ → ℕ → ℕ → ℕ → Lookup
   rest zero steps word place = by_word steps place word (cycle file at wanted)
   rest (suc left) steps word place =
@@ -64,7 +64,7 @@ module _ (file : List ℕ) (at : ℕ) (wanted : List ℕ) where
   name_is n steps word on (Ok false) e ends goes = ap (lookup_by file at wanted) (passed_over _ _ word steps n ends) ∙ goes ends
   name_is n steps word on (Err cause) e ends goes = ap (lookup_by file at wanted) (found_here _ _ word steps n (Nameless cause) ends) ∙ rw e refl
 
-  -- THE LAW: what is left of a walk that goes on for so many words is what the calculation has left
+  -- THE LAW: the rest of a walk that goes on for this many words is what the computation has left
   rest_is :
       (left steps word : ℕ) → left + steps ≡ nchain file at → GoesOn (end_at_word file at wanted) (lookup_word file at wanted) steps
       → word ≡ lookup_word file at wanted steps

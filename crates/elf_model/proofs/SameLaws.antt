@@ -36,7 +36,7 @@ pub begins-other : (b w : ℕ) (bytes wanted : List ℕ) → b ≢ w → begins 
 unfolding begins
 begins-other b w bytes wanted h = let t : (b == w) ≡ false = grind (arith, nat_tests) in rw (t, begins) refl
 
--- the three ways of a comparison
+-- the three results of a comparison
 pub data Compared (bytes wanted : List ℕ) : Type 0 where
   is_alike : take (length wanted) bytes ≡ wanted → begins bytes wanted ≡ Ok true → Compared bytes wanted
   is_other : Differ bytes wanted → begins bytes wanted ≡ Ok false → Compared bytes wanted
@@ -60,7 +60,7 @@ compared (b ∷ bytes) (w ∷ wanted) = step (compared bytes wanted) (alike-or-o
     step c (inl h) = compared-more b w bytes wanted h c
     step c (inr h) = is_other (0, omega arith, omega arith, h) (begins-other b w bytes wanted h)
 
--- the ways exclude each other
+-- the results exclude each other
 alike-no-other : (bytes wanted : List ℕ) → take (length wanted) bytes ≡ wanted → Differ bytes wanted → ⊥
 alike-no-other bytes wanted e d = d.3 (sym (get_or-take (length wanted) bytes d.0 0 d.2) ∙ ap (λ x. get_or x d.0 0) e)
 
@@ -132,7 +132,7 @@ same_outside table index wanted = (λ h. there h (place_of table index), same-ou
     there h (empty e) = let s = same-empty table index wanted e in cc
     there h (outside o) = o
 
--- what a comparison has seen where the table ends too early
+-- what a comparison has seen if the table ends too early
 short-front : (bytes wanted : List ℕ) → length bytes < length (wanted ++ 0 ∷ []) → bytes ≡ take (length bytes) (wanted ++ 0 ∷ [])
     → (length bytes ≤ length wanted) × (bytes ≡ take (length bytes) wanted)
 short-front bytes wanted l e =

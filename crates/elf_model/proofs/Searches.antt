@@ -1,4 +1,5 @@
--- What a search of some bytes piece by piece finds, and what it answers of a name in a file's string table.
+-- The result of a search of some bytes piece by piece, and of the search for a name in a file's
+-- string table.
 use Rattle.std.proofs.Common.{◌≡◌, ℕ, zero, suc, ◌+◌, ◌-◌, ◌<◌, ◌≤◌, true, false, List, [], ◌∷◌, ◌++◌, length, take, drop, None, Some, Ok, Err, refl, ap, sym, ◌∙◌, arith, length-take, take-take}
 use Rattle.std.proofs.Math.Seq.{take-add}
 use Rattle.std.proofs.lemmas.List.{take_all, drop-drop}
@@ -15,7 +16,7 @@ pub slice-two : (file : List ℕ) (start done count : ℕ) → slice file start 
 slice-two file start done count =
     take-add done count (drop start file) ∙ ap (λ (x : List ℕ). slice file start done ++ take count x) (drop-drop done start file)
 
--- bytes that are cut to fit make no difference once all are cut
+-- bytes that are cut to a length may differ after it
 take-cut : (cap : ℕ) (a b : List ℕ) → take cap (take cap a ++ b) ≡ take cap (a ++ b)
 take-cut zero a b = refl
 take-cut (suc cap) [] b = refl
@@ -46,7 +47,7 @@ search-found file piece start done count want place e before some within inside 
     nul_in-whole (slice file start want) (done + count) (done + place)
     (ap nul_in same ∙ there ∙ ap (λ (n : ℕ). Some (n + place)) (slice-size file start done (omega arith)))
 
--- what is kept before it
+-- what is kept of the bytes before it
 kept-found : (file piece name new : List ℕ) (start done count want place cap : ℕ) → piece ≡ slice file (start + done) count → name ≡ take cap (slice file start done)
     → place ≤ count → done + count ≤ want → new ≡ take cap (name ++ take place piece) → new ≡ take cap (take (done + place) (slice file start want))
 kept-found file piece name new start done count want place cap e n inside within a =

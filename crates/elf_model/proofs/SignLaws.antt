@@ -1,10 +1,10 @@
--- A value fits in two's complement exactly where it is its low bits with their sign.
+-- A value fits in two's complement exactly if it is its low bits with their sign.
 use Rattle.std.proofs.Common.{◌≡◌, ℕ, zero, suc, ◌+◌, ◌-◌, ◌*◌, ◌%◌, ◌^◌, ◌<◌, ◌≤◌, inl, inr, true, false, not, nat_lt, refl, sym, ap, ◌∙◌, arith, mod-eq_of_lt, pow_pos, pow-add, pow-suc, suc-mul}
 use Rattle.std.proofs.lemmas.Bool.{cases_lt, lt-ltb, le-ltb, ltb-true, ltb-false, or_cases, or_left, or_right, not-true, not_from_false}
 use Rattle.std.proofs.lemmas.Nat.{mod-mul-add}
 use Rattle.elf_model.specs.Prelude.{SignedFits, is_signed, sign_extended}
 
--- For numbers below 2^64, of which `whole`, twice `half`, is a part, `rest` times less than all.
+-- For numbers below 2^64, where `whole`, twice `half`, divides all numbers into `rest` parts.
 module _ (half whole rest value : ℕ) (twice : whole ≡ half + half) (all : rest * whole + whole ≡ 2 ^ 64) where
   low_part : value < half → value % whole ≡ value
   low_part low = mod-eq_of_lt (omega arith)

@@ -15,7 +15,7 @@ slice-slice bytes at size from width h =
     ap (λ n. drop from (take n (drop at bytes))) (sym e) ∙ drop-take from (size - from) (drop at bytes) in
     ap (take width) d ∙ take-take width (size - from) (drop from (drop at bytes)) (omega arith) ∙ ap (take width) (drop-drop from at bytes)
 
--- what is left of a slice from a place on
+-- the rest of a slice from a position on
 pub slice-rest : (bytes : List ℕ) (at size from : ℕ) → from ≤ size → drop from (slice bytes at size) ≡ slice bytes (at + from) (size - from)
 slice-rest bytes at size from h =
     let e : from + (size - from) ≡ size = omega arith in
@@ -25,7 +25,7 @@ slice-rest bytes at size from h =
 pub get_or-slice : (bytes : List ℕ) (at size i : ℕ) → i < size → get_or (slice bytes at size) i 0 ≡ get_or bytes (at + i) 0
 get_or-slice bytes at size i h = get_or-take size (drop at bytes) i 0 h ∙ get_or-drop at bytes i 0
 
--- a field of the front is a field of the whole
+-- a field of the prefix is a field of the whole
 pub field-front : (x y : List ℕ) (at width : ℕ) → at + width ≤ length x → field (x ++ y) at width ≡ field x at width
 unfolding field
 field-front x y at width h =

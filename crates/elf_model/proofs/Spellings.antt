@@ -1,4 +1,4 @@
--- What a note's spelling says of the bytes that it stands in.
+-- The encoding of a note, and the bytes that it is in.
 use Rattle.std.proofs.Common.{min, ◌≡◌, ℕ, ◌+◌, ◌<◌, ◌≤◌, nat_lt, Bool, true, false, List, ◌++◌, length, take, drop, ◌⊎◌, inl, inr, refl, ap, sym, ◌∙◌, arith, length-append, take-append-drop, length-take-le, take-add}
 use Rattle.std.proofs.lemmas.List.{take_at, drop_at, append_assoc}
 use Rattle.std.proofs.lemmas.Bool.Decides.{nat_tests}
@@ -7,12 +7,12 @@ use Rattle.elf_model.specs.Prelude.{IsNoteEncoding, Note, OneNote, alignment_gap
 use Rattle.elf_model.proofs.Slices.{field-front, slice-size}
 use Rattle.elf_model.specs.Notes.{Ends, Broken}
 
--- a slice that stands behind a front
+-- a slice that follows a prefix
 pub slice-behind : (x y z : List ℕ) (at size : ℕ) → length x ≡ at → length y ≡ size → slice (x ++ y ++ z) at size ≡ y
 slice-behind x y z at size p q =
     ap (take size) (ap (drop at) (append_assoc x y z) ∙ drop_at x (y ++ z) at p) ∙ take_at y z size q
 
--- the four cases of what stands next
+-- the four cases of what is next
 pub data NextView (a : ℕ) (rest : List ℕ) : Type 0 where
   ends : length rest < 12 → are_zeros rest ≡ true → next_note a rest ≡ Ends → NextView a rest
   tails : length rest < 12 → next_note a rest ≡ Broken → NextView a rest
@@ -58,7 +58,7 @@ next_view a rest = split (cases_lt (length rest) 12)
     split (inl h) = tail h (are_zeros rest) refl
     split (inr h) = head h (cases_lt (length rest) (first_end a rest))
 
--- a spelling has the note's size
+-- an encoding has the note's size
 pub spelt-size : (a : ℕ) (note : Note) (text : List ℕ) → IsNoteEncoding a note text → length text ≡ escaped_size a note
 spelt-size a note text s =
     ap length s.parts ∙ omega (arith, length-append (s.head ++ note.name ++ s.gap) note.descriptor, length-append (s.head ++ note.name) s.gap, length-append s.head note.name, s.head_size, s.gap_size)
@@ -66,7 +66,7 @@ spelt-size a note text s =
 abbrev note_of : ℕ → List ℕ → List ℕ → Note
 note_of kind name descriptor = record { kind = kind; name = name; descriptor = descriptor }
 
--- the sizes and the type in a spelling's head
+-- the sizes and the type in the header of an encoding
 pub spelt-fields : (a : ℕ) (note : Note) (text rest : List ℕ) → IsNoteEncoding a note text
     → (n_namesz (text ++ rest) 0 ≡ length note.name) × (n_descsz (text ++ rest) 0 ≡ length note.descriptor) × (n_type (text ++ rest) 0 ≡ note.kind)
 spelt-fields a note text rest s =
@@ -78,7 +78,7 @@ spelt-fields a note text rest s =
       field-front s.head behind 8 4 (omega (arith, s.head_size)) ∙ s.type,
     )
 
--- the name and the descriptor in a spelling
+-- the name and the descriptor in an encoding
 pub spelt-name : (a : ℕ) (note : Note) (text rest : List ℕ) → IsNoteEncoding a note text → slice (text ++ rest) 12 (length note.name) ≡ note.name
 spelt-name a note text rest s =
     let e : text ++ rest ≡ s.head ++ note.name ++ (s.gap ++ (note.descriptor ++ rest)) = rw (s.parts) (simp append_assoc) in
@@ -99,7 +99,7 @@ spelt-first a note text rest s =
     let descriptor = spelt-descriptor a note text rest s in
     (rw (f.0, f.1, f.2, name, descriptor) refl, rw (f.0, f.1) refl)
 
--- a spelling is what stands next
+-- an encoded note is the next note
 pub next-spelt : (a : ℕ) (note : Note) (text rest : List ℕ) → IsNoteEncoding a note text
     → next_note a (text ++ rest) ≡ OneNote note (min (padded_size a note) (length (text ++ rest)))
 next-spelt a note text rest s =
@@ -109,7 +109,7 @@ next-spelt a note text rest s =
     let e = next-found a (text ++ rest) (omega arith) (omega arith) in
     rw (f.0, f.1) at e
 
--- what is found is spelt
+-- a found note is encoded there
 pub found-spelt : (a : ℕ) (rest : List ℕ) → 12 ≤ length rest → first_end a rest ≤ length rest → IsNoteEncoding a (first_note a rest) (take (first_end a rest) rest)
 found-spelt a rest h l =
     let namesz : ℕ = n_namesz rest 0 in

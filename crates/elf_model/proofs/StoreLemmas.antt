@@ -9,7 +9,7 @@ use Rattle.elf_model.proofs.LookupSteps.{first_that-holds}
 use Rattle.elf_model.proofs.CostLemmas.{table_bound, most_bound, style_ceiling-is, section_kinds-le, segment_kinds-le, tables_by, headers_some}
 use Rattle.elf_model.proofs.SumLemmas.{headers_within, sum_over-le}
 
--- checks that pass for one place pass for another
+-- checks that pass for one offset pass for another
 table-pass : (a b c : Bool) (p q : ℕ)
     → pass (refuse a p EntrySize ∷ refuse b p SizeNotWhole ∷ refuse c p TableOutside ∷ []) ≡ pass (refuse a q EntrySize ∷ refuse b q SizeNotWhole ∷ refuse c q TableOutside ∷ [])
 table-pass true b c p q = refl
@@ -46,7 +46,7 @@ sum_over-equal amount other first (suc count) h =
     let more = sum_over-equal amount other (suc first) count (λ i a b. h i (omega arith) (omega arith)) in
     cc
 
--- a kind of table costs the same by headers that tell the same
+-- a kind of table costs the same by headers with equal fields
 kind-equal : (kind : TableKind) (some all : HeaderTable) (i size cap : ℕ)
     → kind.has_table (some.bytes i) (some.at i) ≡ kind.has_table (all.bytes i) (all.at i)
     → pass (kind.checks.own (some.bytes i) (some.at i) size) ≡ pass (kind.checks.own (all.bytes i) (all.at i) size)
@@ -162,7 +162,7 @@ module _ (file : List ℕ) (row : ℕ → List ℕ) (is : (i : ℕ) → i < e_sh
           let below : link < e_shnum file = ltb-true link (e_shnum file) e in
           rw (table_held link size 24 below, strings_held link size below, symbols_held link below, size_held link below, walks_held size) refl
 
-  -- the versions behind the names of symbols
+  -- the versions after the names of symbols
   suffixes_held : (table names size cap : ℕ) → suffixes_cost held table names size cap ≡ suffixes_cost all table names size cap
   unfolding suffixes_cost
   suffixes_held table names size cap =

@@ -1,8 +1,8 @@
--- A file whose header tells of no section headers, byte by byte.
+-- A file whose header locates no section headers, byte by byte.
 use Rattle.std.proofs.Common.{◌≡◌, ℕ, suc, zero, ◌+◌, ◌*◌, ◌≤◌, ◌<◌, if◌then◌else◌, Bool, true, false, List, [], ◌∷◌, length, take, drop, refl, ap, sym, ◌∙◌, arith, add-zero, zero-add, length-take, inl, inr}
 use Rattle.elf_model.specs.Prelude.{ListingStyle, ViewIsAsLong, ViewIsCheckedAlike, ViewIsItsOwnView, ViewIsSeenInSlices, ViewIsTheFileAfterTheHeader, ViewIsTheFileElsewhere, ViewTellsOfNone, field, number, slice, tells_of_sections, viewed, without_sections, without_sections_from}
 
--- the length stays
+-- the length is unchanged
 pub from_length : (place : ℕ) (bytes : List ℕ) → length (without_sections_from place bytes) ≡ length bytes
 unfolding without_sections_from
 from_length place [] = refl
@@ -18,7 +18,7 @@ view_length style file = by_cases style.by_segments
     by_cases true = from_length 0 file
     by_cases false = refl
 
--- a front, and what is behind one
+-- a prefix, and what follows one
 from_take : (place count : ℕ) (bytes : List ℕ) → take count (without_sections_from place bytes) ≡ without_sections_from place (take count bytes)
 unfolding without_sections_from
 from_take place zero bytes = refl
@@ -39,7 +39,7 @@ pub view_in_slices : ViewIsSeenInSlices
 view_in_slices file at count =
     ap (take count) (from_drop 0 at file ∙ ap (λ n. without_sections_from n (drop at file)) (zero-add at)) ∙ from_take at count (drop at file)
 
--- a place that tells of no sections
+-- a position that does not locate section headers
 pub tells-not : (place : ℕ) → 64 ≤ place → tells_of_sections place ≡ false
 unfolding tells_of_sections
 tells-not place h = grind arith
@@ -52,7 +52,7 @@ tells-between : (place : ℕ) → 48 ≤ place → place < 60 → tells_of_secti
 unfolding tells_of_sections
 tells-between place from h = grind arith
 
--- places that tell of them
+-- positions that locate them
 tells-offset : (place : ℕ) → 40 ≤ place → place < 48 → tells_of_sections place ≡ true
 unfolding tells_of_sections
 tells-offset place from h = grind arith
@@ -95,7 +95,7 @@ view_elsewhere file at count (inr (from, h)) =
     let few = length-take count (drop at file) in
     view_in_slices file at count ∙ middle_kept at (slice file at count) from (omega (arith, h, few))
 
--- what zeros spell, where all places tell of sections
+-- the number that zeros encode, if all positions locate section headers
 none_spelled : (place : ℕ) (bytes : List ℕ) → ((at : ℕ) → place ≤ at → at < place + length bytes → tells_of_sections at ≡ true)
     → number (without_sections_from place bytes) ≡ 0
 unfolding without_sections_from number

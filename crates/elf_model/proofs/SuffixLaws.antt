@@ -1,4 +1,4 @@
--- The versions behind the names of symbols.
+-- The versions after the names of symbols.
 use Rattle.std.proofs.Common.{◌≡◌, ℕ, zero, suc, ◌==◌, ◌&&◌, nat_lt, not, if◌then◌else◌, Bool, true, false, List, [], ◌∷◌, Option, None, Some, Result, Ok, Err, refl, sym, ap, ◌∙◌, append-nil}
 use Rattle.elf_model.specs.Prelude.{DisplayedName, Line, LinePrefix, ListingItem, ListingStyle, NoSuffix, RowFilter, SHT_GNU_VERDEF, SHT_GNU_VERNEED, Suffix, Suffixed, UndefinedHaveNoDefault, UnversionedEntriesArePlain, UnversionedSymbolsArePlain, VisitedRecord, after_refusal, all_checks, chooses, chosen_row, e_machine, each, entry_at, entry_count, first_refusal, has_symbols, is_default as is_default_of, line_named, line_suffixed, linked_at, name_index, name_member, name_text, named_at, named_line, number_in, or_refusal, r_sym, relocation_prefix, relocation_row, relocation_row_with_version, relocations, relocations_with_versions, section_at, sh_link, shown, st_name, st_shndx, strings_of, suffix_at, suffix_members, suffix_of, suffix_text, suffixed_line, suffixed_relocation_rows, suffixed_row, suffixed_symbol_rows, suffixed_symbols, suffixes_refusal, symbol_named, symbol_prefix, symbol_row, symbol_row_with_version, symbol_suffix, symbol_versions, symbols, version_named, version_numbers_of, version_strings, versym, walk_refusal, word_suffix}
 use Rattle.elf_model.specs.declared.causes.Cause.{Cause}
@@ -8,7 +8,7 @@ use Rattle.elf_model.specs.declared.formats.Format.{Format}
 use Rattle.elf_model.specs.declared.causes.Refusal.{Refusal}
 use Rattle.elf_model.specs.declared.causes.Cause.TheVariants.{VersionCut, VersionIndex}
 
--- a line with nothing behind its name
+-- a line with nothing after its name
 pub unsuffixed_line : (front : LinePrefix) (name : DisplayedName) → suffixed_line front name NoSuffix ≡ named_line front name
 unfolding line_suffixed line_named suffix_text suffix_members
 unsuffixed_line front name = by_format front.format
@@ -17,20 +17,20 @@ unsuffixed_line front name = by_format front.format
     by_format Columns = rw (append-nil (name_text name)) refl
     by_format Object = rw (append-nil (name_member front.key name)) refl
 
--- a row with nothing behind its name
+-- a row with nothing after its name
 pub unsuffixed_row : (choice : RowFilter) (front : LinePrefix) (at : ℕ) (name : Result DisplayedName Cause)
     → suffixed_row choice front at name (Ok NoSuffix) ≡ chosen_row choice front at name
 unsuffixed_row choice front at (Err cause) = refl
 unsuffixed_row choice front at (Ok name) =
     ap (λ (line : List ℕ). if chooses choice name NoSuffix then Line line ∷ [] else []) (unsuffixed_line front name)
 
--- rows that are the same one by one
+-- rows that are equal one by one
 pub each_same : (row other : ℕ → List ListingItem) (first count : ℕ) → ((i : ℕ) → row i ≡ other i) → each row first count ≡ each other first count
 unfolding each
 each_same row other first zero same = refl
 each_same row other first (suc count) same = let one = same first in let more = each_same row other (suc first) count same in cc
 
--- a table without version numbers has no versions, and no refusal of them
+-- a table without a versym section has no versions, and no refusal of them
 no_suffix : (file : List ℕ) (cap table symbol_at index : ℕ) → version_numbers_of file table ≡ None → symbol_suffix file cap table symbol_at index ≡ Ok NoSuffix
 unfolding symbol_suffix
 no_suffix file cap table symbol_at index none = rw (none, symbol_suffix) refl
@@ -66,7 +66,7 @@ unfolding suffixed_symbols symbols suffixed_symbol_rows
 unversioned_symbols file style section at none =
     rw (no_refusal file section none) (each_same _ _ _ _ (λ i. plain_symbol file style section at i none))
 
--- what stands behind a symbol of an entry, where its table has no version numbers
+-- what follows a symbol of an entry, if its table has no versym section
 plain_entry : (file : List ℕ) (style : ListingStyle) (section at index : ℕ) → version_numbers_of file (sh_link file at) ≡ None
     → relocation_row_with_version file style section at index ≡ relocation_row file style section at index
 unfolding relocation_row_with_version relocation_row

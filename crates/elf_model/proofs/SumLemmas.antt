@@ -5,7 +5,7 @@ use Rattle.std.proofs.lemmas.Nat.{le-div}
 use Rattle.std.proofs.lemmas.Bool.Decides.{nat_tests}
 use Rattle.elf_model.specs.Prelude.{LastCostIsAdded, SumsGrow, cost_where, sum_over}
 
--- sums are put together
+-- sums are concatenated
 pub sums_split : (amount : ℕ → ℕ) (first count more : ℕ)
     → sum_over amount first (count + more) ≡ sum_over amount first count + sum_over amount (first + count) more
 unfolding sum_over
@@ -70,7 +70,7 @@ fewer entry size table e t =
     let m : table / entry * 16 ≤ table / entry * entry = mul-le-mul_left (table / entry) e in
     le-div (table / entry) size 16 (omega arith) (omega arith)
 
--- headers of some size each, with their tables
+-- headers of a fixed size each, with their tables
 pub headers_within : (each_header n bound count headers tables : ℕ) → count ≤ headers → each_header ≤ 120 + n → tables ≤ count * bound
     → each_header * count + tables ≤ headers * (120 + n + bound)
 headers_within each_header n bound count headers tables few small within =

@@ -1,4 +1,5 @@
--- Walks in a hash table of the gABI for a symbol that answers: what is calculated is the one walk, and it is bounded.
+-- Walks in a gABI hash table for a symbol that answers: what is computed is the only walk, and it
+-- is bounded.
 use Rattle.std.proofs.Common.{◌≡◌, ℕ, zero, suc, ◌<◌, ◌≤◌, inl, inr, Bool, true, false, List, Option, None, Some, Result, Ok, Err, refl, sym, ap, ◌∙◌, arith}
 use Rattle.std.proofs.lemmas.Bool.{cases_lt, cases_Bool, and_parts, ltb-true}
 use Rattle.elf_model.specs.Prelude.{Answers, ChainEnd, ChainResult, GoesOn, HashTable, IsBounded, IsEndless, IsFirst, IsLookup, IsSysvWalk, Last, Lookup, LookupEnd, Nameless, NoIndex, NotThere, SysvFoundAnswers, SysvWalkAnswers, SysvWalkIsBounded, SysvWalkIsLookup, SysvWalkIsOne, Untried, WalkEnd, Wanted, bucket_of, end_at_word, end_of_match, end_of_name, fault_at, has_name, is_index, is_sysv_index, linked_at, looked_up, lookup_at, lookup_word, parse_lookup, same_symbol, section_table_of, sh_offset, symbol_at, sysv_bucket_of, sysv_cycle, sysv_end, sysv_hash, sysv_nchain, sysv_walk_end, sysv_walked, sysv_walked_at, sysv_walked_by, sysv_word, sysv_word_at, word_at}
@@ -68,7 +69,7 @@ sysv_walk_is_one file table hash trial first second (inr a) (inl b) =
 sysv_walk_is_one file table hash trial first second (inr a) (inr b) = a.gives ∙ sym b.gives
 
 module _ (file : List ℕ) (table : HashTable) (hash : ℕ) (trial : ℕ → Result Bool Refusal) where
-  -- the words before the one at which a walk ends are no more than the chains
+  -- the words before the one at which a walk ends are at most as many as the chains
   few_before : (i : ℕ) (end : WalkEnd) → IsFirst (sysv_end file table trial) (sysv_word file table.place hash) i end
       → i ≤ sysv_nchain file table.place
   few_before i end f =
@@ -83,7 +84,7 @@ module _ (file : List ℕ) (table : HashTable) (hash : ℕ) (trial : ℕ → Res
             absurd (not_both _ end f.here (endless i))
       ]
 
-  -- and fewer, where it ends at a symbol that is tried
+  -- and fewer, if it ends at a symbol that is tried
   fewer_before : (i : ℕ) (end : WalkEnd) → IsFirst (sysv_end file table trial) (sysv_word file table.place hash) i end
       → sysv_word file table.place hash i < sysv_nchain file table.place → suc i ≤ sysv_nchain file table.place
   fewer_before i end f some =

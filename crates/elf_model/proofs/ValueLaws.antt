@@ -34,7 +34,7 @@ sum_wraps s (negsuc n) =
       | inr high ↦ ap modulo_2_64 (plus_smaller s n high) ∙ sum_above s n high
     ]
 
--- nothing is taken off
+-- nothing is subtracted
 less_zero : (z : ℤ) → z -ℤ pos 0 ≡ z
 less_zero (pos n) = let e : n + 0 ≡ n = omega arith in ap pos e
 less_zero (negsuc n) = plus_larger 0 n (omega arith) ∙ (let e : n - 0 ≡ n = omega arith in ap negsuc e)

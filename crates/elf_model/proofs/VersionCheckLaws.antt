@@ -1,4 +1,4 @@
--- The checks before the rows of version numbers are those that a cost counts by the headers.
+-- The checks before the rows of a versym section are those that a cost counts by the headers.
 use Rattle.std.proofs.Common.{◌≡◌, ℕ, ◌==◌, ◌&&◌, ◌||◌, nat_lt, not, if◌then◌else◌, Bool, true, false, List, [], ◌∷◌, ◌++◌, length, refl, ap, ap₂, sym, ◌∙◌}
 use Rattle.elf_model.specs.Prelude.{Check, CheckedRowsAreCounted, VERSYM_SIZE, e_shnum, file_sections, has_strings, has_symbol_table, is_outside, is_symbol_table, pass, refuse, section_at, sh_link, sh_offset, sh_size, sh_type, strings_checks, symbol_table_checks, symbol_versions, symbols_checks, table_checks, unless_empty}
 use Rattle.elf_model.specs.declared.causes.Cause.TheVariants.{BadLink, NotStrings, TableOutside}

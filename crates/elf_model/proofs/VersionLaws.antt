@@ -6,7 +6,7 @@ use Rattle.elf_model.specs.Prelude.{FirstListNamesFirst, NamedIsFirst, NumbersAr
 use Rattle.elf_model.specs.declared.causes.Refusal.{Refusal}
 use Rattle.elf_model.proofs.VersionSteps.{met-ended, met-most, met-record, met-refused, ends-inside, number-small}
 
--- no more records are met than may be
+-- no more records are visited than the maximum
 bounded : (file : List ℕ) (table size most : ℕ) (stand : Option RecordCursorState) → length (visited_from file table size stand most).met ≤ most
 bounded file table size most None = rw (met-ended file table size most) zero-le
 bounded file table size zero (Some stand) = rw (met-most file table size stand) zero-le
@@ -23,7 +23,7 @@ pub records_are_bounded : RecordsAreBounded
 unfolding versions_in
 records_are_bounded kind file head table size = bounded file table size (max_records kind size) (first_position kind head size)
 
--- each record stands in the table
+-- each record is in the table
 inside : (file : List ℕ) (table size most : ℕ) (stand : Option RecordCursorState) → All (StandsInTable table size) (visited_from file table size stand most).met
 inside file table size most None = rw (met-ended file table size most) (All-nil (StandsInTable table size))
 inside file table size zero (Some stand) = rw (met-most file table size stand) (All-nil (StandsInTable table size))
@@ -44,7 +44,7 @@ pub records_stand : RecordsStand
 unfolding versions_in
 records_stand kind file head table size = inside file table size (max_records kind size) (first_position kind head size)
 
--- and has a small number
+-- and has a small index
 small : (file : List ℕ) (table size most : ℕ) (stand : Option RecordCursorState)
     → All (λ (m : VisitedRecord). number_in (number_word file m) < VERSION_NUMBERS) (visited_from file table size stand most).met
 small file table size most None = rw (met-ended file table size most) (All-nil _)
@@ -65,7 +65,7 @@ pub numbers_are_small : NumbersAreSmall
 unfolding versions_in
 numbers_are_small kind file head table size = small file table size (max_records kind size) (first_position kind head size)
 
--- a record that names a number, and one that does not
+-- a record that names a version index, and one that does not
 pub named-here :
     (file : List ℕ) (number : ℕ) (met : VisitedRecord) (others : List VisitedRecord) → names_version_index file number met ≡ true
     → named_by file number (met ∷ others) ≡ Some met

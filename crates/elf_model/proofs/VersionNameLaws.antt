@@ -1,4 +1,4 @@
--- Where the rows of definitions and needs have no fault, the name of each number is shown.
+-- If the rows of definitions and needs have no fault, the name of each version index is shown.
 use Rattle.std.proofs.Common.{◌≡◌, ℕ, zero, suc, ◌+◌, ◌<◌, ◌≤◌, ◌==◌, nat_lt, Bool, true, false, if◌then◌else◌, List, [], ◌∷◌, ◌++◌, All, Option, None, Some, Result, Ok, Err, refl, sym, ◌∙◌, arith, inl, inr}
 use Rattle.std.proofs.lemmas.Bool.{cases_Bool}
 use Rattle.std.proofs.lemmas.List.Elements.{All-nil, All-cons, All-head, All-tail, All-append}
@@ -31,7 +31,7 @@ each-none row first (suc count) i h low high =
       | inr other ↦ each-none row (suc first) count i (back-none (row first) (each row (suc first) count) h) (grind arith) (omega arith)
     ]
 
--- behind checks that have none
+-- after checks that have none
 guarded-none : (checks : List Check) (members : List ListingItem) → fault_of (guarded checks members) ≡ None → fault_of members ≡ None
 guarded-none checks members h = by_first (first_refusal checks) h
   where
@@ -81,7 +81,7 @@ abbrev StandsOn : Bool → Option RecordCursorState → Type 0
 StandsOn definition None = Unit {0}
 StandsOn definition (Some stand) = IsDefinition stand.kind ≡ definition
 
--- a walk that stands at one kind of record goes on to that kind
+-- a walk that is at one kind of record goes on to that kind
 along-stands : (definition : Bool) (table : ℕ) (kind : VersionKind) (place distance owner : ℕ) → IsDefinition kind ≡ definition
     → StandsOn definition (along table kind place distance owner)
 along-stands definition table kind place distance owner is = by_end (distance == 0)
@@ -168,7 +168,7 @@ both-named file cap kind (met ∷ others) shown_ kinds =
     (both-named file cap kind others (All-tail (IsShown file cap (version_strings file kind)) met others shown_)
     (All-tail (λ (m : VisitedRecord). IsDefinition m.kind ≡ IsDefinition kind) met others kinds))
 
--- the records of the first section of a type, where the rows of all such sections have no fault
+-- the records of the first section of a type, if the rows of all such sections have no fault
 module _ (file : List ℕ) (style : ListingStyle) (kind : VersionKind) (type : ℕ) (table : TableKind)
     (is_typed : (at : ℕ) → table.has_table file at ≡ (sh_type file at == type)) (is_listed : (i at : ℕ) → table.rows file style i at ≡ versions_rows kind file style i at)
     (strings : version_strings file kind ≡ first_strings type file)
@@ -189,7 +189,7 @@ module _ (file : List ℕ) (style : ListingStyle) (kind : VersionKind) (type : �
           let all = rows-shown file style i (strings_of file at) (section_versions kind file at).met (met-none kind file style i at rows) in
           both-named file style.cap kind (section_versions kind file at).met (rw told at all) (table-kinds kind file at)
 
--- a record that names a number is one of those
+-- a record that names a version index is one of those
 pub named-is : (file : List ℕ) (number : ℕ) (P : VisitedRecord → Type 0) (records : List VisitedRecord) (met : VisitedRecord) → All P records → named_by file number records ≡ Some met → P met
 named-is file number P [] met all e = let n = named-none file number in absurd (cc)
 named-is file number P (first ∷ records) met all e =

@@ -1,4 +1,4 @@
--- How many rows the versions of symbols have.
+-- The number of rows of symbol versions.
 use Rattle.std.proofs.Common.{◌≡◌, ℕ, zero, suc, ◌+◌, ◌<◌, ◌≤◌, min, nat_lt, true, false, List, [], ◌++◌, length, length-append, Option, None, Some, Result, Ok, Err, refl, ◌∙◌, arith, inl, inr}
 use Rattle.std.proofs.lemmas.Bool.{cases_Bool}
 use Rattle.std.proofs.lemmas.Bool.Decides.{nat_tests}
@@ -6,14 +6,14 @@ use Rattle.elf_model.specs.Prelude.{DisplayedName, EveryRow, LinePrefix, Listing
 use Rattle.elf_model.specs.declared.causes.Cause.{Cause}
 use Rattle.elf_model.specs.declared.causes.Cause.TheVariants.{VersionCut}
 
--- where every row is shown, a row with a name is one member
+-- if every row is shown, a row with a name is one member
 chosen-one : (choice : RowFilter) (front : LinePrefix) (at : ℕ) (name : Result DisplayedName Cause) → choice ≡ EveryRow
     → length (chosen_row choice front at name) ≡ 1
 chosen-one EveryRow front at (Ok name) every = refl
 chosen-one EveryRow front at (Err cause) every = refl
 chosen-one (RowsOf names) front at name every = cc
 
--- and so is the row of a number
+-- and so is the row of a version index
 numbered-one :
     (file : List ℕ) (style : ListingStyle) (front : LinePrefix) (entry number : ℕ) → style.choice ≡ EveryRow
     → length (numbered_row file style front entry number) ≡ 1
@@ -29,7 +29,7 @@ numbered-one file style front entry number every =
     go many None same = rw (many, same) refl
     go many (Some met) same = rw (many, same) (chosen-one style.choice front _ _ every)
 
--- as many rows as there are entries, where each is one member
+-- as many rows as there are entries, if each is one member
 each-one :
     (row : ℕ → List ListingItem) → ((i : ℕ) → length (row i) ≡ 1) → (first count : ℕ) → length (each row first count) ≡ count
 unfolding each
@@ -38,7 +38,7 @@ each-one row one first (suc count) =
     length-append (row first) (each row (suc first) count)
     ∙ (let here = one first in let more = each-one row one (suc first) count in omega arith)
 
--- as many rows as the smaller of two numbers, and one more where that is the first
+-- as many rows as the smaller of two numbers, and one more if that is the first
 one-more : (rows last : List ListingItem) (a b : ℕ) → length rows ≡ min a b → length last ≡ 1 → nat_lt a b ≡ true → length (rows ++ last) ≡ a + 1
 one-more rows last a b n one few = let l = length-append rows last in let t : a < b = grind (arith, nat_tests) in omega arith
 

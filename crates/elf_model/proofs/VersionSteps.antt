@@ -6,12 +6,12 @@ use Rattle.elf_model.specs.Prelude.{Check, RecordCursorState, RecordIsRefused, R
 use Rattle.elf_model.specs.declared.causes.Cause.TheVariants.{BadVersion, VersionCut, VersionIndex}
 use Rattle.elf_model.specs.declared.causes.Refusal.{Refusal}
 
--- a walk that has ended meets nothing more
+-- a walk that has ended visits nothing more
 pub met-ended : (file : List ℕ) (table size most : ℕ) → visited_from file table size None most ≡ no_versions None
 unfolding visited_from
 met-ended file table size most = refl
 
--- and one that has met as many records as it may is cut
+-- and one that has visited the maximum number of records is cut
 pub met-most :
     (file : List ℕ) (table size : ℕ) (stand : RecordCursorState)
     → visited_from file table size (Some stand) zero ≡ no_versions (Some (record { at = stand.from; cause = VersionCut }))
@@ -38,7 +38,7 @@ record_is_visited file table size stand most h = met-record file table size stan
 pub record_is_refused : RecordIsRefused
 record_is_refused file table size stand most refusal h = met-refused file table size stand most refusal h
 
--- the first of some checks passes where all do
+-- the first of some checks passes if all do
 pub first-passes : (check : Check) (checks : List Check) → first_refusal (check ∷ checks) ≡ None → check.fails ≡ false
 first-passes check checks h =
     elim (cases_Bool check.fails) [ inl fails ↦ let f = rw fails at h in absurd (cc) | inr passes ↦ passes ]
@@ -56,7 +56,7 @@ ends-inside file table size stand h =
     let inside : nat_lt size (stand.place + record_size stand.kind) ≡ false = first-passes (refuse (nat_lt size (stand.place + record_size stand.kind)) stand.from VersionCut) (word_checks file size stand.place (visited_at table stand)) h in
     grind (arith, nat_tests)
 
--- its number is not too large
+-- its version index is not too large
 pub number-small :
     (file : List ℕ) (table size : ℕ) (stand : RecordCursorState) → first_refusal (record_checks file table size stand) ≡ None
     → number_in (number_word file (visited_at table stand)) < VERSION_NUMBERS

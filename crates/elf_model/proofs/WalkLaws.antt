@@ -1,4 +1,5 @@
--- Walks: a walk that comes to a word again never ends, and so does one that is longer than its words are many.
+-- Walks: a walk that reaches a word a second time never ends, and neither does one with more steps
+-- than words.
 use Rattle.std.proofs.Common.{◌≡◌, ℕ, zero, suc, ◌+◌, ◌-◌, ◌<◌, ◌≤◌, ◌⊎◌, inl, inr, Option, None, Some, refl, sym, ap, ◌∙◌, arith, add-suc, add-zero}
 use Rattle.std.proofs.lemmas.Bool.{cases_eq, cases_lt}
 use Rattle.elf_model.specs.Prelude.{GoesOn, IsBounded, IsEndless, IsFirst, LongWalkNeverEnds, LongWalkRepeats, RepeatNeverEnds, Repeats, end_among, walk_word}
@@ -13,7 +14,7 @@ same_from next start i j zero e = rw (add-zero, add-zero) e
 same_from next start i j (suc d) e = rw (add-suc, add-suc) (ap next (same_from next start i j d e))
 
 module _ {E : Type 0} (ends : ℕ → Option E) (next : ℕ → ℕ) (start n : ℕ) where
-  -- all words below a number go on, the later ones as the ones at the earlier turn
+  -- all words below a number go on, the later ones as at the earlier step
   goes_on_below :
       Repeats (walk_word next start) n → GoesOn ends (walk_word next start) n
       → (limit k : ℕ) → k < limit → ends (walk_word next start k) ≡ None
@@ -41,7 +42,7 @@ repeats_endless ends next start n r goes i = goes_on_below ends next start n r g
 pub repeat_never_ends : RepeatNeverEnds
 repeat_never_ends ends next start n r goes = repeats_endless ends next start n r goes
 
--- a word that goes on, less one
+-- a word that goes on, minus one
 less_one : (ℕ → ℕ) → ℕ → ℕ
 less_one words i = words i - 1
 
@@ -89,7 +90,7 @@ pub found_here :
 unfolding end_among
 found_here ends next word i n end t = rw (t, end_among) refl
 
--- a word at which it does not is passed over
+-- a word at which it does not is skipped
 pub passed_over :
     {E : Type 0} (ends : ℕ → Option E) (next : ℕ → ℕ) (word i n : ℕ) → ends word ≡ None
     → end_among ends next word i (suc n) ≡ end_among ends next (next word) (suc i) n
@@ -97,7 +98,7 @@ unfolding end_among
 passed_over ends next word i n t = rw (t, end_among) refl
 
 module _ {E : Type 0} (ends : ℕ → Option E) (next : ℕ → ℕ) (start : ℕ) where
-  -- none found: the walk goes on at all words looked at
+  -- none found: the walk goes on at all words examined
   pub none_found :
       (n i : ℕ) → end_among ends next (walk_word next start i) i n ≡ None
       → (k : ℕ) → i ≤ k → k < i + n → ends (walk_word next start k) ≡ None
@@ -133,7 +134,8 @@ module _ {E : Type 0} (ends : ℕ → Option E) (next : ℕ → ℕ) (start : �
         ])
       ]
 
--- A walk over words below a bound: what the search for its end says, among one word more than the bound.
+-- A walk over words below a bound: the result of the search for its end, among one word more than
+-- the bound.
 module _ {E : Type 0} (ends : ℕ → Option E) (next : ℕ → ℕ) (start n : ℕ) where
   -- it ends at one of them: it is the first
   pub searched_first : (i : ℕ) (end : E) → end_among ends next start 0 (suc n) ≡ Some (i, end) → IsFirst ends (walk_word next start) i end
@@ -150,7 +152,7 @@ module _ {E : Type 0} (ends : ℕ → Option E) (next : ℕ → ℕ) (start n : 
 
 -- A walk that ends at one word has one end.
 module _ {E : Type 0} (ends : ℕ → Option E) (words : ℕ → ℕ) where
-  -- there is one first word only
+  -- there is only one first word
   pub first_is_one : (i j : ℕ) (a b : E) → IsFirst ends words i a → IsFirst ends words j b → i ≡ j
   first_is_one i j a b f g =
       elim (cases_lt i j) [
@@ -165,7 +167,7 @@ module _ {E : Type 0} (ends : ℕ → Option E) (words : ℕ → ℕ) where
   pub end_is_one : (i : ℕ) (a b : E) → IsFirst ends words i a → IsFirst ends words i b → a ≡ b
   end_is_one i a b f g = let here = f.here in let there = g.here in cc
 
-  -- so what is told by it is one
+  -- so its result is unique
   pub gives_one : {X : Type 0} (gives : ℕ → E → X) (i j : ℕ) (a b : E) → IsFirst ends words i a → IsFirst ends words j b → gives i a ≡ gives j b
   gives_one gives i j a b f g =
       let e = first_is_one i j a b f g in

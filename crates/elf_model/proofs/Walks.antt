@@ -4,7 +4,7 @@ use Rattle.std.proofs.lemmas.List.{drop_at, append_assoc}
 use Rattle.elf_model.specs.Notes.{Note, Padded, AllPadded, NextNote, Ends, Broken, OneNote, NoteScan, bytes_to_alignment, padded_size, first_end, next_note, walk_from, with_note}
 use Rattle.elf_model.proofs.Spellings.{NextView, ends, tails, past, found, next_view, next-spelt, spelt-size}
 
--- one turn of the walk
+-- one step of the walk
 abbrev turn : ℕ → List ℕ → (ℕ → List ℕ → NoteScan) → NextNote → NoteScan
 turn place rest more Ends = record { notes = []; cut = None }
 turn place rest more Broken = record { notes = []; cut = Some place }
@@ -19,7 +19,7 @@ walk_from-suc a most place rest = go (next_note a rest) refl
     go Broken e = rw (e, walk_from) refl
     go (OneNote note size) e = rw (e, walk_from) refl
 
--- a note that stands next has at least its head, and is in the bytes
+-- the next note has at least its header, and is in the bytes
 pub found-size : (a : ℕ) (rest : List ℕ) (note : Note) (size : ℕ) → next_note a rest ≡ OneNote note size → (12 ≤ size) × (size ≤ length rest)
 found-size a rest note size e = go (next_view a rest)
   where
@@ -31,7 +31,7 @@ found-size a rest note size e = go (next_view a rest)
         let s : size ≡ min (first_end a rest + bytes_to_alignment a (first_end a rest)) (length rest) = cc in
         (omega arith, omega arith)
 
--- any number of turns above the number of bytes is enough
+-- any number of steps above the number of bytes is enough
 walk-enough : (a f g place : ℕ) (rest : List ℕ) → length rest < f → length rest < g → walk_from a f place rest ≡ walk_from a g place rest
 walk-enough a zero g place rest p q = absurd (omega arith)
 walk-enough a (suc f) zero place rest p q = absurd (omega arith)
@@ -48,7 +48,7 @@ walk-enough a (suc f) (suc g) place rest p q = step (λ n xs. walk-enough a f g 
             let s = found-size a rest note size e in
             ap (with_note note) (more (place + size) (drop size rest) (omega (arith, length-drop size rest)) (omega (arith, length-drop size rest)))
 
--- the walk over all bytes that are left
+-- the walk over all remaining bytes
 abbrev pub walk : ℕ → ℕ → List ℕ → NoteScan
 walk a place rest = walk_from a (suc (length rest)) place rest
 
@@ -79,7 +79,7 @@ walk-padded a place note first rest p =
     walk-found a place (first ++ rest) note (length first) (next ∙ ap (OneNote note) m)
     ∙ ap (λ x. with_note note (walk a (place + length first) x)) (drop_at first rest (length first) refl)
 
--- notes in front of those of a walk
+-- notes before those of a walk
 abbrev pub with_notes : List Note → NoteScan → NoteScan
 with_notes notes w = record { notes = notes ++ w.notes; cut = w.cut }
 

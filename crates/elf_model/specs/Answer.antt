@@ -1,4 +1,5 @@
--- What `show` gives: a text, and a status for the shell. `sample` is `show` of a file that the program carries.
+-- The result of `show`: a text, and an exit status. `sample` is `show` of a file that the program
+-- contains.
 use Rattle.std.specs.Prelude.{ℕ, ◌≡◌, List, Option, None, Some}
 use Rattle.elf_model.specs.Budget.{IsBudgeted}
 use Rattle.elf_model.specs.Listing.{report_of, fault_of}
@@ -6,7 +7,7 @@ use Rattle.elf_model.specs.Report.{listing}
 use Rattle.elf_model.specs.Style.{ListingStyle, standard}
 use Rattle.elf_model.specs.declared.causes.Refusal.{Refusal}
 
--- an answer: what is written to standard output, and the status
+-- a result: what is written to standard output, and the status
 pub record Answer : Type 0 where
   pub text : List ℕ
   pub status : ℕ
@@ -22,12 +23,14 @@ show_answer_by file headers style parts =
     let all = listing file headers style parts in
     record { text = report_of style.format all; status = status_of (fault_of all) }
 
--- with so many bytes of a name, in the standards' names, by the section headers where there are some
+-- with this limit on bytes of a name, in the standards' names, by the section headers if there are
+-- any
 abbrev pub show_answer : List ℕ → ℕ → ℕ → ℕ → Answer
 show_answer file headers cap parts = show_answer_by file headers (standard cap) parts
 
--- `show` within a budget: what a listing within it writes, and the status of the fault that it answers. So without a budget
--- it is `show_answer_by`; with one it is that too, or, only where it costs more than the budget, cut short, with status 1
+-- `show` within a budget: what a listing within it writes, and the status of the fault that it
+-- returns. So without a budget it is `show_answer_by`; with one it is that too, or, only if it
+-- costs more than the budget, cut short, with status 1
 pub record IsShown (budget : Option ℕ) (file : List ℕ) (headers : ℕ) (style : ListingStyle) (parts : ℕ) (answer : Answer) : Type 0 where
   pub fault : Option Refusal
   pub listed : IsBudgeted budget file headers style parts answer.text fault

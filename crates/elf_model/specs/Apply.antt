@@ -1,5 +1,5 @@
--- Relocations applied to a section of a relocatable file (gABI 4, Relocation). The header of a section stands at an
--- offset `at` of the file, a relocation entry at an offset `rela`.
+-- Relocations applied to a section of a relocatable file (gABI 4, Relocation). The header of a
+-- section is at an offset `at` of the file, a relocation entry at an offset `rela`.
 use Rattle.std.specs.Prelude.{ℕ, zero, suc, ◌+◌, ◌==◌, ◌&&◌, ◌||◌, nat_lt, not, Bool, true, false, if◌then◌else◌, List, [], ◌∷◌, ◌++◌, length, take, drop, flat_map, Option, None, Some, Result, Ok, Err}
 use Rattle.std.specs.Int.RustNames.{bit_and}
 use Rattle.elf_model.specs.Checks.{Check, refuse, first_refusal, header_checks, load_checks, range_checks}
@@ -14,20 +14,20 @@ use Rattle.elf_model.specs.declared.relocation_types.RelocationType.{RelocationT
 use Rattle.elf_model.specs.declared.causes.Cause.TheVariants.{NotRel, BadLink, Unsupported, Overflow, PlaceOutside}
 use Rattle.elf_model.specs.declared.causes.Refusal.{Refusal}
 
--- a section holds no bytes in the file (gABI 4, Section Types)
+-- a section has no bytes in the file (gABI 4, Section Types)
 abbrev pub has_no_bytes : List ℕ → ℕ → Bool
 has_no_bytes file at = sh_type file at == SHT_NOBITS || sh_type file at == SHT_NULL
 
--- a section is compressed: relocation entries speak of other bytes than those that stand in the file (gABI 4, Section
--- Compression)
+-- a section is compressed: relocation entries apply to its uncompressed bytes, not to those in the
+-- file (gABI 4, Section Compression)
 abbrev pub is_compressed : List ℕ → ℕ → Bool
 is_compressed file at = bit_and (sh_flags file at) SHF_COMPRESSED == SHF_COMPRESSED
 
--- the bytes that a section holds in the file
+-- the bytes that a section has in the file
 unfoldable pub held_bytes : List ℕ → ℕ → List ℕ
 held_bytes file at = elim (has_no_bytes file at) [ true ↦ [] | false ↦ section_bytes file at ]
 
--- what relocations are applied to: the file, the section's index, how many bytes it has, and the layout
+-- what relocations are applied to: the file, the section's index, its size in bytes, and the layout
 pub record ApplyTarget : Type 0 where
   pub file : List ℕ
   pub section : ℕ
@@ -48,12 +48,12 @@ named_value base target at rela =
 abbrev pub symbol_checks : List ℕ → ℕ → ℕ → List Check
 symbol_checks file at rela = symbol_checks_of file at rela (r_sym file rela)
 
--- where a value is taken it is there
+-- a value that the formula uses is there
 abbrev pub value_checks : Bool → Result ℕ Refusal → List Check
 value_checks taken (Ok value) = []
 value_checks taken (Err refusal) = record { fails = taken; refusal = refusal } ∷ []
 
--- a value, or 0 where it is not there
+-- a value, or 0 if it is not there
 abbrev value_or_zero : Result ℕ Refusal → ℕ
 value_or_zero (Ok value) = value
 value_or_zero (Err refusal) = 0
@@ -67,9 +67,10 @@ terms_of target at rela type =
       place = value_or_zero (place_value target.file target.layout target.section rela);
     }
 
--- The checks of a relocation entry by its type, in their order; the first that fails refuses the entry. Its bytes lie in
--- the section; its symbol is one; B is there, and P where the formula takes it; its value is in the type's range. They
--- refuse at the entry, but for a name that cannot be compared: that is at its symbol.
+-- The checks of a relocation entry by its type, in their order; the first that fails refuses the
+-- entry. Its bytes lie in the section; its symbol is one of the table's; B is there, and P if the
+-- formula uses it; its value is in the type's range. They refuse at the entry, except for a name
+-- that cannot be compared: that is refused at its symbol.
 unfoldable pub entry_checks : ApplyTarget → ℕ → ℕ → RelocationType → List Check
 entry_checks target at rela type =
     refuse (nat_lt target.size (r_offset target.file rela + type.width)) rela PlaceOutside
@@ -89,7 +90,7 @@ pub data SectionChange : Type 0 where
   Put : StoredBytes → SectionChange
   Fails : Refusal → SectionChange
 
--- what an entry does: before all other checks it is refused if its type is none that stores a value
+-- what an entry does: before all other checks it is refused if its type does not store a value
 unfoldable pub change_of : ApplyTarget → ℕ → ℕ → Option RelocationType → SectionChange
 change_of target at rela None = Fails (record { at = rela; cause = Unsupported })
 change_of target at rela (Some type) =
@@ -98,7 +99,7 @@ change_of target at rela (Some type) =
       | None ↦ Put (record { at = r_offset target.file rela; bytes = low_bytes type (terms_of target at rela type) })
     ]
 
--- a relocation type, where a layout has addresses that its base may give
+-- a relocation type, if a layout has addresses for its base
 unfoldable pub where_based : Layout → Option RelocationType → Option RelocationType
 where_based layout None = None
 where_based layout (Some type) = elim (has_base layout type.base) [ true ↦ Some type | false ↦ None ]
@@ -111,24 +112,25 @@ entry_changes target at rela =
       | false ↦ change_of target at rela (where_based target.layout (kind_of (r_type target.file rela))) ∷ []
     ]
 
--- the places of so many entries of a table, from an index on
+-- the offsets of this many entries of a table, from an index on
 unfoldable pub places_from : (ℕ → ℕ) → ℕ → ℕ → List ℕ
 places_from place i zero = []
 places_from place i (suc n) = place i ∷ places_from place (suc i) n
 
--- where the section headers of a file stand
+-- the offsets of the section headers of a file
 abbrev pub section_headers : List ℕ → List ℕ
 section_headers file = places_from (section_at file) 0 (e_shnum file)
 
--- where the relocation entries of a section stand
+-- the offsets of the relocation entries of a section
 abbrev pub relocation_entries : List ℕ → ℕ → List ℕ
 relocation_entries file at = places_from (entry_at file at RELA_SIZE) 0 (entry_count file at RELA_SIZE)
 
--- a section holds relocation entries for another
+-- a section has relocation entries for another
 abbrev pub applies_to : List ℕ → ℕ → ℕ → Bool
 applies_to file section at = sh_type file at == SHT_RELA && sh_info file at == section
 
--- what a section does: nothing unless it holds entries for the target; its first refusal, or what its entries do
+-- what a section does: nothing unless it has entries for the target; its first refusal, or what its
+-- entries do
 unfoldable pub section_changes : ApplyTarget → ℕ → List SectionChange
 section_changes target at =
     elim (applies_to target.file target.section at) [
@@ -158,12 +160,12 @@ patches_of (Put patch ∷ changes) = and_patches patch (patches_of changes)
 unfoldable pub put : StoredBytes → List ℕ → List ℕ
 put patch base = take patch.at base ++ (patch.bytes ++ drop (patch.at + length patch.bytes) base)
 
--- bytes are stored one after another, so that the later of two that overlap stands
+-- bytes are stored one after another, so that of two that overlap the later wins
 unfoldable pub patched : List StoredBytes → List ℕ → List ℕ
 patched [] base = base
 patched (patch ∷ patches) base = patched patches (put patch base)
 
--- the checks of the request to apply to a section
+-- the checks of the request to apply relocations to a section
 unfoldable pub apply_checks : List ℕ → ℕ → List Check
 apply_checks file section =
     refuse (not (e_type file == ET_REL)) 0x10 NotRel
@@ -172,11 +174,11 @@ apply_checks file section =
     ∷ refuse (is_compressed file (section_at file section)) (section_at file section) Unsupported
     ∷ (if has_no_bytes file (section_at file section) then [] else range_checks file (section_at file section))
 
--- all checks before the relocation entries, with so many headers permitted
+-- all checks before the relocation entries, with this many headers allowed
 abbrev pub before_entries : List ℕ → ℕ → ℕ → List Check
 before_entries file headers section = (header_checks file ++ load_checks file headers) ++ apply_checks file section
 
--- how many bytes a section, by its index, holds in the file
+-- how many bytes a section, by its index, has in the file
 abbrev pub held_size : List ℕ → ℕ → ℕ
 held_size file section = length (held_bytes file (section_at file section))
 

@@ -1,4 +1,5 @@
--- Laws of patches: what an entry stores, what a part of a patched section holds, and which parts later patches leave alone.
+-- Laws of patches: what an entry stores, which bytes a part of a patched section has, and which
+-- parts later patches leave unchanged.
 use Rattle.std.specs.Prelude.{ℕ, ◌+◌, ◌-◌, ◌≤◌, ◌≡◌, ◌&&◌, nat_lt, nat_le, if◌then◌else◌, min, List, [], ◌∷◌, length, get_or, take, drop, map, All, Some, Ok}
 use Rattle.elf_model.specs.Apply.{StoredBytes, Put, ApplyTarget, terms_of, entry_changes, changes_of, patches_of, patched, held_size, applied}
 use Rattle.elf_model.specs.Bytes.{slice}
@@ -7,11 +8,11 @@ use Rattle.elf_model.specs.Records.{r_offset, r_type}
 use Rattle.elf_model.specs.Values.{kind_of, patch_of}
 use Rattle.elf_model.specs.declared.relocation_types.RelocationType.{RelocationType}
 
--- a patch lies within so many bytes
+-- a patch lies within this many bytes
 abbrev pub IsInside : ℕ → StoredBytes → Type 0
 IsInside size patch = patch.at + length patch.bytes ≤ size
 
--- all patches lie within so many bytes
+-- all patches lie within this many bytes
 abbrev pub AllInside : ℕ → List StoredBytes → Type 0
 AllInside size patches = All (IsInside size) patches
 
@@ -33,7 +34,7 @@ clipped low n patch =
       bytes = take (n - (patch.at - low)) (drop (low - patch.at) patch.bytes);
     }
 
--- patches within a section leave its length
+-- patches within a section keep its length
 abbrev pub LengthKept : Type 0
 LengthKept =
     (patches : List StoredBytes) (base : List ℕ) → AllInside (length base) patches → length (patched patches base) ≡ length base
@@ -51,14 +52,14 @@ WindowPatched =
     → AllInside (length base) patches → low + n ≤ length base
     → slice (patched patches base) low n ≡ patched (map (clipped low n) patches) (slice base low n)
 
--- what stands before all patches stays
+-- the bytes before all patches are unchanged
 abbrev pub FinalBelow : Type 0
 FinalBelow =
     (patches : List StoredBytes) (base : List ℕ) (low : ℕ)
     → AllInside (length base) patches → All (λ patch. low ≤ patch.at) patches
     → take low (patched patches base) ≡ take low base
 
--- what stands behind all patches stays
+-- the bytes after all patches are unchanged
 abbrev pub KeptAbove : Type 0
 KeptAbove =
     (patches : List StoredBytes) (base : List ℕ) (high : ℕ)
@@ -80,7 +81,7 @@ abbrev pub ChangesInside : Type 0
 ChangesInside =
     (target : ApplyTarget) (patches : List StoredBytes) → patches_of (changes_of target) ≡ Ok patches → AllInside target.size patches
 
--- a section with its relocations applied has as many bytes as it holds in the file
+-- a section with its relocations applied has as many bytes as it has in the file
 abbrev pub AppliedKeepsLength : Type 0
 AppliedKeepsLength =
     (file : List ℕ) (headers section : ℕ) (layout : Layout) (text : List ℕ)

@@ -1,4 +1,4 @@
--- The lines of the symbols that the objects of a program ask others for.
+-- The lines of the symbols that the objects of a program reference.
 use Rattle.std.specs.Prelude.{ℕ, [], ◌∷◌, ◌++◌, List, codes, Bool, true, false, Option, None, Some}
 use Rattle.elf_model.specs.Fields.{Field, Fields, LinePrefix, closing, front}
 use Rattle.elf_model.specs.Fields.Field.{Decimal, NameOrDecimal, ArgSpec}
@@ -19,7 +19,8 @@ binding_state_name state.Unbound = codes "unbound"
 binding_state_name state.NoVersion = codes "nover"
 binding_state_name (state.Refused object) = codes "refused"
 
--- the state of a symbol that no object defines, where the object of which it asks for a version lacks that one, or not
+-- the state of a symbol that no object defines, if the object of its requested version lacks that
+-- one, or not
 abbrev pub unbound_state : (weak lacks : Bool) → BindingState
 unbound_state true lacks = state.Weak
 unbound_state false true = state.NoVersion
@@ -46,7 +47,7 @@ definer_fields (state.Bound object symbol) = object_field (Some object) ∷ defi
 definer_fields (state.Refused object) = object_field (Some object) ∷ definition_field None ∷ []
 definer_fields _ = object_field None ∷ definition_field None ∷ []
 
--- a symbol that an object asks others for: both by their indexes, its state, and what defines it
+-- a symbol that an object references: both by their indexes, its state, and what defines it
 abbrev pub binding_fields : (object symbol : ℕ) → BindingState → Fields
 binding_fields object symbol found = record {
   letter = codes "B";
@@ -57,7 +58,8 @@ binding_fields object symbol found = record {
 unfoldable pub binding_front : Format → (object symbol : ℕ) → BindingState → LinePrefix
 binding_front format object symbol found = front format (codes "name") (binding_fields object symbol found)
 
--- a line that ends in a name, with `@` and the version that is asked for; in an object that is a member of its own
+-- a line that ends in a name, followed by `@` and the requested version; in an object that is a
+-- member of its own
 unfoldable pub line_requested : Format → (key text name version : List ℕ) → List ℕ
 line_requested Columns key text name version = text ++ (escaped name ++ codes "@" ++ escaped version ++ newline)
 line_requested Object key text name version = text ++ (name_member key (Whole name) ++ version_member (Whole version) ++ closing Object)
@@ -66,6 +68,6 @@ abbrev pub requested_line : LinePrefix → (name : List ℕ) → (version : Opti
 requested_line front name None = named_line front (Whole name)
 requested_line front name (Some version) = line_requested front.format front.key front.text name version
 
--- THE LINE OF A SYMBOL that an object asks others for, with its name and the version that it asks for
+-- THE LINE OF A SYMBOL that an object references, with its name and the requested version
 abbrev pub binding_line : Format → (object symbol : ℕ) → BindingState → (name : List ℕ) → (version : Option (List ℕ)) → List ℕ
 binding_line format object symbol found name version = requested_line (binding_front format object symbol found) name version

@@ -1,7 +1,7 @@
--- From where a symbol comes that a file asks others for, as a loader of the GNU system binds it: some files are looked in, one
--- after another, and the first that defines the name is the definer (gABI 5, Shared Object Dependencies and Hash Table; Linux
--- Standard Base Core, Symbol Versioning). The files are those that are shown to a lookup: by their program headers, where no
--- section headers are known.
+-- Which file defines a symbol that a file references, as a GNU loader binds it: files are searched
+-- in order, and the first that defines the name is used (gABI 5, Shared Object Dependencies and
+-- Hash Table; Linux Standard Base Core, Symbol Versioning). The files are those that a lookup sees:
+-- by their program headers, if no section headers are known.
 use Rattle.std.specs.Prelude.{ℕ, suc, ◌+◌, ◌*◌, ◌==◌, ◌&&◌, nat_lt, not, min, if◌then◌else◌, Bool, true, false, List, [], ◌∷◌, length, Option, None, Some, Result, Ok, Err}
 use Rattle.elf_model.specs.Chains.{ChainResult}
 use Rattle.elf_model.specs.Checks.{first_refusal}
@@ -21,8 +21,9 @@ use Rattle.elf_model.specs.Versions.{VERSYM_SIZE, name_index, named_at, number_i
 use Rattle.elf_model.specs.declared.causes.Cause.TheVariants.{TooLong, VersionCut, VersionIndex}
 use Rattle.elf_model.specs.declared.causes.Refusal.{Refusal}
 
--- A SYMBOL DEFINES what is wanted: it answers a lookup, and it is not undefined. An undefined one that has a value answers too: it
--- stands for the address of a function, and calls of that go to another file
+-- A SYMBOL DEFINES what is wanted: it answers a lookup, and it is not undefined. An undefined one
+-- that has a value answers too: it is for the address of a function, and calls of that go to
+-- another file
 unfoldable pub defines : List ℕ → DynamicSymbols → SymbolQuery → (ℕ → Bool) → ℕ → Result Bool Refusal
 defines file symbols wanted is_wanted y = elim (answers file symbols wanted is_wanted y) [
   | Err refusal ↦ Err refusal
@@ -30,31 +31,31 @@ defines file symbols wanted is_wanted y = elim (answers file symbols wanted is_w
   | Ok true ↦ Ok (not (st_shndx file (symbol_offset symbols y) == SHN_UNDEF))
 ]
 
--- the walk for the symbol that defines it, where the numbers of the version by its name are known
+-- the walk for the symbol that defines it, if the indices of the version by its name are known
 unfoldable pub definer_walk : List ℕ → LookupTables → SymbolQuery → (ℕ → Bool) → ChainResult
 definer_walk file scope wanted is_wanted = elim scope.kind [
   | GnuTable ↦ gnu_looked_up file scope.table (gnu_hash wanted.name) (defines file scope.symbols wanted is_wanted)
   | SysvTable ↦ sysv_walked file scope.table (sysv_hash wanted.name) (defines file scope.symbols wanted is_wanted)
 ]
 
--- WHAT LOOKING FOR A DEFINER IN ONE FILE GIVES: the index of the symbol, or none, or the refusal; how many symbols are tried, and
--- how many chain words and records of versions are read
+-- THE RESULT OF SEARCHING ONE FILE FOR A DEFINITION: the index of the symbol, or none, or the
+-- refusal; how many symbols are tried, and how many chain words and version records are read
 pub record DefinerLookup : Type 0 where
   pub answer : Result (Option ℕ) Refusal
   pub tried : ℕ
   pub chain_words : ℕ
   pub records : ℕ
 
--- a refusal before the walk, once so many records are read
+-- a refusal before the walk, once this many records are read
 abbrev pub unwalked : (records : ℕ) → Refusal → DefinerLookup
 unwalked records refusal = record { answer = Err refusal; tried = 0; chain_words = 0; records = records }
 
--- by the walk, before which so many records are read
+-- by the walk, before which this many records are read
 abbrev pub definer_by : (records : ℕ) → ChainResult → DefinerLookup
 definer_by records walked = record { answer = walked.answer; tried = walked.tried; chain_words = walked.read; records = records }
 
--- once the checks of what a lookup is made in pass: the table's counts, the numbers of the version, the walk. What the symbol's
--- version is called is not asked, as its line does not have it
+-- once the checks of the lookup tables pass: the table's counts, the indices of the version, the
+-- walk. The name of the symbol's version is not read, as its line does not have it
 unfoldable pub definition_in : List ℕ → LookupTables → SymbolQuery → DefinerLookup
 definition_in file scope wanted = elim (first_refusal (counts_check file scope ∷ [])) [
   | Some refusal ↦ unwalked 0 refusal
@@ -66,35 +67,37 @@ definition_in file scope wanted = elim (first_refusal (counts_check file scope �
       ]
 ]
 
--- in a file, with so many headers permitted
+-- in a file, with this many headers allowed
 unfoldable pub definition_lookup : List ℕ → ℕ → SymbolQuery → DefinerLookup
 definition_lookup file headers wanted = elim (lookup_tables_of file headers) [
   | Err refusal ↦ unwalked 0 refusal
   | Ok scope ↦ definition_in file scope wanted
 ]
 
--- HOW MANY BYTES IT MAY ASK FOR once what it is made in is known: four counts, a word of a filter and one of a bucket; the chain
--- words; a symbol, the word of its version and its name for each that is tried; the records of versions
+-- HOW MANY BYTES IT MAY READ once the lookup tables are known: four counts, a word of a filter and
+-- one of a bucket; the chain words; a symbol, its versym entry and its name for each that is tried;
+-- the version records
 unfoldable pub definition_cost : SymbolQuery → DefinerLookup → ℕ
 definition_cost wanted looked =
     4 * looked.chain_words
     + looked.tried * (SYMBOL_SIZE + VERSYM_SIZE + pad64 (length wanted.name + 1))
     + looked.records * record_cost wanted.asked
 
--- WHAT LOOKING OVER FILES GIVES: the index of the first file that defines the name, with that of the symbol there; or that of the
--- first in which the lookup is refused, with its refusal; or that none defines it
+-- THE RESULT OF SEARCHING FILES: the index of the first file that defines the name, with that of
+-- the symbol there; or that of the first in which the lookup is refused, with its refusal; or that
+-- none defines it
 pub data Binding : Type 0 where
   BoundTo : (file symbol : ℕ) → Binding
   StoppedIn : (file : ℕ) → Refusal → Binding
   BoundToNone : Binding
 
--- by the lookup in one file, or else what the others give
+-- by the lookup in one file, or otherwise the result in the others
 abbrev pub bound_or : ℕ → Result (Option ℕ) Refusal → Binding → Binding
 bound_or index (Ok (Some symbol)) others = BoundTo index symbol
 bound_or index (Ok None) others = others
 bound_or index (Err refusal) others = StoppedIn index refusal
 
--- in the files from an index on, with so many headers permitted in each
+-- in the files from an index, with this many headers allowed in each
 unfoldable pub bound_from : ℕ → (headers : ℕ) → SymbolQuery → List (List ℕ) → Binding
 bound_from index headers wanted [] = BoundToNone
 bound_from index headers wanted (file ∷ files) =
@@ -104,23 +107,23 @@ bound_from index headers wanted (file ∷ files) =
 abbrev pub bound_in : (headers : ℕ) → SymbolQuery → List (List ℕ) → Binding
 bound_in headers wanted files = bound_from 0 headers wanted files
 
--- WHAT A SYMBOL ASKS OTHERS FOR. It is undefined, global, weak or unique, and has a name (gABI 4, Symbol Table: an index of 0 is
--- none), of one byte or more
+-- A SYMBOL IS A REFERENCE. It is undefined, global, weak or unique, and has a name (gABI 4, Symbol
+-- Table: an index of 0 is none), of one byte or more
 unfoldable pub is_reference : List ℕ → ℕ → Bool
 is_reference file at =
     (st_shndx file at == SHN_UNDEF)
     && is_among (st_bind file at) (STB_GLOBAL ∷ STB_WEAK ∷ STB_GNU_UNIQUE ∷ [])
     && not (st_name file at == 0)
 
--- it may be defined by no file: then it stands for 0 (gABI 4, Symbol Table, STB_WEAK)
+-- it need not be defined by any file: then its value is 0 (gABI 4, Symbol Table, STB_WEAK)
 abbrev pub is_weak : List ℕ → ℕ → Bool
 is_weak file at = st_bind file at == STB_WEAK
 
--- how many bytes a name of a symbol or a version has at most that is asked for: a longer one is refused
+-- the maximum number of bytes of a requested name of a symbol or a version: a longer one is refused
 abbrev pub SOUGHT_BYTES : ℕ
 SOUGHT_BYTES = 4096
 
--- a whole name in strings, or the refusal at what holds its index
+-- a whole name in strings, or the refusal at the record that has its index
 unfoldable pub whole_name : (strings : List ℕ) → (index at : ℕ) → Result (List ℕ) Refusal
 whole_name strings index at = elim (shown strings index SOUGHT_BYTES) [
   | Ok (Whole name) ↦ Ok name
@@ -128,8 +131,8 @@ whole_name strings index at = elim (shown strings index SOUGHT_BYTES) [
   | Err cause ↦ Err (record { at = at; cause = cause })
 ]
 
--- the version of a number: the name of the first record that has it; a fault of the name is at what holds its index, and where
--- none has the number at the word
+-- the version of an index: the name of the first record that has it; a fault of the name is at the
+-- record that has the name's index, and if no record has the version index at the versym entry
 unfoldable pub reference_by_index : List ℕ → List VersionRecordTable → (number word_at : ℕ) → Result VersionQuery Refusal
 reference_by_index file records number word_at =
     let naming = naming_of file number (readings file records) in
@@ -144,7 +147,8 @@ reference_by_index file records number word_at =
       ]
     ]
 
--- the version that a symbol asks for: none where there are no words of versions, and by the numbers 0 and 1
+-- the version that a symbol requests: none if there are no versym entries, and for the indices 0
+-- and 1
 unfoldable pub reference_version : List ℕ → DynamicSymbols → ℕ → Result VersionQuery Refusal
 reference_version file symbols y = elim symbols.words [
   | None ↦ Ok NoVersion
@@ -156,7 +160,8 @@ reference_version file symbols y = elim symbols.words [
       else reference_by_index file symbols.records number (versym_at words y))
 ]
 
--- nothing, also where the name is empty; or its name and the version; a fault of the name is at the symbol
+-- nothing, also if the name is empty; or its name and the version; a fault of the name is at the
+-- symbol
 unfoldable pub reference_at : List ℕ → DynamicSymbols → ℕ → Result (Option SymbolQuery) Refusal
 reference_at file symbols y =
     let at = symbol_offset symbols y in
@@ -169,7 +174,8 @@ reference_at file symbols y =
       ]
     ]
 
--- HOW MANY SYMBOLS a file has, by its hash table, of those that there is room for; or the refusal of the table's counts
+-- HOW MANY SYMBOLS a file has, by its hash table, at most as many as fit; or the refusal of the
+-- table's counts
 unfoldable pub symbols_hashed : List ℕ → LookupTables → Result ℕ Refusal
 symbols_hashed file scope = elim (first_refusal (counts_check file scope ∷ [])) [
   | Some refusal ↦ Err refusal

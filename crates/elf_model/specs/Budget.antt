@@ -1,4 +1,4 @@
--- A listing within a budget: so many bytes may be asked for and no more.
+-- A listing within a budget: at most this many bytes may be read.
 use Rattle.std.specs.Prelude.{ℕ, ◌≡◌, ◌<◌, List, ◌++◌, length, Option, None, Some, ◌⊎◌}
 use Rattle.elf_model.specs.Cost.{listing_cost}
 use Rattle.elf_model.specs.Lines.{refusal_line}
@@ -9,7 +9,7 @@ use Rattle.elf_model.specs.declared.causes.Refusal.{Refusal}
 use Rattle.elf_model.specs.declared.formats.Format.{Format}
 use Rattle.elf_model.specs.declared.causes.Cause.TheVariants.{Budget}
 
--- a refusal is for want of budget
+-- a refusal is a budget refusal
 abbrev pub IsBudgetRefusal : Refusal → Type 0
 IsBudgetRefusal refusal = refusal.cause ≡ Budget
 
@@ -18,8 +18,8 @@ pub record IsReport (format : Format) (items : List ListingItem) (text : List �
   pub text_is : text ≡ report_of format items
   pub fault_is : fault ≡ fault_of items
 
--- a text is a front of the items, each a line and whole, and then the line of a refusal for want of budget, whose offset is
--- below the file's length
+-- a text is a prefix of the items, each a whole line, and then the line of a budget refusal, whose
+-- offset is below the file's length
 pub record IsCut (format : Format) (size : ℕ) (items : List ListingItem) (text : List ℕ) (fault : Option Refusal) : Type 0 where
   pub front : List ListingItem
   pub rest : List ListingItem
@@ -31,8 +31,8 @@ pub record IsCut (format : Format) (size : ℕ) (items : List ListingItem) (text
   pub text_is : text ≡ lines_of front ++ refusal_line format refusal
   pub fault_is : fault ≡ Some refusal
 
--- what a listing within a budget writes, and the fault that it answers: its report, or a front of it where it costs more
--- than the budget. Without a budget it is the report
+-- what a listing within a budget writes, and the fault that it returns: its report, or a prefix of
+-- it if it costs more than the budget. Without a budget it is the report
 abbrev pub IsBudgeted : Option ℕ → List ℕ → ℕ → ListingStyle → ℕ → List ℕ → Option Refusal → Type 0
 IsBudgeted None file headers style parts text fault = IsReport style.format (listing file headers style parts) text fault
 IsBudgeted (Some budget) file headers style parts text fault =

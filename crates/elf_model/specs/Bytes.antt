@@ -1,16 +1,16 @@
 -- Bytes and fields, little-endian and in whole numbers.
 use Rattle.std.specs.Prelude.{ℕ, zero, suc, ◌+◌, ◌*◌, ◌/◌, ◌%◌, ◌<◌, slice_index, List, [], ◌∷◌, take, drop}
 
--- the number that bytes spell, the least significant byte first (gABI 4, Data Encoding)
+-- the number that bytes encode, the least significant byte first (gABI 4, Data Encoding)
 unfoldable pub number : List ℕ → ℕ
 number [] = 0
 number (b ∷ bs) = b + 256 * number bs
 
--- the bytes of a file from an offset on, so many of them, or fewer where the file ends
+-- the bytes of a file at an offset, this many of them, or fewer if the file ends before
 abbrev pub slice : List ℕ → ℕ → ℕ → List ℕ
 slice file at size = take size (drop at file)
 
--- the number in the field of so many bytes at an offset
+-- the number in the field of this many bytes at an offset
 unfoldable pub field : List ℕ → ℕ → ℕ → ℕ
 field file at width = number (slice file at width)
 

@@ -1,4 +1,4 @@
--- Checks in their order: the first one that fails is the answer. Sums are whole numbers.
+-- Checks in their order: the first one that fails is the result. Sums do not wrap.
 use Rattle.std.specs.Prelude.{ℕ, ◌+◌, ◌*◌, ◌%◌, ◌^◌, ◌==◌, ◌&&◌, ◌||◌, nat_lt, not, Bool, true, false, List, [], ◌∷◌, ◌++◌, length, if◌then◌else◌, is_none, Option, None, Some}
 use Rattle.elf_model.specs.Bytes.{field}
 use Rattle.elf_model.specs.Records.{FILE_HEADER_SIZE, SECTION_HEADER_SIZE, PROGRAM_HEADER_SIZE, has_elf_magic, e_phoff, e_shoff, e_phentsize, e_phnum, e_shentsize, e_shnum, e_shstrndx, sh_type, sh_offset, sh_size, sh_link, sh_entsize, section_at}
@@ -49,7 +49,7 @@ ident_checks file =
 abbrev pub header_checks : List ℕ → List Check
 header_checks file = length_checks (length file) ++ ident_checks file
 
--- so many bytes from an offset end past the end of the file
+-- this many bytes at an offset end past the end of the file
 abbrev pub is_outside : ℕ → ℕ → ℕ → Bool
 is_outside file_size offset size = nat_lt file_size (offset + size)
 
@@ -57,7 +57,7 @@ is_outside file_size offset size = nat_lt file_size (offset + size)
 abbrev pub is_section_outside : List ℕ → ℕ → Bool
 is_section_outside file at = is_outside (length file) (sh_offset file at) (sh_size file at)
 
--- the places, sizes and numbers of the headers that a file header has
+-- the offsets, sizes and numbers of the headers in a file header
 pub record HeaderCounts : Type 0 where
   pub phoff : ℕ
   pub shoff : ℕ
@@ -67,7 +67,8 @@ pub record HeaderCounts : Type 0 where
   pub shnum : ℕ
   pub shstrndx : ℕ
 
--- before the section headers are read, in a file of so many bytes and with so many headers permitted (gABI 4, ELF Header)
+-- before the section headers are read, in a file of this many bytes and with this many headers
+-- allowed (gABI 4, ELF Header)
 abbrev pub early_checks_of : HeaderCounts → ℕ → ℕ → List Check
 early_checks_of e size headers =
     refuse (e.phnum == PN_XNUM) 0x38 ExtendedNumbering
@@ -82,7 +83,7 @@ early_checks_of e size headers =
     ∷ refuse (not (e.shnum == 0) && not (nat_lt e.shstrndx e.shnum)) 0x3e BadLink
     ∷ []
 
--- what a file's header says
+-- the counts in a file's header
 abbrev counts_in : List ℕ → HeaderCounts
 counts_in file = record {
   phoff = e_phoff file;
@@ -118,7 +119,8 @@ section_name_checks file =
 abbrev pub load_checks : List ℕ → ℕ → List Check
 load_checks file headers = early_checks file headers ++ section_name_checks file
 
--- so many bytes from an offset on are within a file of so many bytes; the refusal names a place
+-- this many bytes at an offset are within a file of this many bytes; the refusal is at a given
+-- offset
 abbrev pub range_checks_of : ℕ → ℕ → ℕ → ℕ → List Check
 range_checks_of file_size offset size place = refuse (is_outside file_size offset size) place TableOutside ∷ []
 
@@ -126,13 +128,13 @@ range_checks_of file_size offset size place = refuse (is_outside file_size offse
 abbrev pub range_checks : List ℕ → ℕ → List Check
 range_checks file at = range_checks_of (length file) (sh_offset file at) (sh_size file at) at
 
--- so many bytes from an offset on are whole entries of one size, and within the file
+-- this many bytes at an offset are whole entries of one size, and within the file
 abbrev pub whole_checks_of : ℕ → ℕ → ℕ → ℕ → ℕ → List Check
 whole_checks_of file_size offset size place entry_size =
     refuse (not (size % entry_size == 0)) place SizeNotWhole ∷ range_checks_of file_size offset size place
 
--- a section that is a table of entries of one size: its header stands at an offset of some bytes, in a
--- file of so many bytes; the refusals name a place
+-- a section that is a table of entries of one size: its header is at an offset of some bytes, in a
+-- file of this many bytes; the refusals are at a given offset
 abbrev pub table_checks_of : List ℕ → ℕ → ℕ → ℕ → ℕ → List Check
 table_checks_of bytes at file_size place entry_size =
     refuse (not (sh_entsize bytes at == entry_size)) place EntrySize
@@ -151,6 +153,6 @@ strings_checks file at =
     ∷ refuse (is_section_outside file linked) linked TableOutside
     ∷ []
 
--- a section holds symbols
+-- a section is a symbol table
 abbrev pub is_symbol_table : List ℕ → ℕ → Bool
 is_symbol_table file at = sh_type file at == SHT_SYMTAB || sh_type file at == SHT_DYNSYM

@@ -1,4 +1,4 @@
--- How many bytes a listing asks for at most, and what it never passes.
+-- How many bytes a listing reads at most, and its upper bound.
 use Rattle.std.specs.Prelude.{ℕ, suc, zero, ◌+◌, ◌*◌, ◌/◌, ◌==◌, ◌&&◌, ◌||◌, not, if◌then◌else◌, Bool, List, [], ◌∷◌, length}
 use Rattle.elf_model.specs.Records.{FILE_HEADER_SIZE, SECTION_HEADER_SIZE, PROGRAM_HEADER_SIZE, e_shnum, e_phnum, e_shstrndx}
 use Rattle.elf_model.specs.Names.{name_bytes}
@@ -10,22 +10,23 @@ use Rattle.elf_model.specs.TableKinds.{table_headers}
 use Rattle.elf_model.specs.Tables.{SYMBOL_SIZE}
 use Rattle.elf_model.specs.Versions.{VERSYM_SIZE, DEFINITION_SIZE, DEFINED_NAME_SIZE, NEED_SIZE}
 
--- the costs of so many rows, or tables, from a first one on
+-- the costs of this many rows, or tables, starting at a first one
 unfoldable pub sum_over : (ℕ → ℕ) → ℕ → ℕ → ℕ
 sum_over cost first zero = 0
 sum_over cost first (suc count) = cost first + sum_over cost (suc first) count
 
--- a cost that is counted under a condition alone
+-- a cost that is counted only under a condition
 abbrev pub cost_where : Bool → ℕ → ℕ
 cost_where condition cost = if condition then cost else 0
 
--- what the table of a kind costs whose header has an index, in a file of so many bytes, where its own checks pass
+-- what the table of a kind costs whose header has an index, in a file of this many bytes, if its
+-- own checks pass
 unfoldable pub table_cost : TableKind → HeaderTable → (index file_size cap : ℕ) → ℕ
 table_cost kind headers i file_size cap =
     cost_where (kind.has_table (headers.bytes i) (headers.at i) && pass (kind.checks.own (headers.bytes i) (headers.at i) file_size))
     (kind.asks headers i file_size cap)
 
--- what the tables of some kinds cost that a header describes, as far as the parts have them
+-- what the tables of some kinds cost that a header describes, if the parts have them
 unfoldable pub kinds_cost : List TableKind → HeaderTable → (index file_size cap parts : ℕ) → ℕ
 kinds_cost [] headers i file_size cap parts = 0
 kinds_cost (kind ∷ kinds) headers i file_size cap parts =
@@ -35,56 +36,59 @@ kinds_cost (kind ∷ kinds) headers i file_size cap parts =
 unfoldable pub is_loadable : List ℕ → ℕ → Bool
 is_loadable file headers = pass (before_headers file headers)
 
--- the section headers; and where these are listed and the index of the section of the section names is not 0, a name each
+-- the section headers; and if these are listed and the index of the section of the section names is
+-- not 0, a name each
 unfoldable pub sections_cost : List ℕ → ℕ → ℕ → ℕ
 sections_cost file cap parts =
     SECTION_HEADER_SIZE * e_shnum file
     + cost_where (has parts SECTIONS && not (e_shstrndx file == 0)) (e_shnum file * name_bytes cap)
 
--- the program headers are read: where they are listed, or where they describe tables that are
+-- the program headers are read: if they are listed, or if they describe tables that are
 abbrev pub needs_segments : List ℕ → ℕ → Bool
 needs_segments file parts = has parts SEGMENTS || (e_shnum file == 0 && (has parts NOTES || has parts DYNAMIC))
 
--- the program headers, where they are read
+-- the program headers, if they are read
 unfoldable pub segments_cost : List ℕ → ℕ → ℕ
 segments_cost file parts = cost_where (needs_segments file parts) (PROGRAM_HEADER_SIZE * e_phnum file)
 
--- the tables of all headers that describe tables, as far as the parts have them
+-- the tables of all headers that describe tables, if the parts have them
 unfoldable pub tables_cost : List ℕ → ListingStyle → ℕ → ℕ
 tables_cost file style parts =
     let tables = table_headers style.versions file in
     sum_over (λ i. kinds_cost tables.kinds tables.headers i (length file) style.cap parts) 0 tables.headers.count
 
--- how many bytes are asked for behind the file header at most
+-- how many bytes are read after the file header at most
 abbrev pub after_header : List ℕ → ℕ → ListingStyle → ℕ → ℕ
 after_header file headers style parts =
     cost_where (has_tables parts && is_loadable file headers)
     (sections_cost file style.cap parts + segments_cost file parts + tables_cost file style parts)
 
--- HOW MANY BYTES THE LISTING OF A FILE ASKS FOR at most: the file header, and what is asked for behind it for the parts that the
--- style knows
+-- HOW MANY BYTES THE LISTING OF A FILE READS at most: the file header, and what is read after it
+-- for the parts that the style knows
 unfoldable pub listing_cost : List ℕ → ℕ → ListingStyle → ℕ → ℕ
 listing_cost file headers style parts =
     FILE_HEADER_SIZE + after_header (viewed style file) headers style (known_parts style parts)
 
--- that of the listing with so many bytes of a name, in the standards' names, by the section headers where there are some
+-- that of the listing with this limit on bytes of a name, in the standards' names, by the section
+-- headers if there are any
 abbrev pub cost : List ℕ → ℕ → ℕ → ℕ → ℕ
 cost file headers cap parts = listing_cost file headers (standard cap) parts
 
--- what no listing of a file of so many bytes passes without versions behind the names of symbols, whatever its bytes are
+-- the upper bound of a listing of a file of this many bytes without versions after the names of
+-- symbols, for any bytes
 unfoldable pub ceiling : ℕ → ℕ → ℕ → ℕ
 ceiling size headers cap =
     FILE_HEADER_SIZE
     + headers * (SECTION_HEADER_SIZE + PROGRAM_HEADER_SIZE + name_bytes cap + size + size / 16 * (32 + name_bytes cap))
 
--- what the versions behind the names of one table's symbols never pass in a file of so many bytes: a word and a name for each
--- entry, and one walk over the definitions and the needs
+-- the upper bound for the versions after the names of one table's symbols in a file of this many
+-- bytes: a versym entry and a name for each entry, and one walk over the definitions and the needs
 abbrev pub suffixes_most : (size cap : ℕ) → ℕ
 suffixes_most size cap =
     size / SYMBOL_SIZE * (VERSYM_SIZE + name_bytes cap)
     + (size / DEFINITION_SIZE * (DEFINITION_SIZE + DEFINED_NAME_SIZE) + size / NEED_SIZE * NEED_SIZE)
 
--- what no listing of a style passes: more where versions stand behind the names of symbols
+-- the upper bound of a listing of a style: more if versions follow the names of symbols
 unfoldable pub style_ceiling : (size headers : ℕ) → ListingStyle → ℕ
 style_ceiling size headers style =
     if style.versions then ceiling size headers style.cap + headers * suffixes_most size style.cap

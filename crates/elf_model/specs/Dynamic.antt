@@ -5,7 +5,8 @@ use Rattle.elf_model.specs.Numbers.{DT_NULL}
 use Rattle.elf_model.specs.Records.{d_tag, d_un}
 use Rattle.elf_model.specs.Tables.{DYNAMIC_SIZE}
 
--- how many of the n entries at an offset are listed: up to and with the first whose tag is DT_NULL, or all
+-- how many of the n entries at an offset are listed: up to and with the first whose tag is DT_NULL,
+-- or all
 unfoldable pub dynamic_count : List ℕ → ℕ → ℕ → ℕ
 dynamic_count file at zero = 0
 dynamic_count file at (suc n) = elim (d_tag file at == DT_NULL) [ true ↦ 1 | false ↦ suc (dynamic_count file (at + DYNAMIC_SIZE) n) ]
@@ -19,12 +20,12 @@ dynamic_value file at (suc n) tag = elim (d_tag file at == tag) [ true ↦ Some 
 abbrev pub listed_value : List ℕ → ℕ → ℕ → ℕ → Option ℕ
 listed_value file at n tag = dynamic_value file at (dynamic_count file at n) tag
 
--- where an entry stands
+-- the offset of an entry
 abbrev pub dynamic_at : ℕ → ℕ → ℕ
 dynamic_at at i = at + DYNAMIC_SIZE * i
 
--- of n entries, those before `count` are listed: none but the last of them has the tag DT_NULL, and where
--- there are more behind it the last has it
+-- of n entries, those before `count` are listed: none except the last of them has the tag DT_NULL,
+-- and if there are more after it the last has it
 pub record IsListed (file : List ℕ) (at n count : ℕ) : Type 0 where
   pub within : count ≤ n
   pub none_before : (i : ℕ) → suc i < count → d_tag file (dynamic_at at i) ≢ DT_NULL
@@ -50,6 +51,6 @@ pub record IsFirstValue (file : List ℕ) (at n tag value : ℕ) : Type 0 where
 abbrev pub ValueIsFirst : Type 0
 ValueIsFirst = (file : List ℕ) (at n tag value : ℕ) → dynamic_value file at n tag ≡ Some value → IsFirstValue file at n tag value
 
--- where there is no value no entry has the tag
+-- if there is no value, no entry has the tag
 abbrev pub NoValueHasNoTag : Type 0
 NoValueHasNoTag = (file : List ℕ) (at n tag : ℕ) → dynamic_value file at n tag ≡ None → (i : ℕ) → i < n → d_tag file (dynamic_at at i) ≢ tag

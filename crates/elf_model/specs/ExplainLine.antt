@@ -1,4 +1,5 @@
--- The line of what a layout lacks, for standard error: the relocation type, the symbol's name, and the item that would help.
+-- The line of what a layout lacks, for standard error: the relocation type, the symbol's name, and
+-- the item that would help.
 use Rattle.std.specs.Prelude.{ℕ, ◌==◌, Bool, true, false, List, [], ◌++◌, length, codes, decimal, Option, None, Some}
 use Rattle.elf_model.specs.Explain.{MissingEntry}
 use Rattle.elf_model.specs.Lines.{name_text}
@@ -21,11 +22,11 @@ abbrev has_no_item : DisplayedName → Bool
 has_no_item (Whole name) = length name == 0
 has_no_item (Cut front) = true
 
--- the relocation type, named as in a listing with the names of the GNU system
+-- the relocation type, named as in a listing with the GNU names
 unfoldable pub type_prefix : ℕ → List ℕ
 type_prefix kind = codes "elfsee: " ++ relocation_type_text true EM_X86_64 kind
 
--- that, and the symbol's name where there is one
+-- that, and the symbol's name if there is one
 unfoldable pub entry_text : ℕ → DisplayedName → List ℕ
 entry_text kind name =
     elim (is_unnamed name) [
@@ -37,7 +38,7 @@ entry_text kind name =
 unfoldable pub place_text : ℕ → List ℕ
 place_text section = codes "at:" ++ decimal section ++ codes "=ADDR would help\n"
 
--- the item of a name, by the word of its sort, and what stands behind it
+-- the item of a name, by the word of its kind, and what follows it
 abbrev pub item_text : List ℕ → List ℕ → List ℕ → List ℕ
 item_text word name tail = (word ++ name) ++ tail
 
@@ -45,18 +46,19 @@ item_text word name tail = (word ++ name) ++ tail
 abbrev definition_text : List ℕ → List ℕ
 definition_text name = item_text (codes "def:") name (codes "=ADDR would help\n")
 
--- the item of a name that gives what a base asks for; L is S without an entry, so that a definition would do too
+-- the item of a name that gives the address of a base; L is S without an entry, so that a
+-- definition would do too
 unfoldable pub items_text : RelocationBase → List ℕ → List ℕ
 items_text Symbol name = definition_text name
 items_text Linkage name = item_text (codes "plt:") name (codes "=ADDR or ") ++ definition_text name
 items_text Table name = item_text (codes "got:") name (codes "=ADDR would help\n")
 items_text Thread name = item_text (codes "tpgot:") name (codes "=ADDR would help\n")
 
--- the item of a name that gives its procedure linkage table entry, where no definition would do
+-- the item of a name that gives its procedure linkage table entry, if no definition would do
 unfoldable pub entry_item_text : List ℕ → List ℕ
 entry_item_text name = item_text (codes "plt:") name (codes "=ADDR would help\n")
 
--- some items of a name, where an item can have it
+-- some items of a name, if an item can have it
 abbrev pub where_named : DisplayedName → List ℕ → List ℕ
 where_named name items = elim (has_no_item name) [ true ↦ codes "no item can name it\n" | false ↦ items ]
 

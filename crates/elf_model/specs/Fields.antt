@@ -1,5 +1,6 @@
--- A line as data: its letter and its fields, each with its key, its form, and its number or text; and for most lines a name. Its
--- columns and its JSON object (RFC 8259) are two ways to write the same fields.
+-- A line as data: its letter and its fields, each with its key, its form, and its number or text;
+-- and for most lines a name. Its columns and its JSON object (RFC 8259) are two ways to write the
+-- same fields.
 use Rattle.std.specs.Prelude.{ℕ, ℤ, pos, int_lt, nat_abs, ◌==◌, if◌then◌else◌, List, [], ◌∷◌, ◌++◌, Option, None, Some, unwrap_or, codes, decimal}
 use Rattle.std.specs.Fmt.{signed_decimal}
 use Rattle.elf_model.specs.Text.{hex, left_in, right_decimal, space, newline}
@@ -7,10 +8,11 @@ use Rattle.elf_model.specs.NameTables.{name_or_decimal, number_sign}
 use Rattle.elf_model.specs.declared.formats.Format.{Format}
 use Rattle.elf_model.specs.declared.formats.Format.TheVariants.{Columns, Object}
 
--- a field, by its key: a decimal number at the right of a column; a number in so many hexadecimal digits; a number with its
--- sign; a text at the left of a column; a name at the left of a column, or where the number has none the number itself, in
--- decimal at the right, in hexadecimal digits at the left, or in decimal behind a sign of one at the left; and a hyphen in the
--- place of fields that a line has not
+-- a field, by its key: a decimal number at the right of a column; a number in this many hexadecimal
+-- digits; a number with its sign; a text at the left of a column; a name at the left of a column,
+-- or if the number has none the number itself, in decimal at the right, in hexadecimal digits at
+-- the left, or in decimal after a sign of one at the left; and a hyphen in place of fields that a
+-- line does not have
 pub data Field : Type 0 where
   Decimal : (key : List ℕ) (width n : ℕ) → Field
   Hexadecimal : (key : List ℕ) (digits n : ℕ) → Field
@@ -21,7 +23,7 @@ pub data Field : Type 0 where
   NameOrNumber : (key : List ℕ) (width : ℕ) (name : Option (List ℕ)) (n : ℕ) → Field
   Hyphen : Field
 
--- a line, or what stands before its name: its letter, and its fields
+-- a line, or what precedes its name: its letter, and its fields
 pub record Fields : Type 0 where
   pub letter : List ℕ
   pub fields : List Field
@@ -51,7 +53,8 @@ column (NameOrHexadecimal key width digits name n) = left_in width (unwrap_or na
 column (NameOrNumber key width name n) = left_in width (unwrap_or name (number_sign n))
 column Hyphen = codes "-"
 
--- a byte of a string: a quotation mark and a backslash have a backslash before them (RFC 8259, Strings)
+-- a byte of a string: a quotation mark and a backslash have a backslash before them (RFC 8259,
+-- Strings)
 unfoldable pub string_byte : ℕ → List ℕ
 string_byte byte =
     if byte == 0x22 then codes "\\\""
@@ -83,22 +86,22 @@ member_value (NameOrHexadecimal key width digits name n) = name_or_value name n
 member_value (NameOrNumber key width name n) = name_or_value name n
 member_value Hyphen = []
 
--- the key of a member, behind the members before it
+-- the key of a member, after the members before it
 unfoldable pub member_key : List ℕ → List ℕ
 member_key key = codes ",\"" ++ key ++ codes "\":"
 
--- a line that begins with its letter
+-- the beginning of a line, with its letter
 unfoldable pub begun : Format → List ℕ → List ℕ
 begun Columns letter = letter ++ space
 begun Object letter = codes "{\"line\":\"" ++ letter ++ codes "\""
 
--- a line with one field more, and what stands behind it in a column
+-- a line with one more field, and what follows it in a column
 unfoldable pub with_field : Format → List ℕ → Field → List ℕ → List ℕ
 with_field Columns line field behind = line ++ column field ++ behind
 with_field Object line Hyphen behind = line
 with_field Object line field behind = line ++ member_key (key_of field) ++ member_value field
 
--- a line with fields more
+-- a line with more fields
 abbrev pub with_fields : Format → List ℕ → List Field → List ℕ
 with_fields format line [] = line
 with_fields format line (field ∷ fields) = with_fields format (with_field format line field space) fields
@@ -107,7 +110,7 @@ with_fields format line (field ∷ fields) = with_fields format (with_field form
 abbrev fields_text : Format → Fields → List ℕ
 fields_text format row = with_fields format (begun format row.letter) row.fields
 
--- what stands before a line's name, how the line is written, and the key of the name
+-- what comes before a line's name, how the line is written, and the key of the name
 pub record LinePrefix : Type 0 where
   pub format : Format
   pub key : List ℕ
@@ -116,7 +119,7 @@ pub record LinePrefix : Type 0 where
 abbrev pub front : Format → List ℕ → Fields → LinePrefix
 front format key row = record { format = format; key = key; text = fields_text format row }
 
--- what ends a line behind its last field
+-- what ends a line after its last field
 unfoldable pub closing : Format → List ℕ
 closing Columns = []
 closing Object = codes "}\n"

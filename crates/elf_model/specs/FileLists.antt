@@ -26,30 +26,32 @@ path_front format = front format (codes "path") path_fields
 abbrev pub path_line : Format → List ℕ → List ℕ
 path_line format path = named_line (path_front format) (Whole path)
 
--- WHAT IS WRITTEN OF A FILE: the line of its path, and behind it what is listed of it; where rows are chosen by their names, the
--- line of the path stands only before something that is listed
+-- WHAT IS WRITTEN OF A FILE: the line of its path, followed by what is listed of it; if rows are
+-- selected by their names, the line of the path is written only before something that is listed
 abbrev pub headed : RowFilter → (line text : List ℕ) → List ℕ
 headed EveryRow line text = line ++ text
 headed (RowsOf names) line [] = []
 headed (RowsOf names) line (byte ∷ text) = line ++ (byte ∷ text)
 
--- in a list of files the lines of an archive's members stand alone where all rows are shown: where rows are chosen by their
--- names they too stand only before something that is listed
+-- in a list of files the lines of an archive's members may be alone if all rows are shown: if rows
+-- are selected by their names they too are written only before something that is listed
 abbrev pub members_alone : RowFilter → Bool
 members_alone EveryRow = true
 members_alone (RowsOf names) = false
 
--- the exit status that a listing calls for that was written: 1 where it has the line of a refusal, its own or that of a member
+-- the exit status of a written listing: 1 if it has the line of a refusal, its own or that of a
+-- member
 abbrev pub list_status : Option Refusal → (member_refused : Bool) → ℕ
 list_status None member_refused = if member_refused then 1 else 0
 list_status (Some refusal) member_refused = 1
 
--- how many of its first bytes decide what a file of so many bytes is: where archives are gone into, those of their magic string
+-- how many of its first bytes decide what a file of this many bytes is: if archives are read, those
+-- of their magic string
 abbrev pub front_size : Bool → ℕ → ℕ
 front_size true size = if nat_lt size MAGIC_SIZE then ELF_MAGIC_SIZE else MAGIC_SIZE
 front_size false size = ELF_MAGIC_SIZE
 
--- a budget has so many bytes
+-- a budget has this many bytes
 abbrev pub may_read_bytes : Option ℕ → ℕ → Bool
 may_read_bytes None n = true
 may_read_bytes (Some budget) n = not (nat_lt budget n)
@@ -58,8 +60,8 @@ may_read_bytes (Some budget) n = not (nat_lt budget n)
 abbrev begins_with : ℕ → List ℕ → Bool
 begins_with magic file = nat_le MAGIC_SIZE (length file) && field file 0 8 == magic
 
--- WHAT A FILE IS, by its first bytes. One that has fewer than a magic number is of another kind; what one is whose first bytes
--- the budget has no room for is not decided
+-- WHAT A FILE IS, by its first bytes. One that has fewer than a magic number is not ELF; if its
+-- first bytes exceed the budget it is not decided
 unfoldable pub file_magic : (members : Bool) → Option ℕ → List ℕ → FileMagic
 file_magic members budget file =
     if nat_lt (length file) ELF_MAGIC_SIZE then sort.Foreign
@@ -73,12 +75,13 @@ file_magic members budget file =
 abbrev pub undecided : Refusal
 undecided = record { at = 0; cause = Budget }
 
--- what is left of a budget behind those bytes; of one that has no room for them all
+-- what is left of a budget after those bytes; unchanged if it does not have them all
 abbrev pub budget_after : Option ℕ → ℕ → Option ℕ
 budget_after None n = None
 budget_after (Some budget) n = Some (if nat_lt budget n then budget else budget - n)
 
--- ARCHIVES CHECKED. A refusal of a member whose data begin at an offset, counted from the archive's first byte, as far as 64 bits go
+-- ARCHIVES CHECKED. A refusal of a member whose data begin at an offset, counted from the archive's
+-- first byte, as far as 64 bits go
 abbrev pub placed_after : ℕ → Refusal → Refusal
 placed_after start refusal = record { at = min (start + refusal.at) (2 ^ 64 - 1); cause = refusal.cause }
 
@@ -94,7 +97,8 @@ first_fault file headers style parts (m ∷ ms) walk = elim (member_fault file h
   | None ↦ first_fault file headers style parts ms walk
 ]
 
--- THE FAULT OF AN ARCHIVE: the first in order of its own checks, of its members' listings, and of the walk over them
+-- THE FAULT OF AN ARCHIVE: the first in order of its own checks, of its members' listings, and of
+-- the walk over them
 unfoldable pub archive_fault : List ℕ → ℕ → ListingStyle → ℕ → Option Refusal
 archive_fault file headers style parts = elim (first_refusal (archive_checks file)) [
   | Some refusal ↦ Some refusal

@@ -2,7 +2,7 @@
 use Rattle.std.specs.Prelude.{ℕ, ◌+◌, ◌==◌, if◌then◌else◌, List, [], ◌∷◌, ◌++◌, length, take, drop, replicate, codes}
 use Rattle.elf_model.specs.Bytes.{little}
 
--- so many zero bytes
+-- this many zero bytes
 unfoldable pub zeros : ℕ → List ℕ
 zeros n = replicate n 0
 
@@ -19,7 +19,8 @@ file_header type shoff shnum shstrndx =
     ++ zeros 4 ++ zeros 2 ++ zeros 2 ++ zeros 2 ++ little 2 (if shnum == 0 then 0 else 64)
     ++ little 2 shnum ++ little 2 shstrndx
 
--- a section header: type, flags, offset, size, link, info, alignment, size of an entry; its name and address are 0
+-- a section header: type, flags, offset, size, link, info, alignment, size of an entry; its name
+-- and address are 0
 unfoldable pub section_header : ℕ → ℕ → ℕ → ℕ → ℕ → ℕ → ℕ → ℕ → List ℕ
 section_header type flags offset size link info align entry =
     little 4 0 ++ little 4 type ++ little 8 flags ++ zeros 8 ++ little 8 offset ++ little 8 size

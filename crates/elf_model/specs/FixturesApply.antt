@@ -8,7 +8,8 @@ use Rattle.elf_model.specs.Placing.{Layout, Compared}
 unfoldable pub relocation : ℕ → ℕ → ℕ → List ℕ
 relocation offset info addend = little 8 offset ++ little 8 info ++ little 8 addend
 
--- a file with a section of bytes, section 1, and relocation entries for it without symbols, section 2
+-- a file with a section of bytes, section 1, and relocation entries for it without symbols, section
+-- 2
 unfoldable pub relocated : List ℕ → List ℕ → List ℕ
 relocated bytes entries =
     file_header 1 (0x40 + length bytes + length entries) 3 0
@@ -30,7 +31,7 @@ unfoldable pub third_overflows : List ℕ
 third_overflows =
     relocated (zeros 8) (relocation 0 10 0x11223344 ++ relocation 2 12 0xffff ++ relocation 4 10 (2 ^ 64 - 1))
 
--- four entries of R_X86_64_16 in 128 zero bytes, whose offsets rise
+-- four entries of R_X86_64_16 in 128 zero bytes, whose offsets ascend
 unfoldable pub rising_relocations : List ℕ
 rising_relocations =
     relocated (zeros 128)
@@ -42,8 +43,9 @@ falling_relocations =
     relocated (zeros 128)
     (relocation 0 12 0x0102 ++ relocation 62 12 0x0304 ++ relocation 126 12 0x0708 ++ relocation 63 12 0x0506)
 
--- a call to `f`, which is not defined: section 1 with the call, its R_X86_64_PLT32 entry at 0x48, `f`'s symbol at 0x78;
--- the section headers of the entries, the symbols and the strings stand at 0x118, 0x158 and 0x198
+-- a call to `f`, which is not defined: section 1 with the call, its R_X86_64_PLT32 entry at 0x48,
+-- `f`'s symbol at 0x78; the section headers of the entries, the symbols and the strings are at
+-- 0x118, 0x158 and 0x198
 unfoldable pub one_call : List ℕ
 one_call =
     file_header 1 0x98 5 0
@@ -57,8 +59,8 @@ one_call =
     ++ section_header 2 0 0x60 0x30 4 1 0 24
     ++ section_header 3 0 0x90 3 0 0 0 0
 
--- two sections of relocation entries for section 1: the first has one entry of a type, at 0x48, the second, whose
--- header stands at 0x138, has entries of a size
+-- two sections of relocation entries for section 1: the first has one entry of a type, at 0x48, the
+-- second, whose header is at 0x138, has entries of a size
 unfoldable pub two_relocation_sections : ℕ → ℕ → List ℕ
 two_relocation_sections type entry =
     file_header 1 0x78 4 0
@@ -116,8 +118,8 @@ full_layout =
       thread = [];
     }
 
--- section 1 at 0x1000, and two global offset table entries of `f`: that of its address, and that of its offset from the
--- thread pointer
+-- section 1 at 0x1000, and two global offset table entries of `f`: that of its address, and that of
+-- its offset from the thread pointer
 unfoldable pub table_layout : Layout
 table_layout =
     record {

@@ -17,7 +17,7 @@ unfoldable pub member : List ℕ → List ℕ → List ℕ
 member name content =
     member_header name (decimal (length content)) ++ content ++ (if length content % 2 == 1 then 0x0a ∷ [] else [])
 
--- the magic string, and what stands behind it
+-- the magic string, and what follows it
 unfoldable pub archive_of : List ℕ → List ℕ
 archive_of members = codes "!<arch>\n" ++ members
 
@@ -25,7 +25,8 @@ archive_of members = codes "!<arch>\n" ++ members
 unfoldable pub long_names : List ℕ
 long_names = codes "one_symbol_table.o/\nbare_header_alone.o/\n"
 
--- a library of an index of symbols, a table of names, a text, and two ELF files, the first with a long name
+-- a library of an index of symbols, a table of names, a text, and two ELF files, the first with a
+-- long name
 unfoldable pub library : List ℕ
 library =
     archive_of (member (codes "/") (0 ∷ 0 ∷ 0 ∷ 0 ∷ [])

@@ -7,8 +7,8 @@ use Rattle.elf_model.specs.Fixtures.{zeros, with_bytes, file_header, section_hea
 unfoldable pub words : List ℕ → List ℕ
 words numbers = flat_map (λ n. little 4 n) numbers
 
--- a file with a hash table of six words, at 0x40, and the symbols `a` and `b`, at 0x58; the section headers of the
--- hash table, the symbol table and the string table stand at 0xe8, 0x128 and 0x168
+-- a file with a hash table of six words, at 0x40, and the symbols `a` and `b`, at 0x58; the section
+-- headers of the hash table, the symbol table and the string table are at 0xe8, 0x128 and 0x168
 unfoldable pub hash_file : List ℕ → List ℕ
 hash_file numbers =
     file_header 3 0xa8 4 0

@@ -1,17 +1,18 @@
--- A small library with symbol versions: two of a function, and one that it needs of another library.
+-- A small library with symbol versions: two of a function, and one that it needs of another
+-- library.
 use Rattle.std.specs.Prelude.{ℕ, List, [], ◌∷◌, ◌++◌, codes, flat_map}
 use Rattle.elf_model.specs.Bytes.{little}
 use Rattle.elf_model.specs.Fixtures.{zeros, with_bytes, file_header, section_header, symbol}
 use Rattle.elf_model.specs.FixturesHash.{words}
 use Rattle.elf_model.specs.FixturesTables.{program_header, tagged}
 
--- a section header of a loaded section, whose address is its offset in the file: its type, offset, size, link, info, and the
--- size of an entry
+-- a section header of a loaded section, whose address is its offset in the file: its type, offset,
+-- size, link, info, and the size of an entry
 unfoldable pub loaded_section : (type offset size link info entry : ℕ) → List ℕ
 loaded_section type offset size link info entry =
     with_bytes 16 (little 8 offset) (section_header type 2 offset size link info 8 entry)
 
--- a version definition, whose name stands 20 bytes behind it, and one name of one
+-- a version definition, whose name is 20 bytes after it, and one name of one
 unfoldable pub definition : (flags ndx names hash next : ℕ) → List ℕ
 definition flags ndx names hash next =
     little 2 1 ++ little 2 flags ++ little 2 ndx ++ little 2 names ++ little 4 hash ++ little 4 20 ++ little 4 next
@@ -19,7 +20,7 @@ definition flags ndx names hash next =
 unfoldable pub defined_name : (name next : ℕ) → List ℕ
 defined_name name next = little 4 name ++ little 4 next
 
--- a file of which versions are needed, and one of these
+-- a file whose versions are needed, and one of these
 unfoldable pub needed_file : (count file aux next : ℕ) → List ℕ
 needed_file count file aux next = little 2 1 ++ little 2 count ++ little 4 file ++ little 4 aux ++ little 4 next
 
@@ -31,15 +32,17 @@ needed_version hash flags other name next =
 unfoldable pub halfwords : List ℕ → List ℕ
 halfwords numbers = flat_map (λ n. little 2 n) numbers
 
--- the header of a library with two program headers behind it: the offset of its section headers, and their number
+-- the header of a library with two program headers after it: the offset of its section headers, and
+-- their number
 unfoldable pub library_header : (shoff shnum : ℕ) → List ℕ
 library_header shoff shnum =
     with_bytes 0x14 (little 4 1)
     (with_bytes 0x20 (little 8 0x40)
     (with_bytes 0x34 (little 2 64 ++ little 2 56 ++ little 2 2) (file_header 3 shoff shnum 0)))
 
--- what stands behind that header up to 0x2f0: the program headers, 0x40; the GNU hash table, 0xb0; the symbols, 0xe0; their
--- strings, 0x170; their versions, 0x1a0; the definitions, 0x1b0; the needs, 0x210; the dynamic entries, 0x230
+-- what follows that header up to 0x2f0: the program headers, 0x40; the GNU hash table, 0xb0; the
+-- symbols, 0xe0; their strings, 0x170; their versions, 0x1a0; the definitions, 0x1b0; the needs,
+-- 0x210; the dynamic entries, 0x230
 unfoldable pub versioned_segments : List ℕ
 versioned_segments = program_header 1 6 0 0 0x2f0 0x1000 ++ program_header 2 6 0x230 0x230 0xc0 8
 
@@ -76,8 +79,8 @@ unfoldable pub versioned_body : List ℕ
 versioned_body =
     versioned_segments ++ versioned_hash ++ symbols_with_versions ++ versioned_strings ++ versioned_records ++ versioned_dynamic
 
--- its section headers, 0x2f0: the hash table, the symbols, their strings, their versions, the definitions, the needs, the
--- dynamic entries
+-- its section headers, 0x2f0: the hash table, the symbols, their strings, their versions, the
+-- definitions, the needs, the dynamic entries
 unfoldable pub versioned_sections : List ℕ
 versioned_sections =
     zeros 64
@@ -93,8 +96,8 @@ versioned_library = library_header 0x2f0 8 ++ versioned_body ++ versioned_sectio
 unfoldable pub versioned_without_sections : List ℕ
 versioned_without_sections = library_header 0 0 ++ versioned_body
 
--- the same with section headers, and hostile: a full filter, a chain of symbols that does not end, a definition and a need that
--- lead on, and a symbol whose version no record names
+-- the same with section headers, and hostile: a full filter, a chain of symbols that does not end,
+-- a definition and a need with a next record, and a symbol whose version no record names
 unfoldable pub hostile_library : List ℕ
 hostile_library =
     with_bytes 0xc0 (little 8 0xffffffffffffffff)

@@ -1,4 +1,5 @@
--- The hash table (gABI 5, Hash Table): words of four bytes, nbucket, nchain, bucket[nbucket], chain[nchain].
+-- The hash table (gABI 5, Hash Table): words of four bytes, nbucket, nchain, bucket[nbucket],
+-- chain[nchain].
 use Rattle.std.specs.Prelude.{ℕ, zero, suc, ◌+◌, ◌*◌, ◌/◌, ◌%◌, ◌&&◌, ◌<◌, ◌≡◌, ◌⊎◌, nat_lt, Bool, true, false, List, fold, bit_and, bit_xor, Option, None, Some, Result, Ok, Err}
 use Rattle.elf_model.specs.Bytes.{field}
 use Rattle.elf_model.specs.Names.{same}
@@ -8,7 +9,8 @@ use Rattle.elf_model.specs.declared.causes.Cause.{Cause}
 use Rattle.elf_model.specs.declared.causes.Cause.TheVariants.{HashIndex, HashCycle}
 use Rattle.elf_model.specs.declared.causes.Refusal.{Refusal}
 
--- one byte more in the hash: of the 32 bits the top four are folded in and cleared (gABI 5, Hashing Function)
+-- one more byte in the hash: of the 32 bits the top four are folded in and cleared (gABI 5, Hashing
+-- Function)
 abbrev pub hash_byte : ℕ → ℕ → ℕ
 hash_byte hash byte =
     let moved = 16 * hash + byte in
@@ -18,7 +20,8 @@ hash_byte hash byte =
 unfoldable pub sysv_hash : List ℕ → ℕ
 sysv_hash name = fold hash_byte 0 name
 
--- The table that stands at a place of the file: its counts, and where the words of a bucket and of a chain stand.
+-- The table at an offset of the file: its counts, and the offsets of the words of a bucket and of a
+-- chain.
 abbrev pub sysv_nbucket : List ℕ → ℕ → ℕ
 sysv_nbucket file place = field file place 4
 
@@ -31,18 +34,18 @@ sysv_bucket_at place i = place + (8 + 4 * i)
 abbrev pub sysv_chain_at : List ℕ → ℕ → ℕ → ℕ
 sysv_chain_at file place i = place + (8 + 4 * sysv_nbucket file place + 4 * i)
 
--- The same of the HASH section whose header stands at an offset of the file.
+-- The same of the HASH section whose header is at an offset of the file.
 abbrev pub nbucket : List ℕ → ℕ → ℕ
 nbucket file at = sysv_nbucket file (sh_offset file at)
 
 abbrev pub nchain : List ℕ → ℕ → ℕ
 nchain file at = sysv_nchain file (sh_offset file at)
 
--- where the word of a bucket stands
+-- the offset of the word of a bucket
 abbrev pub bucket_at : List ℕ → ℕ → ℕ → ℕ
 bucket_at file at i = sysv_bucket_at (sh_offset file at) i
 
--- where the word of a chain stands
+-- the offset of the word of a chain
 abbrev pub chain_at : List ℕ → ℕ → ℕ → ℕ
 chain_at file at i = sysv_chain_at file (sh_offset file at) i
 
@@ -50,11 +53,11 @@ chain_at file at i = sysv_chain_at file (sh_offset file at) i
 abbrev pub symbol_count : List ℕ → ℕ → ℕ
 symbol_count file table = entry_count file table SYMBOL_SIZE
 
--- where a symbol of a symbol table stands
+-- the offset of a symbol of a symbol table
 abbrev pub symbol_at : List ℕ → ℕ → ℕ → ℕ
 symbol_at file table index = entry_at file table SYMBOL_SIZE index
 
--- where the word of a name's bucket stands
+-- the offset of the word of a name's bucket
 unfoldable pub bucket_of : List ℕ → ℕ → List ℕ → ℕ
 bucket_of file at wanted = bucket_at file at (sysv_hash wanted % nbucket file at)
 
@@ -71,20 +74,20 @@ walk_word next start (suc i) = next (walk_word next start i)
 abbrev pub lookup_word : List ℕ → ℕ → List ℕ → ℕ → ℕ
 lookup_word file at wanted i = walk_word (next_in_chain file at) (field file (bucket_of file at wanted) 4) i
 
--- where a word of a lookup stands
+-- the offset of a word of a lookup
 unfoldable pub word_at : List ℕ → ℕ → List ℕ → ℕ → ℕ
 word_at file at wanted zero = bucket_of file at wanted
 word_at file at wanted (suc i) = chain_at file at (lookup_word file at wanted i)
 
--- why a lookup ends at a word: the chain ends (0); the word is no index of a chain and a symbol; the symbol's name
--- cannot be compared; it is the wanted one
+-- why a lookup ends at a word: the chain ends (0); the word is no index of a chain and a symbol;
+-- the symbol's name cannot be compared; it is the wanted one
 pub data LookupEnd : Type 0 where
   ChainEnd : LookupEnd
   NoIndex : LookupEnd
   Nameless : Cause → LookupEnd
   Wanted : LookupEnd
 
--- why a lookup ends at a symbol whose name has been compared: not at another name
+-- why a lookup ends at a symbol whose name has been compared: not if the name differs
 abbrev pub end_of_name : Result Bool Cause → Option LookupEnd
 end_of_name (Err cause) = Some (Nameless cause)
 end_of_name (Ok true) = Some Wanted
@@ -107,23 +110,23 @@ end_at_word file at wanted (suc index) =
       | false ↦ Some NoIndex
     ]
 
--- what a lookup answers: the symbol's section, its index there and where it stands in the file; that there is none; or
--- a refusal
+-- the outcome of a lookup: the symbol's section, its index there and its offset in the file; that
+-- there is none; or a refusal
 pub data Outcome : Type 0 where
   Found : ℕ → ℕ → ℕ → Outcome
   Absent : Outcome
   Refused : Refusal → Outcome
 
--- what a lookup gives: its answer, and how many symbols' names it compares
+-- the result of a lookup: its outcome, and how many symbols' names it compares
 pub record Lookup : Type 0 where
   pub answer : Outcome
   pub compared : ℕ
 
--- a lookup that is refused once so many names are compared
+-- a lookup that is refused after this many names are compared
 abbrev pub refused_after : ℕ → Refusal → Lookup
 refused_after compared refusal = record { answer = Refused refusal; compared = compared }
 
--- what a lookup gives that ends at word number i
+-- the result of a lookup that ends at word number i
 unfoldable pub lookup_at : List ℕ → ℕ → List ℕ → ℕ → LookupEnd → Lookup
 lookup_at file at wanted i ChainEnd = record { answer = Absent; compared = i }
 lookup_at file at wanted i NoIndex = refused_after i (record { at = word_at file at wanted i; cause = HashIndex })
@@ -134,7 +137,7 @@ lookup_at file at wanted i Wanted =
     let index = lookup_word file at wanted i in
     record { answer = Found (sh_link file at) index (symbol_at file (linked_at file at) index); compared = suc i }
 
--- what a lookup gives that never ends: it compares as many symbols' names as there are chains
+-- the result of a lookup that never ends: it compares as many symbols' names as there are chains
 abbrev pub cycle : List ℕ → ℕ → List ℕ → Lookup
 cycle file at wanted = refused_after (nchain file at) (record { at = bucket_of file at wanted; cause = HashCycle })
 
@@ -147,7 +150,7 @@ pub record IsFirst {E : Type 0} (ends : ℕ → Option E) (words : ℕ → ℕ) 
 abbrev pub IsEndless : {E : Type 0} → (ℕ → Option E) → (ℕ → ℕ) → Type 0
 IsEndless ends words = (i : ℕ) → ends (words i) ≡ None
 
--- a lookup ends at word number `number`, which says what it gives
+-- a lookup ends at word number `number`, which decides its result
 pub record EndsWith (file : List ℕ) (at : ℕ) (wanted : List ℕ) (lookup : Lookup) : Type 0 where
   pub number : ℕ
   pub end : LookupEnd
@@ -159,28 +162,30 @@ pub record NeverEnds (file : List ℕ) (at : ℕ) (wanted : List ℕ) (lookup : 
   pub endless : IsEndless (end_at_word file at wanted) (lookup_word file at wanted)
   pub gives : lookup ≡ cycle file at wanted
 
--- what a lookup gives: by the first word at which it ends, or the cycle where there is none
+-- the result of a lookup: by the first word at which it ends, or the cycle if there is none
 abbrev pub IsLookup : List ℕ → ℕ → List ℕ → Lookup → Type 0
 IsLookup file at wanted lookup = EndsWith file at wanted lookup ⊎ NeverEnds file at wanted lookup
 
--- The calculation. By the laws `LookupAnswers` and `LookupIsOne` it gives the one lookup that `IsLookup` describes.
+-- The computation. By the laws `LookupAnswers` and `LookupIsOne` it gives the only lookup that
+-- `IsLookup` describes.
 
--- the least number, from i on and among so many, at whose word a walk ends, and why
+-- the least number, from i on and among this many, at whose word a walk ends, and why
 unfoldable pub end_among : {E : Type 0} → (ℕ → Option E) → (ℕ → ℕ) → ℕ → ℕ → ℕ → Option (ℕ × E)
 end_among ends next word i zero = None
 end_among ends next word i (suc n) =
     elim (ends word) [ Some end ↦ Some (i, end) | None ↦ end_among ends next (next word) (suc i) n ]
 
--- where a lookup ends, among so many words
+-- where a lookup ends, among this many words
 unfoldable pub lookup_end : List ℕ → ℕ → List ℕ → ℕ → Option (ℕ × LookupEnd)
 lookup_end file at wanted n =
     end_among (end_at_word file at wanted) (next_in_chain file at) (field file (bucket_of file at wanted) 4) 0 n
 
--- what a lookup gives by its end
+-- the result of a lookup by its end
 abbrev pub lookup_by : List ℕ → ℕ → List ℕ → Option (ℕ × LookupEnd) → Lookup
 lookup_by file at wanted None = cycle file at wanted
 lookup_by file at wanted (Some found) = lookup_at file at wanted found.0 found.1
 
--- what a lookup gives: a walk that has not ended after one word more than there are chains never ends
+-- the result of a lookup: a walk that has not ended after one word more than there are chains never
+-- ends
 unfoldable pub looked_up : List ℕ → ℕ → List ℕ → Lookup
 looked_up file at wanted = lookup_by file at wanted (lookup_end file at wanted (suc (nchain file at)))

@@ -1,5 +1,5 @@
--- The lines with a name, up to the name: the fields of one record, which stands at an offset of some bytes. Whether numbers of
--- the GNU system have names, and on which machine, it is given before.
+-- The lines with a name, up to the name: the fields of one record, which is at an offset of some
+-- bytes. Whether GNU numbers have names, and on which machine, is given first.
 use Rattle.std.specs.Prelude.{ℕ, Bool, List, [], ◌∷◌, codes}
 use Rattle.elf_model.specs.Fields.{Field, Fields, LinePrefix, front}
 use Rattle.elf_model.specs.Fields.Field.{Decimal, Hexadecimal, Signed, ArgSpec, NameOrDecimal, NameOrHexadecimal, NameOrNumber}
@@ -66,7 +66,8 @@ relocation_fields gnu machine bytes at section = record {
 unfoldable pub relocation_prefix : Format → Bool → ℕ → List ℕ → ℕ → ℕ → LinePrefix
 relocation_prefix format gnu machine bytes at section = front format (codes "name") (relocation_fields gnu machine bytes at section)
 
--- a note: the index of its section or program header, type, and the sizes of its name and its descriptor
+-- a note: the index of its section or program header, type, and the sizes of its name and its
+-- descriptor
 abbrev note_fields : ℕ → ℕ → ℕ → ℕ → Fields
 note_fields index kind namesz descsz = record {
   letter = codes "N";

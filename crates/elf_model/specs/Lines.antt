@@ -12,8 +12,8 @@ use Rattle.elf_model.specs.declared.causes.Refusal.{Refusal}
 use Rattle.elf_model.specs.declared.formats.Format.{Format}
 use Rattle.elf_model.specs.declared.formats.Format.TheVariants.{Columns, Object}
 
--- the file header: type, machine, entry point, where the program headers and the section headers are, flags, how many of them
--- there are
+-- the file header: type, machine, entry point, the offsets of the program headers and the section
+-- headers, flags, and how many of them there are
 abbrev header_fields : List ℕ → Fields
 header_fields file = record {
   letter = codes "H";
@@ -33,8 +33,8 @@ header_fields file = record {
 unfoldable pub header_line : Format → List ℕ → List ℕ
 header_line format file = closed_line format (header_fields file) (Decimal (codes "shstrndx") 5 (e_shstrndx file))
 
--- a program header: its index, type, permissions, offset in the file, virtual and physical address, size in the file and in
--- memory; with the names of the GNU system's types, where that is asked for
+-- a program header: its index, type, permissions, offset in the file, virtual and physical address,
+-- size in the file and in memory; with the GNU names of types, if requested
 abbrev segment_fields : Bool → List ℕ → ℕ → ℕ → Fields
 segment_fields gnu bytes at index = record {
   letter = codes "P";
@@ -67,15 +67,15 @@ refusal_line format r =
     let place = Hexadecimal (codes "place") 16 r.at in
     closed_line format (record { letter = codes "!"; fields = place ∷ [] }) (ArgSpec (codes "cause") 0 (cause_word r.cause))
 
--- a byte of a name: a backslash is doubled, any other printing ASCII character stands as it is, any other byte
--- is spelt in two digits
+-- a byte of a name: a backslash is doubled, any other printing ASCII character is unchanged, any
+-- other byte is escaped in two digits
 unfoldable pub name_byte_text : ℕ → List ℕ
 name_byte_text byte =
     if byte == 0x5c then codes "\\\\"
     else if nat_le 0x20 byte && nat_le byte 0x7e then byte ∷ []
     else codes "\\x" ++ hex 2 byte
 
--- the bytes of a name, each as it is spelt
+-- the bytes of a name, each escaped
 unfoldable pub escaped : List ℕ → List ℕ
 escaped [] = []
 escaped (byte ∷ bytes) = name_byte_text byte ++ escaped bytes
@@ -89,7 +89,7 @@ unfoldable pub name_text : DisplayedName → List ℕ
 name_text (Whole name) = escaped name
 name_text (Cut front) = escaped front ++ cut_mark
 
--- a name as a member of an object, with its key, and behind it where it is cut that it is
+-- a name as a member of an object, with its key, and if it is cut a member that says so
 abbrev pub name_member : List ℕ → DisplayedName → List ℕ
 name_member key (Whole name) = member_key key ++ quoted (escaped name)
 name_member key (Cut front) = member_key key ++ quoted (escaped front) ++ (member_key (codes "cut") ++ codes "true")
@@ -111,17 +111,18 @@ hex_bytes (byte ∷ bytes) = hex 2 byte ++ hex_bytes bytes
 abbrev pub SHOWN_DESCRIPTOR : ℕ
 SHOWN_DESCRIPTOR = 32
 
--- a descriptor: its first bytes, marked where it has more
+-- a descriptor: its first bytes, marked if it has more
 unfoldable pub descriptor_text : List ℕ → List ℕ
 descriptor_text descriptor =
     hex_bytes (take SHOWN_DESCRIPTOR descriptor)
     ++ (if nat_lt SHOWN_DESCRIPTOR (length descriptor) then cut_mark else [])
 
--- the end of a note's line, behind the name
+-- the end of a note's line, after the name
 unfoldable pub note_tail : List ℕ → List ℕ
 note_tail descriptor = space ++ descriptor_text descriptor ++ newline
 
--- a line that ends in a name and a descriptor: in an object the descriptor has the bytes that are shown
+-- a line that ends in a name and a descriptor: in an object the descriptor has only the bytes that
+-- are shown
 unfoldable pub line_described : Format → (key text : List ℕ) → DisplayedName → List ℕ → List ℕ
 line_described Columns key text name descriptor = text ++ (name_text name ++ note_tail descriptor)
 line_described Object key text name descriptor =

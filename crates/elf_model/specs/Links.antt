@@ -1,6 +1,6 @@
--- HOW A FILE IS LINKED, as its dynamic entries say to a loader (gABI 5, Dynamic Section and Shared Object Dependencies): which
--- libraries it needs, what it is called as one, and where libraries are looked for. The definitions are over a file that has no
--- section headers.
+-- HOW A FILE IS LINKED, as its dynamic entries say to a loader (gABI 5, Dynamic Section and Shared
+-- Object Dependencies): which libraries it needs, its own name as a library, and where libraries
+-- are searched for. The definitions are over a file that has no section headers.
 use Rattle.std.specs.Prelude.{ℕ, zero, suc, ◌+◌, ◌-◌, ◌*◌, ◌/◌, ◌==◌, ◌&&◌, ◌||◌, nat_lt, Bool, true, false, if◌then◌else◌, List, [], ◌∷◌, ◌++◌, length, Option, None, Some, Result, Ok, Err}
 use Rattle.elf_model.specs.Bytes.{field}
 use Rattle.elf_model.specs.Checks.{first_refusal, header_checks, load_checks}
@@ -17,17 +17,17 @@ use Rattle.elf_model.specs.Traits.{has_none}
 use Rattle.elf_model.specs.declared.causes.Cause.TheVariants.{TooLong}
 use Rattle.elf_model.specs.declared.causes.Refusal.{Refusal}
 
--- how many bytes a text has at most
+-- the maximum number of bytes of a text
 abbrev pub LINK_TEXT_BYTES : ℕ
 LINK_TEXT_BYTES = 4096
 
--- a library that is needed: where its entry stands, and its name
+-- a needed library: the offset of its entry, and its name
 pub record NeededName : Type 0 where
   pub at : ℕ
   pub name : List ℕ
 
--- WHAT A FILE'S ENTRIES SAY: the libraries that it needs, in order; its name as a library; where libraries are looked for, and the
--- same in its place. Of the last three the first entry counts
+-- WHAT A FILE'S ENTRIES SAY: the libraries that it needs, in order; its name as a library; where
+-- libraries are searched for, and the same in its place. Of the last three the first entry counts
 pub record LinkTexts : Type 0 where
   pub needed : List NeededName
   pub soname : Option (List ℕ)
@@ -37,7 +37,7 @@ pub record LinkTexts : Type 0 where
 abbrev pub no_link_info : LinkTexts
 no_link_info = record { needed = []; soname = None; rpath = None; runpath = None }
 
--- ROOM: for so many texts, of so many bytes together
+-- ROOM: for this many texts, of this many bytes together
 pub record TextRoom : Type 0 where
   pub bytes : ℕ
   pub texts : ℕ
@@ -45,16 +45,17 @@ pub record TextRoom : Type 0 where
 abbrev pub has_room : TextRoom → List ℕ → Bool
 has_room room text = if nat_lt room.bytes (length text) then false else nat_lt 0 room.texts
 
--- what is left of it behind a text
+-- what is left of it after a text
 abbrev pub room_after : TextRoom → List ℕ → TextRoom
 room_after room text = record { bytes = room.bytes - length text; texts = room.texts - 1 }
 
--- entries that have a text, the index of which in their strings is their value
+-- entries that have a text: their value is its index in their strings
 abbrev pub is_link : ℕ → Bool
 is_link tag = tag == DT_NEEDED || (tag == DT_SONAME || (tag == DT_RPATH || tag == DT_RUNPATH))
 
--- THE TEXT of the entry at an offset, in the strings that entries locate by an address and a size: these and the text are refused at
--- the entry, and so is a text that is longer than is read or for which there is no room
+-- THE TEXT of the entry at an offset, in the strings that entries locate by an address and a size:
+-- these and the text are refused at the entry, and so is a text that is longer than is read or for
+-- which there is no room
 unfoldable pub link_text : List ℕ → (address size : Option ℕ) → TextRoom → ℕ → Result (List ℕ) Refusal
 link_text file address size room at = elim (strings_at file at address size) [
   | Err refusal ↦ Err refusal
@@ -68,18 +69,18 @@ link_text file address size room at = elim (strings_at file at address size) [
   ]
 ]
 
--- a text that was found, or one where an entry has a tag
+-- a text that was found, or one if an entry has a tag
 abbrev pub first_text : Option (List ℕ) → Bool → List ℕ → Option (List ℕ)
 first_text (Some told) is text = Some told
 first_text None true text = Some text
 first_text None false text = None
 
--- a library more, where an entry has that tag
+-- one more library, if an entry has that tag
 abbrev pub needed_after : List NeededName → Bool → NeededName → List NeededName
 needed_after needed true name = needed ++ name ∷ []
 needed_after needed false name = needed
 
--- with the text of an entry of a tag, which stands at an offset
+-- with the text of an entry of a tag, which is at an offset
 unfoldable pub linked_by : (tag at : ℕ) → List ℕ → LinkTexts → LinkTexts
 linked_by tag at text links = record {
   needed = needed_after links.needed (tag == DT_NEEDED) (record { at = at; name = text });
@@ -103,7 +104,7 @@ linked_with file address size at linked = elim (is_link (d_tag file at)) [
   ]
 ]
 
--- with so many entries from an offset on
+-- with this many entries at an offset
 unfoldable pub linked_from : List ℕ → (address size : Option ℕ) → (at : ℕ) → LinkState → ℕ → Result LinkState Refusal
 linked_from file address size at linked zero = Ok linked
 linked_from file address size at linked (suc n) = elim (linked_with file address size at linked) [
@@ -117,15 +118,15 @@ linked_in file at n room =
     linked_from file (listed_value file at n DT_STRTAB) (listed_value file at n DT_STRSZ) at
     (record { links = no_link_info; room = room }) (dynamic_count file at n)
 
--- what a lookup is made in is refused; a file without a hash table has none
+-- a lookup's tables are refused; a file without a hash table has none
 unfoldable pub lookup_refusal : List ℕ → Option Refusal
 lookup_refusal file = elim (lookup_tables_by_segments file) [
   | Ok scope ↦ None
   | Err refusal ↦ elim (has_none refusal.cause) [ true ↦ None | false ↦ Some refusal ]
 ]
 
--- what a file says once its headers are loaded, or its first refusal: of what a lookup is made in; of the first segment of dynamic
--- entries; of an entry
+-- what a file says once its headers are loaded, or its first refusal: of the lookup tables; of the
+-- first segment of dynamic entries; of an entry
 unfoldable pub loaded_links : List ℕ → TextRoom → Result LinkState Refusal
 loaded_links file room = elim (lookup_refusal file) [
   | Some refusal ↦ Err refusal
@@ -144,18 +145,20 @@ links_by_segments file headers room = elim (first_refusal (header_checks file ++
   | None ↦ loaded_links file room
 ]
 
--- HOW A FILE IS LINKED, with so many headers permitted and so much room for its texts: whatever its section headers say
+-- HOW A FILE IS LINKED, with this many headers allowed and this room for its texts: for any section
+-- headers
 unfoldable pub links_of : List ℕ → (headers : ℕ) → TextRoom → Result LinkState Refusal
 links_of file headers room = links_by_segments (without_sections file) headers room
 
--- how many bytes it asks for at most, by the file's length and how many headers are permitted: the headers, the dynamic entries three
--- times, and a text for each
+-- how many bytes it reads at most, by the file's length and how many headers are allowed: the
+-- headers, the dynamic entries three times, and a text for each
 unfoldable pub links_ceiling : (size headers : ℕ) → ℕ
 links_ceiling size headers =
     FILE_HEADER_SIZE + headers * PROGRAM_HEADER_SIZE + 3 * size + size / DYNAMIC_SIZE * name_bytes LINK_TEXT_BYTES
 
--- WHICH MACHINE A FILE IS FOR, so that a loader of that machine takes it as a library: one of 64 bits that is little-endian. None of
--- any other file (gABI 4, ELF Identification: the magic number, the class and the encoding; ELF Header, e_machine)
+-- WHICH MACHINE A FILE IS FOR, so that a loader of that machine takes it as a library: a file of 64
+-- bits that is little-endian. None for any other file (gABI 4, ELF Identification: the magic
+-- number, the class and the encoding; ELF Header, e_machine)
 abbrev pub MACHINE_END : ℕ
 MACHINE_END = 20
 

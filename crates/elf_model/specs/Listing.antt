@@ -33,11 +33,11 @@ end_text format (Some refusal) = refusal_line format refusal
 abbrev pub report_of : Format → List ListingItem → List ℕ
 report_of format items = lines_of items ++ end_text format (fault_of items)
 
--- the first check that fails is a fault in the place of the items, which mean nothing then
+-- the first check that fails is a fault in place of the items, which then mean nothing
 abbrev pub guarded : List Check → List ListingItem → List ListingItem
 guarded checks items = elim (first_refusal checks) [ None ↦ items | Some refusal ↦ Fault refusal ∷ [] ]
 
--- the items of so many rows, or tables, from a first one on
+-- the items of this many rows, or tables, starting at a first one
 unfoldable pub each : (ℕ → List ListingItem) → ℕ → ℕ → List ListingItem
 each row first zero = []
 each row first (suc count) = row first ++ each row (suc first) count
@@ -64,22 +64,22 @@ NOTES = 32
 abbrev pub DYNAMIC : ℕ
 DYNAMIC = 64
 
--- symbol versions, of listings of the GNU system alone
+-- symbol versions, of GNU listings only
 abbrev pub VERSIONS : ℕ
 VERSIONS = 128
 
--- all parts but the file header's
+-- all parts except the file header's
 abbrev pub TABLES : ℕ
 TABLES = 254
 
--- all parts of the standards' listings, and all of the GNU system's
+-- all parts of the standards' listings, and all of GNU listings
 abbrev pub ALL : ℕ
 ALL = 127
 
 abbrev pub GNU_ALL : ℕ
 GNU_ALL = 255
 
--- all parts of listings of the GNU system, or of the standards' alone
+-- all parts of GNU listings, or of the standards' only
 abbrev pub all_parts : Bool → ℕ
 all_parts gnu = if gnu then GNU_ALL else ALL
 
@@ -95,11 +95,12 @@ has parts part = bit_and parts part == part
 abbrev pub has_tables : ℕ → Bool
 has_tables parts = not (bit_and parts TABLES == 0)
 
--- the items of a part, where the parts have it
+-- the items of a part, if the parts have it
 abbrev pub where_asked : ℕ → ℕ → List ListingItem → List ListingItem
 where_asked parts part items = elim (has parts part) [ true ↦ items | false ↦ [] ]
 
--- the file header's part: the first of its checks that fails, else its line where the parts have it
+-- the file header's part: the first of its checks that fails, otherwise its line if the parts have
+-- it
 unfoldable pub file_header_items : Format → List ℕ → ℕ → List ListingItem
 file_header_items format file parts =
     guarded (header_checks file) (where_asked parts HEADER (Line (header_line format file) ∷ []))

@@ -1,4 +1,4 @@
--- What holds of listings.
+-- Facts about listings.
 use Rattle.std.specs.Prelude.{◌≡◌, ℕ, ◌+◌, ◌≤◌, true, false, List, ◌++◌, Option, None, Some}
 use Rattle.elf_model.specs.Budget.{IsReport, IsBudgeted}
 use Rattle.elf_model.specs.Checks.{first_refusal, header_checks, load_checks}
@@ -9,25 +9,25 @@ use Rattle.elf_model.specs.Report.{listing}
 use Rattle.elf_model.specs.Style.{ListingStyle, viewed}
 use Rattle.elf_model.specs.declared.causes.Refusal.{Refusal}
 
--- the last row of so many stands behind the others
+-- the last row of this many follows the others
 abbrev pub LastRowIsLast : Type 0
 LastRowIsLast =
     (row : ℕ → List ListingItem) → (first count : ℕ) → each row first (count + 1) ≡ each row first count ++ row (first + count)
 
--- so many rows are some of them, and the others behind these
+-- this many rows are some of them, and the others after these
 abbrev pub RowsSplit : Type 0
 RowsSplit =
     (row : ℕ → List ListingItem) → (first count more : ℕ)
     → each row first (count + more) ≡ each row first count ++ each row (first + count) more
 
--- with no part that the style knows but the file header's the listing is the file header's
+-- with no part that the style knows except the file header's the listing is the file header's
 abbrev pub HeaderAloneIsListed : Type 0
 HeaderAloneIsListed =
     (file : List ℕ) → (headers : ℕ) → (style : ListingStyle) → (parts : ℕ)
     → has_tables (known_parts style parts) ≡ false
     → listing file headers style parts ≡ file_header_items style.format file parts
 
--- where a check of the file header fails, the listing is that fault's line alone, under any parts
+-- if a check of the file header fails, the listing is that fault's line alone, under any parts
 abbrev pub HeaderFaultIsListedAlone : Type 0
 HeaderFaultIsListedAlone =
     (file : List ℕ) → (headers : ℕ) → (style : ListingStyle) → (parts : ℕ) → (refusal : Refusal)
@@ -35,8 +35,8 @@ HeaderFaultIsListedAlone =
     → (report_of style.format (listing file headers style parts) ≡ refusal_line style.format refusal)
     × (fault_of (listing file headers style parts) ≡ Some refusal)
 
--- where a load check of the file that the style looks at fails, the listing is the file header's line and that fault's line,
--- under any parts with the file header's and another that the style knows
+-- if a load check of the file that the style lists fails, the listing is the file header's line and
+-- that fault's line, under any parts with the file header's and another that the style knows
 abbrev pub LoadFaultIsListedSecond : Type 0
 LoadFaultIsListedSecond =
     (file : List ℕ) → (headers : ℕ) → (style : ListingStyle) → (parts : ℕ) → (refusal : Refusal)
@@ -44,13 +44,13 @@ LoadFaultIsListedSecond =
     → has parts HEADER ≡ true → has_tables (known_parts style parts) ≡ true
     → report_of style.format (listing file headers style parts) ≡ header_line style.format file ++ refusal_line style.format refusal
 
--- what stands behind the first fault of a listing is not shown
+-- what follows the first fault of a listing is not shown
 abbrev pub NothingAfterTheFault : Type 0
 NothingAfterTheFault =
     (front back : List ListingItem) → (refusal : Refusal) → fault_of front ≡ Some refusal
     → (lines_of (front ++ back) ≡ lines_of front) × (fault_of (front ++ back) ≡ Some refusal)
 
--- two listings one behind the other, the first without a fault
+-- two listings one after another, the first without a fault
 abbrev pub ListingsAppend : Type 0
 ListingsAppend =
     (front back : List ListingItem) → fault_of front ≡ None

@@ -12,13 +12,13 @@ use Rattle.elf_model.specs.Names.DisplayedName.{Whole}
 use Rattle.elf_model.specs.Records.{e_machine}
 use Rattle.elf_model.specs.VersionRows.{symbol_version_prefix}
 
--- the line of the version of the symbol of an index, where it has one
+-- the line of the version of the symbol of an index, if it has one
 unfoldable pub found_version_line : Format → ℕ → Option FoundVersion → List ℕ
 found_version_line format index None = []
 found_version_line format index (Some version) = named_line (symbol_version_prefix format version.index index version.word) version.name
 
--- the text of an answer, once so many symbols are tried: the symbol's line, in the names of the GNU system and under the wanted
--- name, its version's, and the number; the number alone; the refusal
+-- the text of a result, after this many symbols are tried: the symbol's line, with the GNU names
+-- and under the wanted name, its version's, and the number; the number alone; the refusal
 abbrev pub loader_text : Format → List ℕ → List ℕ → Outcome → Option FoundVersion → ℕ → List ℕ
 loader_text format file name (Found section index symbol) version tried =
     named_line (symbol_prefix format true (e_machine file) file symbol section index) (Whole name)
@@ -27,7 +27,7 @@ loader_text format file name (Found section index symbol) version tried =
 loader_text format file name Absent version tried = steps_line format false tried
 loader_text format file name (Refused refusal) version tried = refusal_line format refusal
 
--- `find` as a loader: what a lookup writes, and 0 where it finds a symbol
+-- `find` as a loader: what a lookup writes, and 0 if it finds a symbol
 unfoldable pub loader_answer_for : Format → List ℕ → ℕ → SymbolQuery → Answer
 loader_answer_for format file headers wanted =
     let loader = loader_looked file headers wanted in

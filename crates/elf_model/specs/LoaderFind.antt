@@ -1,5 +1,5 @@
--- The lookup of a name, with or without a version, as a loader of the GNU system does it in one file: its answer, and how many
--- bytes it may ask for.
+-- The lookup of a name, with or without a version, as a GNU loader does it in one file: its result,
+-- and how many bytes it may read.
 use Rattle.std.specs.Prelude.{ℕ, ◌+◌, ◌*◌, ◌/◌, ◌==◌, ◌||◌, nat_lt, not, count_ones, Bool, true, false, List, [], ◌∷◌, length, Option, None, Some, Ok, Err}
 use Rattle.elf_model.specs.Chains.{ChainResult}
 use Rattle.elf_model.specs.Checks.{Check, refuse, first_refusal, before_headers, pass}
@@ -17,8 +17,8 @@ use Rattle.elf_model.specs.declared.causes.Cause.TheVariants.{HashShape, Version
 use Rattle.elf_model.specs.declared.causes.Refusal.{Refusal}
 use Rattle.elf_model.specs.LoaderScope.{GnuTable, SysvTable, LookupTables, lookup_tables_of, dynamic_segment_index}
 
--- the check of a hash table's counts against its size. Of the GNU system's: it has a bucket; its filter's words are as many as
--- a power of two says; its shift leaves bits of a hash
+-- the check of a hash table's counts against its size. Of a GNU hash table: it has a bucket; the
+-- number of its filter's words is a power of two; its shift leaves bits of a hash
 unfoldable pub counts_check : List ℕ → LookupTables → Check
 counts_check file scope =
     let place = scope.table.place in
@@ -37,21 +37,23 @@ counts_check file scope =
           scope.head HashShape
     ]
 
--- the walk for the symbol that answers, where the numbers of the version by its name are known
+-- the walk for the symbol that answers, if the indices of the version by its name are known
 unfoldable pub walk_in : List ℕ → LookupTables → SymbolQuery → (ℕ → Bool) → ChainResult
 walk_in file scope wanted is_wanted = elim scope.kind [
   | GnuTable ↦ gnu_looked_up file scope.table (gnu_hash wanted.name) (answers file scope.symbols wanted is_wanted)
   | SysvTable ↦ sysv_walked file scope.table (sysv_hash wanted.name) (answers file scope.symbols wanted is_wanted)
 ]
 
--- the version of a symbol that is found: the index of what describes its word, the word, and the name
+-- the version of a symbol that is found: the index of what describes its versym entry, the entry,
+-- and the name
 pub record FoundVersion : Type 0 where
   pub index : ℕ
   pub word : ℕ
   pub name : DisplayedName
 
--- WHAT A LOOKUP GIVES: its answer, and how many symbols it tries; the version of the symbol, where the file has versions; how
--- many chain words it reads, and how many records of versions; and whether it reads the name of a version to give it
+-- THE RESULT OF A LOOKUP: its outcome, and how many symbols it tries; the version of the symbol, if
+-- the file has versions; how many chain words it reads, and how many version records; and whether
+-- it reads the name of a version to return it
 pub record LoaderLookup : Type 0 where
   pub lookup : Lookup
   pub version : Option FoundVersion
@@ -59,7 +61,7 @@ pub record LoaderLookup : Type 0 where
   pub records : ℕ
   pub is_named : Bool
 
--- a lookup that is refused, once it has read so much
+-- a lookup that is refused, after it has read this much
 abbrev pub refused_lookup : (tried chain_words records : ℕ) → Bool → Refusal → LoaderLookup
 refused_lookup tried chain_words records is_named refusal = record {
   lookup = record { answer = Refused refusal; compared = tried };
@@ -69,11 +71,11 @@ refused_lookup tried chain_words records is_named refusal = record {
   is_named = is_named;
 }
 
--- how many bytes of the name of a version are given
+-- the maximum number of bytes of a version's name that are returned
 abbrev pub TOLD_BYTES : ℕ
 TOLD_BYTES = 256
 
--- the symbol that is found, where a walk gives it, and its version
+-- the symbol that a walk finds, if it finds one, and its version
 abbrev pub found_lookup : LookupTables → ℕ → ChainResult → (records : ℕ) → Bool → Option FoundVersion → LoaderLookup
 found_lookup scope y walked records is_named version = record {
   lookup = record { answer = Found scope.symbols.index y (symbol_offset scope.symbols y); compared = walked.tried };
@@ -83,8 +85,9 @@ found_lookup scope y walked records is_named version = record {
   is_named = is_named;
 }
 
--- the version of a symbol is given by the record that has its number: the record's name; a fault of the name, at the record that
--- holds it, or the refusal that comes before; or that no record has it, at the symbol's word
+-- the version of a symbol is named by the record that has its index: the record's name; a fault of
+-- the name, at the record that has it, or the refusal that comes before; or that no record has it,
+-- at the symbol's versym entry
 unfoldable pub named_by_record : List ℕ → LookupTables → VersymTable → ℕ → ChainResult → NumberNameSource → LoaderLookup
 named_by_record file scope words y walked naming =
     let word_at = versym_at words y in
@@ -102,8 +105,8 @@ named_by_record file scope words y walked naming =
       ]
     ]
 
--- the version of a symbol that is found: without words there is none; the wanted one is given as it is wanted; the numbers 0 and
--- 1 have no name
+-- the version of a symbol that is found: without a versym table there is none; the wanted one is
+-- returned as it was requested; the indices 0 and 1 have no name
 unfoldable pub found_in : List ℕ → LookupTables → VersionQuery → (records : ℕ) → ℕ → ChainResult → Option VersymTable → LoaderLookup
 found_in file scope asked records y walked None = found_lookup scope y walked records false None
 found_in file scope asked records y walked (Some words) =
@@ -118,7 +121,7 @@ found_in file scope asked records y walked (Some words) =
       ]
     ]
 
--- what a lookup gives by its walk, before which so many records are read
+-- the result of a lookup by its walk, before which this many records are read
 unfoldable pub looked_by : List ℕ → LookupTables → VersionQuery → (records : ℕ) → ChainResult → LoaderLookup
 looked_by file scope asked records walked = elim walked.answer [
   | Err refusal ↦ refused_lookup walked.tried walked.read records false refusal
@@ -132,7 +135,7 @@ looked_by file scope asked records walked = elim walked.answer [
   | Ok (Some y) ↦ found_in file scope asked records y walked scope.symbols.words
 ]
 
--- the numbers of the version that is asked for by its name, where one is and the symbols have versions
+-- the indices of the version that is requested by its name, if one is and the symbols have versions
 unfoldable pub version_indices : List ℕ → LookupTables → VersionQuery → CompareResult
 version_indices file scope asked =
     let none : CompareResult = record { numbers = []; refused = None; read = 0 } in
@@ -144,7 +147,8 @@ version_indices file scope asked =
       ]
     ]
 
--- a lookup once the checks of its scope pass: the table's counts, the numbers of the version, the walk
+-- a lookup once the checks of its tables pass: the table's counts, the indices of the version, the
+-- walk
 unfoldable pub loaded_in : List ℕ → LookupTables → SymbolQuery → LoaderLookup
 loaded_in file scope wanted = elim (first_refusal (counts_check file scope ∷ [])) [
   | Some refusal ↦ refused_lookup 0 0 0 false refusal
@@ -158,15 +162,15 @@ loaded_in file scope wanted = elim (first_refusal (counts_check file scope ∷ [
       ]
 ]
 
--- WHAT A LOADER'S LOOKUP GIVES in a file, with so many headers permitted
+-- THE RESULT OF A LOADER'S LOOKUP in a file, with this many headers allowed
 unfoldable pub loader_looked : List ℕ → ℕ → SymbolQuery → LoaderLookup
 loader_looked file headers wanted = elim (lookup_tables_of file headers) [
   | Err refusal ↦ refused_lookup 0 0 0 false refusal
   | Ok scope ↦ loaded_in file scope wanted
 ]
 
--- HOW MANY BYTES IT MAY ASK FOR. What describes the tables in a file without section headers: the program headers, and the first
--- table of dynamic entries, where its checks pass
+-- HOW MANY BYTES IT MAY READ. What describes the tables in a file without section headers: the
+-- program headers, and the first table of dynamic entries, if its checks pass
 unfoldable pub segments_asked : List ℕ → ℕ
 segments_asked file =
     cost_where (e_shnum file == 0)
@@ -178,12 +182,13 @@ segments_asked file =
           cost_where (pass (segment_dynamic_checks file at)) (p_filesz file at)
     ])
 
--- a record of versions, a definition with the first of its names, and the wanted version's name with each where one is asked for
+-- a version record, a definition with the first of its names, and the wanted version's name with
+-- each if one is requested
 abbrev pub record_cost : VersionQuery → ℕ
 record_cost asked = DEFINITION_SIZE + DEFINED_NAME_SIZE + elim (asked_name asked) [ None ↦ 0 | Some version ↦ pad64 (length version + 1) ]
 
--- what is read once the headers are: the chain words; a symbol, the word of its version and its name for each that is tried;
--- the records of versions; and the name of one that is given
+-- what is read after the headers: the chain words; a symbol, its versym entry and its name for each
+-- that is tried; the version records; and the name of one that is returned
 unfoldable pub lookup_asks : SymbolQuery → LoaderLookup → ℕ
 lookup_asks wanted loader =
     4 * loader.chain_words
@@ -191,8 +196,9 @@ lookup_asks wanted loader =
     + loader.records * record_cost wanted.asked
     + cost_where loader.is_named (pad64 (TOLD_BYTES + 1))
 
--- the file header alone where the section headers are not read, else that, four counts, a word of a filter, a word of a bucket,
--- the section headers, or the program headers and the dynamic entries, and what the lookup reads
+-- the file header alone if the section headers are not read, otherwise that, four counts, a word of
+-- a filter, a word of a bucket, the section headers, or the program headers and the dynamic
+-- entries, and what the lookup reads
 unfoldable pub loader_cost : List ℕ → ℕ → SymbolQuery → ℕ
 loader_cost file headers wanted = elim (first_refusal (before_headers file headers)) [
   | Some refusal ↦ FILE_HEADER_SIZE
@@ -201,8 +207,8 @@ loader_cost file headers wanted = elim (first_refusal (before_headers file heade
       + lookup_asks wanted (loader_looked file headers wanted)
 ]
 
--- what no lookup asks for more than, whatever the file's bytes are: by its length, how many headers are permitted and what is
--- wanted alone
+-- the upper bound of what a lookup reads, for any bytes of the file: only by its length, how many
+-- headers are allowed and what is wanted
 unfoldable pub loader_ceiling : (size headers : ℕ) → SymbolQuery → ℕ
 loader_ceiling size headers wanted =
     FILE_HEADER_SIZE + 16 + 8 + 4 + SECTION_HEADER_SIZE * headers + size

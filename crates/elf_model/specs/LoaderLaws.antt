@@ -15,7 +15,8 @@ use Rattle.elf_model.specs.declared.causes.Cause.{Cause}
 use Rattle.elf_model.specs.declared.causes.Cause.TheVariants.{VersionCut}
 use Rattle.elf_model.specs.declared.causes.Refusal.{Refusal}
 
--- A SYMBOL IS ONE TO TAKE: by what a file says of its symbols, it has the wanted name, it is offered, and its version fits
+-- A SYMBOL IS ONE TO TAKE: by what a file says of its symbols, it has the wanted name, it is
+-- exported, and its version matches
 pub record IsTaken (file : List ℕ) (headers : ℕ) (wanted : SymbolQuery) (section index symbol : ℕ) : Type 0 where
   pub scope : LookupTables
   pub is_scope : lookup_tables_of file headers ≡ Ok scope
@@ -35,7 +36,7 @@ LoaderFoundIsTaken =
     → (loader_looked file headers wanted).lookup.answer ≡ Found section index symbol
     → IsTaken file headers wanted section index symbol
 
--- THE BOUND: a lookup asks for no more than the ceiling of its file's length, whatever the file's bytes are
+-- THE BOUND: a lookup reads no more than the ceiling of its file's length, for any bytes
 abbrev pub LoaderCostIsWithinCeiling : Type 0
 LoaderCostIsWithinCeiling =
     (file : List ℕ) (headers : ℕ) (wanted : SymbolQuery)
@@ -45,8 +46,9 @@ LoaderCostIsWithinCeiling =
 abbrev pub records_in : List ℕ → VersionRecordTable → Versions
 records_in file table = versions_in table.kind file table.head table.place table.size
 
--- ONE RULE IN TWO PLACES: the record that names a number is the same by the records that a lookup reads of definitions and then of
--- needs, where both walks come to their end, as by those that a listing meets
+-- ONE RULE IN TWO PLACES: the record that names a version index is the same by the records that a
+-- lookup reads of definitions and then of needs, if neither walk is refused, as by those that a
+-- listing visits
 abbrev pub NumbersAreNamedAlike : Type 0
 NumbersAreNamedAlike =
     (file : List ℕ) (number : ℕ) (definitions needs : VersionRecordTable)
@@ -54,20 +56,22 @@ NumbersAreNamedAlike =
     → option_map (λ found. found.1) (naming_of file number (readings file (definitions ∷ needs ∷ []))).found
     ≡ named_by file number ((records_in file definitions).met ++ (records_in file needs).met)
 
--- and so is the first dynamic entry of a tag, by where it stands as by its value
+-- and so is the first dynamic entry of a tag, by its offset as by its value
 abbrev pub FirstEntriesAreAlike : Type 0
 FirstEntriesAreAlike =
     (file : List ℕ) (at tag : ℕ)
     → listed_value file (p_offset file at) (p_filesz file at / DYNAMIC_SIZE) tag ≡ option_map (d_un file) (tagged_row file at tag)
 
--- where a lookup's walk over a table stands once so many records are met, there stands the record that a listing meets next
+-- the walk of a lookup over a table is, after this many visited records, at the record that a
+-- listing visits next
 abbrev pub WalksStandAtRecords : Type 0
 WalksStandAtRecords =
     (file : List ℕ) (table : VersionRecordTable) (before : List VisitedRecord) (met : VisitedRecord) (others : List VisitedRecord)
     → (records_in file table).met ≡ before ++ met ∷ others
     → (stand : RecordCursorState) × (position_after file table (length before) ≡ Some stand) × (visited_at table.place stand ≡ met)
 
--- a walk that is refused stands at what fails a check, or at one record more than there is room for; one that is not is at its end
+-- a walk that is refused is at what fails a check, or at one record more than there is room for;
+-- one that is not is at its end
 abbrev pub StandsAtItsEnd : List ℕ → VersionRecordTable → ℕ → Option Refusal → Option RecordCursorState → Type 0
 StandsAtItsEnd file table count None stand = stand ≡ None
 StandsAtItsEnd file table count (Some refusal) None = ⊥
@@ -81,13 +85,13 @@ WalksStandAtTheirEnd =
     → let walk = records_in file table in
     StandsAtItsEnd file table (length walk.met) walk.cut (position_after file table (length walk.met))
 
--- how the records of a walk end that are read: with what is refused, once its bytes are read or before
+-- how the records end that a walk reads: with what is refused, after its bytes are read or before
 abbrev pub EndsReadings : Option Refusal → List VersionRecordRead → Type 0
 EndsReadings None last = last ≡ []
 EndsReadings (Some refusal) last = (last ≡ Refuses refusal ∷ []) ⊎ (last ≡ Misses refusal ∷ [])
 
--- ONE RULE IN TWO PLACES: a lookup reads of each table the records that a listing meets, with the strings of their table, and what
--- is refused there; and of no table none
+-- ONE RULE IN TWO PLACES: a lookup reads of each table the records that a listing visits, with the
+-- strings of their table, and what is refused there; and none if there is no table
 abbrev pub ReadingsAreRecords : Type 0
 ReadingsAreRecords =
     (file : List ℕ)
@@ -106,13 +110,14 @@ is_equal_name (Err cause) = false
 abbrev pub names_wanted : List ℕ → (wanted strings : List ℕ) → VisitedRecord → Bool
 names_wanted file wanted strings met = names_version file met && is_equal_name (same strings (name_index file met) wanted)
 
--- the numbers of met records that name it
+-- the indices of visited records that name it
 abbrev pub numbers_under : List ℕ → (wanted strings : List ℕ) → List VisitedRecord → List ℕ
 numbers_under file wanted strings met =
     map (λ one. number_in (number_word file one)) (filter (names_wanted file wanted strings) met)
 
--- ONE RULE IN TWO PLACES: comparing that is not refused gives the numbers of the records under the wanted name, of those that a
--- listing meets of definitions and then of needs, and reads each of these once
+-- ONE RULE IN TWO PLACES: comparing that is not refused gives the indices of the records under the
+-- wanted name, of those that a listing visits of definitions and then of needs, and reads each of
+-- these once
 abbrev pub ComparedNumbersAreRecords : Type 0
 ComparedNumbersAreRecords =
     (file wanted : List ℕ) (definitions needs : VersionRecordTable)
@@ -123,7 +128,8 @@ ComparedNumbersAreRecords =
     ++ numbers_under file wanted needs.strings (records_in file needs).met)
     × (compared.read ≡ length (records_in file definitions).met + length (records_in file needs).met)
 
--- comparing is refused at a record: it is refused itself, or it names a version and the name has a fault
+-- comparing is refused at a record: it is refused itself, or it names a version and the name has a
+-- fault
 abbrev RefusesToCompare : List ℕ → (wanted : List ℕ) → Refusal → VersionRecordRead → Type 0
 RefusesToCompare file wanted refusal (Refuses other) = refusal ≡ other
 RefusesToCompare file wanted refusal (Misses other) = refusal ≡ other
@@ -131,16 +137,16 @@ RefusesToCompare file wanted refusal (Meets strings met) =
     (names_version file met ≡ true)
     × ((cause : Cause) × (same strings (name_index file met) wanted ≡ Err cause) × (refusal ≡ record { at = named_at file met; cause = cause }))
 
--- and goes on behind others
+-- and goes on after others
 abbrev pub IsComparable : List ℕ → (wanted : List ℕ) → VersionRecordRead → Type 0
 IsComparable file wanted reading = (refusal : Refusal) → RefusesToCompare file wanted refusal reading → ⊥
 
--- how many records are read there: one, but where none stands
+-- how many records are read there: one, unless there is none
 abbrev pub records_read : VersionRecordRead → ℕ
 records_read (Misses refusal) = 0
 records_read _ = 1
 
--- the first of some records at which comparing is refused, once so many are read
+-- the first of some records at which comparing is refused, after this many are read
 pub record IsRefusedAt (file wanted : List ℕ) (refusal : Refusal) (all : List VersionRecordRead) (read : ℕ) : Type 0 where
   pub before : List VersionRecordRead
   pub last : VersionRecordRead

@@ -1,5 +1,6 @@
--- What a loader of the GNU system looks a name up in, in one file: the hash table, of which of two kinds, the symbols and their
--- versions, found by the section headers, or where a file has none by the program headers; and the checks before they are read.
+-- The tables in which a GNU loader looks a name up in one file: the hash table, of one of two
+-- kinds, the symbols and their versions, found by the section headers, or if a file has none by the
+-- program headers; and the checks before they are read.
 use Rattle.std.specs.Prelude.{ℕ, ◌-◌, ◌/◌, ◌==◌, ◌&&◌, ◌||◌, nat_lt, not, is_none, Bool, true, false, List, [], ◌∷◌, ◌++◌, length, Option, None, Some, Result, Ok, Err}
 use Rattle.elf_model.specs.Chains.{HashTable}
 use Rattle.elf_model.specs.Checks.{Check, refuse, first_refusal, unless_empty, header_checks, load_checks, table_checks, is_outside}
@@ -19,24 +20,25 @@ use Rattle.elf_model.specs.declared.causes.Refusal.{Refusal}
 use Rattle.elf_model.specs.declared.versions.VersionKind.{VersionKind}
 use Rattle.elf_model.specs.declared.versions.VersionKind.TheVariants.{Definition, File}
 
--- the kinds of hash tables: of the GNU system; of the gABI
+-- the kinds of hash tables: GNU; gABI
 pub data HashStyle : Type 0 where
   GnuTable : HashStyle
   SysvTable : HashStyle
 
--- how many bytes a table has at least: its words before the others
+-- the minimum size of a table: its words before the others
 abbrev pub least_size : HashStyle → ℕ
 least_size GnuTable = 16
 least_size SysvTable = 8
 
--- WHAT A LOOKUP IS MADE IN: the hash table, its kind and the offset of what describes it, and the symbols
+-- THE LOOKUP TABLES: the hash table, its kind and the offset of what describes it, and the symbols
 pub record LookupTables : Type 0 where
   pub kind : HashStyle
   pub head : ℕ
   pub table : HashTable
   pub symbols : DynamicSymbols
 
--- BY THE SECTION HEADERS. The hash table: the first section of the GNU system's, else the first of the gABI's
+-- BY THE SECTION HEADERS. The hash table: the first GNU_HASH section, otherwise the first HASH
+-- section
 unfoldable pub hash_section : List ℕ → Option (HashStyle × ℕ)
 hash_section file = elim (first_of_type file SHT_GNU_HASH) [
   | Some i ↦ Some (GnuTable, section_at file i)
@@ -55,16 +57,16 @@ checks_of_type file type checks = checks_of_section file (first_of_type file typ
 abbrev pub has_bytes : List ℕ → ℕ → Bool
 has_bytes file type = elim (first_of_type file type) [ None ↦ false | Some i ↦ not (sh_size file (section_at file i) == 0) ]
 
--- the first section of the words of symbols' versions, where there are definitions or needs: without them the words name
--- nothing, and a loader does not look at them
+-- the first versym section, if there are definitions or needs: without them its entries name
+-- nothing, and a loader does not read them
 unfoldable pub words_section : List ℕ → Option ℕ
 words_section file = elim (has_bytes file SHT_GNU_VERDEF || has_bytes file SHT_GNU_VERNEED) [
   | true ↦ first_of_type file SHT_GNU_VERSYM
   | false ↦ None
 ]
 
--- the checks of the words of symbols' versions, which are those of the symbols that the hash table is of; then, where there are
--- such words alone, those of the definitions and of the needs
+-- the checks of the versym section, which must be that of the symbols of the hash table; then, only
+-- if there is one, those of the definitions and of the needs
 unfoldable pub version_checks : List ℕ → ℕ → List Check
 version_checks file at =
     checks_of_section file (words_section file) (λ words_at.
@@ -77,7 +79,7 @@ version_checks file at =
 abbrev pub section_checks : List ℕ → HashStyle → ℕ → List Check
 section_checks file kind at = hash_checks_from (least_size kind) file at ++ version_checks file at
 
--- the definitions, or the needs, of the first section of a type, in front of others
+-- the definitions, or the needs, of the first section of a type, before others
 abbrev pub records_of_type : List ℕ → ℕ → VersionKind → List VersionRecordTable → List VersionRecordTable
 records_of_type file type kind others = elim (first_of_type file type) [
   | None ↦ others
@@ -86,7 +88,7 @@ records_of_type file type kind others = elim (first_of_type file type) [
       record { kind = kind; head = at; place = sh_offset file at; size = sh_size file at; strings = strings_of file at } ∷ others
 ]
 
--- the words of symbols' versions
+-- the versym table
 unfoldable pub section_words : List ℕ → Option VersymTable
 section_words file = elim (words_section file) [
   | None ↦ None
@@ -95,12 +97,12 @@ section_words file = elim (words_section file) [
       Some (record { place = sh_offset file at; count = entry_count file at VERSYM_SIZE; head = at; index = i })
 ]
 
--- the records of versions, where there are words of them
+-- the version records, if there is a versym table
 abbrev pub records_with : Option VersymTable → List VersionRecordTable → List VersionRecordTable
 records_with None records = []
 records_with (Some words) records = records
 
--- what a lookup is made in, once the checks pass
+-- the lookup tables, once the checks pass
 unfoldable pub section_lookup_tables : List ℕ → HashStyle → ℕ → LookupTables
 section_lookup_tables file kind at = record {
   kind = kind;
@@ -131,8 +133,9 @@ tagged_row file at tag =
       | Some i ↦ Some (dynamic_at (p_offset file at) i)
     ]
 
--- THE REST of the first LOAD segment that has the byte at the address of an entry: its bytes in the file from that one on. The
--- entry is refused where none has it, and the program header where its bytes end past the end of the file
+-- THE REST of the first LOAD segment that has the byte at the address of an entry: its bytes in the
+-- file from that one on. The entry is refused if none has it, and the program header if its bytes
+-- end past the end of the file
 unfoldable pub rest_checks : List ℕ → ℕ → List Check
 rest_checks file row = elim (mapped_at file (d_un file row) 1) [
   | None ↦ refuse true row Unmapped ∷ []
@@ -148,27 +151,27 @@ rest_size file row = elim (mapped_at file (d_un file row) 1) [
   | Some at ↦ p_filesz file at - (d_un file row - p_vaddr file at)
 ]
 
--- the hash table: at the entry of the GNU system's, else at that of the gABI's
+-- the hash table: at the entry DT_GNU_HASH, otherwise at DT_HASH
 unfoldable pub hash_row : List ℕ → ℕ → Option (HashStyle × ℕ)
 hash_row file at = elim (tagged_row file at DT_GNU_HASH) [
   | Some row ↦ Some (GnuTable, row)
   | None ↦ elim (tagged_row file at DT_HASH) [ Some row ↦ Some (SysvTable, row) | None ↦ None ]
 ]
 
--- the entry of the words of symbols' versions, where there is one of definitions or of needs
+-- the entry of the versym table, if there is one of definitions or of needs
 unfoldable pub words_row : List ℕ → ℕ → Option ℕ
 words_row file at = elim (is_none (tagged_row file at DT_VERDEF) && is_none (tagged_row file at DT_VERNEED)) [
   | true ↦ None
   | false ↦ tagged_row file at DT_VERSYM
 ]
 
--- the checks of an entry, where there is one
+-- the checks of an entry, if there is one
 abbrev pub checks_of_row : Option ℕ → (ℕ → List Check) → List Check
 checks_of_row None checks = []
 checks_of_row (Some row) checks = checks row
 
--- the checks of what the entries say of the symbols: where they are, their strings, and the words and records of versions,
--- which are looked at where there are such words alone
+-- the checks of what the entries say of the symbols: their offset, their strings, and the versym
+-- table and version records, which are read only if there is such a table
 unfoldable pub rows_checks : List ℕ → (at hash_row : ℕ) → List Check
 rows_checks file at hash_row =
     let symtab = tagged_row file at DT_SYMTAB in
@@ -182,7 +185,8 @@ rows_checks file at hash_row =
     ++ checks_of_row (tagged_row file at DT_VERDEF) (rest_checks file)
     ++ checks_of_row (tagged_row file at DT_VERNEED) (rest_checks file))
 
--- a hash table of a kind has words of 8 bytes: Alpha's of the gABI have, and no entry gives another size
+-- a hash table of a kind has words of 8 bytes: Alpha's gABI hash tables have, and no entry gives
+-- another size
 abbrev pub has_wide_kind : List ℕ → HashStyle → Bool
 has_wide_kind file GnuTable = false
 has_wide_kind file SysvTable = e_machine file == EM_ALPHA
@@ -204,7 +208,7 @@ segment_strings file at = elim (tagged_row file at DT_STRTAB) [
   ]
 ]
 
--- where they begin
+-- the offset at which they begin
 unfoldable pub segment_strings_at : List ℕ → ℕ → ℕ
 segment_strings_at file at = elim (tagged_row file at DT_STRTAB) [
   | None ↦ 0
@@ -214,14 +218,14 @@ segment_strings_at file at = elim (tagged_row file at DT_STRTAB) [
   ]
 ]
 
--- the words of symbols' versions, which the program header of an index describes
+-- the versym table, which the program header of an index describes
 unfoldable pub segment_words : List ℕ → (index at : ℕ) → Option VersymTable
 segment_words file index at = elim (words_row file at) [
   | None ↦ None
   | Some row ↦ Some (record { place = rest_place file row; count = rest_size file row / VERSYM_SIZE; head = row; index = index })
 ]
 
--- the definitions, or the needs, at the entry of a tag, in front of others
+-- the definitions, or the needs, at the entry of a tag, before others
 abbrev pub records_of_tag : List ℕ → (at tag : ℕ) → VersionKind → List VersionRecordTable → List VersionRecordTable
 records_of_tag file at tag kind others = elim (tagged_row file at tag) [
   | None ↦ others
@@ -230,14 +234,14 @@ records_of_tag file at tag kind others = elim (tagged_row file at tag) [
       ∷ others
 ]
 
--- where the symbols stand, and how many there are
+-- the offset of the symbols, and how many there are
 unfoldable pub segment_symbols : List ℕ → ℕ → ℕ × ℕ
 segment_symbols file at = elim (tagged_row file at DT_SYMTAB) [
   | None ↦ (0, 0)
   | Some row ↦ (rest_place file row, rest_size file row / SYMBOL_SIZE)
 ]
 
--- what a lookup is made in, once the checks pass
+-- the lookup tables, once the checks pass
 unfoldable pub segment_lookup_tables : List ℕ → HashStyle → (index at hash_row : ℕ) → LookupTables
 segment_lookup_tables file kind index at hash_row =
     let symbols = segment_symbols file at in
@@ -257,7 +261,8 @@ segment_lookup_tables file kind index at hash_row =
       };
     }
 
--- WHAT A LOOKUP IS MADE IN, or the first refusal: by the section headers, or where a file has none by the program headers
+-- THE LOOKUP TABLES, or the first refusal: by the section headers, or if a file has none by the
+-- program headers
 unfoldable pub scope_by_sections : List ℕ → Result LookupTables Refusal
 scope_by_sections file = elim (hash_section file) [
   | None ↦ Err (record { at = 0x28; cause = NoHash })
@@ -285,7 +290,8 @@ scope_in_segments file = elim (dynamic_segment_index file) [
   | Some index ↦ scope_in_segment file index (segment_at file index)
 ]
 
--- behind the check that no LOAD segment lies over another, since an address is looked for in the first that holds it
+-- after the check that no LOAD segment overlaps another, since an address is searched for in the
+-- first that has it
 unfoldable pub lookup_tables_by_segments : List ℕ → Result LookupTables Refusal
 lookup_tables_by_segments file = elim (first_refusal (overlap_checks file)) [
   | Some refusal ↦ Err refusal

@@ -1,24 +1,25 @@
--- The numbers that a listing has names for, set by set, and what stands for any other number. The standards' names are there
--- always; where numbers of the GNU system have names too, those come to them, some of them for x86-64 alone.
+-- The numbers that a listing has names for, set by set, and what is printed for any other number.
+-- The standards' names are always used; if GNU numbers have names too, those are added, some of
+-- them only for x86-64.
 use Rattle.std.specs.Prelude.{ℕ, ◌+◌, ◌==◌, ◌&&◌, nat_lt, if◌then◌else◌, Bool, List, [], ◌∷◌, ◌++◌, length, take, Option, None, Some, codes, decimal}
 use Rattle.std.specs.Int.RustNames.{bit_and}
 use Rattle.elf_model.specs.Numbers.{EM_X86_64}
 use Rattle.elf_model.specs.Text.{hex, left_in, right_decimal, name_of, name_in}
 
--- a name at the left of a column, or where there is none the number at the right of it
+-- a name at the left of a column, or if there is none the number at the right of it
 abbrev pub name_or_decimal : ℕ → Option (List ℕ) → ℕ → List ℕ
 name_or_decimal width (Some name) n = left_in width name
 name_or_decimal width None n = right_decimal width n
 
--- a number's name in a column, else the number
+-- a number's name in a column, otherwise the number
 abbrev pub name_or_number : List (ℕ × List ℕ) → ℕ → ℕ → List ℕ
 name_or_number names width n = name_or_decimal width (name_of names n) n
 
--- names that are there under a condition
+-- names that are used under a condition
 abbrev pub names_where : Bool → List (ℕ × List ℕ) → List (ℕ × List ℕ)
 names_where condition names = if condition then names else []
 
--- names that are there under a condition, on x86-64 alone
+-- names that are used under a condition, on x86-64 only
 abbrev pub names_on_x86_64 : Bool → ℕ → List (ℕ × List ℕ) → List (ℕ × List ℕ)
 names_on_x86_64 condition machine names = names_where (condition && (machine == EM_X86_64)) names
 
@@ -38,8 +39,8 @@ standard_section_types =
     ∷ (10, codes "SHLIB") ∷ (11, codes "DYNSYM") ∷ (14, codes "INIT_ARRAY") ∷ (15, codes "FINI_ARRAY")
     ∷ (16, codes "PREINIT_ARRAY") ∷ (17, codes "GROUP") ∷ (18, codes "SYMTAB_SHNDX") ∷ []
 
--- the section types of the GNU system: relative relocations, attributes, the GNU hash table, a list of prelinked libraries,
--- definitions, needs and numbers of symbol versions
+-- the GNU section types: relative relocations, attributes, the GNU hash table, a list of prelinked
+-- libraries, definitions, needs and indices of symbol versions
 unfoldable pub gnu_section_types : List (ℕ × List ℕ)
 gnu_section_types =
     (19, codes "RELR") ∷ (0x6ffffff5, codes "GNU_ATTRIBS") ∷ (0x6ffffff6, codes "GNU_HASH") ∷ (0x6ffffff7, codes "GNU_LIBLIST")
@@ -49,7 +50,7 @@ gnu_section_types =
 unfoldable pub x86_64_section_types : List (ℕ × List ℕ)
 x86_64_section_types = (0x70000001, codes "X86_64_UNWIND") ∷ []
 
--- the section types that have names beside the standard's
+-- the section types that have names besides the standard's
 unfoldable pub further_section_types : Bool → ℕ → List (ℕ × List ℕ)
 further_section_types gnu machine = names_where gnu gnu_section_types ++ names_on_x86_64 gnu machine x86_64_section_types
 
@@ -61,14 +62,15 @@ section_types gnu machine = standard_section_types ++ further_section_types gnu 
 unfoldable pub section_type_text : Bool → ℕ → ℕ → List ℕ
 section_type_text gnu machine n = name_in (section_types gnu machine) n (hex 8 n)
 
--- the section flags and their letters, in the order of a listing (gABI 4, Section Attribute Flags): write, alloc,
--- execinstr, merge, strings, info link, link order, os nonconforming, group, tls, compressed
+-- the section flags and their letters, in the order of a listing (gABI 4, Section Attribute Flags):
+-- write, alloc, execinstr, merge, strings, info link, link order, os nonconforming, group, tls,
+-- compressed
 unfoldable pub standard_section_flags : List (ℕ × List ℕ)
 standard_section_flags =
     (0x1, codes "W") ∷ (0x2, codes "A") ∷ (0x4, codes "X") ∷ (0x10, codes "M") ∷ (0x20, codes "S") ∷ (0x40, codes "I")
     ∷ (0x80, codes "L") ∷ (0x100, codes "O") ∷ (0x200, codes "G") ∷ (0x400, codes "T") ∷ (0x800, codes "C") ∷ []
 
--- the section flags of the GNU system: retain, mbind; large (x86-64 psABI, Section Attribute Flags); exclude
+-- the GNU section flags: retain, mbind; large (x86-64 psABI, Section Attribute Flags); exclude
 unfoldable pub gnu_section_flags : List (ℕ × List ℕ)
 gnu_section_flags = (0x200000, codes "R") ∷ (0x1000000, codes "D") ∷ []
 
@@ -78,7 +80,7 @@ x86_64_section_flags = (0x10000000, codes "l") ∷ []
 unfoldable pub processor_section_flags : List (ℕ × List ℕ)
 processor_section_flags = (0x80000000, codes "E") ∷ []
 
--- the section flags that have letters beside the standard's
+-- the section flags that have letters besides the standard's
 unfoldable pub further_section_flags : Bool → ℕ → List (ℕ × List ℕ)
 further_section_flags gnu machine =
     names_where gnu gnu_section_flags
@@ -103,7 +105,7 @@ flags_with_letters (entry ∷ entries) = entry.0 + flags_with_letters entries
 abbrev flags_mark : List ℕ
 flags_mark = codes "?"
 
--- the letters of the flags of a table that are set, then the mark where any other bit is
+-- the letters of the flags of a table that are set, then the mark if any other bit is
 unfoldable pub letters_and_mark : List (ℕ × List ℕ) → ℕ → List ℕ
 letters_and_mark flags n = letters_of flags n ++ (if bit_and n (flags_with_letters flags) == n then [] else flags_mark)
 
@@ -121,8 +123,8 @@ standard_segment_types =
     (0, codes "NULL") ∷ (1, codes "LOAD") ∷ (2, codes "DYNAMIC") ∷ (3, codes "INTERP") ∷ (4, codes "NOTE")
     ∷ (5, codes "SHLIB") ∷ (6, codes "PHDR") ∷ (7, codes "TLS") ∷ []
 
--- the segment types of the GNU system: frame tables, permissions of the stack, what is read-only after relocation,
--- properties, stack traces
+-- the GNU segment types: frame tables, permissions of the stack, what is read-only after
+-- relocation, properties, stack traces
 unfoldable pub gnu_segment_types : List (ℕ × List ℕ)
 gnu_segment_types =
     (0x6474e550, codes "EH_FRAME") ∷ (0x6474e551, codes "STACK") ∷ (0x6474e552, codes "RELRO") ∷ (0x6474e553, codes "PROPERTY")
@@ -136,7 +138,7 @@ segment_types gnu = standard_segment_types ++ names_where gnu gnu_segment_types
 unfoldable pub segment_type_text : Bool → ℕ → List ℕ
 segment_type_text gnu n = name_in (segment_types gnu) n (hex 8 n)
 
--- a flag's letter, or a dash where it is not set
+-- a flag's letter, or a dash if it is not set
 unfoldable pub letter_or_dash : ℕ → ℕ → List ℕ → List ℕ
 letter_or_dash flags flag letter = if bit_and flags flag == flag then letter else codes "-"
 
@@ -151,7 +153,7 @@ standard_symbol_types =
     (0, codes "NOTYPE") ∷ (1, codes "OBJECT") ∷ (2, codes "FUNC") ∷ (3, codes "SECTION") ∷ (4, codes "FILE")
     ∷ (5, codes "COMMON") ∷ (6, codes "TLS") ∷ []
 
--- the symbol type of the GNU system: a function that gives the address to use
+-- the GNU symbol type: a function that returns the address to use
 unfoldable pub gnu_symbol_types : List (ℕ × List ℕ)
 gnu_symbol_types = (10, codes "IFUNC") ∷ []
 
@@ -163,7 +165,7 @@ symbol_types gnu = standard_symbol_types ++ names_where gnu gnu_symbol_types
 unfoldable pub standard_bindings : List (ℕ × List ℕ)
 standard_bindings = (0, codes "LOCAL") ∷ (1, codes "GLOBAL") ∷ (2, codes "WEAK") ∷ []
 
--- the symbol binding of the GNU system: one for the whole process
+-- the GNU symbol binding: unique in the whole process
 unfoldable pub gnu_bindings : List (ℕ × List ℕ)
 gnu_bindings = (10, codes "UNIQUE") ∷ []
 
@@ -175,27 +177,28 @@ bindings gnu = standard_bindings ++ names_where gnu gnu_bindings
 unfoldable pub visibilities : List (ℕ × List ℕ)
 visibilities = (0, codes "DEFAULT") ∷ (1, codes "INTERNAL") ∷ (2, codes "HIDDEN") ∷ (3, codes "PROTECTED") ∷ []
 
--- the special places of a symbol (gABI 4, Special Section Indexes)
+-- the special section indices of a symbol (gABI 4, Special Section Indexes)
 unfoldable pub standard_places : List (ℕ × List ℕ)
 standard_places = (0, codes "UND") ∷ (0xfff1, codes "ABS") ∷ (0xfff2, codes "COM") ∷ []
 
--- the place of large common symbols (x86-64 psABI, Special Sections)
+-- the section index of large common symbols (x86-64 psABI, Special Sections)
 unfoldable pub x86_64_places : List (ℕ × List ℕ)
 x86_64_places = (0xff02, codes "LCOM") ∷ []
 
--- the special places that have names
+-- the special section indices that have names
 unfoldable pub places : Bool → ℕ → List (ℕ × List ℕ)
 places gnu machine = standard_places ++ names_on_x86_64 gnu machine x86_64_places
 
--- the relocation types of x86-64 whose values are stored or that a loader applies (x86-64 psABI, Relocation Types)
+-- the relocation types of x86-64 whose values are stored or that a loader applies (x86-64 psABI,
+-- Relocation Types)
 unfoldable pub standard_relocation_types : List (ℕ × List ℕ)
 standard_relocation_types =
     (0, codes "NONE") ∷ (1, codes "64") ∷ (2, codes "PC32") ∷ (4, codes "PLT32") ∷ (5, codes "COPY") ∷ (6, codes "GLOB_DAT")
     ∷ (7, codes "JUMP_SLOT") ∷ (8, codes "RELATIVE") ∷ (10, codes "32") ∷ (11, codes "32S") ∷ (12, codes "16")
     ∷ (14, codes "8") ∷ (24, codes "PC64") ∷ []
 
--- the other relocation types of x86-64 (x86-64 psABI, Relocation Types), and two of the GNU system; a name of more than ten
--- letters is short
+-- the other relocation types of x86-64 (x86-64 psABI, Relocation Types), and two GNU ones; a name
+-- of more than ten letters is shortened
 unfoldable pub further_relocation_types : List (ℕ × List ℕ)
 further_relocation_types =
     (3, codes "GOT32") ∷ (9, codes "GOTPCREL") ∷ (13, codes "PC16") ∷ (15, codes "PC8") ∷ (16, codes "DTPMOD64")
@@ -210,7 +213,7 @@ further_relocation_types =
 unfoldable pub relocation_types : Bool → List (ℕ × List ℕ)
 relocation_types gnu = standard_relocation_types ++ names_where gnu further_relocation_types
 
--- a number with the sign of one before it
+-- a number after a number sign
 unfoldable pub number_sign : ℕ → List ℕ
 number_sign n = codes "#" ++ decimal n
 
@@ -233,7 +236,7 @@ standard_dynamic_tags =
     ∷ (25, codes "INIT_ARRAY") ∷ (26, codes "FINI_ARRAY") ∷ (27, codes "INIT_ARRAYSZ") ∷ (28, codes "FINI_ARRAYSZ")
     ∷ (29, codes "RUNPATH") ∷ (30, codes "FLAGS") ∷ []
 
--- the tags that came to the standard later, and those of the GNU system
+-- the tags that were added to the standard later, and the GNU tags
 unfoldable pub gnu_dynamic_tags : List (ℕ × List ℕ)
 gnu_dynamic_tags =
     (32, codes "PREINIT_ARRAY") ∷ (33, codes "PREINIT_ARRAYSZ") ∷ (34, codes "SYMTAB_SHNDX") ∷ (35, codes "RELRSZ")

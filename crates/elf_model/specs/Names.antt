@@ -9,15 +9,15 @@ pub data DisplayedName : Type 0 where
   Whole : List ℕ → DisplayedName
   Cut : List ℕ → DisplayedName
 
--- the place of the first NUL
+-- the position of the first NUL
 abbrev pub nul_in : List ℕ → Option ℕ
 nul_in bytes = position (λ b. b == 0) bytes
 
--- the bytes stand in a table at an index
+-- the bytes are in a table at an index
 abbrev pub IsNameBytesAt : List ℕ → ℕ → List ℕ → Type 0
 IsNameBytesAt table index bytes = slice table index (length bytes) ≡ bytes
 
--- a name has no NUL, and stands at an index with a NUL behind it (gABI 4, String Table)
+-- a name has no NUL, and is at an index with a NUL after it (gABI 4, String Table)
 abbrev pub IsNulTerminatedAt : List ℕ → ℕ → List ℕ → Type 0
 IsNulTerminatedAt table index name = (nul_in name ≡ None) × IsNameBytesAt table index (name ++ 0 ∷ [])
 
@@ -33,8 +33,8 @@ IsNameOf table index name = IsNulTerminatedAt table index name ⊎ (IsEmptyAtZer
 abbrev pub is_empty_at_zero : List ℕ → ℕ → Bool
 is_empty_at_zero table index = length table == 0 && index == 0
 
--- what is shown of the cap + 1 bytes at an index, fewer at the table's end, with the place of their first
--- NUL: the whole name before it; without one the first cap bytes, where there are more
+-- what is shown of the cap + 1 bytes at an index, fewer at the table's end, with the position of
+-- their first NUL: the whole name before it; without one the first cap bytes, if there are more
 abbrev pub shown_of : ℕ → List ℕ → Option ℕ → Result DisplayedName Cause
 shown_of cap bytes (Some place) = Ok (Whole (take place bytes))
 shown_of cap bytes None = if nat_lt cap (length bytes) then Ok (Cut (take cap bytes)) else Err NameUnended
@@ -47,24 +47,25 @@ shown table index cap =
     else if nat_lt index (length table) then shown_of cap front (nul_in front)
     else Err NameOutside
 
--- whether bytes begin with what is wanted, byte by byte up to the first that differs; unended where they end before that
+-- whether bytes begin with what is wanted, byte by byte up to the first that differs; unended if
+-- they end before that
 unfoldable pub begins : List ℕ → List ℕ → Result Bool Cause
 begins bytes [] = Ok true
 begins [] (w ∷ wanted) = Err NameUnended
 begins (b ∷ bytes) (w ∷ wanted) = elim (b == w) [ true ↦ begins bytes wanted | false ↦ Ok false ]
 
--- whether the name at an index is the wanted one: the bytes there begin with it and a NUL. In an empty table it is not at
--- index 0; any other index that is not below the table's size is outside
+-- whether the name at an index is the wanted one: the bytes there begin with it and a NUL. In an
+-- empty table it is not at index 0; any other index that is not below the table's size is outside
 unfoldable pub same : List ℕ → ℕ → List ℕ → Result Bool Cause
 same table index wanted =
     if is_empty_at_zero table index then Ok false
     else if nat_lt index (length table) then begins (drop index table) (wanted ++ 0 ∷ [])
     else Err NameOutside
 
--- a number of bytes rounded up to whole pieces of 64
+-- a number of bytes rounded up to pieces of 64
 abbrev pub pad64 : ℕ → ℕ
 pad64 n = 64 * ((n + 63) / 64)
 
--- the bytes that one shown name costs at most: cap + 1 in whole pieces of 64
+-- the bytes that one shown name costs at most: cap + 1 rounded up to pieces of 64
 abbrev pub name_bytes : ℕ → ℕ
 name_bytes cap = pad64 (cap + 1)

@@ -1,5 +1,6 @@
--- Notes (gABI 5, Note Section): what the notes of a table are, how they are shown, and how they are calculated. Each has a
--- head of three words of four bytes, as the usual tools write it: in 64-bit files the standard's words have eight.
+-- Notes (gABI 5, Note Section): what the notes of a table are, how they are shown, and how they are
+-- computed. Each has a header of three words of four bytes, as the usual tools write it: in 64-bit
+-- files the standard's words have eight.
 use Rattle.std.specs.Prelude.{◌≡◌, ℕ, zero, suc, ◌+◌, ◌-◌, ◌%◌, ◌==◌, ◌<◌, ◌≤◌, min, nat_lt, Bool, true, if◌then◌else◌, List, [], ◌∷◌, ◌++◌, length, take, drop, ◌⊎◌, Option, None, Some}
 use Rattle.std.specs.List.{list_all, before_first}
 use Rattle.elf_model.specs.Bytes.{slice}
@@ -13,7 +14,7 @@ pub record Note : Type 0 where
   pub name : List ℕ
   pub descriptor : List ℕ
 
--- notes are aligned to 8 bytes where the section or the segment is, else to 4
+-- notes are aligned to 8 bytes if the section or the segment is, otherwise to 4
 abbrev pub note_align : ℕ → ℕ
 note_align align = if align == 8 then 8 else 4
 
@@ -21,11 +22,12 @@ note_align align = if align == 8 then 8 else 4
 abbrev pub bytes_to_alignment : ℕ → ℕ → ℕ
 bytes_to_alignment a n = (a - n % a) % a
 
--- the bytes between a name and its descriptor, for the two sizes: none where the descriptor is empty
+-- the bytes between a name and its descriptor, for the two sizes: none if the descriptor is empty
 abbrev pub alignment_gap : ℕ → ℕ → ℕ → ℕ
 alignment_gap a namesz descsz = if descsz == 0 then 0 else bytes_to_alignment a (12 + namesz)
 
--- a text spells a note: the head with the two sizes and the type, the name, the gap, the descriptor
+-- a text encodes a note: the header with the two sizes and the type, the name, the gap, the
+-- descriptor
 pub record IsNoteEncoding (a : ℕ) (note : Note) (text : List ℕ) : Type 0 where
   pub head : List ℕ
   pub gap : List ℕ
@@ -36,7 +38,7 @@ pub record IsNoteEncoding (a : ℕ) (note : Note) (text : List ℕ) : Type 0 whe
   pub type : n_type head 0 ≡ note.kind
   pub gap_size : length gap ≡ alignment_gap a (length note.name) (length note.descriptor)
 
--- a text is a note's spelling and any bytes up to the next multiple of the alignment
+-- a text is a note's encoding and any bytes up to the next multiple of the alignment
 pub record Padded (a : ℕ) (note : Note) (text : List ℕ) : Type 0 where
   pub spelling : List ℕ
   pub padding : List ℕ
@@ -80,7 +82,8 @@ pub record EndsInSpelling (a : ℕ) (notes : List Note) (table : List ℕ) : Typ
 abbrev pub Notes : ℕ → List Note → List ℕ → Type 0
 Notes a notes table = EndsInZeros a notes table ⊎ EndsInSpelling a notes table
 
--- a table has no list of notes, and the longest front of it that is padded notes alone, these, ends at an offset
+-- a table has no list of notes, and the longest prefix of it that is padded notes alone, these,
+-- ends at an offset
 pub record CutAt (a : ℕ) (notes : List Note) (offset : ℕ) (table : List ℕ) : Type 0 where
   pub within : offset ≤ length table
   pub padded : AllPadded a notes (take offset table)
@@ -99,13 +102,13 @@ escaped_size a note = descriptor_start a (length note.name) (length note.descrip
 abbrev pub padded_size : ℕ → Note → ℕ
 padded_size a note = escaped_size a note + bytes_to_alignment a (escaped_size a note)
 
--- a note and its offset in its table; the descriptor's, where it is empty the note's end
+-- a note and its offset in its table; the descriptor's, or if it is empty the note's end
 pub record NoteRow : Type 0 where
   pub at : ℕ
   pub note : Note
   pub descriptor_at : ℕ
 
--- the notes from an offset on, each with its own
+-- the notes at an offset, each with its own
 unfoldable pub note_rows : ℕ → ℕ → List Note → List NoteRow
 note_rows a offset [] = []
 note_rows a offset (note ∷ notes) =
@@ -116,7 +119,7 @@ note_rows a offset (note ∷ notes) =
 abbrev pub before_nul : List ℕ → List ℕ
 before_nul name = before_first (λ b. b == 0) name
 
--- a name whole, or cut to cap bytes where it has more
+-- a name whole, or cut to cap bytes if it has more
 abbrev pub capped : ℕ → List ℕ → DisplayedName
 capped cap name = if nat_lt cap (length name) then Cut (take cap name) else Whole name
 
@@ -124,17 +127,17 @@ capped cap name = if nat_lt cap (length name) then Cut (take cap name) else Whol
 unfoldable pub note_shown : ℕ → Note → DisplayedName
 note_shown cap note = capped cap (before_nul note.name)
 
--- The calculation. By the laws `WalkedFits` and `FittingIsWalked` the notes of `walked` are those that `Notes` describes, and by
--- `WalkedIsCut` and `CutIsWalked` its cut is that of `CutAt`.
+-- The computation. By the laws `WalkedFits` and `FittingIsWalked` the notes of `walked` are those
+-- that `Notes` describes, and by `WalkedIsCut` and `CutIsWalked` its cut is that of `CutAt`.
 
--- what stands at the start of the bytes that are left of a table: its end, nothing that is a note, or a note
--- and its size with its padding
+-- what is at the start of the remaining bytes of a table: its end, nothing that is a note, or a
+-- note and its size with its padding
 pub data NextNote : Type 0 where
   Ends : NextNote
   Broken : NextNote
   OneNote : Note → ℕ → NextNote
 
--- the note whose head stands at the start of some bytes
+-- the note whose header is at the start of some bytes
 abbrev pub first_note : ℕ → List ℕ → Note
 first_note a rest =
     record {
@@ -143,12 +146,12 @@ first_note a rest =
       descriptor = slice rest (descriptor_start a (n_namesz rest 0) (n_descsz rest 0)) (n_descsz rest 0);
     }
 
--- where that note ends, without its padding
+-- the end of that note, without its padding
 abbrev pub first_end : ℕ → List ℕ → ℕ
 first_end a rest = descriptor_start a (n_namesz rest 0) (n_descsz rest 0) + n_descsz rest 0
 
--- fewer than 12 bytes are the table's end where all are zero; a note ends within the bytes, but its padding may
--- be missing
+-- fewer than 12 bytes are the table's end if all are zero; a note ends within the bytes, but its
+-- padding may be missing
 unfoldable pub next_note : ℕ → List ℕ → NextNote
 next_note a rest =
     if nat_lt (length rest) 12 then (if are_zeros rest then Ends else Broken)
@@ -160,12 +163,12 @@ pub record NoteScan : Type 0 where
   pub notes : List Note
   pub cut : Option ℕ
 
--- a note in front of the notes behind it
+-- a note before the notes after it
 abbrev pub with_note : Note → NoteScan → NoteScan
 with_note note walk = record { notes = note ∷ walk.notes; cut = walk.cut }
 
--- the notes of the bytes from an offset on, up to the offset where they are cut: where no note stands, or where so many
--- steps have not come to the end
+-- the notes of the bytes at an offset, up to the offset where they are cut: where no note is, or
+-- where this many steps have not reached the end
 unfoldable pub walk_from : ℕ → ℕ → ℕ → List ℕ → NoteScan
 walk_from a zero offset rest = record { notes = []; cut = Some offset }
 walk_from a (suc most) offset rest =

@@ -1,4 +1,4 @@
--- The numbers that the standards give names to, as far as the definitions need them.
+-- The numbers that the standards name, as far as the definitions need them.
 use Rattle.std.specs.Prelude.{ℕ}
 
 -- the type of a relocatable file (gABI 4, ELF Header)
@@ -9,7 +9,7 @@ ET_REL = 1
 abbrev pub EM_X86_64 : ℕ
 EM_X86_64 = 62
 
--- the machine number of Alpha, as the GNU system's files have it
+-- the machine number of Alpha, as GNU files have it
 abbrev pub EM_ALPHA : ℕ
 EM_ALPHA = 0x9026
 
@@ -41,12 +41,12 @@ SHT_NOBITS = 8
 abbrev pub SHT_DYNSYM : ℕ
 SHT_DYNSYM = 11
 
--- the type of a hash table of the GNU system
+-- the type of a GNU hash table
 abbrev pub SHT_GNU_HASH : ℕ
 SHT_GNU_HASH = 0x6ffffff6
 
--- section types of the GNU system: definitions, needs and numbers of symbol versions (Linux Standard Base Core, Symbol
--- Versioning)
+-- GNU section types: definitions, needs and indices of symbol versions (Linux Standard Base Core,
+-- Symbol Versioning)
 abbrev pub SHT_GNU_VERDEF : ℕ
 SHT_GNU_VERDEF = 0x6ffffffd
 
@@ -94,7 +94,7 @@ DT_RPATH = 15
 abbrev pub DT_RUNPATH : ℕ
 DT_RUNPATH = 29
 
--- dynamic array tags of the GNU system: its hash table, and numbers, definitions and needs of symbol versions
+-- GNU dynamic array tags: the GNU hash table, and indices, definitions and needs of symbol versions
 abbrev pub DT_GNU_HASH : ℕ
 DT_GNU_HASH = 0x6ffffef5
 
@@ -124,7 +124,7 @@ SHN_ABS = 0xfff1
 abbrev pub SHN_COMMON : ℕ
 SHN_COMMON = 0xfff2
 
--- symbol bindings (gABI 4, Symbol Binding), and one of the GNU system
+-- symbol bindings (gABI 4, Symbol Binding), and one GNU binding
 abbrev pub STB_GLOBAL : ℕ
 STB_GLOBAL = 1
 
@@ -134,7 +134,7 @@ STB_WEAK = 2
 abbrev pub STB_GNU_UNIQUE : ℕ
 STB_GNU_UNIQUE = 10
 
--- symbol types (gABI 4, Symbol Types), and one of the GNU system
+-- symbol types (gABI 4, Symbol Types), and one GNU type
 abbrev pub STT_NOTYPE : ℕ
 STT_NOTYPE = 0
 
@@ -168,7 +168,8 @@ STV_PROTECTED = 3
 abbrev pub R_X86_64_NONE : ℕ
 R_X86_64_NONE = 0
 
--- the marks of extended numbering: the program headers' number, and the section of the section names
+-- the marks of extended numbering: the program headers' number, and the section of the section
+-- names
 abbrev pub PN_XNUM : ℕ
 PN_XNUM = 0xffff
 

@@ -1,4 +1,4 @@
--- What holds of LOAD segments that do not lie over each other, and of a listing by the program headers.
+-- Facts about LOAD segments that do not overlap, and about a listing by the program headers.
 use Rattle.std.specs.Prelude.{◌≡◌, ℕ, ◌<◌, ◌≤◌, true, false, List, ◌++◌, None, Some}
 use Rattle.elf_model.specs.Checks.{pass, first_refusal, header_checks, load_checks}
 use Rattle.elf_model.specs.Cost.{needs_segments}
@@ -10,7 +10,8 @@ use Rattle.elf_model.specs.Report.{listing, loaded_items, table_items}
 use Rattle.elf_model.specs.Style.{ListingStyle, viewed}
 use Rattle.elf_model.specs.declared.causes.Refusal.{Refusal}
 
--- where the checks pass, of any two LOAD segments that take up memory the later begins behind the pages of the earlier
+-- if the checks pass, of any two LOAD segments that take up memory the later begins after the pages
+-- of the earlier
 abbrev pub NoPageIsShared : Type 0
 NoPageIsShared =
     (file : List ℕ) → pass (overlap_checks file) ≡ true
@@ -18,8 +19,9 @@ NoPageIsShared =
     → takes_memory file (segment_at file earlier) ≡ true → takes_memory file (segment_at file later) ≡ true
     → page_behind file (segment_at file earlier) ≤ first_page file (segment_at file later)
 
--- where a style finds tables by the program headers and the parts need these, a file that passes the other checks with LOAD
--- segments over each other has a listing of the file header's line and the fault's
+-- if a style finds tables by the program headers and the parts need these, a file that passes the
+-- other checks with overlapping LOAD segments has a listing of the file header's line and the
+-- fault's
 abbrev pub OverlapIsListedSecond : Type 0
 OverlapIsListedSecond =
     (file : List ℕ) → (headers : ℕ) → (style : ListingStyle) → (parts : ℕ) → (refusal : Refusal)

@@ -1,6 +1,7 @@
--- LOAD segments that lie over each other. A loader maps them in the order of their program headers, by whole pages, and a later
--- one covers an earlier one, so in a file with two on one page the first that holds an address is not what a process sees there
--- (gABI 5, Program Header, Program Loading). A program header stands at an offset of the file. Sums are whole numbers.
+-- Overlapping LOAD segments. A loader maps them in the order of their program headers, by whole
+-- pages, and a later one covers an earlier one, so in a file with two on one page the first that
+-- has an address is not what a process sees there (gABI 5, Program Header, Program Loading). A
+-- program header is at an offset of the file. Sums do not wrap.
 use Rattle.std.specs.Prelude.{ℕ, zero, suc, ◌+◌, ◌/◌, ◌==◌, ◌&&◌, nat_lt, not, Bool, List, [], ◌∷◌, if◌then◌else◌}
 use Rattle.elf_model.specs.Checks.{Check, refuse}
 use Rattle.elf_model.specs.Numbers.{PT_LOAD}
@@ -15,27 +16,28 @@ PAGE_SIZE = 4096
 abbrev pub takes_memory : List ℕ → ℕ → Bool
 takes_memory file at = p_type file at == PT_LOAD && not (p_memsz file at == 0)
 
--- the page of its first byte in memory, and the first page behind its last
+-- the page of its first byte in memory, and the first page after its last
 abbrev pub first_page : List ℕ → ℕ → ℕ
 first_page file at = p_vaddr file at / PAGE_SIZE
 
 abbrev pub page_behind : List ℕ → ℕ → ℕ
 page_behind file at = (p_vaddr file at + p_memsz file at + 4095) / PAGE_SIZE
 
--- the program headers of such segments, in their order: of so many from an index on
+-- the program headers of such segments, in their order: of this many from an index
 unfoldable pub loads_from : List ℕ → (first count : ℕ) → List ℕ
 loads_from file first zero = []
 loads_from file first (suc count) =
     if takes_memory file (segment_at file first) then segment_at file first ∷ loads_from file (suc first) count
     else loads_from file (suc first) count
 
--- none of some of them begins below a page, and none of the others below the page behind the one before it
+-- none of these segments begins below a page, and none of the others below the page after the one
+-- before it
 unfoldable pub overlaps_from : List ℕ → (page : ℕ) → (loads : List ℕ) → List Check
 overlaps_from file page [] = []
 overlaps_from file page (at ∷ loads) =
     refuse (nat_lt (first_page file at) page) at LoadOverlap ∷ overlaps_from file (page_behind file at) loads
 
--- no LOAD segment of the file begins on a page of the one before it, or below that; the first that does is refused at its
--- program header
+-- no LOAD segment of the file begins on a page of the one before it, or below that; the first that
+-- does is refused at its program header
 unfoldable pub overlap_checks : List ℕ → List Check
 overlap_checks file = overlaps_from file 0 (loads_from file 0 (e_phnum file))

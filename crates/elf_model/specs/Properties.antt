@@ -1,5 +1,6 @@
--- Properties of a program (Linux Extensions to gABI, Program Property; x86-64 psABI, Program Property): the descriptor of a note
--- of the GNU system is a list of them, each with a type, the size of its data, and the data, which is padded to 8 bytes.
+-- Properties of a program (Linux Extensions to gABI, Program Property; x86-64 psABI, Program
+-- Property): the descriptor of a GNU note is a list of them, each with a type, the size of its
+-- data, and the data, which is padded to 8 bytes.
 use Rattle.std.specs.Prelude.{ℕ, zero, suc, ◌+◌, ◌==◌, ◌&&◌, min, nat_eq, nat_lt, Bool, true, false, if◌then◌else◌, List, [], ◌∷◌, length, drop, codes, Option, None, Some, Result, Ok, Err}
 use Rattle.std.specs.List.{starts_with}
 use Rattle.elf_model.specs.Bytes.{field, number, slice}
@@ -10,12 +11,13 @@ use Rattle.elf_model.specs.Records.{e_phnum, p_type, p_offset, p_filesz, p_align
 use Rattle.elf_model.specs.declared.causes.Cause.TheVariants.{NoteCut}
 use Rattle.elf_model.specs.declared.causes.Refusal.{Refusal}
 
--- the type of a note of the GNU system whose descriptor is a list of properties
+-- the type of a GNU note whose descriptor is a list of properties
 abbrev pub NT_GNU_PROPERTY_TYPE_0 : ℕ
 NT_GNU_PROPERTY_TYPE_0 = 5
 
--- the type of the property that says which features of x86 all code of the file goes by, each a bit: indirect branches go to
--- marked places alone; returns go by a stack of their own (x86-64 psABI, Program Property)
+-- the type of the property that says which x86 features all code of the file supports, each a bit:
+-- indirect branches go only to marked targets; returns use a shadow stack (x86-64 psABI, Program
+-- Property)
 abbrev pub GNU_PROPERTY_X86_FEATURE_1_AND : ℕ
 GNU_PROPERTY_X86_FEATURE_1_AND = 0xc0000002
 
@@ -25,7 +27,7 @@ GNU_PROPERTY_X86_FEATURE_1_IBT = 0x1
 abbrev pub GNU_PROPERTY_X86_FEATURE_1_SHSTK : ℕ
 GNU_PROPERTY_X86_FEATURE_1_SHSTK = 0x2
 
--- the head of a property, 8 bytes: its type, and the size of its data without padding
+-- the header of a property, 8 bytes: its type, and the size of its data without padding
 abbrev pub PROPERTY_HEAD_SIZE : ℕ
 PROPERTY_HEAD_SIZE = 8
 
@@ -47,15 +49,15 @@ bare_property datasz = PROPERTY_HEAD_SIZE + datasz
 abbrev pub padded_property : ℕ → ℕ
 padded_property datasz = bare_property datasz + bytes_to_alignment 8 datasz
 
--- what stands at the start of the bytes that are left of a list: its end, nothing that is a property, or a property and how
--- many bytes it takes
+-- what is at the start of the remaining bytes of a list: its end, nothing that is a property, or a
+-- property and how many bytes it takes
 pub data NextProperty : Type 0 where
   ListEnds : NextProperty
   NoProperty : NextProperty
   OneProperty : Property → ℕ → NextProperty
 
--- a list ends where no byte is left; a property has its head and its data within the list, but the padding of the last may be
--- missing
+-- a list ends if no byte is left; a property has its header and its data within the list, but the
+-- padding of the last may be missing
 unfoldable pub next_property : List ℕ → NextProperty
 next_property rest =
     if length rest == 0 then ListEnds
@@ -70,12 +72,12 @@ pub record PropertyWalk : Type 0 where
   pub properties : List Property
   pub cut : Option ℕ
 
--- a property in front of those behind it
+-- a property before those after it
 abbrev pub with_property : Property → PropertyWalk → PropertyWalk
 with_property property walk = record { properties = property ∷ walk.properties; cut = walk.cut }
 
--- the properties of the bytes from an offset on, up to the offset where they are cut: where no property stands, or where so
--- many steps have not come to the end
+-- the properties of the bytes at an offset, up to the offset where they are cut: where no property
+-- is, or where this many steps have not reached the end
 unfoldable pub properties_from : (most offset : ℕ) → List ℕ → PropertyWalk
 properties_from zero offset rest = record { properties = []; cut = Some offset }
 properties_from (suc most) offset rest =
@@ -85,7 +87,7 @@ properties_from (suc most) offset rest =
       | OneProperty property size ↦ with_property property (properties_from most (offset + size) (drop size rest))
     ]
 
--- THE PROPERTIES that a descriptor lists: each step takes a head at least
+-- THE PROPERTIES that a descriptor lists: each step takes at least a header
 unfoldable pub properties_in : List ℕ → PropertyWalk
 properties_in descriptor = properties_from (suc (length descriptor)) 0 descriptor
 
@@ -94,7 +96,7 @@ abbrev pub is_gnu_name : List ℕ → Bool
 is_gnu_name name =
     length name == 4 && (length (before_nul name) == 3 && starts_with nat_eq (before_nul name) (codes "GNU"))
 
--- a note of the GNU system that lists properties: its type, and its name
+-- a GNU note that lists properties: its type, and its name
 abbrev pub is_property_note : Note → Bool
 is_property_note note =
     note.kind == NT_GNU_PROPERTY_TYPE_0 && is_gnu_name note.name
@@ -104,13 +106,14 @@ unfoldable pub first_listing : List NoteRow → Option NoteRow
 first_listing [] = None
 first_listing (row ∷ rows) = elim (is_property_note row.note) [ true ↦ Some row | false ↦ first_listing rows ]
 
--- A LIST OF PROPERTIES in a file: where it begins, and its bytes
+-- A LIST OF PROPERTIES in a file: its offset, and its bytes
 pub record PropertyList : Type 0 where
   pub place : ℕ
   pub bytes : List ℕ
 
--- the first list of properties in the notes of a segment whose program header stands at an offset: within the file, else the
--- segment is refused at its program header; before the place where its notes are cut, else they are refused there
+-- the first list of properties in the notes of a segment whose program header is at an offset:
+-- within the file, otherwise the segment is refused at its program header; before the offset where
+-- its notes are cut, otherwise they are refused there
 unfoldable pub listed_in : List ℕ → ℕ → Result (Option PropertyList) Refusal
 listed_in file at =
     let walk = walked (note_align (p_align file at)) (slice file (p_offset file at) (p_filesz file at)) in
@@ -125,7 +128,7 @@ listed_in file at =
       ]
     ]
 
--- the first in the notes of so many program headers, from an index on: later ones are not looked at
+-- the first in the notes of this many program headers, from an index: later ones are not read
 unfoldable pub listed_from : List ℕ → (first count : ℕ) → Result (Option PropertyList) Refusal
 listed_from file first zero = Ok None
 listed_from file first (suc count) =
@@ -148,12 +151,14 @@ first_property kind [] = None
 first_property kind (property ∷ properties) =
     elim (property.kind == kind) [ true ↦ Some property | false ↦ first_property kind properties ]
 
--- the word of a property with four bytes of data; one that is not there, or of another size, has no bit
+-- the word of a property with four bytes of data; one that is not there, or of another size, has no
+-- bit
 abbrev pub property_word : Option Property → ℕ
 property_word None = 0
 property_word (Some property) = if length property.content == 4 then number property.content else 0
 
--- the word of the features of x86 in a list of properties: where the list is cut, it is refused at the place
+-- the word of the x86 features in a list of properties: if the list is cut, it is refused at that
+-- offset
 unfoldable pub features_in : PropertyList → Result ℕ Refusal
 features_in list =
     let walk = properties_in list.bytes in

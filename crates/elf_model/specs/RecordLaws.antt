@@ -1,4 +1,4 @@
--- What holds of records, whatever the bytes are.
+-- Facts about records, for any bytes.
 use Rattle.std.specs.Prelude.{◌≡◌, ℕ, ◌+◌, ◌≤◌, Bool, List}
 use Rattle.elf_model.specs.Bytes.{slice, field}
 use Rattle.elf_model.specs.LineFronts.{section_prefix, symbol_prefix, relocation_prefix, dynamic_prefix}
@@ -13,7 +13,7 @@ FieldsOfSlices =
     (file : List ℕ) → (at size place width : ℕ) → place + width ≤ size
     → field (slice file at size) place width ≡ field file (at + place) width
 
--- a record's line, or its front, is the same at the record's own bytes
+-- a record's line, or its prefix, is the same at the record's own bytes
 abbrev pub LinesOfSlices : Type 0
 LinesOfSlices =
     (format : Format) → (file : List ℕ) → (gnu : Bool) → (machine at index section : ℕ)

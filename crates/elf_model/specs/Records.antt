@@ -1,5 +1,5 @@
--- The fields of the records, each by its place. A record stands at an offset `at` of some bytes: of the
--- whole file, or of its own bytes alone, at 0. The file header stands at the file's first byte.
+-- The fields of the records, each by its offset. A record is at an offset `at` of some bytes: of
+-- the whole file, or of its own bytes alone, at 0. The file header is at the file's first byte.
 use Rattle.std.specs.Prelude.{ℕ, ℤ, pos, negsuc, ◌+◌, ◌-◌, ◌*◌, ◌/◌, ◌%◌, ◌^◌, ◌==◌, nat_lt, if◌then◌else◌, Bool, List}
 use Rattle.elf_model.specs.Bytes.{field}
 
@@ -145,7 +145,8 @@ st_type bytes at = st_info bytes at % 16
 abbrev pub st_visibility : List ℕ → ℕ → ℕ
 st_visibility bytes at = st_other bytes at % 4
 
--- A relocation entry with an addend, 24 bytes (gABI 4, Relocation). The addend is a number below 2^64.
+-- A relocation entry with an addend, 24 bytes (gABI 4, Relocation). The addend is a number below
+-- 2^64.
 abbrev pub r_offset : List ℕ → ℕ → ℕ
 r_offset bytes at = field bytes at 8
 
@@ -163,7 +164,7 @@ r_sym bytes at = r_info bytes at / 2 ^ 32
 abbrev pub r_type : List ℕ → ℕ → ℕ
 r_type bytes at = r_info bytes at % 2 ^ 32
 
--- the whole number that 64 bits are in two's complement
+-- the number that 64 bits are in two's complement
 abbrev pub twos_complement : ℕ → ℤ
 twos_complement n = if nat_lt n (2 ^ 63) then pos n else negsuc (2 ^ 64 - 1 - n)
 
@@ -174,8 +175,8 @@ d_tag bytes at = field bytes at 8
 abbrev pub d_un : List ℕ → ℕ → ℕ
 d_un bytes at = field bytes (at + 8) 8
 
--- A note's head, 12 bytes: three words of four bytes, as the usual tools write it (gABI 5, Note Section, whose words have
--- eight bytes in 64-bit files).
+-- A note header, 12 bytes: three words of four bytes, as the usual tools write it (gABI 5, Note
+-- Section, whose words have eight bytes in 64-bit files).
 abbrev pub n_namesz : List ℕ → ℕ → ℕ
 n_namesz bytes at = field bytes at 4
 
@@ -208,7 +209,7 @@ vd_next bytes at = field bytes (at + 16) 4
 abbrev pub vda_name : List ℕ → ℕ → ℕ
 vda_name bytes at = field bytes at 4
 
--- A file of which versions are needed, 16 bytes (Linux Standard Base Core, Symbol Versioning).
+-- A file whose versions are needed, 16 bytes (Linux Standard Base Core, Symbol Versioning).
 abbrev pub vn_version : List ℕ → ℕ → ℕ
 vn_version bytes at = field bytes at 2
 
@@ -237,14 +238,14 @@ vna_name bytes at = field bytes (at + 8) 4
 abbrev pub vna_next : List ℕ → ℕ → ℕ
 vna_next bytes at = field bytes (at + 12) 4
 
--- The version of a symbol, a word of 2 bytes (Linux Standard Base Core, Symbol Versioning).
+-- The versym entry of a symbol, 2 bytes (Linux Standard Base Core, Symbol Versioning).
 abbrev pub versym : List ℕ → ℕ → ℕ
 versym bytes at = field bytes at 2
 
--- where a section header stands in the file
+-- the offset of a section header in the file
 abbrev pub section_at : List ℕ → ℕ → ℕ
 section_at file i = e_shoff file + SECTION_HEADER_SIZE * i
 
--- where a program header stands in the file
+-- the offset of a program header in the file
 abbrev pub segment_at : List ℕ → ℕ → ℕ
 segment_at file i = e_phoff file + PROGRAM_HEADER_SIZE * i

@@ -1,4 +1,4 @@
--- The listing of a file and its text, for so many headers permitted, a style, and some parts.
+-- The listing of a file and its text, for this many headers allowed, a style, and some parts.
 use Rattle.std.specs.Prelude.{ℕ, ◌&&◌, true, false, List, [], ◌∷◌, ◌++◌, Option, if◌then◌else◌}
 use Rattle.elf_model.specs.Records.{e_shnum, e_phnum}
 use Rattle.elf_model.specs.Checks.{Check, header_checks, load_checks}
@@ -14,35 +14,36 @@ use Rattle.elf_model.specs.TableKinds.{table_headers}
 use Rattle.elf_model.specs.declared.causes.Refusal.{Refusal}
 use Rattle.elf_model.specs.declared.formats.Format.TheVariants.{Columns}
 
--- the rows of the table of a kind whose header has an index and stands at an offset, behind its checks; none where the
--- header describes no such table
+-- the rows of the table of a kind whose header has an index and is at an offset, after its checks;
+-- none if the header describes no such table
 unfoldable pub table_rows : TableKind → List ℕ → ListingStyle → ℕ → ℕ → List ListingItem
 table_rows kind file style index at =
     elim (kind.has_table file at) [ true ↦ guarded (all_checks kind.checks file at) (kind.rows file style index at) | false ↦ [] ]
 
--- the rows of all tables of some kinds, kind by kind, as far as the parts have them
+-- the rows of all tables of some kinds, kind by kind, if the parts have them
 unfoldable pub kinds_rows : List TableKind → HeaderTable → List ℕ → ListingStyle → ℕ → List ListingItem
 kinds_rows [] headers file style parts = []
 kinds_rows (kind ∷ kinds) headers file style parts =
     where_asked parts kind.part (each (λ i. table_rows kind file style i (headers.at i)) 0 headers.count)
     ++ kinds_rows kinds headers file style parts
 
--- the section headers, the program headers, and the tables kind by kind, as far as the parts have them
+-- the section headers, the program headers, and the tables kind by kind, if the parts have them
 unfoldable pub table_items : List ℕ → ListingStyle → ℕ → List ListingItem
 table_items file style parts =
     where_asked parts SECTIONS (each (section_row file style) 0 (e_shnum file))
     ++ where_asked parts SEGMENTS (each (segment_row file style) 0 (e_phnum file))
     ++ kinds_rows (table_headers style.versions file).kinds (table_headers style.versions file).headers file style parts
 
--- where a style finds tables by the program headers and the parts need these, LOAD segments do not lie over each other
+-- if a style finds tables by the program headers and the parts need these, LOAD segments do not
+-- overlap
 unfoldable pub view_checks : List ℕ → ListingStyle → ℕ → List Check
 view_checks file style parts = if style.by_segments && needs_segments file parts then overlap_checks file else []
 
--- the tables of a loaded file, behind the checks of its segments
+-- the tables of a loaded file, after the checks of its segments
 unfoldable pub loaded_items : List ℕ → ListingStyle → ℕ → List ListingItem
 loaded_items file style parts = guarded (view_checks file style parts) (table_items file style parts)
 
--- the load checks and what stands behind them, where the parts have more than the file header
+-- the load checks and what follows them, if the parts have more than the file header
 unfoldable pub load_items : List ℕ → ℕ → ListingStyle → ℕ → List ListingItem
 load_items file headers style parts =
     elim (has_tables parts) [
@@ -50,15 +51,16 @@ load_items file headers style parts =
       | false ↦ []
     ]
 
--- THE LISTING OF A FILE: where a check of the file header fails, nothing else has a meaning, and where a load check fails, no
--- table has. What stands behind the file header is that of the file that the style looks at, as far as the parts that the
--- style knows have it
+-- THE LISTING OF A FILE: if a check of the file header fails, nothing else has a meaning, and if a
+-- load check fails, no table has. What follows the file header is that of the file that the style
+-- lists, as far as the parts that the style knows have it
 unfoldable pub listing : List ℕ → ℕ → ListingStyle → ℕ → List ListingItem
 listing file headers style parts =
     guarded (header_checks file)
     (where_asked parts HEADER (Line (header_line style.format file) ∷ []) ++ load_items (viewed style file) headers style (known_parts style parts))
 
--- the listing with so many bytes of a name, in the standards' names, by the section headers where there are some, in columns
+-- the listing with this limit on bytes of a name, in the standards' names, by the section headers
+-- if there are any, in columns
 abbrev pub items : List ℕ → ℕ → ℕ → ℕ → List ListingItem
 items file headers cap parts = listing file headers (standard cap) parts
 

@@ -21,13 +21,13 @@ use Rattle.elf_model.specs.declared.causes.Refusal.{Refusal}
 abbrev pub refused_row : ℕ → Cause → List ListingItem
 refused_row at cause = Fault (record { at = at; cause = cause }) ∷ []
 
--- a row that ends in a name: its line, or the name's fault, at the entry that holds the name's index
+-- a row that ends in a name: its line, or the name's fault, at the entry that has the name's index
 abbrev pub named_row : LinePrefix → ℕ → Result DisplayedName Cause → List ListingItem
 named_row front at (Ok name) = Line (named_line front name) ∷ []
 named_row front at (Err cause) = refused_row at cause
 
--- a row that ends in the name of a symbol or of a version: its line where it is one of the rows that are shown, or the name's
--- fault
+-- a row that ends in the name of a symbol or of a version: its line if it is one of the rows that
+-- are shown, or the name's fault
 abbrev pub chosen_row : RowFilter → LinePrefix → ℕ → Result DisplayedName Cause → List ListingItem
 chosen_row choice front at (Ok name) = if chooses choice name NoSuffix then Line (named_line front name) ∷ [] else []
 chosen_row choice front at (Err cause) = refused_row at cause
@@ -36,7 +36,7 @@ chosen_row choice front at (Err cause) = refused_row at cause
 abbrev pub no_name : Result DisplayedName Cause
 no_name = Ok (Whole [])
 
--- a section's name, which is empty where the file has no section of the section names
+-- a section's name, which is empty if the file has no section of the section names
 unfoldable pub section_name : List ℕ → ℕ → ℕ → Result DisplayedName Cause
 section_name file at cap =
     if e_shstrndx file == 0 then no_name
@@ -59,9 +59,9 @@ symbol_row file style section at index =
     let front = symbol_prefix style.format style.gnu (e_machine file) file symbol_at section index in
     chosen_row style.choice front symbol_at (shown (strings_of file at) (st_name file symbol_at) style.cap)
 
--- the offset that a fault names and the name that is shown, for the symbol of an index that a relocation entry names, whose
--- section's header stands at an offset: symbol 0 has no name; any other is one of the linked table's, else it is a fault at
--- the entry; a name's own fault is at the symbol
+-- the offset of a fault and the name that is shown, for the symbol of an index that a relocation
+-- entry names, whose section's header is at an offset: symbol 0 has no name; any other is one of
+-- the linked table's, otherwise it is a fault at the entry; a name's own fault is at the symbol
 unfoldable pub symbol_named : List ℕ → ℕ → ℕ → ℕ → ℕ → ℕ × Result DisplayedName Cause
 symbol_named file cap header_at rela_at symbol =
     let table_at = linked_at file header_at in
@@ -90,12 +90,12 @@ unfoldable pub notes_rows : ListingStyle → ℕ → List Note → List ListingI
 notes_rows style index [] = []
 notes_rows style index (note ∷ notes) = note_row style index note ∷ notes_rows style index notes
 
--- the end of a table of notes at an offset: a fault at the place where it is cut
+-- the end of a table of notes at an offset: a fault at the offset where it is cut
 abbrev cut_rows : ℕ → Option ℕ → List ListingItem
 cut_rows table_at None = []
 cut_rows table_at (Some place) = refused_row (table_at + place) NoteCut
 
--- the rows of a table of notes at an offset, up to the place where it is cut, if it is
+-- the rows of a table of notes at an offset, up to the offset where it is cut, if it is
 unfoldable pub walk_rows : ListingStyle → ℕ → ℕ → NoteScan → List ListingItem
 walk_rows style index table_at walk = notes_rows style index walk.notes ++ cut_rows table_at walk.cut
 
@@ -103,8 +103,8 @@ walk_rows style index table_at walk = notes_rows style index walk.notes ++ cut_r
 abbrev pub is_string_tag : ℕ → Bool
 is_string_tag tag = tag == DT_NEEDED || tag == DT_SONAME || tag == DT_RPATH || tag == DT_RUNPATH
 
--- the row of the dynamic entry of an index at an offset, with its string where its value is a string table index: only
--- there the string table is looked for, which may be refused
+-- the row of the dynamic entry of an index at an offset, with its string if its value is a string
+-- table index: only then the string table is located, which may be refused
 unfoldable pub dynamic_row : List ℕ → ListingStyle → (ℕ → Result (List ℕ) Refusal) → ℕ → ℕ → List ListingItem
 dynamic_row file style strings dynamic_at index =
     let front = dynamic_prefix style.format style.gnu file dynamic_at index in

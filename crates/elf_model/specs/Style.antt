@@ -1,12 +1,13 @@
--- How a listing is made, beside how many headers are permitted and which parts it has.
+-- How a listing is made, besides how many headers are allowed and which parts it has.
 use Rattle.std.specs.Prelude.{ℕ, suc, ◌&&◌, ◌||◌, nat_le, nat_lt, if◌then◌else◌, Bool, true, false, List, [], ◌∷◌}
 use Rattle.elf_model.specs.Choice.{RowFilter, EveryRow}
 use Rattle.elf_model.specs.declared.formats.Format.{Format}
 use Rattle.elf_model.specs.declared.formats.Format.TheVariants.{Columns}
 
--- HOW ROWS ARE SHOWN: how many bytes of a name, whether numbers of the GNU system have names too, whether tables are found by the
--- program headers also where there are section headers, how a line is written, which rows that end in the name of a symbol
--- or of a version are shown, and whether the version of a symbol stands behind its name
+-- HOW ROWS ARE SHOWN: how many bytes of a name, whether GNU numbers have names too, whether tables
+-- are found by the program headers even if there are section headers, how a line is written, which
+-- rows that end in the name of a symbol or of a version are shown, and whether the version of a
+-- symbol follows its name
 pub record ListingStyle : Type 0 where
   pub cap : ℕ
   pub gnu : Bool
@@ -15,16 +16,17 @@ pub record ListingStyle : Type 0 where
   pub choice : RowFilter
   pub versions : Bool
 
--- so many bytes of a name, with the standards' names alone, by the section headers where there are some, in columns, and every
--- row
+-- this limit on bytes of a name, with the standards' names alone, by the section headers if there
+-- are any, in columns, and every row
 abbrev pub standard : ℕ → ListingStyle
 standard cap = record { cap = cap; gnu = false; by_segments = false; format = Columns; choice = EveryRow; versions = false }
 
--- the places of a file header that locate section headers: e_shoff, and e_shnum with e_shstrndx behind it
+-- the positions of a file header that locate section headers: e_shoff, and e_shnum followed by
+-- e_shstrndx
 unfoldable pub tells_of_sections : ℕ → Bool
 tells_of_sections place = (nat_le 40 place && nat_lt place 48) || (nat_le 60 place && nat_lt place 64)
 
--- bytes of a file from a place on, with zeros where its header locates section headers
+-- bytes of a file from a position on, with zeros where its header locates section headers
 unfoldable pub without_sections_from : ℕ → List ℕ → List ℕ
 without_sections_from place [] = []
 without_sections_from place (byte ∷ bytes) =
@@ -34,7 +36,8 @@ without_sections_from place (byte ∷ bytes) =
 abbrev pub without_sections : List ℕ → List ℕ
 without_sections file = without_sections_from 0 file
 
--- a file as it is, or where tables are found by the program headers alone as one whose header locates no section headers
+-- a file, or if tables are found only by the program headers the same with a header that locates no
+-- section headers
 abbrev pub looked_at : Bool → List ℕ → List ℕ
 looked_at by_segments file = elim by_segments [ true ↦ without_sections file | false ↦ file ]
 

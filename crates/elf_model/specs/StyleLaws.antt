@@ -1,4 +1,4 @@
--- What holds of a file whose header locates no section headers.
+-- Facts about a file whose header locates no section headers.
 use Rattle.std.specs.Prelude.{◌≡◌, ℕ, ◌+◌, ◌≤◌, ◌⊎◌, List, length}
 use Rattle.elf_model.specs.Checks.{header_checks}
 use Rattle.elf_model.specs.Records.{e_shoff, e_shnum, e_shstrndx}
@@ -9,12 +9,12 @@ use Rattle.elf_model.specs.Style.{without_sections, without_sections_from}
 abbrev pub ViewIsAsLong : Type 0
 ViewIsAsLong = (file : List ℕ) → length (without_sections file) ≡ length file
 
--- its bytes at a place are those of the file with zeros where the header locates section headers
+-- its bytes at an offset are those of the file with zeros where the header locates section headers
 abbrev pub ViewIsSeenInSlices : Type 0
 ViewIsSeenInSlices =
     (file : List ℕ) (at count : ℕ) → slice (without_sections file) at count ≡ without_sections_from at (slice file at count)
 
--- behind the file header its bytes are the file's
+-- after the file header its bytes are the file's
 abbrev pub ViewIsTheFileAfterTheHeader : Type 0
 ViewIsTheFileAfterTheHeader = (place : ℕ) (bytes : List ℕ) → 64 ≤ place → without_sections_from place bytes ≡ bytes
 
@@ -31,6 +31,6 @@ ViewTellsOfNone = (file : List ℕ) → let view = without_sections file in (e_s
 abbrev pub ViewIsCheckedAlike : Type 0
 ViewIsCheckedAlike = (file : List ℕ) → header_checks (without_sections file) ≡ header_checks file
 
--- what is hidden once is hidden
+-- hiding twice is the same as hiding once
 abbrev pub ViewIsItsOwnView : Type 0
 ViewIsItsOwnView = (file : List ℕ) → without_sections (without_sections file) ≡ without_sections file

@@ -1,4 +1,4 @@
--- What holds of the versions behind the names of symbols.
+-- Facts about the versions after the names of symbols.
 use Rattle.std.specs.Prelude.{ℕ, ◌≡◌, ◌+◌, ◌≤◌, Bool, true, false, List, None, Ok}
 use Rattle.elf_model.specs.Choice.{Suffixed}
 use Rattle.elf_model.specs.Cost.{kinds_cost, suffixes_most}
@@ -10,13 +10,13 @@ use Rattle.elf_model.specs.Style.{ListingStyle}
 use Rattle.elf_model.specs.Suffixes.{version_numbers_of, symbol_suffix}
 use Rattle.elf_model.specs.TableKinds.{relocations, section_kinds, relocations_with_versions, suffixed_symbols, symbols}
 
--- the symbols of a table without a section of version numbers are listed as without versions
+-- the symbols of a table without a versym section are listed as without versions
 abbrev pub UnversionedSymbolsArePlain : Type 0
 UnversionedSymbolsArePlain =
     (file : List ℕ) (style : ListingStyle) (section at : ℕ) → version_numbers_of file section ≡ None
     → suffixed_symbols.rows file style section at ≡ symbols.rows file style section at
 
--- and relocation entries whose symbols are of such a table
+-- and so are relocation entries whose symbols are of such a table
 abbrev pub UnversionedEntriesArePlain : Type 0
 UnversionedEntriesArePlain =
     (file : List ℕ) (style : ListingStyle) (section at : ℕ) → version_numbers_of file (sh_link file at) ≡ None
@@ -28,8 +28,8 @@ UndefinedHaveNoDefault =
     (file : List ℕ) (cap table symbol_at index : ℕ) (is_default : Bool) (name : DisplayedName) → st_shndx file symbol_at ≡ SHN_UNDEF
     → symbol_suffix file cap table symbol_at index ≡ Ok (Suffixed is_default name) → is_default ≡ false
 
--- the versions behind the names of the symbols of a header's tables cost no more than a word and a name for each entry, and one
--- walk over the definitions and the needs
+-- the versions after the names of the symbols of a header's tables cost no more than a versym entry
+-- and a name for each entry, and one walk over the definitions and the needs
 abbrev pub SuffixesAreWithinMost : Type 0
 SuffixesAreWithinMost =
     (headers : HeaderTable) (index size cap parts : ℕ)

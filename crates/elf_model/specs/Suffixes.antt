@@ -1,4 +1,4 @@
--- The versions behind the names of symbols.
+-- The versions after the names of symbols.
 use Rattle.std.specs.Prelude.{ℕ, ◌==◌, ◌&&◌, nat_lt, not, if◌then◌else◌, Bool, List, [], ◌∷◌, ◌++◌, codes, Option, None, Some, Result, Ok, Err}
 use Rattle.elf_model.specs.Checks.{first_refusal}
 use Rattle.elf_model.specs.Choice.{RowFilter, Suffix, NoSuffix, Suffixed, chooses}
@@ -26,7 +26,7 @@ use Rattle.elf_model.specs.declared.formats.Format.TheVariants.{Columns, Object}
 use Rattle.elf_model.specs.declared.versions.VersionKind.{VersionKind}
 use Rattle.elf_model.specs.declared.versions.VersionKind.TheVariants.{Definition, File}
 
--- the section of version numbers of the symbol table whose section has an index: the first that links to it
+-- the versym section of the symbol table whose section has an index: the first that links to it
 abbrev pub first_numbers : HeaderTable → (table : ℕ) → Option ℕ
 first_numbers headers table =
     first_that (λ i. header_field headers sh_type i == SHT_GNU_VERSYM && header_field headers sh_link i == table) 0 headers.count
@@ -34,17 +34,18 @@ first_numbers headers table =
 abbrev pub version_numbers_of : List ℕ → (table : ℕ) → Option ℕ
 version_numbers_of file table = first_numbers (file_sections file) table
 
--- a version is the default one of a symbol's name, where the symbol stands at an offset and its word is this: the symbol is
--- defined, and the version is not hidden
+-- a version is the default one of a symbol's name, if the symbol is at an offset and its versym
+-- entry is this: the symbol is defined, and the version is not hidden
 abbrev pub is_default : List ℕ → (symbol_at word : ℕ) → Bool
 is_default file symbol_at word = word == number_in word && not (st_shndx file symbol_at == SHN_UNDEF)
 
--- a version whose name is shown, or the name's fault at the record that holds it
+-- a version whose name is shown, or the name's fault at the record that has it
 abbrev pub suffix_of : Bool → ℕ → Result DisplayedName Cause → Result Suffix Refusal
 suffix_of default at (Ok name) = Ok (Suffixed default name)
 suffix_of default at (Err cause) = Err (record { at = at; cause = cause })
 
--- what the word at an offset says of the symbol at an offset: the numbers 0 and 1 are of no version
+-- the version in the versym entry at an offset of the symbol at an offset: the indices 0 and 1 are
+-- of no version
 unfoldable pub word_suffix : List ℕ → (cap word_at symbol_at : ℕ) → Result Suffix Refusal
 word_suffix file cap word_at symbol_at =
     let word = versym file word_at in
@@ -55,32 +56,32 @@ word_suffix file cap word_at symbol_at =
           suffix_of (is_default file symbol_at word) (named_at file met) (shown (version_strings file met.kind) (name_index file met) cap)
     ]
 
--- what a section of version numbers, whose header stands at an offset, says of the symbol of an index: where it has no word
--- for the symbol, that is a fault at the header
+-- the version in a versym section, whose header is at an offset, of the symbol of an index: if it
+-- has no entry for the symbol, that is a fault at the header
 unfoldable pub suffix_at : List ℕ → (cap at symbol_at index : ℕ) → Result Suffix Refusal
 suffix_at file cap at symbol_at index =
     if nat_lt index (entry_count file at VERSYM_SIZE) then word_suffix file cap (entry_at file at VERSYM_SIZE index) symbol_at
     else Err (record { at = at; cause = VersionCut })
 
--- WHAT STANDS BEHIND THE NAME OF A SYMBOL of an index, which stands at an offset, in the table of a section
+-- WHAT FOLLOWS THE NAME OF A SYMBOL of an index, which is at an offset, in the table of a section
 unfoldable pub symbol_suffix : List ℕ → (cap table symbol_at index : ℕ) → Result Suffix Refusal
 symbol_suffix file cap table symbol_at index =
     elim (version_numbers_of file table) [ None ↦ Ok NoSuffix | Some i ↦ suffix_at file cap (section_at file i) symbol_at index ]
 
--- the first refusal, or else another one
+-- the first refusal, or otherwise another one
 abbrev pub or_refusal : Option Refusal → Option Refusal → Option Refusal
 or_refusal None other = other
 or_refusal (Some refusal) other = Some refusal
 
--- the first section of a type is refused, by its checks or by a record that is none
+-- the first section of a type is refused, by its checks or by a record that is malformed
 unfoldable pub walk_refusal : VersionKind → ℕ → List ℕ → Option Refusal
 walk_refusal kind type file = elim (first_of_type file type) [
   | None ↦ None
   | Some i ↦ or_refusal (first_refusal (all_checks version_table file (section_at file i))) (section_versions kind file (section_at file i)).cut
 ]
 
--- what refuses the versions of a symbol table before its first row: the section of version numbers, the definitions, the needs;
--- a table without a symbol has none
+-- what refuses the versions of a symbol table before its first row: the versym section, the
+-- definitions, the needs; a table without a symbol has none
 unfoldable pub suffixes_refusal : List ℕ → (table : ℕ) → Option Refusal
 suffixes_refusal file table =
     if entry_count file (section_at file table) SYMBOL_SIZE == 0 then None
@@ -91,11 +92,11 @@ suffixes_refusal file table =
           (or_refusal (walk_refusal Definition SHT_GNU_VERDEF file) (walk_refusal File SHT_GNU_VERNEED file))
     ]
 
--- the sign before a version: two where it is the default one
+-- the sign before a version: two if it is the default one
 abbrev pub version_sign : Bool → List ℕ
 version_sign default = if default then codes "@@" else codes "@"
 
--- a version behind a name, and as members of an object
+-- a version after a name, and as members of an object
 unfoldable pub suffix_text : Suffix → List ℕ
 suffix_text NoSuffix = []
 suffix_text (Suffixed default name) = version_sign default ++ name_text name
@@ -117,8 +118,8 @@ line_suffixed Object key text name suffix = text ++ (name_member key name ++ suf
 abbrev pub suffixed_line : LinePrefix → DisplayedName → Suffix → List ℕ
 suffixed_line front name suffix = line_suffixed front.format front.key front.text name suffix
 
--- a row that ends in the name of a symbol with its version: the line where it is one of those that are shown; a fault of the
--- name comes before one of the version
+-- a row that ends in the name of a symbol with its version: the line if it is one of those that are
+-- shown; a fault of the name comes before one of the version
 abbrev pub versioned_line : RowFilter → LinePrefix → DisplayedName → Result Suffix Refusal → List ListingItem
 versioned_line choice front name (Err refusal) = Fault refusal ∷ []
 versioned_line choice front name (Ok suffix) = if chooses choice name suffix then Line (suffixed_line front name suffix) ∷ [] else []
@@ -127,7 +128,7 @@ abbrev pub suffixed_row : RowFilter → LinePrefix → ℕ → Result DisplayedN
 suffixed_row choice front at (Err cause) suffix = Fault (record { at = at; cause = cause }) ∷ []
 suffixed_row choice front at (Ok name) suffix = versioned_line choice front name suffix
 
--- rows behind what refuses their versions
+-- rows after what refuses their versions
 abbrev pub after_refusal : Option Refusal → List ListingItem → List ListingItem
 after_refusal None items = items
 after_refusal (Some refusal) items = Fault refusal ∷ []

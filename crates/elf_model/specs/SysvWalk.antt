@@ -1,5 +1,6 @@
--- The walk along a chain of a hash table of the gABI (5, Hash Table) for the first symbol that answers a trial. Where the
--- trial is that a symbol has the wanted name it comes to what a lookup of that name does, `Hash.looked_up`.
+-- The walk along a chain of a gABI hash table (5, Hash Table) for the first symbol that answers a
+-- trial. If the trial is that a symbol has the wanted name, its result is that of a lookup of that
+-- name, `Hash.looked_up`.
 use Rattle.std.specs.Prelude.{ℕ, zero, suc, ◌%◌, ◌&&◌, ◌≡◌, ◌⊎◌, nat_lt, Bool, true, false, List, Option, None, Some, Result, Ok, Err}
 use Rattle.elf_model.specs.Bytes.{field}
 use Rattle.elf_model.specs.Chains.{HashTable, WalkEnd, NotThere, Untried, Answers, Last, end_of_match, ChainResult, refused_walk}
@@ -10,7 +11,7 @@ use Rattle.elf_model.specs.declared.causes.Cause.{Cause}
 use Rattle.elf_model.specs.declared.causes.Cause.TheVariants.{HashIndex, HashCycle}
 use Rattle.elf_model.specs.declared.causes.Refusal.{Refusal}
 
--- where the word of a hash's bucket stands
+-- the offset of the word of a hash's bucket
 unfoldable pub sysv_bucket_of : List ℕ → ℕ → ℕ → ℕ
 sysv_bucket_of file place hash = sysv_bucket_at place (hash % sysv_nbucket file place)
 
@@ -22,7 +23,7 @@ sysv_next file place y = field file (sysv_chain_at file place y) 4
 abbrev pub sysv_word : List ℕ → ℕ → ℕ → ℕ → ℕ
 sysv_word file place hash i = walk_word (sysv_next file place) (field file (sysv_bucket_of file place hash) 4) i
 
--- where a word of a walk stands
+-- the offset of a word of a walk
 unfoldable pub sysv_word_at : List ℕ → ℕ → ℕ → ℕ → ℕ
 sysv_word_at file place hash zero = sysv_bucket_of file place hash
 sysv_word_at file place hash (suc i) = sysv_chain_at file place (sysv_word file place hash i)
@@ -37,7 +38,8 @@ sysv_end file table trial zero = Some Last
 sysv_end file table trial (suc y) =
     elim (is_sysv_index file table (suc y)) [ true ↦ end_of_match (trial (suc y)) None | false ↦ Some NotThere ]
 
--- what a walk gives that ends at word number i: it reads one chain word for each symbol that it tries
+-- the result of a walk that ends at word number i: it reads one chain word for each symbol that it
+-- tries
 unfoldable pub sysv_walked_at : List ℕ → ℕ → ℕ → ℕ → WalkEnd → ChainResult
 sysv_walked_at file place hash i Last = record { answer = Ok None; tried = i; read = i }
 sysv_walked_at file place hash i NotThere = refused_walk i i (record { at = sysv_word_at file place hash i; cause = HashIndex })
@@ -45,13 +47,13 @@ sysv_walked_at file place hash i (Untried refusal) = refused_walk (suc i) (suc i
 sysv_walked_at file place hash i Answers =
     record { answer = Ok (Some (sysv_word file place hash i)); tried = suc i; read = suc i }
 
--- what a walk gives that never ends: it tries as many symbols as there are chains
+-- the result of a walk that never ends: it tries as many symbols as there are chains
 abbrev pub sysv_cycle : List ℕ → ℕ → ℕ → ChainResult
 sysv_cycle file place hash =
     let chains = sysv_nchain file place in
     refused_walk chains chains (record { at = sysv_bucket_of file place hash; cause = HashCycle })
 
--- a walk ends at word number `number`, which says what it gives
+-- a walk ends at word number `number`, which decides its result
 pub record EndsAtWord (file : List ℕ) (table : HashTable) (hash : ℕ) (trial : ℕ → Result Bool Refusal) (walked : ChainResult) : Type 0 where
   pub number : ℕ
   pub end : WalkEnd
@@ -63,11 +65,12 @@ pub record GoesRound (file : List ℕ) (table : HashTable) (hash : ℕ) (trial :
   pub endless : IsEndless (sysv_end file table trial) (sysv_word file table.place hash)
   pub gives : walked ≡ sysv_cycle file table.place hash
 
--- WHAT A WALK GIVES in a hash table of the gABI, for a hash and a trial
+-- THE RESULT OF A WALK in a gABI hash table, for a hash and a trial
 abbrev pub IsSysvWalk : List ℕ → HashTable → ℕ → (ℕ → Result Bool Refusal) → ChainResult → Type 0
 IsSysvWalk file table hash trial walked = EndsAtWord file table hash trial walked ⊎ GoesRound file table hash trial walked
 
--- The calculation. By the laws `SysvWalkAnswers` and `SysvWalkIsOne` it gives the one walk that `IsSysvWalk` describes.
+-- The computation. By the laws `SysvWalkAnswers` and `SysvWalkIsOne` it gives the only walk that
+-- `IsSysvWalk` describes.
 
 -- where a walk ends, among one word more than there are chains
 unfoldable pub sysv_walk_end : List ℕ → HashTable → ℕ → (ℕ → Result Bool Refusal) → Option (ℕ × WalkEnd)
@@ -75,17 +78,19 @@ sysv_walk_end file table hash trial =
     end_among (sysv_end file table trial) (sysv_next file table.place) (field file (sysv_bucket_of file table.place hash) 4)
     0 (suc (sysv_nchain file table.place))
 
--- what a walk gives by its end: one that has not ended after one word more than there are chains never ends
+-- the result of a walk by its end: one that has not ended after one word more than there are chains
+-- never ends
 abbrev pub sysv_walked_by : List ℕ → ℕ → ℕ → Option (ℕ × WalkEnd) → ChainResult
 sysv_walked_by file place hash None = sysv_cycle file place hash
 sysv_walked_by file place hash (Some found) = sysv_walked_at file place hash found.0 found.1
 
--- what a walk gives
+-- the result of a walk
 unfoldable pub sysv_walked : List ℕ → HashTable → ℕ → (ℕ → Result Bool Refusal) → ChainResult
 sysv_walked file table hash trial = sysv_walked_by file table.place hash (sysv_walk_end file table hash trial)
 
--- THE LOOKUP OF A NAME as such a walk, in the HASH section whose header stands at an offset: its table; the trial whether a
--- symbol has the wanted name, a fault of which is at the symbol; and the lookup that a walk gives
+-- THE LOOKUP OF A NAME as such a walk, in the HASH section whose header is at an offset: its table;
+-- the trial whether a symbol has the wanted name, a fault of which is at the symbol; and the lookup
+-- by a walk's result
 abbrev pub section_table_of : List ℕ → ℕ → HashTable
 section_table_of file at = record { place = sh_offset file at; size = sh_size file at; symbols = symbol_count file (linked_at file at) }
 

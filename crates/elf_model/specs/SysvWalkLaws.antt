@@ -1,4 +1,4 @@
--- Laws of walks for a symbol that answers in a hash table of the gABI.
+-- Laws of walks for a symbol that answers in a gABI hash table.
 use Rattle.std.specs.Prelude.{ℕ, ◌≤◌, ◌≡◌, Bool, true, Some, Result, Ok, List}
 use Rattle.elf_model.specs.Chains.{HashTable, ChainResult}
 use Rattle.elf_model.specs.Hash.{sysv_hash, sysv_nchain, looked_up}
@@ -6,19 +6,20 @@ use Rattle.elf_model.specs.SysvWalk.{IsSysvWalk, sysv_walked, section_table_of, 
 use Rattle.elf_model.specs.Tables.{linked_at}
 use Rattle.elf_model.specs.declared.causes.Refusal.{Refusal}
 
--- what is calculated is what a walk gives
+-- what is computed is the result of a walk
 abbrev pub SysvWalkAnswers : Type 0
 SysvWalkAnswers =
     (file : List ℕ) (table : HashTable) (hash : ℕ) (trial : ℕ → Result Bool Refusal)
     → IsSysvWalk file table hash trial (sysv_walked file table hash trial)
 
--- it gives nothing else
+-- it has no other result
 abbrev pub SysvWalkIsOne : Type 0
 SysvWalkIsOne =
     (file : List ℕ) (table : HashTable) (hash : ℕ) (trial : ℕ → Result Bool Refusal) (first second : ChainResult)
     → IsSysvWalk file table hash trial first → IsSysvWalk file table hash trial second → first ≡ second
 
--- it reads one chain word for each symbol that it tries, and tries no more symbols than there are chains
+-- it reads one chain word for each symbol that it tries, and tries no more symbols than there are
+-- chains
 abbrev pub SysvWalkIsBounded : Type 0
 SysvWalkIsBounded =
     (file : List ℕ) (table : HashTable) (hash : ℕ) (trial : ℕ → Result Bool Refusal)

@@ -1,5 +1,5 @@
--- The kinds of tables whose rows are listed. A header stands at an offset of some bytes: of the file, or of its own bytes
--- alone, at 0.
+-- The kinds of tables whose rows are listed. A header is at an offset of some bytes: of the file,
+-- or of its own bytes alone, at 0.
 use Rattle.std.specs.Prelude.{ℕ, ◌+◌, ◌*◌, ◌/◌, ◌==◌, Bool, true, false, List, [], ◌∷◌, None, Some, Result, Ok}
 use Rattle.elf_model.specs.Bytes.{slice}
 use Rattle.elf_model.specs.Checks.{range_checks_of, is_symbol_table}
@@ -40,14 +40,15 @@ relocations = record {
   rows = λ file style section at. each (relocation_row file style section at) 0 (entry_count file at RELA_SIZE);
 }
 
--- the rows of dynamic entries (gABI 5, Dynamic Section), so many from an offset on, up to and with the first that is
--- DT_NULL: where the strings of so many are given for the entry at an offset
+-- the rows of dynamic entries (gABI 5, Dynamic Section), this many at an offset, up to and with the
+-- first that is DT_NULL: the strings of this many are given for the entry at an offset
 abbrev pub dynamic_rows : List ℕ → ListingStyle → (offset entries : ℕ) → (ℕ → ℕ → Result (List ℕ) Refusal) → List ListingItem
 dynamic_rows file style offset entries strings =
     let count = dynamic_count file offset entries in
     each (λ i. dynamic_row file style (strings count) (dynamic_at offset i) i) 0 count
 
--- the dynamic entries of a section, each with its string in the string table that the section links to
+-- the dynamic entries of a section, each with its string in the string table that the section links
+-- to
 unfoldable pub section_dynamic : TableKind
 section_dynamic = record {
   part = DYNAMIC;
@@ -58,7 +59,8 @@ section_dynamic = record {
       dynamic_rows file style (sh_offset file at) (entry_count file at DYNAMIC_SIZE) (λ n dynamic_at. Ok (strings_of file at));
 }
 
--- those of a segment, each with its string in the string table that the entries locate: they are gone through twice
+-- those of a segment, each with its string in the string table that the entries locate: they are
+-- read twice
 unfoldable pub segment_dynamic : TableKind
 segment_dynamic = record {
   part = DYNAMIC;
@@ -69,8 +71,8 @@ segment_dynamic = record {
       dynamic_rows file style (p_offset file at) (p_filesz file at / DYNAMIC_SIZE) (mapped_strings file (p_offset file at));
 }
 
--- notes (gABI 5, Note Section), each of whose bytes counts: of which headers, and where such a header has the table's
--- offset, size and alignment
+-- notes (gABI 5, Note Section), each of whose bytes counts: which headers describe them, and the
+-- table's offset, size and alignment by such a header
 abbrev notes_of : (List ℕ → ℕ → Bool) → (offset size align : List ℕ → ℕ → ℕ) → TableKind
 notes_of has_table offset size align = record {
   part = NOTES;
@@ -92,8 +94,8 @@ section_notes = notes_of (λ bytes at. sh_type bytes at == SHT_NOTE) sh_offset s
 unfoldable pub segment_notes : TableKind
 segment_notes = notes_of (λ bytes at. p_type bytes at == PT_NOTE) p_offset p_filesz p_align
 
--- what the versions of so many names of symbols cost, of the table of an index: a word and a name each, and what finds the
--- names; nothing where the table has no section of version numbers
+-- what the versions of this many names of symbols cost, of the table of an index: a versym entry
+-- and a name each, and what finds the names; nothing if the table has no versym section
 unfoldable pub suffixes_cost : HeaderTable → (table names file_size cap : ℕ) → ℕ
 suffixes_cost headers table names file_size cap = elim (first_numbers headers table) [
   | None ↦ 0
@@ -124,15 +126,15 @@ relocations_with_versions = record {
   rows = suffixed_relocation_rows;
 }
 
--- symbols, and relocation entries, with or without versions behind the names of symbols
+-- symbols, and relocation entries, with or without versions after the names of symbols
 abbrev symbols_kind : Bool → TableKind
 symbols_kind versions = elim versions [ true ↦ suffixed_symbols | false ↦ symbols ]
 
 abbrev relocations_kind : Bool → TableKind
 relocations_kind versions = elim versions [ true ↦ relocations_with_versions | false ↦ relocations ]
 
--- the kinds of tables that section headers describe, with or without versions behind the names of symbols, and those that
--- program headers do, in their order
+-- the kinds of tables that section headers describe, with or without versions after the names of
+-- symbols, and those that program headers do, in their order
 abbrev pub section_kinds : (versions : Bool) → List TableKind
 section_kinds versions = symbols_kind versions ∷ relocations_kind versions ∷ section_notes ∷ section_dynamic ∷ version_kinds
 
@@ -150,6 +152,6 @@ by_sections versions file = record { headers = file_sections file; kinds = secti
 abbrev pub by_segments : List ℕ → TableHeaders
 by_segments file = record { headers = file_segments file; kinds = segment_kinds }
 
--- the section headers, or where a file has none the program headers
+-- the section headers, or if a file has none the program headers
 unfoldable pub table_headers : (versions : Bool) → List ℕ → TableHeaders
 table_headers versions file = elim (e_shnum file == 0) [ true ↦ by_segments file | false ↦ by_sections versions file ]

@@ -1,4 +1,4 @@
--- The tables of a file: where their entries stand, what they link to, and their checks.
+-- The tables of a file: the offsets of their entries, what they link to, and their checks.
 use Rattle.std.specs.Prelude.{ℕ, ◌+◌, ◌*◌, ◌/◌, ◌==◌, ◌&&◌, nat_lt, not, if◌then◌else◌, Bool, List, [], ◌∷◌, ◌++◌, length}
 use Rattle.elf_model.specs.Bytes.{slice}
 use Rattle.elf_model.specs.Records.{e_shnum, sh_offset, sh_size, sh_link, p_offset, p_filesz, section_at}
@@ -31,18 +31,19 @@ strings_of file at = section_bytes file (linked_at file at)
 abbrev pub entry_count : List ℕ → ℕ → ℕ → ℕ
 entry_count file at entry_size = sh_size file at / entry_size
 
--- where an entry of a section stands in the file
+-- the offset of an entry of a section in the file
 abbrev pub entry_at : List ℕ → ℕ → ℕ → ℕ → ℕ
 entry_at file at entry_size index = sh_offset file at + entry_size * index
 
--- THE CHECKS OF A KIND OF TABLE, whose header stands at an offset of some bytes: how many bytes the table has; its own
--- checks, in a file of so many bytes, which refuse at the header; and, in a file, those of what it links to
+-- THE CHECKS OF A KIND OF TABLE, whose header is at an offset of some bytes: how many bytes the
+-- table has; its own checks, in a file of this many bytes, which refuse at the header; and, in a
+-- file, those of what it links to
 pub record TableChecks : Type 0 where
   pub bytes : List ℕ → ℕ → ℕ
   pub own : List ℕ → ℕ → ℕ → List Check
   pub linked : List ℕ → ℕ → List Check
 
--- all of them, of a header of the file
+-- all of them, for a header of the file
 abbrev pub all_checks : TableChecks → List ℕ → ℕ → List Check
 all_checks checks file at = unless_empty (checks.bytes file at) (checks.own file at (length file) ++ checks.linked file at)
 
@@ -80,8 +81,8 @@ relocation_table = section_table RELA_SIZE linked_table_checks
 abbrev pub relocation_table_checks : List ℕ → ℕ → List Check
 relocation_table_checks file at = all_checks relocation_table file at
 
--- the symbol of an index that a relocation entry at an offset names, for the section whose header stands at an offset:
--- symbol 0, or one of the linked table's
+-- the symbol of an index that a relocation entry at an offset names, for the section whose header
+-- is at an offset: symbol 0, or one of the linked table's
 abbrev pub symbol_checks_of : List ℕ → ℕ → ℕ → ℕ → List Check
 symbol_checks_of file header_at rela_at symbol =
     let named = not (symbol == 0) in

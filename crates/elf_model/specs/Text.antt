@@ -10,11 +10,11 @@ unfoldable pub hex : ℕ → ℕ → List ℕ
 hex zero n = []
 hex (suc k) n = digit (n / 16 ^ k % 16) ∷ hex k n
 
--- so many spaces
+-- this many spaces
 abbrev pub spaces : ℕ → List ℕ
 spaces n = replicate n 32
 
--- one space, as it stands between two fields
+-- one space, as between two fields
 abbrev pub space : List ℕ
 space = 32 ∷ []
 
@@ -39,6 +39,6 @@ unfoldable pub name_of : List (ℕ × List ℕ) → ℕ → Option (List ℕ)
 name_of [] n = None
 name_of (entry ∷ entries) n = if n == entry.0 then Some entry.1 else name_of entries n
 
--- the name of a number in a table of names, else another text
+-- the name of a number in a table of names, otherwise another text
 abbrev pub name_in : List (ℕ × List ℕ) → ℕ → List ℕ → List ℕ
 name_in names n other = unwrap_or (name_of names n) other

@@ -1,4 +1,4 @@
--- How many bytes the traits of a file ask for at most, and what they never pass.
+-- How many bytes the traits of a file read at most, and their upper bound.
 use Rattle.std.specs.Prelude.{ℕ, ◌+◌, ◌-◌, ◌*◌, ◌/◌, ◌==◌, List, length, None, Some, Ok, Err}
 use Rattle.elf_model.specs.Checks.{first_refusal, pass, before_headers}
 use Rattle.elf_model.specs.Cost.{cost_where, sum_over, table_cost}
@@ -15,7 +15,7 @@ use Rattle.elf_model.specs.TableKinds.{segment_notes}
 use Rattle.elf_model.specs.Tables.{SYMBOL_SIZE, segment_dynamic_checks}
 use Rattle.elf_model.specs.Traits.{TRAIT_NAME_BYTES, known_symbols, hashed_symbol_count}
 
--- the first table of dynamic entries, where its checks pass
+-- the first table of dynamic entries, if its checks pass
 unfoldable pub trait_entries_asked : List ℕ → ℕ
 trait_entries_asked file = elim (dynamic_segment_index file) [
   | None ↦ 0
@@ -45,8 +45,9 @@ symbols_asked file = elim (known_symbols file) [
       hash_words_asked file scope + (hashed_symbol_count file scope - 1) * (SYMBOL_SIZE + name_bytes TRAIT_NAME_BYTES)
 ]
 
--- HOW MANY BYTES the traits of a file ask for at most, where it has no section headers: the file header; the program
--- headers and the dynamic entries, which are gone through twice; and what properties and symbols ask for
+-- HOW MANY BYTES the traits of a file read at most, if it has no section headers: the file header;
+-- the program headers and the dynamic entries, which are read twice; and what properties and
+-- symbols read
 unfoldable pub segment_traits_cost : List ℕ → ℕ → ℕ
 segment_traits_cost file headers = elim (first_refusal (before_headers file headers)) [
   | Some refusal ↦ FILE_HEADER_SIZE
@@ -57,7 +58,7 @@ segment_traits_cost file headers = elim (first_refusal (before_headers file head
 unfoldable pub traits_cost : List ℕ → ℕ → ℕ
 traits_cost file headers = segment_traits_cost (without_sections file) headers
 
--- what they never pass, by the file's length and how many headers are permitted alone
+-- their upper bound, only by the file's length and how many headers are allowed
 unfoldable pub traits_ceiling : (size headers : ℕ) → ℕ
 traits_ceiling size headers =
     FILE_HEADER_SIZE + headers * (PROGRAM_HEADER_SIZE + size) + 4 * size + 16

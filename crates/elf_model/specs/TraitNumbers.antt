@@ -16,8 +16,8 @@ ET_CORE = 4
 abbrev pub PT_INTERP : ℕ
 PT_INTERP = 3
 
--- segments of the GNU system: the permissions of the stack; what is read-only once it is relocated (Linux Standard Base Core,
--- Program Header)
+-- GNU segments: the permissions of the stack; what is read-only after relocation (Linux Standard
+-- Base Core, Program Header)
 abbrev pub PT_GNU_STACK : ℕ
 PT_GNU_STACK = 0x6474e551
 
@@ -31,7 +31,8 @@ PF_X = 0x1
 abbrev pub PF_W : ℕ
 PF_W = 0x2
 
--- dynamic array tags (gABI 5, Dynamic Section): relocations change a segment that is not writable; all is bound at once; flags
+-- dynamic array tags (gABI 5, Dynamic Section): relocations change a segment that is not writable;
+-- all is bound before the program starts; flags
 abbrev pub DT_TEXTREL : ℕ
 DT_TEXTREL = 22
 
@@ -41,7 +42,7 @@ DT_BIND_NOW = 24
 abbrev pub DT_FLAGS : ℕ
 DT_FLAGS = 30
 
--- further flags, of the GNU system
+-- further GNU flags
 abbrev pub DT_FLAGS_1 : ℕ
 DT_FLAGS_1 = 0x6ffffffb
 
@@ -52,7 +53,7 @@ DF_TEXTREL = 0x4
 abbrev pub DF_BIND_NOW : ℕ
 DF_BIND_NOW = 0x8
 
--- flags of DT_FLAGS_1: all is bound at once; the file is a program, not a library
+-- flags of DT_FLAGS_1: all is bound before the program starts; the file is a program, not a library
 abbrev pub DF_1_NOW : ℕ
 DF_1_NOW = 0x1
 

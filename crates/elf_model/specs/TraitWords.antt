@@ -31,7 +31,7 @@ file_kind_name kind.Other = codes "other"
 abbrev not_told : List ℕ
 not_told = codes "-"
 
--- a word of what program headers say
+-- a word for a trait of program headers
 abbrev pub segments_word : Option SegmentTraits → (SegmentTraits → List ℕ) → List ℕ
 segments_word None word = not_told
 segments_word (Some segments) word = word segments
@@ -134,7 +134,7 @@ has_word t required =
     length (column_word t required.column) == length required.word
     && starts_with nat_eq (column_word t required.column) required.word
 
--- words are required of programs and libraries alone
+-- words are required only of programs and libraries
 unfoldable pub is_program : ProgramKind → Bool
 is_program kind.Exec = true
 is_program kind.Pie = true
@@ -167,6 +167,6 @@ unfoldable pub traits_text : Format → Hardening → List Required → List ℕ
 traits_text format t required its_path =
     trait_line format t its_path ++ elim (lacking t required) [ None ↦ [] | Some its_column ↦ lacking_line format t its_column ]
 
--- the exit status that a file's traits call for: 1 where it lacks a word
+-- the exit status by a file's traits: 1 if it lacks a word
 unfoldable pub traits_status : Hardening → List Required → ℕ
 traits_status t required = elim (lacking t required) [ None ↦ 0 | Some its_column ↦ 1 ]

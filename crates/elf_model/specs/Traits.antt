@@ -1,5 +1,6 @@
--- HOW A FILE IS HARDENED, by its program headers and dynamic entries, as a loader sees it: each trait with the standard or the
--- convention that it goes by. The definitions are over a file that has no section headers.
+-- HOW A FILE IS HARDENED, by its program headers and dynamic entries, as a loader sees it: each
+-- trait with the standard or the convention that defines it. The definitions are over a file that
+-- has no section headers.
 use Rattle.std.specs.Prelude.{ℕ, zero, suc, ◌-◌, ◌/◌, ◌==◌, ◌&&◌, ◌||◌, nat_eq, nat_lt, not, is_some, min, max, if◌then◌else◌, Bool, true, false, List, [], ◌∷◌, ◌++◌, length, codes, Option, None, Some, unwrap_or, Result, Ok, Err}
 use Rattle.std.specs.List.{starts_with, ends_with}
 use Rattle.elf_model.specs.Bytes.{field}
@@ -44,19 +45,21 @@ segment_of file type = first_that (is_segment file type) 0 (e_phnum file)
 abbrev pub permits : List ℕ → (bits index : ℕ) → Bool
 permits file bits i = has_bits (p_flags file (segment_at file i)) bits
 
--- STACK: a loader makes the stack executable where the first segment of its permissions is, and where there is none, as the
--- files are that were made before there was such a segment (Linux Standard Base Core, Program Header)
+-- STACK: a loader makes the stack executable if the first segment of its permissions is executable,
+-- and if there is none, as in files older than that segment (Linux Standard Base Core, Program
+-- Header)
 unfoldable pub is_stack_executable : List ℕ → Bool
 is_stack_executable file = elim (segment_of file PT_GNU_STACK) [ None ↦ true | Some i ↦ permits file PF_X i ]
 
--- PAGES: a LOAD segment may be written and run (gABI 5, Segment Permissions)
+-- PAGES: a LOAD segment is writable and executable (gABI 5, Segment Permissions)
 abbrev pub is_writable_code : List ℕ → ℕ → Bool
 is_writable_code file i = is_segment file PT_LOAD i && (permits file PF_W i && permits file PF_X i)
 
 unfoldable pub has_wx_load : List ℕ → Bool
 has_wx_load file = is_some (first_that (is_writable_code file) 0 (e_phnum file))
 
--- DYNAMIC ENTRIES. The value of the first with a tag, in the first segment of such, up to and with the first that is DT_NULL
+-- DYNAMIC ENTRIES. The value of the first with a tag, in the first segment of such, up to and with
+-- the first that is DT_NULL
 unfoldable pub dynamic_entry_value : List ℕ → ℕ → Option ℕ
 dynamic_entry_value file tag = elim (dynamic_segment_index file) [
   | None ↦ None
@@ -70,11 +73,12 @@ has_dynamic_entry file tag = is_some (dynamic_entry_value file tag)
 abbrev entry_has : List ℕ → (tag bits : ℕ) → Bool
 entry_has file tag bits = has_bits (unwrap_or (dynamic_entry_value file tag) 0) bits
 
--- all symbols are bound before the program begins (gABI 5, DT_BIND_NOW and DF_BIND_NOW; the GNU system's DF_1_NOW)
+-- all symbols are bound before the program starts (gABI 5, DT_BIND_NOW and DF_BIND_NOW; the GNU
+-- DF_1_NOW)
 unfoldable pub binds_now : List ℕ → Bool
 binds_now file = has_dynamic_entry file DT_BIND_NOW || (entry_has file DT_FLAGS DF_BIND_NOW || entry_has file DT_FLAGS_1 DF_1_NOW)
 
--- RELRO: a segment of the GNU system is made read-only once it is relocated; what is bound later stays writable
+-- RELRO: a GNU segment is made read-only after relocation; what is bound later stays writable
 unfoldable pub relro_of : List ℕ → Relro
 relro_of file = elim (is_some (segment_of file PT_GNU_RELRO)) [
   | false ↦ relro.Absent
@@ -85,16 +89,17 @@ relro_of file = elim (is_some (segment_of file PT_GNU_RELRO)) [
 unfoldable pub has_text_relocations : List ℕ → Bool
 has_text_relocations file = has_dynamic_entry file DT_TEXTREL || entry_has file DT_FLAGS DF_TEXTREL
 
--- PATH: where libraries are looked for first. A loader passes over DT_RPATH where there is DT_RUNPATH (gABI 5, Shared Object
--- Dependencies)
+-- PATH: where libraries are searched for first. A loader ignores DT_RPATH if there is DT_RUNPATH
+-- (gABI 5, Shared Object Dependencies)
 unfoldable pub path_of : List ℕ → SearchPath
 path_of file = elim (has_dynamic_entry file DT_RUNPATH) [
   | true ↦ path.Runpath
   | false ↦ elim (has_dynamic_entry file DT_RPATH) [ true ↦ path.Rpath | false ↦ path.Absent ]
 ]
 
--- KIND. A file that may stand at any address is a library where it has a name as one; else a program where it asks for an
--- interpreter, and where it says so (the GNU system's DF_1_PIE), which then asks for none
+-- KIND. A file that may be loaded at any address is a library if it has a name as one; otherwise a
+-- program if it requests an interpreter, or if it says so (the GNU DF_1_PIE), and then requests
+-- none
 unfoldable pub kind_of_shared : List ℕ → ProgramKind
 kind_of_shared file = elim (has_dynamic_entry file DT_SONAME) [
   | true ↦ kind.Lib
@@ -113,7 +118,7 @@ program_kind file =
     else if e_type file == ET_CORE then kind.Core
     else kind.Other
 
--- what program headers say, where the file has any
+-- the traits of program headers, if the file has any
 unfoldable pub segment_traits : List ℕ → Option SegmentTraits
 segment_traits file = elim (e_phnum file == 0) [
   | true ↦ None
@@ -126,14 +131,16 @@ segment_traits file = elim (e_phnum file == 0) [
       })
 ]
 
--- CONTROL FLOW: the word of features of x86 in the first list of properties; other machines have other words under its number
+-- CONTROL FLOW: the word of x86 features in the first list of properties; other machines have other
+-- words under its number
 unfoldable pub x86_feature_word : List ℕ → Result ℕ Refusal
 x86_feature_word file = elim (e_machine file == EM_X86_64) [
   | false ↦ Ok 0
   | true ↦ elim (property_list file) [ Err refusal ↦ Err refusal | Ok None ↦ Ok 0 | Ok (Some list) ↦ features_in list ]
 ]
 
--- SYMBOLS. The dynamic symbols are those that a lookup of a loader knows; a file without a hash table has none
+-- SYMBOLS. The dynamic symbols are those that a loader's lookup knows; a file without a hash table
+-- has none
 abbrev pub has_none : Cause → Bool
 has_none NoHash = true
 has_none _ = false
@@ -144,8 +151,8 @@ known_symbols file = elim (lookup_tables_by_segments file) [
   | Err refusal ↦ elim (has_none refusal.cause) [ true ↦ Ok None | false ↦ Err refusal ]
 ]
 
--- HOW MANY there are is counted by the hash table alone. In the GNU system's: the symbols before `first`, and those of chains, of
--- which the highest begins at the highest of the buckets' words
+-- HOW MANY there are is counted only by the hash table. In a GNU hash table: the symbols before
+-- `first`, and those of chains, of which the last begins at the largest of the buckets' words
 unfoldable pub max_bucket : List ℕ → (place count : ℕ) → ℕ
 max_bucket file place zero = 0
 max_bucket file place (suc n) = max (max_bucket file place n) (field file (gnu_bucket_at file place n) 4)
@@ -154,19 +161,20 @@ max_bucket file place (suc n) = max (max_bucket file place n) (field file (gnu_b
 abbrev pub is_last_in : List ℕ → HashTable → ℕ → Bool
 is_last_in file table y = not (is_chained file table y) || is_chain_end (chain_word file table.place y)
 
--- how many symbols have room before their strings; none where the hash table stands between, or where there is no room for so
--- many behind the first
+-- how many symbols fit before their strings; none if the hash table is between, or if there is no
+-- room for this many after the first
 unfoldable pub before_strings : HashTable → (symbols strings : ℕ) → ℕ
 before_strings table symbols strings =
     let rows = (strings - symbols) / SYMBOL_SIZE in
     if (nat_lt symbols table.place && nat_lt table.place strings) || nat_lt table.symbols rows then 0 else rows
 
--- A table in which no symbol is found, and whose `first` is 1, does not say how many there are: the usual linker writes it so,
--- however many symbols are undefined. Then there are those before their strings
+-- A table in which no symbol is found, and whose `first` is 1, does not say how many there are: the
+-- usual linker writes it so, for any number of undefined symbols. Then there are those before their
+-- strings
 unfoldable pub unfound : (first before room : ℕ) → ℕ
 unfound first before room = if first == 1 then max before (min first room) else min first room
 
--- how many there are, with so many before their strings
+-- how many there are, with this many before their strings
 unfoldable pub gnu_symbols : List ℕ → HashTable → ℕ → ℕ
 gnu_symbols file table before =
     let start = max_bucket file table.place (gnu_nbucket file table.place) in
@@ -176,14 +184,16 @@ gnu_symbols file table before =
       | Some y ↦ suc y
     ]
 
--- in the gABI's as many as there are chains (gABI 5, Hash Table); no more than there is room for
+-- in a gABI hash table as many as there are chains (gABI 5, Hash Table); no more than there is room
+-- for
 unfoldable pub hashed_symbol_count : List ℕ → LookupTables → ℕ
 hashed_symbol_count file scope = elim scope.kind [
   | GnuTable ↦ gnu_symbols file scope.table (before_strings scope.table scope.symbols.place scope.symbols.strings_at)
   | SysvTable ↦ min (sysv_nchain file scope.table.place) scope.table.symbols
 ]
 
--- CANARY: the functions that guards of the stack call, and the word that they compare with (Linux Standard Base Core, libc)
+-- CANARY: the functions that stack protectors call, and the word that they compare with (Linux
+-- Standard Base Core, libc)
 abbrev pub guards : List (List ℕ)
 guards = codes "__stack_chk_fail" ∷ codes "__stack_chk_guard" ∷ []
 
@@ -194,15 +204,16 @@ is_any_of (other ∷ others) name = (length name == length other && starts_with 
 abbrev pub is_stack_protector : List ℕ → Bool
 is_stack_protector name = is_any_of guards name
 
--- FORTIFY: the functions of the C library that check the size of what they write, as the GNU system names them
+-- FORTIFY: the functions of the C library that check the size of what they write, as glibc names
+-- them
 unfoldable pub is_fortify_call : List ℕ → Bool
 is_fortify_call name = starts_with nat_eq name (codes "__") && (ends_with nat_eq name (codes "_chk") && not (is_stack_protector name))
 
--- how many bytes of a symbol's name are looked at: a longer one is none of those
+-- how many bytes of a symbol's name are read: a longer one is none of those
 abbrev pub TRAIT_NAME_BYTES : ℕ
 TRAIT_NAME_BYTES = 63
 
--- what symbols say: that one is a guard's, that one that is undefined is a checked call's
+-- what symbols show: that one is of a stack protector, that an undefined one is a fortify call
 pub record SymbolTraitFlags : Type 0 where
   pub canary : Bool
   pub fortify : Bool
@@ -216,12 +227,13 @@ marked_by marks name undefined = record {
   fortify = marks.fortify || (undefined && is_fortify_call name);
 }
 
--- with one more symbol, which stands at an offset, by what is shown of its name
+-- with one more symbol, which is at an offset, by what is shown of its name
 abbrev pub marked_with_symbol : List ℕ → ℕ → SymbolTraitFlags → DisplayedName → SymbolTraitFlags
 marked_with_symbol file at marks (Whole name) = marked_by marks name (st_shndx file at == SHN_UNDEF)
 marked_with_symbol file at marks (Cut front) = marks
 
--- what so many symbols from an index on say, beside those before; a fault of a name is at the symbol
+-- what this many symbols from an index show, besides those before; a fault of a name is at the
+-- symbol
 unfoldable pub marks_from : List ℕ → DynamicSymbols → SymbolTraitFlags → (index count : ℕ) → Result SymbolTraitFlags Refusal
 marks_from file symbols marks index zero = Ok marks
 marks_from file symbols marks index (suc count) =
@@ -231,12 +243,12 @@ marks_from file symbols marks index (suc count) =
       | Ok name ↦ marks_from file symbols (marked_with_symbol file at marks name) (suc index) count
     ]
 
--- what the symbols of a file say, all but the first, which is none (gABI 4, Symbol Table)
+-- what the symbols of a file show, all except the first, which is none (gABI 4, Symbol Table)
 unfoldable pub find_symbol_traits : List ℕ → Option LookupTables → Result SymbolTraitFlags Refusal
 find_symbol_traits file None = Ok no_symbol_traits
 find_symbol_traits file (Some scope) = marks_from file scope.symbols no_symbol_traits 1 (hashed_symbol_count file scope - 1)
 
--- the traits, by the word of the features and what the symbols say
+-- the traits, by the word of the features and what the symbols show
 unfoldable pub traits_with : List ℕ → ℕ → SymbolTraitFlags → Hardening
 traits_with file word marks = record {
   kind = program_kind file;
@@ -248,8 +260,9 @@ traits_with file word marks = record {
   path = path_of file;
 }
 
--- the traits of a file that has no section headers, once its headers are loaded, or the first refusal: of what a lookup is
--- made in, LOAD segments over each other and dynamic entries first; of the properties; of the symbols' names
+-- the traits of a file that has no section headers, once its headers are loaded, or the first
+-- refusal: of the lookup tables, overlapping LOAD segments and dynamic entries first; of the
+-- properties; of the symbols' names
 unfoldable pub loaded_traits : List ℕ → Result Hardening Refusal
 loaded_traits file = elim (known_symbols file) [
   | Err refusal ↦ Err refusal
@@ -268,6 +281,6 @@ traits_by_segments file headers = elim (first_refusal (header_checks file ++ loa
   | None ↦ loaded_traits file
 ]
 
--- THE TRAITS OF A FILE, with so many headers permitted: whatever its section headers say
+-- THE TRAITS OF A FILE, with this many headers allowed: for any section headers
 unfoldable pub traits_of : List ℕ → ℕ → Result Hardening Refusal
 traits_of file headers = traits_by_segments (without_sections file) headers

@@ -1,5 +1,5 @@
--- Laws of relocation values: a formula modulo 2^64 is a sum of 64-bit words that wraps, and a value fits in two's
--- complement exactly where its low bits, with their sign, are the value.
+-- Laws of relocation values: a formula modulo 2^64 is a sum of 64-bit words that wraps, and a value
+-- fits in two's complement exactly if its low bits, with their sign, are the value.
 use Rattle.std.specs.Prelude.{ℕ, ◌+◌, ◌-◌, ◌%◌, ◌^◌, ◌<◌, ◌≤◌, ◌≡◌, ◌↔◌, nat_lt, true, if◌then◌else◌, ℤ, pos, ◌+ℤ◌, ◌-ℤ◌, List, length, Ok}
 use Rattle.elf_model.specs.Records.{twos_complement}
 use Rattle.elf_model.specs.Values.{FormulaTerms, patch_of, modulo_2_64, is_signed}
@@ -17,12 +17,13 @@ DifferenceWraps = (a : ℤ) (p : ℕ) → p < 2 ^ 64 → modulo_2_64 (a -ℤ pos
 abbrev pub AddendIsItsBits : Type 0
 AddendIsItsBits = (bits : ℕ) → bits < 2 ^ 64 → modulo_2_64 (twos_complement bits) ≡ bits
 
--- a number of so many bits in two's complement as a number of 64 bits: the numbers from the half on are negative
+-- a number of this many bits in two's complement as a number of 64 bits: the numbers from the half
+-- on are negative
 abbrev pub sign_extended : ℕ → ℕ → ℕ
 sign_extended bits number =
     if nat_lt number (2 ^ (bits - 1)) then number else number + (2 ^ 64 - 2 ^ bits)
 
--- a value fits in two's complement exactly where it is its low bits with their sign
+-- a value fits in two's complement exactly if it is its low bits with their sign
 abbrev pub SignedFits : Type 0
 SignedFits =
     (bits value : ℕ) → 0 < bits → bits ≤ 64 → value < 2 ^ 64

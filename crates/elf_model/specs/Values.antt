@@ -1,6 +1,6 @@
--- Relocation values for x86-64 (psABI 4.4, Relocation). B is the address of the symbol that its type's base gives: S, its
--- value; L, that of its procedure linkage table entry; that of its global offset table entry. A is the addend, P the place
--- of the bytes that are relocated.
+-- Relocation values for x86-64 (psABI 4.4, Relocation). B is the address of the symbol that its
+-- type's base gives: S, its value; L, that of its procedure linkage table entry; that of its global
+-- offset table entry. A is the addend, P the place of the bytes that are relocated.
 use Rattle.std.specs.Prelude.{ℕ, ◌-◌, ◌*◌, ◌%◌, ◌^◌, ◌==◌, ◌||◌, nat_lt, not, Bool, true, false, ℤ, pos, negsuc, ◌+ℤ◌, ◌-ℤ◌, List, [], ◌∷◌, Option, None, Some, Result, Ok, Err}
 use Rattle.elf_model.specs.Bytes.{little}
 use Rattle.elf_model.specs.Numbers.{R_X86_64_NONE}
@@ -25,12 +25,12 @@ pub record FormulaTerms : Type 0 where
   pub addend : ℤ
   pub place : ℕ
 
--- a formula's value, as a whole number
+-- a formula's value, as an unbounded integer
 unfoldable pub whole : Formula → FormulaTerms → ℤ
 whole Absolute terms = pos terms.base +ℤ terms.addend
 whole Relative terms = (pos terms.base +ℤ terms.addend) -ℤ pos terms.place
 
--- a whole number modulo 2^64
+-- an integer modulo 2^64
 unfoldable pub modulo_2_64 : ℤ → ℕ
 modulo_2_64 (pos n) = n % 2 ^ 64
 modulo_2_64 (negsuc n) = 2 ^ 64 - 1 - n % 2 ^ 64
@@ -39,11 +39,11 @@ modulo_2_64 (negsuc n) = 2 ^ 64 - 1 - n % 2 ^ 64
 abbrev pub is_unsigned : ℕ → ℕ → Bool
 is_unsigned bits value = nat_lt value (2 ^ bits)
 
--- a value modulo 2^64 is a number in two's complement of so many bits
+-- a value modulo 2^64 is a number in two's complement of this many bits
 abbrev pub is_signed : ℕ → ℕ → Bool
 is_signed bits value = nat_lt value (2 ^ (bits - 1)) || not (nat_lt value (2 ^ 64 - 2 ^ (bits - 1)))
 
--- a value modulo 2^64 is in the range, for so many bytes
+-- a value modulo 2^64 is in the range, for this many bytes
 unfoldable pub fits_in_range : ValueRange → ℕ → ℕ → Bool
 fits_in_range Any width value = true
 fits_in_range Unsigned width value = is_unsigned (8 * width) value
@@ -54,8 +54,8 @@ fits_in_range Either width value = is_unsigned (8 * width) value || is_signed (8
 abbrev pub kind : ℕ → RelocationBase → Formula → ValueRange → RelocationType
 kind width base formula range = record { width = width; base = base; formula = formula; range = range }
 
--- the relocation types that store a value: R_X86_64_64, PC32, PLT32, GOTPCREL, 32, 32S, 16, 8, GOTTPOFF, PC64, GOTPCRELX,
--- REX_GOTPCRELX
+-- the relocation types that store a value: R_X86_64_64, PC32, PLT32, GOTPCREL, 32, 32S, 16, 8,
+-- GOTTPOFF, PC64, GOTPCRELX, REX_GOTPCRELX
 unfoldable pub kinds : List (ℕ × RelocationType)
 kinds =
     (1, kind 8 Symbol Absolute Any)
@@ -97,15 +97,15 @@ low_bytes type terms = little type.width (value_of type terms)
 unfoldable pub patch_of : RelocationType → FormulaTerms → Result (List ℕ) Cause
 patch_of type terms = elim (overflows type terms) [ true ↦ Err Overflow | false ↦ Ok (low_bytes type terms) ]
 
--- L where a base gives it, else the other address of the symbol: S, or that of its entry
+-- L if the base is L, otherwise the other address of the symbol: S, or that of its entry
 abbrev pub base_address : RelocationBase → ℕ → ℕ → ℕ
 base_address Symbol s l = s
 base_address Linkage s l = l
 base_address Table s l = s
 base_address Thread s l = s
 
--- the bytes that a relocation stores: its type's number, S or the address of the symbol's global offset table entry where
--- the type's base gives that, L, A and P
+-- the bytes that a relocation stores: its type's number, S or, if the type's base is that, the
+-- address of the symbol's global offset table entry, L, A and P
 unfoldable pub value : ℕ → ℕ → ℕ → ℤ → ℕ → Result (List ℕ) Cause
 value n s l a p =
     elim (n == R_X86_64_NONE) [

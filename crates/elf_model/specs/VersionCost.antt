@@ -1,4 +1,4 @@
--- How many bytes the rows of symbol versions ask for at most, by the section headers.
+-- How many bytes the rows of symbol versions read at most, by the section headers.
 use Rattle.std.specs.Prelude.{ℕ, ◌+◌, ◌*◌, ◌/◌, ◌==◌, ◌&&◌, ◌||◌, min, nat_lt, not, if◌then◌else◌, Bool, None, Some}
 use Rattle.elf_model.specs.Checks.{pass, is_outside, is_symbol_table}
 use Rattle.elf_model.specs.HeaderTables.{HeaderTable, header_field, first_typed}
@@ -8,12 +8,12 @@ use Rattle.elf_model.specs.Records.{sh_type, sh_offset, sh_size, sh_link}
 use Rattle.elf_model.specs.Tables.{SYMBOL_SIZE, symbol_table}
 use Rattle.elf_model.specs.Versions.{VERSYM_SIZE, DEFINITION_SIZE, DEFINED_NAME_SIZE, NEED_SIZE}
 
--- the bytes of the section of an index are within a file of so many bytes
+-- the bytes of the section of an index are within a file of this many bytes
 abbrev pub is_inside : HeaderTable → (index file_size : ℕ) → Bool
 is_inside headers i file_size = not (is_outside file_size (header_field headers sh_offset i) (header_field headers sh_size i))
 
--- what one walk over the first section of a type costs, of whose records each has a size and asks for some bytes, where the
--- section's bytes are in the file
+-- what one walk over the first section of a type costs, each of whose records has a size and reads
+-- some bytes, if the section's bytes are in the file
 unfoldable pub walk_cost : HeaderTable → (file_size type size bytes : ℕ) → ℕ
 walk_cost headers file_size type size bytes = elim (first_typed headers type) [
   | None ↦ 0
@@ -44,13 +44,14 @@ has_symbol_table headers i file_size =
     && (header_field headers sh_size link == 0
     || (pass (symbol_table.own (headers.bytes link) (headers.at link) file_size) && has_strings headers link file_size))
 
--- how many rows a section of version numbers has: one for each symbol of the table that it links to that has an entry
+-- how many rows a versym section has: one for each symbol of the table that it links to that has an
+-- entry
 abbrev pub versioned_rows : HeaderTable → (index : ℕ) → ℕ
 versioned_rows headers i =
     min (header_field headers sh_size i / VERSYM_SIZE) (header_field headers sh_size (header_field headers sh_link i) / SYMBOL_SIZE)
 
--- what its rows cost: a word and a name each, and what finds the names, where what it links to passes its checks and it is not
--- empty
+-- what its rows cost: a versym entry and a name each, and what finds the names, if what it links to
+-- passes its checks and it is not empty
 unfoldable pub versioned_cost : HeaderTable → (index file_size cap : ℕ) → ℕ
 versioned_cost headers i file_size cap =
     if has_symbol_table headers i file_size && not (header_field headers sh_size i == 0)

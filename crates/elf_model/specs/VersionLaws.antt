@@ -1,5 +1,5 @@
--- Laws of symbol versions: how many records are met, where they stand, which of them names a number, and how many rows the
--- versions of symbols have.
+-- Laws of symbol versions: how many records are visited, where they are, which of them names a
+-- version index, and how many rows the versions of symbols have.
 use Rattle.std.specs.Prelude.{◌<◌, ℕ, suc, ◌≡◌, ◌+◌, ◌==◌, ◌&&◌, ◌≤◌, nat_lt, true, false, if◌then◌else◌, List, [], ◌∷◌, ◌++◌, length, None, Some}
 use Rattle.std.specs.List.{All}
 use Rattle.std.specs.Result.{is_ok}
@@ -18,30 +18,30 @@ use Rattle.elf_model.specs.Versions.{VERSYM_SIZE, VisitedRecord, RecordCursorSta
 use Rattle.elf_model.specs.declared.causes.Refusal.{Refusal}
 use Rattle.elf_model.specs.declared.versions.VersionKind.{VersionKind}
 
--- no more records are met than could stand in the table one behind the other
+-- no more records are visited than could be in the table one after another
 abbrev pub RecordsAreBounded : Type 0
 RecordsAreBounded =
     (kind : VersionKind) (file : List ℕ) (head table size : ℕ)
     → length (versions_in kind file head table size).met ≤ max_records kind size
 
--- a record stands in a table at an offset and of some bytes
+-- a record is in a table at an offset and of some bytes
 pub record StandsInTable (table size : ℕ) (met : VisitedRecord) : Type 0 where
   pub begins : table ≤ met.at
   pub ends : met.at + record_size met.kind ≤ table + size
 
--- each record that is met stands in its table
+-- each record that is visited is in its table
 abbrev pub RecordsStand : Type 0
 RecordsStand =
     (kind : VersionKind) (file : List ℕ) (head table size : ℕ)
     → All (StandsInTable table size) (versions_in kind file head table size).met
 
--- and its number is one of those that versions may have
+-- and its index is one of those that versions may have
 abbrev pub NumbersAreSmall : Type 0
 NumbersAreSmall =
     (kind : VersionKind) (file : List ℕ) (head table size : ℕ)
     → All (λ met. number_in (number_word file met) < VERSION_NUMBERS) (versions_in kind file head table size).met
 
--- a record whose checks pass is met, and the walk goes on where it leads
+-- a record whose checks pass is visited, and the walk goes on where it leads
 abbrev pub RecordIsVisited : Type 0
 RecordIsVisited =
     (file : List ℕ) (table size : ℕ) (stand : RecordCursorState) (most : ℕ)
@@ -49,14 +49,14 @@ RecordIsVisited =
     → visited_from file table size (Some stand) (suc most)
     ≡ with_visited (visited_at table stand) (visited_from file table size (next_position file table stand) most)
 
--- at a record of which a check fails it is cut
+-- at a record with a failed check it is cut
 abbrev pub RecordIsRefused : Type 0
 RecordIsRefused =
     (file : List ℕ) (table size : ℕ) (stand : RecordCursorState) (most : ℕ) (refusal : Refusal)
     → first_refusal (record_checks file table size stand) ≡ Some refusal
     → visited_from file table size (Some stand) (suc most) ≡ no_versions (Some refusal)
 
--- of some records one is the first that names the version of a number
+-- of some records one is the first that names the version of an index
 pub record IsFirstNamed (file : List ℕ) (number : ℕ) (records : List VisitedRecord) (met : VisitedRecord) : Type 0 where
   pub before : List VisitedRecord
   pub others : List VisitedRecord
@@ -64,25 +64,27 @@ pub record IsFirstNamed (file : List ℕ) (number : ℕ) (records : List Visited
   pub names : names_version_index file number met ≡ true
   pub none_before : All (λ other. names_version_index file number other ≡ false) before
 
--- the record that names the version of a number is the first that does
+-- the record that names the version of an index is the first that does
 abbrev pub NamedIsFirst : Type 0
 NamedIsFirst =
     (file : List ℕ) (number : ℕ) (records : List VisitedRecord) (met : VisitedRecord)
     → named_by file number records ≡ Some met → IsFirstNamed file number records met
 
--- where there is none no record names it
+-- if there is none, no record names it
 abbrev pub UnnamedHasNone : Type 0
 UnnamedHasNone =
     (file : List ℕ) (number : ℕ) (records : List VisitedRecord)
     → named_by file number records ≡ None → All (λ other. names_version_index file number other ≡ false) records
 
--- the record that names a number among those of two lists: that of the first, else that of the second
+-- the record that names a version index among those of two lists: that of the first, otherwise that
+-- of the second
 abbrev pub FirstListNamesFirst : Type 0
 FirstListNamesFirst =
     (file : List ℕ) (number : ℕ) (first second : List VisitedRecord) (met : VisitedRecord)
     → named_by file number first ≡ Some met → named_by file number (first ++ second) ≡ Some met
 
--- where every row is shown, one row for each symbol, and where these have no entry any more one that says so; entries past the last symbol have none
+-- if every row is shown, there is one row for each symbol that has an entry, and if the entries end
+-- before the symbols one more that says so; entries past the last symbol have none
 abbrev pub RowsAreSymbols : Type 0
 RowsAreSymbols =
     (file : List ℕ) (style : ListingStyle) (section at : ℕ) → style.choice ≡ EveryRow → (sh_size file at == 0) ≡ false
@@ -95,14 +97,15 @@ abbrev pub records_rows : List ℕ → ListingStyle → List ListingItem
 records_rows file style =
     kinds_rows (version_definitions ∷ version_needs ∷ []) (file_sections file) file style VERSIONS
 
--- where they have no fault, the name of each number is shown
+-- if they have no fault, the name of each version index is shown
 abbrev pub NamesOfNumbersAreShown : Type 0
 NamesOfNumbersAreShown =
     (file : List ℕ) (style : ListingStyle) (number : ℕ) (met : VisitedRecord) → fault_of (records_rows file style) ≡ None
     → version_named file number ≡ Some met
     → is_ok (shown (version_strings file met.kind) (name_index file met) style.cap) ≡ true
 
--- of a section of version numbers that is not empty all checks pass exactly where its own do and a cost counts its rows
+-- all checks of a versym section that is not empty pass exactly if its own do and a cost counts its
+-- rows
 abbrev pub CheckedRowsAreCounted : Type 0
 CheckedRowsAreCounted =
     (file : List ℕ) (index : ℕ)

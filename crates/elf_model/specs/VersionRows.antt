@@ -1,4 +1,4 @@
--- The rows of symbol versions: of the records of definitions and needs, and of the numbers that symbols have.
+-- The rows of symbol versions: of the records of definitions and needs, and of the versym entries.
 use Rattle.std.specs.Prelude.{ℕ, ◌+◌, ◌/◌, ◌==◌, ◌||◌, min, nat_lt, not, if◌then◌else◌, List, [], ◌∷◌, ◌++◌, codes, Option, None, Some}
 use Rattle.elf_model.specs.Checks.{Check, refuse, range_checks_of, strings_checks}
 use Rattle.elf_model.specs.Fields.{Fields, LinePrefix, front}
@@ -25,7 +25,8 @@ kind_text Definition = codes "DEF"
 kind_text File = codes "FILE"
 kind_text Need = codes "NEED"
 
--- a record of definitions or needs up to its name: the index of its section, its kind, number, flags and hash
+-- a record of definitions or needs up to its name: the index of its section, its kind, version
+-- index, flags and hash
 abbrev version_fields : VersionKind → (section number flags hash : ℕ) → Fields
 version_fields kind section number flags hash = record {
   letter = codes "V";
@@ -42,24 +43,24 @@ unfoldable pub version_prefix : Format → VersionKind → (section number flags
 version_prefix format kind section number flags hash =
     front format (codes "name") (version_fields kind section number flags hash)
 
--- the row of a met record, with its name in a string table
+-- the row of a visited record, with its name in a string table
 unfoldable pub version_row : List ℕ → ListingStyle → (section : ℕ) → (strings : List ℕ) → VisitedRecord → List ListingItem
 version_row file style section strings met =
     chosen_row style.choice (version_prefix style.format met.kind section (number_word file met) (flags_word file met) (hash_word file met))
     (named_at file met) (shown strings (name_index file met) style.cap)
 
--- the rows of met records
+-- the rows of visited records
 unfoldable pub visited_rows : List ℕ → ListingStyle → (section : ℕ) → (strings : List ℕ) → List VisitedRecord → List ListingItem
 visited_rows file style section strings [] = []
 visited_rows file style section strings (met ∷ others) =
     version_row file style section strings met ++ visited_rows file style section strings others
 
--- the end of a walk: the refusal of what is no record, if there is one
+-- the end of a walk: the refusal of a malformed record, if there is one
 abbrev pub end_rows : Option Refusal → List ListingItem
 end_rows None = []
 end_rows (Some refusal) = Fault refusal ∷ []
 
--- the records of the section whose header stands at an offset
+-- the records of the section whose header is at an offset
 abbrev pub section_versions : VersionKind → List ℕ → ℕ → Versions
 section_versions kind file at = versions_in kind file at (sh_offset file at) (sh_size file at)
 
@@ -73,14 +74,15 @@ versions_rows kind file style section at =
 abbrev pub first_of_type : List ℕ → ℕ → Option ℕ
 first_of_type file type = first_typed (file_sections file) type
 
--- the records of the first section of a type, none where there is no such section
+-- the records of the first section of a type, none if there is no such section
 abbrev pub first_versions : VersionKind → ℕ → List ℕ → List VisitedRecord
 first_versions kind type file = elim (first_of_type file type) [
   | None ↦ []
   | Some i ↦ (section_versions kind file (section_at file i)).met
 ]
 
--- the record that names the version of a number in a file: by the first section of definitions, else by the first of needs
+-- the record that names the version of an index in a file: by the first section of definitions,
+-- otherwise by the first of needs
 unfoldable pub version_named : List ℕ → ℕ → Option VisitedRecord
 version_named file number =
     version_of file (first_versions Definition SHT_GNU_VERDEF file) (first_versions File SHT_GNU_VERNEED file) number
@@ -98,8 +100,8 @@ version_strings file kind =
       | Need ↦ first_strings SHT_GNU_VERNEED file
     ]
 
--- the version of a symbol up to its name: the indexes of the section of version numbers and of the symbol, the number, and
--- whether the version is hidden
+-- the version of a symbol up to its name: the indexes of the versym section and of the symbol, the
+-- version index, and whether the version is hidden
 abbrev symbol_version_fields : (section index word : ℕ) → Fields
 symbol_version_fields section index word = record {
   letter = codes "X";
@@ -114,8 +116,8 @@ symbol_version_fields section index word = record {
 unfoldable pub symbol_version_prefix : Format → (section index word : ℕ) → LinePrefix
 symbol_version_prefix format section index word = front format (codes "name") (symbol_version_fields section index word)
 
--- the row of a version of a number, which an entry at an offset holds: a number that a record names has its name, 0 and 1 have
--- none, and any other is refused at the entry
+-- the row of a version index, from an entry at an offset: an index that a record names has its
+-- name, 0 and 1 have none, and any other is refused at the entry
 unfoldable pub numbered_row : List ℕ → ListingStyle → (front : LinePrefix) → (entry_at number : ℕ) → List ListingItem
 numbered_row file style front entry_at number =
     if nat_lt number 2 then chosen_row style.choice front entry_at no_name
@@ -124,14 +126,14 @@ numbered_row file style front entry_at number =
       | Some met ↦ chosen_row style.choice front (named_at file met) (shown (version_strings file met.kind) (name_index file met) style.cap)
     ]
 
--- the row of a symbol's version in the section whose header stands at an offset
+-- the row of a symbol's version in the section whose header is at an offset
 unfoldable pub symbol_version_row : List ℕ → ListingStyle → (section at : ℕ) → ℕ → List ListingItem
 symbol_version_row file style section at index =
     let entry_at = entry_at file at VERSYM_SIZE index in
     let word = versym file entry_at in
     numbered_row file style (symbol_version_prefix style.format section index word) entry_at (number_in word)
 
--- how many symbols the table has to which a section of version numbers links
+-- how many symbols the table has to which a versym section links
 abbrev pub versioned_symbols : List ℕ → ℕ → ℕ
 versioned_symbols file at = entry_count file (linked_at file at) SYMBOL_SIZE
 
@@ -139,7 +141,8 @@ versioned_symbols file at = entry_count file (linked_at file at) SYMBOL_SIZE
 abbrev pub versioned_count : List ℕ → ℕ → ℕ
 versioned_count file at = min (entry_count file at VERSYM_SIZE) (versioned_symbols file at)
 
--- the rows of symbols' versions, and where a symbol has no entry any more its refusal; a section of no bytes has none
+-- the rows of symbols' versions, and if a symbol has no entry any more its refusal; a section of no
+-- bytes has none
 unfoldable pub symbol_version_rows : List ℕ → ListingStyle → ℕ → ℕ → List ListingItem
 symbol_version_rows file style section at =
     if sh_size file at == 0 then []
@@ -147,7 +150,7 @@ symbol_version_rows file style section at =
     each (symbol_version_row file style section at) 0 (versioned_count file at)
     ++ (if nat_lt (entry_count file at VERSYM_SIZE) (versioned_symbols file at) then refused_row at VersionCut else [])
 
--- what a section of version numbers links to: a symbol table, with its strings
+-- what a versym section links to: a symbol table, with its strings
 abbrev pub symbols_checks : List ℕ → ℕ → List Check
 symbols_checks file at =
     refuse (sh_link file at == 0 || not (has_symbols file at)) at BadLink ∷ symbol_table_checks file (linked_at file at)
@@ -160,8 +163,9 @@ version_table = record {
   linked = strings_checks;
 }
 
--- definitions or needs (Linux Standard Base Core, Symbol Versioning), each with its name: their kind, the type of the sections,
--- the size of a record, and how many bytes one asks for beside its name
+-- definitions or needs (Linux Standard Base Core, Symbol Versioning), each with its name: their
+-- kind, the type of the sections, the size of a record, and how many bytes one reads besides its
+-- name
 abbrev pub version_records : VersionKind → (type size bytes : ℕ) → TableKind
 version_records kind type size bytes = record {
   part = VERSIONS;

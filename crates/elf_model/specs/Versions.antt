@@ -1,6 +1,7 @@
--- Symbol versions (Linux Standard Base Core, Symbol Versioning): the records of a table of definitions or of needs, in the order
--- in which they are met. The places alone lead from record to record: no count of them is looked at, and no hash. A table
--- stands at an offset of the file; a place is an offset in it. Sums are whole numbers, so that a chain goes only forward.
+-- Symbol versions (Linux Standard Base Core, Symbol Versioning): the records of a table of
+-- definitions or of needs, in the order in which they are visited. Only the distances lead from
+-- record to record: no count of them is read, and no hash. A table is at an offset of the file; a
+-- place is an offset in it. Sums do not wrap, so that a chain goes only forward.
 use Rattle.std.specs.Prelude.{ℕ, zero, suc, ◌+◌, ◌/◌, ◌%◌, ◌^◌, ◌==◌, ◌&&◌, nat_lt, not, Bool, true, false, if◌then◌else◌, List, [], ◌∷◌, ◌++◌, Option, None, Some}
 use Rattle.std.specs.Int.RustNames.{bit_and}
 use Rattle.elf_model.specs.Records.{vd_version, vd_flags, vd_ndx, vd_hash, vd_aux, vd_next, vda_name, vn_version, vn_file, vn_aux, vn_next, vna_hash, vna_flags, vna_other, vna_name, vna_next}
@@ -10,7 +11,8 @@ use Rattle.elf_model.specs.declared.causes.Refusal.{Refusal}
 use Rattle.elf_model.specs.declared.versions.VersionKind.{VersionKind}
 use Rattle.elf_model.specs.declared.versions.VersionKind.TheVariants.{Definition, File, Need}
 
--- the sizes of a definition, of a name of one, and of a needed file, which is that of a needed version too, in bytes
+-- the sizes of a definition, of a name of one, and of a needed file, which is that of a needed
+-- version too, in bytes
 abbrev pub DEFINITION_SIZE : ℕ
 DEFINITION_SIZE = 20
 
@@ -20,7 +22,7 @@ DEFINED_NAME_SIZE = 8
 abbrev pub NEED_SIZE : ℕ
 NEED_SIZE = 16
 
--- the size of the word that holds the version of a symbol, in bytes
+-- the size of a versym entry, in bytes
 abbrev pub VERSYM_SIZE : ℕ
 VERSYM_SIZE = 2
 
@@ -28,11 +30,11 @@ VERSYM_SIZE = 2
 abbrev pub record_size : VersionKind → ℕ
 record_size kind = elim kind [ Definition ↦ DEFINITION_SIZE | File ↦ NEED_SIZE | Need ↦ NEED_SIZE ]
 
--- how many numbers versions may have
+-- how many version indices there may be
 abbrev pub VERSION_NUMBERS : ℕ
 VERSION_NUMBERS = 1024
 
--- the number in a word: its highest bit says that the version is hidden
+-- the version index in a versym entry: its highest bit says that the version is hidden
 abbrev pub number_in : ℕ → ℕ
 number_in word = word % 2 ^ 15
 
@@ -45,8 +47,8 @@ pub record VisitedRecord : Type 0 where
   pub kind : VersionKind
   pub at : ℕ
 
--- what a met record holds, by its kind: the version of its layout, of which a needed version has none; its number, its flags
--- and its hash, of which a needed file has none
+-- the fields of a visited record, by its kind: the version of its layout, of which a needed version
+-- has none; its index, its flags and its hash, of which a needed file has none
 unfoldable pub version_word : List ℕ → VisitedRecord → ℕ
 version_word file met = elim met.kind [ Definition ↦ vd_version file met.at | File ↦ vn_version file met.at | Need ↦ 1 ]
 
@@ -59,12 +61,12 @@ flags_word file met = elim met.kind [ Definition ↦ vd_flags file met.at | File
 unfoldable pub hash_word : List ℕ → VisitedRecord → ℕ
 hash_word file met = elim met.kind [ Definition ↦ vd_hash file met.at | File ↦ 0 | Need ↦ vna_hash file met.at ]
 
--- the distance from it to the next record of its kind, of which 0 is the end of the chain
+-- the distance from it to the next record of its kind; 0 is the end of the chain
 unfoldable pub next_word : List ℕ → VisitedRecord → ℕ
 next_word file met = elim met.kind [ Definition ↦ vd_next file met.at | File ↦ vn_next file met.at | Need ↦ vna_next file met.at ]
 
--- the distance from it to what holds the index of its name: a definition's first name, else the record itself; and to the end
--- of that
+-- the distance from it to what has the index of its name: a definition's first name, otherwise the
+-- record itself; and to the end of that
 unfoldable pub name_distance : List ℕ → VisitedRecord → ℕ
 name_distance file met = elim met.kind [ Definition ↦ vd_aux file met.at | File ↦ 0 | Need ↦ 0 ]
 
@@ -72,7 +74,7 @@ unfoldable pub name_end : List ℕ → VisitedRecord → ℕ
 name_end file met =
     elim met.kind [ Definition ↦ vd_aux file met.at + DEFINED_NAME_SIZE | File ↦ NEED_SIZE | Need ↦ NEED_SIZE ]
 
--- where that stands in the file, and the index, in the string table
+-- the offset of that in the file, and the index, in the string table
 abbrev pub named_at : List ℕ → VisitedRecord → ℕ
 named_at file met = met.at + name_distance file met
 
@@ -84,8 +86,8 @@ name_index file met =
       | Need ↦ vna_name file met.at
     ]
 
--- WHERE A WALK STANDS: the kind of the record that is to come, its place in the table, the offset in the file of what led
--- there, and, of a needed version, the place of its file
+-- THE STATE OF A WALK: the kind of the next record, its place in the table, the offset in the file
+-- of what led there, and, of a needed version, the place of its file
 pub record RecordCursorState : Type 0 where
   pub kind : VersionKind
   pub place : ℕ
@@ -96,8 +98,9 @@ pub record RecordCursorState : Type 0 where
 abbrev pub visited_at : ℕ → RecordCursorState → VisitedRecord
 visited_at table stand = record { kind = stand.kind; at = table + stand.place }
 
--- the checks of a record, in a table at an offset and of some bytes, in this order: it is in the table; the version of its
--- layout is 1; its number is not too large; its name is in the table
+-- the checks of a record, in a table at an offset and of some bytes, in this order: it is in the
+-- table; the version of its layout is 1; its version index is not too large; its name is in the
+-- table
 abbrev place_checks : (size : ℕ) → RecordCursorState → List Check
 place_checks size stand = refuse (nat_lt size (stand.place + record_size stand.kind)) stand.from VersionCut ∷ []
 
@@ -111,20 +114,20 @@ word_checks file size place met =
 unfoldable pub record_checks : List ℕ → (table size : ℕ) → RecordCursorState → List Check
 record_checks file table size stand = place_checks size stand ++ word_checks file size stand.place (visited_at table stand)
 
--- where a record leads by the distance from it to the next of its kind
+-- where a record leads, by the distance from it to the next of its kind
 abbrev pub along : (table : ℕ) → VersionKind → (place distance owner : ℕ) → Option RecordCursorState
 along table kind place distance owner =
     if distance == 0 then None
     else Some (record { kind = kind; place = place + distance; from = table + place; owner = owner })
 
--- where a needed version leads by the distance to the next and by that from its file to the next file: the last of a file's
--- versions leads where the file does
+-- where a needed version leads, by the distance to the next and by that from its file to the next
+-- file: the last of a file's versions leads where the file does
 abbrev pub along_needs : (table : ℕ) → (place distance owner files : ℕ) → Option RecordCursorState
 along_needs table place distance owner files =
     if distance == 0 then along table File owner files 0 else along table Need place distance owner
 
--- where a record leads: a definition to the next; a needed file to its first version; a version to the next of its file, and
--- the last of them to the next file
+-- where a record leads: a definition to the next; a needed file to its first version; a version to
+-- the next of its file, and the last of them to the next file
 unfoldable pub next_position : List ℕ → ℕ → RecordCursorState → Option RecordCursorState
 next_position file table stand =
     let met = visited_at table stand in
@@ -134,7 +137,8 @@ next_position file table stand =
       | Need ↦ along_needs table stand.place (next_word file met) stand.owner (vn_next file (table + stand.owner))
     ]
 
--- THE RECORDS OF A TABLE, in the order in which they are met, up to the refusal of what is none, if there is one
+-- THE RECORDS OF A TABLE, in the order in which they are visited, up to the refusal of a malformed
+-- one, if there is one
 pub record Versions : Type 0 where
   pub met : List VisitedRecord
   pub cut : Option Refusal
@@ -143,12 +147,12 @@ pub record Versions : Type 0 where
 abbrev pub no_versions : Option Refusal → Versions
 no_versions cut = record { met = []; cut = cut }
 
--- a record in front of those behind it
+-- a record before those after it
 abbrev pub with_visited : VisitedRecord → Versions → Versions
 with_visited met versions = record { met = met ∷ versions.met; cut = versions.cut }
 
--- the records from where a walk stands, or none where it has ended: so many at most, and where there are more they are refused
--- at what led there
+-- the records from the state of a walk on, or none if it has ended: at most this many, and if there
+-- are more they are refused at what led there
 unfoldable pub visited_from : List ℕ → (table size : ℕ) → Option RecordCursorState → ℕ → Versions
 visited_from file table size None most = no_versions None
 visited_from file table size (Some stand) zero = no_versions (Some (record { at = stand.from; cause = VersionCut }))
@@ -158,12 +162,13 @@ visited_from file table size (Some stand) (suc most) =
       | None ↦ with_visited (visited_at table stand) (visited_from file table size (next_position file table stand) most)
     ]
 
--- where the walk over a table begins: at its first byte, to which what describes the table led, at an offset of the file;
--- nowhere in a table of no bytes
+-- the start of the walk over a table: its first byte, where what describes the table led, at an
+-- offset of the file; nowhere in a table of no bytes
 abbrev pub first_position : VersionKind → (head size : ℕ) → Option RecordCursorState
 first_position kind head size = if size == 0 then None else Some (record { kind = kind; place = 0; from = head; owner = 0 })
 
--- as many records as could stand in a table one behind the other; records may lie over each other, but no more are met
+-- as many records as could be in a table one after another; records may overlap, but no more are
+-- visited
 abbrev pub max_records : VersionKind → ℕ → ℕ
 max_records kind size = size / record_size kind
 
@@ -171,22 +176,23 @@ max_records kind size = size / record_size kind
 unfoldable pub versions_in : VersionKind → List ℕ → (head table size : ℕ) → Versions
 versions_in kind file head table size = visited_from file table size (first_position kind head size) (max_records kind size)
 
--- a met record names a version: a needed version does, and a definition that does not name the file itself
+-- a visited record names a version: a needed version does, and a definition that does not name the
+-- file itself
 unfoldable pub names_version : List ℕ → VisitedRecord → Bool
 names_version file met =
     elim met.kind [ Definition ↦ bit_and (vd_flags file met.at) VER_FLG_BASE == 0 | File ↦ false | Need ↦ true ]
 
--- it names the version that has a number
+-- it names the version that has an index
 abbrev pub names_version_index : List ℕ → ℕ → VisitedRecord → Bool
 names_version_index file number met = names_version file met && (number_in (number_word file met) == number)
 
--- the first of some records that names the version of a number
+-- the first of some records that names the version of an index
 unfoldable pub named_by : List ℕ → ℕ → List VisitedRecord → Option VisitedRecord
 named_by file number [] = None
 named_by file number (met ∷ others) = if names_version_index file number met then Some met else named_by file number others
 
--- THE RECORD THAT NAMES THE VERSION OF A NUMBER: the first definition that has it, else the first need; 0 and 1 are no
--- version's numbers
+-- THE RECORD THAT NAMES THE VERSION OF AN INDEX: the first definition that has it, otherwise the
+-- first need; 0 and 1 are no version's indices
 unfoldable pub version_of : List ℕ → (definitions needs : List VisitedRecord) → ℕ → Option VisitedRecord
 version_of file definitions needs number =
     if nat_lt number 2 then None else named_by file number (definitions ++ needs)

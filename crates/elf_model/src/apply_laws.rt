@@ -1,8 +1,8 @@
-//! Laws of relocations applied to a section, each proved of the definitions.
+//! Laws of relocations applied to a section, each proved from the definitions.
 ghost use Rattle.elf_model.specs.ApplyLaws.{LengthKept, BytePatched, WindowPatched, FinalBelow, KeptAbove, EntryStoresValue, ChangesInside};
 ghost use Rattle.elf_model.specs.ApplyLaws.{AppliedKeepsLength};
 
-/// Patches within a section leave its length.
+/// Patches within a section keep its length.
 pub fn length_kept()
     ensures { LengthKept }
 {}
@@ -17,12 +17,12 @@ pub fn window_patched()
     ensures { WindowPatched }
 {}
 
-/// What stands before all patches stays.
+/// The bytes before all patches are unchanged.
 pub fn final_below()
     ensures { FinalBelow }
 {}
 
-/// What stands behind all patches stays.
+/// The bytes after all patches are unchanged.
 pub fn kept_above()
     ensures { KeptAbove }
 {}
@@ -37,7 +37,7 @@ pub fn changes_inside()
     ensures { ChangesInside }
 {}
 
-/// A section with its relocations applied has as many bytes as it holds in the file.
+/// A section with its relocations applied has as many bytes as it has in the file.
 pub fn applied_keeps_length()
     ensures { AppliedKeepsLength }
 {}

@@ -1,6 +1,6 @@
 //! Why a file is refused, and where.
 
-/// Why a file, a request or a relocation is refused.
+/// The reason why a file, a request or a relocation is refused.
 ///
 /// Each cause has a word of its own in a listing.
 #[derive(Clone, Copy, Debug, PartialEq, Eq)]
@@ -15,19 +15,19 @@ pub enum Cause {
     BadData,
     /// The version of the identification is not 1.
     BadVersion,
-    /// A count or an index stands in section 0, which is not read.
+    /// A count or an index is stored in section 0, which is not read.
     ExtendedNumbering,
-    /// The file has more section headers or program headers than are permitted.
+    /// The file has more section headers or program headers than are allowed.
     TooManyHeaders,
-    /// A table's entries have another size than the standard's.
+    /// The entries of a table have another size than the standard's.
     EntrySize,
     /// A table ends past the end of the file.
     TableOutside,
-    /// A section index names no section, or none of the kind that is needed.
+    /// A section index names no section, or none of the required kind.
     BadLink,
-    /// A section that is to be a string table is none.
+    /// A section that must be a string table is not one.
     NotStrings,
-    /// A table's size is no multiple of its entries' size.
+    /// A table's size is not a multiple of its entries' size.
     SizeNotWhole,
     /// A name begins past the end of its string table.
     NameOutside,
@@ -41,14 +41,14 @@ pub enum Cause {
     HashShape,
     /// A word of a hash table is no index of a chain and a symbol.
     HashIndex,
-    /// A chain of a hash table comes back to itself.
+    /// A chain of a hash table has a cycle.
     HashCycle,
-    /// A relocation entry that is not applied: for its type, for its symbol's type, or for want of an
+    /// A relocation entry that is not applied: because of its type, its symbol's type, or a missing
     /// entry of its symbol; or a section that is compressed.
     Unsupported,
-    /// A value that does not fit the bytes that it is to be stored in.
+    /// A value does not fit the bytes that it is stored in.
     Overflow,
-    /// The file is no relocatable file for x86-64.
+    /// The file is not a relocatable file for x86-64.
     NotRel,
     /// A section has no address in the layout.
     Unplaced,
@@ -60,19 +60,20 @@ pub enum Cause {
     SymbolIndex,
     /// The file has 2^63 bytes or more.
     TooLong,
-    /// A limit on what may be read has too few bytes left. It says nothing of the file.
+    /// The limit on what may be read has too few bytes left. It does not mean that the file is
+    /// malformed.
     Budget,
-    /// An address that no LOAD segment holds (gABI 5, Program Loading).
+    /// An address is in no LOAD segment (gABI 5, Program Loading).
     Unmapped,
     /// The file is a thin archive: its members' bytes are in other files.
     Thin,
     /// The file does not begin with an archive's magic string.
     NotArchive,
-    /// No member of an archive stands where one should, or it ends past the end of the file.
+    /// There is no archive member where one should be, or it ends past the end of the file.
     MemberCut,
-    /// A record of symbol versions leads to a place where none is.
+    /// A symbol version record leads to an offset where there is none.
     VersionCut,
-    /// The number of a symbol version is too large, or no record names it.
+    /// A version index is too large, or no record names it.
     VersionIndex,
     /// A LOAD segment begins on a page of the one before it, or below (gABI 5, Program Loading).
     LoadOverlap,
@@ -81,7 +82,7 @@ pub enum Cause {
 /// A refusal: its cause, and the file offset that it points to.
 #[derive(Clone, Copy, Debug, PartialEq, Eq)]
 pub struct Refusal {
-    /// The file offset, in bytes, of the field, the entry or the header that is at fault.
+    /// The file offset, in bytes, of the field, the entry or the header that is malformed.
     pub at: u64,
     /// Why the file is refused.
     pub cause: Cause,

@@ -1,13 +1,13 @@
 //! The laws of costs.
 ghost use Rattle.elf_model.specs.CostLaws.{CostIsWithinCeiling, LastCostIsAdded, SumsGrow, PlacesDecideNothing, RowsCostWhatTheFileCosts, SegmentsCostWhatTheFileCosts, TablesCostKindByKind, AnyRowsAreWithinCeiling, AnySegmentsAreWithinCeiling};
 
-/// No listing costs more than the ceiling, whatever the file's bytes, the caps and the parts are.
+/// No listing costs more than the ceiling, for any file, caps and parts.
 #[tactic(auto, using(crate::proofs::CostLemmas::cost_within))]
 pub fn cost_is_within_ceiling()
     ensures { CostIsWithinCeiling }
 {}
 
-/// The last cost of so many is added to the others.
+/// The last cost of this many is added to the others.
 pub fn last_cost_is_added()
     ensures { LastCostIsAdded }
 {}
@@ -17,7 +17,7 @@ pub fn sums_grow()
     ensures { SumsGrow }
 {}
 
-/// Whether the checks of a table pass does not depend on the place that they name.
+/// Whether the checks of a table pass does not depend on the offset of their refusals.
 #[tactic(auto, using(crate::proofs::StoreLemmas::places_decide_nothing))]
 pub fn places_decide_nothing()
     ensures { PlacesDecideNothing }
@@ -29,7 +29,7 @@ pub fn rows_cost_what_the_file_costs()
     ensures { RowsCostWhatTheFileCosts }
 {}
 
-/// And program headers do.
+/// So do program headers.
 #[tactic(auto, using(crate::proofs::StoreLemmas::segments_cost_rows))]
 pub fn segments_cost_what_the_file_costs()
     ensures { SegmentsCostWhatTheFileCosts }
@@ -41,12 +41,12 @@ pub fn tables_cost_kind_by_kind()
     ensures { TablesCostKindByKind }
 {}
 
-/// Whatever bytes stand in the place of the section headers, the listing is within the ceiling.
+/// For any bytes in the place of the section headers, the listing is within the ceiling.
 pub fn any_rows_are_within_ceiling()
     ensures { AnyRowsAreWithinCeiling }
 {}
 
-/// And so it is without sections, whatever bytes stand in the place of the program headers.
+/// And so it is without sections, for any bytes in the place of the program headers.
 #[tactic(auto, using(crate::proofs::StoreLemmas::any_segments))]
 pub fn any_segments_are_within_ceiling()
     ensures { AnySegmentsAreWithinCeiling }

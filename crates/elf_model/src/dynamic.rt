@@ -12,12 +12,12 @@ pub fn listed_is_counted()
     ensures { ListedIsCounted }
 {}
 
-/// A value that is told for a tag is that of the first entry with the tag.
+/// The value of a tag is that of the first entry with the tag.
 pub fn value_is_first()
     ensures { ValueIsFirst }
 {}
 
-/// Where no value is told for a tag, no entry has the tag.
+/// If there is no value for a tag, no entry has the tag.
 pub fn no_value_has_no_tag()
     ensures { NoValueHasNoTag }
 {}

@@ -1,17 +1,18 @@
-//! Laws of lookups in a hash table (gABI 5, Hash Table), each proved of the definitions.
+//! Laws of lookups in a hash table (gABI 5, Hash Table), each proved from the definitions.
 ghost use Rattle.elf_model.specs.HashLaws.{RepeatNeverEnds, LongWalkRepeats, LongWalkNeverEnds, LookupIsBounded, LookupAnswers, LookupIsOne, CycleIsEndless, CycleExactly, ComparedWithinChains};
 
-/// A walk that comes to a word again before it ends never ends.
+/// A walk that reaches a word a second time before it ends never ends.
 pub fn repeat_never_ends()
     ensures { RepeatNeverEnds }
 {}
 
-/// A walk over words below a bound that goes on for as many words comes to one of them again.
+/// A walk over words below a bound that goes on for as many words reaches one of them a second
+/// time.
 pub fn long_walk_repeats()
     ensures { LongWalkRepeats }
 {}
 
-/// A walk over words below a bound that goes on for as many words goes on for ever.
+/// A walk over words below a bound that goes on for as many words goes on forever.
 pub fn long_walk_never_ends()
     ensures { LongWalkNeverEnds }
 {}
@@ -21,12 +22,12 @@ pub fn lookup_is_bounded()
     ensures { LookupIsBounded }
 {}
 
-/// What is calculated is what a lookup gives: its answer, and how many names it compares.
+/// What is computed is the result of a lookup: its outcome, and how many names it compares.
 pub fn lookup_answers()
     ensures { LookupAnswers }
 {}
 
-/// A lookup gives nothing else.
+/// A lookup has no other result.
 pub fn lookup_is_one()
     ensures { LookupIsOne }
 {}
@@ -36,7 +37,7 @@ pub fn cycle_is_endless()
     ensures { CycleIsEndless }
 {}
 
-/// A lookup is the cycle exactly where it never ends, and its answer alone tells that.
+/// A lookup is the cycle exactly if it never ends, and its outcome alone shows that.
 pub fn cycle_exactly()
     ensures { CycleExactly }
 {}

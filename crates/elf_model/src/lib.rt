@@ -1,7 +1,9 @@
-//! What the words of elfsee mean: the fields of an ELF64 file, the checks, the lines of a listing
-//! and the report, as definitions in `specs/`. As code there are only the causes of a refusal, the
-//! states of a file and of a symbol, how a line is written, what a relocation type is, and functions with no body whose
-//! contracts are laws about the definitions.
+//! The definitions of elfsee, in `specs/`: the fields of an ELF64 file, the checks, the lines of a
+//! listing and the report.
+//!
+//! As code there are only the causes of a refusal, the states of a file and of a symbol, how a line
+//! is written, what a relocation type is, and functions with an empty body whose contracts are laws
+//! about the definitions.
 #![tactic(auto)]
 
 mod apply_laws;

@@ -1,37 +1,37 @@
 //! The laws of listings.
 ghost use Rattle.elf_model.specs.ListingLaws.{LastRowIsLast, RowsSplit, HeaderAloneIsListed, HeaderFaultIsListedAlone, LoadFaultIsListedSecond, NothingAfterTheFault, ListingsAppend, OtherBitsMeanNothing, AmpleBudgetIsReport};
 
-/// The last row of so many stands behind the others.
+/// The last row of this many follows the others.
 pub fn last_row_is_last()
     ensures { LastRowIsLast }
 {}
 
-/// So many rows are some of them, and the others behind these.
+/// This many rows are some of them, and the others after these.
 pub fn rows_split()
     ensures { RowsSplit }
 {}
 
-/// With no part but the file header's the listing is the file header's.
+/// With no part except the file header's the listing is the file header's.
 pub fn header_alone_is_listed()
     ensures { HeaderAloneIsListed }
 {}
 
-/// Where a check of the file header fails, that fault's line is the listing, under any parts.
+/// If a check of the file header fails, that fault's line is the listing, under any parts.
 pub fn header_fault_is_listed_alone()
     ensures { HeaderFaultIsListedAlone }
 {}
 
-/// Where a load check fails, the file header's line and that fault's line are the listing.
+/// If a load check fails, the file header's line and that fault's line are the listing.
 pub fn load_fault_is_listed_second()
     ensures { LoadFaultIsListedSecond }
 {}
 
-/// What stands behind the first fault of a listing is not shown.
+/// What follows the first fault of a listing is not shown.
 pub fn nothing_after_the_fault()
     ensures { NothingAfterTheFault }
 {}
 
-/// Two listings one behind the other, the first without a fault.
+/// Two listings one after another, the first without a fault.
 pub fn listings_append()
     ensures { ListingsAppend }
 {}

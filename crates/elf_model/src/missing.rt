@@ -6,19 +6,19 @@ use crate::relocation_types::RelocationBase;
 pub enum LayoutAddress {
     /// That of the section of an index.
     Place(u16),
-    /// That which a base tells of a symbol's name.
+    /// That of a symbol's name for a base.
     Named(RelocationBase),
-    /// That of the procedure linkage table entry of a symbol's name, where no definition would do.
+    /// That of the procedure linkage table entry of a symbol's name, if no definition would do.
     Entry,
 }
 
-/// What a relocation entry was refused for want of.
+/// What was missing when a relocation entry was refused.
 #[derive(Clone, Copy)]
 pub struct MissingAddress {
     /// The number of the entry's relocation type.
     pub kind: u32,
-    /// Where the name of its symbol begins in the string table; 0 of symbol 0.
+    /// The offset of its symbol's name in the string table; 0 of symbol 0.
     pub name: u32,
-    /// The address that the layout has not.
+    /// The address that the layout does not have.
     pub wanted: LayoutAddress,
 }

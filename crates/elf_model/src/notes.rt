@@ -16,12 +16,13 @@ pub fn one_list_at_most()
     ensures { OneListAtMost }
 {}
 
-/// Where the walk is cut no list of notes fits, and the longest front of padded notes ends there.
+/// If the walk is cut, no list of notes fits, and the longest prefix of padded notes ends there.
 pub fn walked_is_cut()
     ensures { WalkedIsCut }
 {}
 
-/// Where no list of notes fits a table, the walk is cut at the end of the longest front of padded notes.
+/// If no list of notes fits a table, the walk is cut at the end of the longest prefix of padded
+/// notes.
 pub fn cut_is_walked()
     ensures { CutIsWalked }
 {}
@@ -31,27 +32,30 @@ pub fn fits_or_is_cut()
     ensures { FitsOrIsCut }
 {}
 
-/// Each note that is walked stands in its table at its row's offset.
+/// Each note that is walked is in its table at its row's offset.
 pub fn rows_stand()
     ensures { RowsStand }
 {}
 
-/// Notes, and descriptors that are not empty, start at multiples of the alignment, counted from their table's start.
+/// Notes, and descriptors that are not empty, start at multiples of the alignment, counted from
+/// their table's start.
 pub fn rows_aligned()
     ensures { RowsAligned }
 {}
 
-/// What stands before the first NUL of a name has none, and a NUL or nothing behind it.
+/// What comes before the first NUL of a name has none, and is followed by a NUL or nothing.
 pub fn before_nul_exactly()
     ensures { BeforeNulExactly }
 {}
 
-/// A note's name is shown whole exactly where it has no more than the cap's bytes before its first NUL.
+/// A note's name is shown whole exactly if it has no more than the cap's bytes before its first
+/// NUL.
 pub fn note_shown_whole_exactly()
     ensures { NoteShownWholeExactly }
 {}
 
-/// The first bytes of a note's name, as many as the cap, are shown exactly where it has more before its first NUL.
+/// The first bytes of a note's name, as many as the cap, are shown exactly if it has more before
+/// its first NUL.
 pub fn note_shown_cut_exactly()
     ensures { NoteShownCutExactly }
 {}

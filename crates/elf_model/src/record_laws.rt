@@ -6,7 +6,7 @@ pub fn fields_of_slices()
     ensures { FieldsOfSlices }
 {}
 
-/// A record's line, or its front, is the same at the record's own bytes.
+/// A record's line, or its prefix, is the same at the record's own bytes.
 pub fn lines_of_slices()
     ensures { LinesOfSlices }
 {}

@@ -1,6 +1,6 @@
-//! What a relocation type is: how its value is calculated, and where it fits.
+//! Relocation types: how a value is computed, and whether it fits.
 
-/// Which address of a symbol a relocation type's formula begins with (x86-64 psABI, Relocation).
+/// The address of a symbol that a relocation type's formula begins with (x86-64 psABI, Relocation).
 #[derive(Clone, Copy)]
 pub enum RelocationBase {
     /// S, the symbol's value.
@@ -13,8 +13,8 @@ pub enum RelocationBase {
     Thread,
 }
 
-/// How the value of a relocation type is calculated: B is the address that its base tells, A the
-/// addend, P the place of the bytes that are relocated (x86-64 psABI, Relocation).
+/// How the value of a relocation type is computed: B is the address for its base, A the addend, P
+/// the place of the bytes that are relocated (x86-64 psABI, Relocation).
 #[derive(Clone, Copy)]
 pub enum Formula {
     /// B + A.
@@ -23,16 +23,16 @@ pub enum Formula {
     Relative,
 }
 
-/// Which values a relocation type takes, of those modulo 2^64.
+/// Which values a relocation type allows, of those modulo 2^64.
 #[derive(Clone, Copy)]
 pub enum ValueRange {
     /// Any.
     Any,
-    /// Those that its bytes hold as a number without a sign.
+    /// Those that fit its bytes as an unsigned number.
     Unsigned,
-    /// Those that its bytes hold in two's complement.
+    /// Those that fit its bytes in two's complement.
     Signed,
-    /// Those that its bytes hold in one of the two ways.
+    /// Those that fit its bytes in one of the two ways.
     Either,
 }
 
@@ -41,10 +41,10 @@ pub enum ValueRange {
 pub struct RelocationType {
     /// How many bytes it changes: 1, 2, 4 or 8.
     pub width: u32,
-    /// Which address of the symbol its formula begins with.
+    /// The address of the symbol that its formula begins with.
     pub base: RelocationBase,
-    /// How its value is calculated.
+    /// How its value is computed.
     pub formula: Formula,
-    /// Which values it takes.
+    /// Which values it allows.
     pub range: ValueRange,
 }

@@ -1,4 +1,4 @@
-//! What is told of a file among many, and of a symbol that an object of a program asks others for.
+//! The states of a file among many, and of a symbol that an object of a program references.
 use crate::causes::Refusal;
 
 /// The state of a file among many.
@@ -14,26 +14,26 @@ pub enum FileStatus {
     NoElf,
     /// It can't be opened, or a read of it failed.
     Unread,
-    /// There was no memory for opening it.
+    /// There was not enough memory to open it.
     Memory,
 }
 
-/// What a file among many is, by its first bytes.
+/// The type of a file among many, by its first bytes.
 #[derive(Clone, Copy)]
 pub enum FileMagic {
     /// An ELF file.
     Elf,
-    /// An archive, where archives are gone into.
+    /// An archive, if archives are read.
     Archive,
-    /// An archive whose members are in other files, where archives are gone into.
+    /// An archive whose members are in other files, if archives are read.
     Thin,
-    /// Of another kind.
+    /// A file of any other type.
     Foreign,
     /// The budget ends before the bytes that decide it.
     Undecided,
 }
 
-/// The state of a symbol that an object asks others for.
+/// The state of a symbol that an object references.
 #[derive(Clone, Copy)]
 pub enum BindingState {
     /// An object defines it.
@@ -47,7 +47,8 @@ pub enum BindingState {
     Weak,
     /// No object defines it.
     Unbound,
-    /// No object defines it, and the one of which it asks for a version defines versions without that one.
+    /// No object defines it, and the object of its requested version defines versions, but not that
+    /// one.
     NoVersion,
     /// The lookup is refused in an object.
     Refused {

@@ -1,4 +1,4 @@
-//! The laws of a file whose header tells of no section headers.
+//! The laws of a file whose header locates no section headers.
 ghost use Rattle.elf_model.specs.StyleLaws.{ViewIsAsLong, ViewIsSeenInSlices, ViewIsTheFileAfterTheHeader};
 ghost use Rattle.elf_model.specs.StyleLaws.{ViewIsTheFileElsewhere, ViewTellsOfNone, ViewIsCheckedAlike, ViewIsItsOwnView};
 
@@ -8,12 +8,13 @@ pub fn view_is_as_long()
     ensures { ViewIsAsLong }
 {}
 
-/// Its bytes at a place are those of the file, with zeros where the header tells of section headers.
+/// Its bytes at an offset are those of the file, with zeros where the header locates section
+/// headers.
 pub fn view_is_seen_in_slices()
     ensures { ViewIsSeenInSlices }
 {}
 
-/// Behind the file header its bytes are the file's.
+/// After the file header its bytes are the file's.
 #[tactic(auto, using(crate::proofs::StyleLemmas::view_after))]
 pub fn view_is_the_file_after_the_header()
     ensures { ViewIsTheFileAfterTheHeader }
@@ -25,7 +26,7 @@ pub fn view_is_the_file_elsewhere()
     ensures { ViewIsTheFileElsewhere }
 {}
 
-/// Its header tells of no section headers.
+/// Its header locates no section headers.
 pub fn view_tells_of_none()
     ensures { ViewTellsOfNone }
 {}
@@ -36,7 +37,7 @@ pub fn view_is_checked_alike()
     ensures { ViewIsCheckedAlike }
 {}
 
-/// What is hidden once is hidden.
+/// Hiding twice is the same as hiding once.
 #[tactic(auto, using(crate::proofs::StyleLemmas::view_is_its_own))]
 pub fn view_is_its_own()
     ensures { ViewIsItsOwnView }

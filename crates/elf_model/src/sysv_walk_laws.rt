@@ -1,12 +1,13 @@
-//! Laws of walks in a hash table of the gABI (5, Hash Table) for a symbol that answers, each proved of the definitions.
+//! Laws of walks in a gABI hash table (5, Hash Table) for a symbol that answers, each proved from
+//! the definitions.
 ghost use Rattle.elf_model.specs.SysvWalkLaws.{SysvWalkAnswers, SysvWalkIsOne, SysvWalkIsBounded, SysvFoundAnswers, SysvWalkIsLookup};
 
-/// What is calculated is what a walk gives: its answer, and how many symbols it tries.
+/// What is computed is the result of a walk: its outcome, and how many symbols it tries.
 pub fn sysv_walk_answers()
     ensures { SysvWalkAnswers }
 {}
 
-/// A walk gives nothing else.
+/// A walk has no other result.
 pub fn sysv_walk_is_one()
     ensures { SysvWalkIsOne }
 {}

@@ -1,13 +1,14 @@
-//! What a file tells of how it is hardened.
+//! The hardening of a file.
 
-/// What a file is (gABI 4, ELF Header; gABI 5, Program Header), by the segments as a loader sees them.
+/// The kind of a file (gABI 4, ELF Header; gABI 5, Program Header), by the segments as a loader
+/// sees them.
 #[derive(Clone, Copy)]
 pub enum ProgramKind {
-    /// A program at fixed addresses that asks for an interpreter.
+    /// A program at fixed addresses that requests an interpreter.
     Exec,
-    /// A program at any address that asks for an interpreter.
+    /// A program at any address that requests an interpreter.
     Pie,
-    /// A program that asks for none.
+    /// A program that requests none.
     Static,
     /// A shared object.
     Lib,
@@ -15,25 +16,25 @@ pub enum ProgramKind {
     Object,
     /// A core file.
     Core,
-    /// A file of another type.
+    /// A file of any other type.
     Other,
 }
 
 /// How much of what a loader relocates is read-only afterwards.
 #[derive(Clone, Copy)]
 pub enum Relro {
-    /// All, since every symbol is bound before the program begins.
+    /// All, since every symbol is bound before the program starts.
     Full,
-    /// All but what is bound later.
+    /// All except what is bound later.
     Partial,
     /// Nothing.
     Absent,
 }
 
-/// Which entry tells a loader the folders that it looks for libraries in first.
+/// The dynamic entry with the directories in which a loader searches for libraries first.
 #[derive(Clone, Copy)]
 pub enum SearchPath {
-    /// DT_RUNPATH, which stands for a DT_RPATH beside it.
+    /// DT_RUNPATH, which a loader uses even if there is a DT_RPATH.
     Runpath,
     /// DT_RPATH.
     Rpath,
@@ -41,10 +42,10 @@ pub enum SearchPath {
     Absent,
 }
 
-/// What the program headers and the dynamic entries of a file tell of its memory.
+/// The traits of the program headers and the dynamic entries of a file.
 #[derive(Clone, Copy)]
 pub struct SegmentTraits {
-    /// What is read-only once it is relocated.
+    /// What is read-only after relocation.
     pub relro: Relro,
     /// The stack is executable.
     pub stack_executable: bool,
@@ -56,31 +57,31 @@ pub struct SegmentTraits {
 
 /// How a file is hardened.
 ///
-/// Each field is a column of a line, but the two of control flow, which share one.
+/// Each field is a column of a line, except the two of control flow, which share one.
 #[derive(Clone, Copy)]
 pub struct Hardening {
-    /// What the file is.
+    /// The kind of the file.
     pub kind: ProgramKind,
-    /// What its segments tell, where it has program headers.
+    /// The traits of its segments, if it has program headers.
     pub segments: Option<SegmentTraits>,
-    /// Indirect branches go to marked places alone (x86-64 psABI, Program Property).
+    /// Indirect branches go only to marked targets (x86-64 psABI, Program Property).
     pub ibt: bool,
-    /// Returns go by a shadow stack (x86-64 psABI, Program Property).
+    /// Returns use a shadow stack (x86-64 psABI, Program Property).
     pub shstk: bool,
-    /// A symbol tells that stacks are guarded.
+    /// A symbol shows that stacks are protected.
     pub canary: bool,
-    /// A symbol tells that calls of the C library are checked.
+    /// A symbol shows that calls of the C library are checked.
     pub fortify: bool,
-    /// Where libraries are looked for first.
+    /// Where libraries are searched for first.
     pub path: SearchPath,
 }
 
-/// A column of the line that tells how a file is hardened.
+/// A column of the line of a file's hardening.
 #[derive(Clone, Copy)]
 pub enum TraitColumn {
-    /// What the file is.
+    /// The kind of the file.
     Kind,
-    /// What is read-only once it is relocated.
+    /// What is read-only after relocation.
     Relro,
     /// Whether the stack is executable.
     Stack,
@@ -90,10 +91,10 @@ pub enum TraitColumn {
     Text,
     /// The control flow that is checked.
     Cet,
-    /// Whether stacks are guarded.
+    /// Whether stacks are protected.
     Canary,
     /// Whether calls of the C library are checked.
     Fortify,
-    /// Where libraries are looked for first.
+    /// Where libraries are searched for first.
     Path,
 }

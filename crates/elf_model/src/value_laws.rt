@@ -1,4 +1,4 @@
-//! Laws of relocation values, each proved of the definitions.
+//! Laws of relocation values, each proved from the definitions.
 ghost use Rattle.elf_model.specs.ValueLaws.{SumWraps, DifferenceWraps, AddendIsItsBits, SignedFits, PatchHasWidth};
 
 /// A sum modulo 2^64 is a sum of 64-bit words that wraps.
@@ -16,7 +16,7 @@ pub fn addend_is_its_bits()
     ensures { AddendIsItsBits }
 {}
 
-/// A value fits in two's complement exactly where it is its low bits with their sign.
+/// A value fits in two's complement exactly if it is its low bits with their sign.
 pub fn signed_fits()
     ensures { SignedFits }
 {}

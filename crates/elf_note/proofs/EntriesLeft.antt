@@ -13,19 +13,19 @@ is-same x y t = grind (arith, nat_tests)
 is-other : (x y : ℕ) → (x == y) ≡ false → x ≢ y
 is-other x y t = grind (arith, nat_tests)
 
--- behind the last entry none is left
+-- after the last entry none is left
 pub left-ended : (file : List ℕ) (d : DynCursorState) → d.ended ≡ true → entries_left file d ≡ 0
 left-ended file d e = rw e refl
 
--- else those are left that the table has
+-- otherwise those are left that the table has
 left-more : (file : List ℕ) (d : DynCursorState) → d.ended ≡ false → entries_left file d ≡ dynamic_count file (next_row d.cursor) d.cursor.left
 left-more file d e = rw e refl
 
--- behind the last row none is left
+-- after the last row none is left
 left-none : (file : List ℕ) (d : DynCursorState) → d.ended ≡ false → d.cursor.left ≡ 0 → entries_left file d ≡ 0
 left-none file d e z = left-more file d e ∙ ap (dynamic_count file (next_row d.cursor)) z ∙ count-zero file (next_row d.cursor)
 
--- the next entry stands behind the one that a step gives
+-- the next entry follows the one that a step yields
 pub next-place : (file : Option (List ℕ)) (old new : CursorState) → GivesRow file old new → old.table.entry ≡ 16 → next_row new ≡ next_row old + 16
 next-place file old new g e =
     let next = g.next_index in
@@ -46,7 +46,7 @@ one-less file old new e n l p =
         count-more file (next_row old.cursor) new.cursor.left (is-other (d_tag file (next_row old.cursor)) DT_NULL t)
         ∙ ap suc (ap (λ (x : ℕ). dynamic_count file x new.cursor.left) (sym p) ∙ sym (left-more file new (n ∙ t)))
 
--- a step over a row gives its entry
+-- a step over a row yields its entry
 pub gives-entry : (file : Option (List ℕ)) (old new : DynCursorState) (b : Bool) → b ≡ true → Advances file old.cursor new.cursor (Ok b) → old.cursor.table.entry ≡ 16
     → old.ended ≡ false → new.ended ≡ (d_tag new.cursor.row 0 == DT_NULL) → GivesEntry file old new
 gives-entry file old new false t s size e n = cc
@@ -79,7 +79,7 @@ here-some file at tag t = rw (t, value_here) refl
 here-none : (file : List ℕ) (at tag : ℕ) → (d_tag file at == tag) ≡ false → value_here file at tag ≡ None
 here-none file at tag t = rw (t, value_here) refl
 
--- the value of the first entry is its own, or that of those behind it
+-- the value of the first entry is its own, or that of those after it
 value-suc : (file : List ℕ) (at n tag : ℕ) → first_value (value_here file at tag) (dynamic_value file (at + 16) n tag) ≡ dynamic_value file at (suc n) tag
 value-suc file at n tag = go (d_tag file at == tag) refl
   where
@@ -87,7 +87,7 @@ value-suc file at n tag = go (d_tag file at == tag) refl
     go true t = ap (λ (x : Option ℕ). first_value x (dynamic_value file (at + 16) n tag)) (here-some file at tag t) ∙ sym (value-here file at n tag (is-same (d_tag file at) tag t))
     go false t = ap (λ (x : Option ℕ). first_value x (dynamic_value file (at + 16) n tag)) (here-none file at tag t) ∙ sym (value-more file at n tag (is-other (d_tag file at) tag t))
 
--- a value that is looked for in the entry that a step gives, and then in those that are left
+-- a value that is searched in the entry that a step yields, and then in those that are left
 pub value-step : (file : List ℕ) (old new : DynCursorState) (tag : ℕ) (found : Option ℕ) → entries_left file old ≡ suc (entries_left file new)
     → next_row new.cursor ≡ next_row old.cursor + 16
     → first_value (first_value found (value_here file (next_row old.cursor) tag)) (dynamic_value file (next_row new.cursor) (entries_left file new) tag)
@@ -98,18 +98,18 @@ value-step file old new tag None less next =
     ∙ value-suc file (next_row old.cursor) (entries_left file new) tag
     ∙ ap (λ (n : ℕ). dynamic_value file (next_row old.cursor) n tag) (sym less)
 
--- where no entry is left, a value is what was found
+-- if no entry is left, a value is the one found before
 pub value-end : (file : List ℕ) (d : DynCursorState) (tag : ℕ) (found : Option ℕ) → entries_left file d ≡ 0
     → first_value found (dynamic_value file (next_row d.cursor) (entries_left file d) tag) ≡ found
 value-end file d tag (Some value) z = refl
 value-end file d tag None z = ap (λ (n : ℕ). dynamic_value file (next_row d.cursor) n tag) z ∙ value-none file (next_row d.cursor) tag
 
--- a step that answered an entry gave it
+-- a step that returned `true` yielded an entry
 pub given : (file : Option (List ℕ)) (old new : DynCursorState) (b : Bool) → b ≡ true → AdvancesEntries file old new (Ok b) → GivesEntry file old new
 given file old new true t s = s
 given file old new false t s = cc
 
--- a step that answered none ended
+-- a step that returned `false` ended
 pub ended : (file : Option (List ℕ)) (old new : DynCursorState) (b : Bool) → b ≡ false → AdvancesEntries file old new (Ok b) → EndsEntries old new
 ended file old new false t s = s
 ended file old new true t s = cc

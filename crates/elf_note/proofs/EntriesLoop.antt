@@ -1,4 +1,5 @@
--- A loop over the dynamic entries of a table: what its reads come to, and which entry each step gives.
+-- A loop over the dynamic entries of a table: the sum of its reads, and which entry each step
+-- yields.
 use Rattle.std.proofs.Common.{◌≡◌, ℕ, suc, ◌+◌, ◌≤◌, List, None, Some, refl, ap, ◌∙◌, arith}
 use Rattle.elf_model.specs.Bytes.{slice}
 use Rattle.elf_source.specs.Source.{CountedState, ReadsUpTo}
@@ -7,8 +8,8 @@ use Rattle.elf_table.specs.Prelude.{HoldsRows, TableRange, next_row, size_of, un
 use Rattle.elf_note.specs.DynCursors.{DynCursorState, GivesEntry, StartsEntries, entries_left}
 use Rattle.elf_note.proofs.EntriesLeft.{next-place}
 
--- where a loop over the entries of a table stands: its cursor did not fail, what was asked for is no longer unread, and what is
--- held is the file's
+-- the state of a loop over the entries of a table: its cursor did not fail, the requested bytes are
+-- no longer unread, and what is held is the file's
 pub record GoesOver (table : TableRange) (before after : CountedState) (d : DynCursorState) : Type 0 where
   pub same_table : d.cursor.table ≡ table
   pub not_failed : d.cursor.failed ≡ None
@@ -30,11 +31,11 @@ goes-start {table} c {d} s =
       agrees = λ file h. rw held refl;
     }
 
--- what was asked for by a step more
+-- the bytes requested after one more step
 pub goes-reads : {table : TableRange} {a b c : CountedState} {old : DynCursorState} → GoesOver table a b old → ReadsUpTo b c (unread_bytes old.cursor) → ReadsUpTo a c (size_of table)
 goes-reads g reads = ReadsUpTo-to (ReadsUpTo-then g.reads reads) (let x = reads.at_most in let y = g.account in omega arith)
 
--- behind an entry
+-- after an entry
 module _ {table : TableRange} {a b : CountedState} {old new : DynCursorState} (g : GoesOver table a b old) (s : GivesEntry b.seen.file old new) where
   pub goes-next : {c : CountedState} → ReadsUpTo b c (unread_bytes old.cursor) → c.asked + unread_bytes new.cursor ≤ b.asked + unread_bytes old.cursor → GoesOver table a c new
   goes-next reads account = record {

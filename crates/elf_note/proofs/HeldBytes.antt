@@ -17,7 +17,7 @@ part-held file bytes at count place n held inside =
     ap (λ (x : ℕ). slice bytes x n) (sym place_is) ∙ sym (slice-slice bytes 0 count place n inside)
     ∙ ap (λ (x : List ℕ). slice x place n) whole ∙ slice-slice file at count place n inside
 
--- a read gives bytes of the file, or its fault
+-- a read returns bytes of the file, or its fault
 pub read-gives :
     {X : Type 0} (wanted bytes : List ℕ) (at : ℕ) (result : Result X Fault) → IfErr result (IsAt at) → OnOk result (bytes ≡ wanted)
     → GivesBytes wanted bytes result
@@ -25,7 +25,7 @@ read-gives wanted bytes at (Ok x) fails reads = reads
 read-gives wanted bytes at (Err (Refused refusal)) fails reads = cc
 read-gives wanted bytes at (Err (Source fault offset)) fails reads = tt
 
--- what a fault says is what a stop says
+-- a statement on a fault is one on a stop
 pub stop-says : {X : Type 0} (P : Fault → Type 0) (result : Result X Fault) → IfErr result P → IfSome (fault_of_result result) P
 stop-says P (Ok x) says = tt
 stop-says P (Err fault) says = says

@@ -14,7 +14,7 @@ part-of_file file part h at count agrees begins ends is =
     ∙ slice-slice file h.at (length h.bytes) (at - h.at) count (omega arith)
     ∙ ap (λ (x : ℕ). slice file x count) (omega arith)
 
--- the part from an offset on, as far as it is held
+-- the part at an offset, as far as it is held
 pub piece-of_file : (file part : List ℕ) (h : BufferedRange) (at place most : ℕ) → IsOf file h → place ≡ at → h.at ≤ place → place ≤ reach h
     → length part ≡ min most (reach h - place) → part ≡ slice h.bytes (place - h.at) (min most (reach h - place)) → part ≡ slice file at (length part)
 piece-of_file file part h at place most agrees same begins ends size is =
@@ -25,6 +25,6 @@ piece-of_file file part h at place most agrees same begins ends size is =
 pub still_ahead : {a b : CountedState} {n left : ℕ} {X : Type 0} {result : Result X Fault} (old new : ReadAheadState) → ReadsAhead a b old new result n left → AgreesWith a.seen.file old → AgreesWith b.seen.file new
 still_ahead old new p held = λ file is. let before = sym p.costs.spends.reads.keeps.same_file ∙ is in p.agrees file before (held file before)
 
--- and of one that is read beside it
+-- and of one that is read elsewhere
 pub still_held : {a b : CountedState} {n : ℕ} (now : ReadAheadState) → ReadsUpTo a b n → AgreesWith a.seen.file now → AgreesWith b.seen.file now
 still_held now p held = λ file is. held file (sym p.keeps.same_file ∙ is)

@@ -19,7 +19,7 @@ past file table size stand far =
     let t : nat_lt size (stand.place + record_size stand.kind) ≡ true = grind (arith, nat_tests) in
     rw t refl
 
--- what is left is cut where no record may be met any more, or none is in the table
+-- what is left is malformed if no record may be visited any more, or none is in the table
 pub cut-here :
     (file : List ℕ) (table size : ℕ) (stand : RecordCursorState) (left : ℕ) → (left ≡ 0) ⊎ (size < stand.place + record_size stand.kind)
     → visited_from file table size (Some stand) left ≡ no_versions (Some (record { at = stand.from; cause = VersionCut }))
@@ -27,7 +27,7 @@ cut-here file table size stand zero why = met-most file table size stand
 cut-here file table size stand (suc left) (inl none) = absurd (omega arith)
 cut-here file table size stand (suc left) (inr far) = met-refused file table size stand left _ (past file table size stand far)
 
--- a record that is read is met
+-- a record that is read is visited
 pub step-met :
     (file : List ℕ) (table size : ℕ) (stand : RecordCursorState) (left : ℕ) (step : VersionRecordStep) → 0 < left → IsStep file table size stand step
     → visited_from file table size (Some stand) left
@@ -38,7 +38,7 @@ step-met file table size stand (suc left) step some is =
     let leads = is.leads in
     rw (less, leads) (met-record file table size stand left is.passes)
 
--- one that is refused cuts what is left
+-- one that is refused ends what is left
 refused-cuts :
     (file : List ℕ) (table size : ℕ) (stand : RecordCursorState) (left : ℕ) (refusal : Refusal) → 0 < left
     → first_refusal (record_checks file table size stand) ≡ Some refusal
@@ -54,7 +54,7 @@ step-refused file table size standing s left new (Refused refusal) is some reads
     λ other. rw is (refused-cuts file table size (record_position_of s) left refusal some (reads other))
 step-refused file table size standing s left new (Source fault at) is some reads = tt
 
--- a step asks for no more than is no longer unread
+-- a step requests no more than the decrease of the unread bytes
 pub step-pays :
     (h : BufferedTable) (left each b : ℕ) → 0 < left → b ≤ each
     → unheld h b ≤ unheld h (left * each) - unheld h ((left - 1) * each)

@@ -1,4 +1,4 @@
--- The names of numbers, with a record more.
+-- The names of version indices, with one more record.
 use Rattle.std.proofs.Common.{◌≡◌, ◌≢◌, ℕ, ◌<◌, ◌≤◌, ◌==◌, ◌&&◌, Bool, true, false, List, [], ◌∷◌, ◌++◌, length, replicate, inl, inr, Option, None, Some, refl, sym, ap, slice_index_or, subst, ◌∙◌, arith}
 use Rattle.std.proofs.lemmas.Bool.{cases_Bool, cases_eq, cases_lt}
 use Rattle.std.proofs.lemmas.Bool.Decides.{nat_tests}
@@ -10,7 +10,7 @@ use Rattle.elf_note.specs.Prelude.{GivesName, IsNameOfRecord, IsPlaceOfRecord, N
 use Rattle.elf_note.specs.declared.version_names.VersionNameRef.TheVariants.{Defined, Needed, Nowhere}
 use Rattle.elf_note.specs.declared.version_names.VersionNameRef.{VersionNameRef}
 
--- where none of some records names a number, the others behind them do or do not
+-- if none of some records names a version index, the others after them do or do not
 behind-none :
     (file : List ℕ) (number : ℕ) (first second : List VisitedRecord) → named_by file number first ≡ None
     → named_by file number (first ++ second) ≡ named_by file number second
@@ -23,7 +23,7 @@ behind-none file number (met ∷ first) second e =
           ∙ behind-none file number first second (sym (named-later file number met first later) ∙ e)
     ]
 
--- a record behind others that does not name the number changes nothing
+-- a record after others that does not name the version index changes nothing
 pub not-named :
     (file : List ℕ) (number : ℕ) (records : List VisitedRecord) (met : VisitedRecord) → names_version_index file number met ≡ false
     → named_by file number (records ++ met ∷ []) ≡ named_by file number records
@@ -33,20 +33,20 @@ not-named file number records met other = go (named_by file number records) refl
     go None e = behind-none file number records (met ∷ []) e ∙ named-later file number met [] other ∙ named-none file number ∙ sym e
     go (Some first) e = first_list_names_first file number records (met ∷ []) first e ∙ sym e
 
--- nor does one where another has named it
+-- nor does one if another has named it
 pub still-named :
     (file : List ℕ) (number : ℕ) (records : List VisitedRecord) (met first : VisitedRecord) → named_by file number records ≡ Some first
     → named_by file number (records ++ met ∷ []) ≡ named_by file number records
 still-named file number records met first e = first_list_names_first file number records (met ∷ []) first e ∙ sym e
 
--- one that does, where none has, names it
+-- one that does, if none has, names it
 pub now-named :
     (file : List ℕ) (number : ℕ) (records : List VisitedRecord) (met : VisitedRecord) → named_by file number records ≡ None
     → names_version_index file number met ≡ true → named_by file number (records ++ met ∷ []) ≡ Some met
 now-named file number records met none here =
     behind-none file number records (met ∷ []) none ∙ named-here file number met [] here
 
--- a name that is nowhere is that of no record, and any other is one's
+-- a location that is nowhere is that of no record, and any other is that of one
 pub nowhere-none : (file : List ℕ) (o : Option VisitedRecord) (name : VersionNameRef) → IsNameOfRecord file o name → name ≡ Nowhere → o ≡ None
 nowhere-none file None name is e = refl
 nowhere-none file (Some met) Nowhere is e = absurd is
@@ -59,7 +59,7 @@ somewhere-some file None (Defined index) is other = absurd is
 somewhere-some file None (Needed index) is other = absurd is
 somewhere-some file (Some met) name is other = (met, refl)
 
--- a record names no number but its own
+-- a record names no version index but its own
 other-number : (version : Bool) (own number : ℕ) → own ≢ number → (version && (own == number)) ≡ false
 other-number true own number other = grind (arith, nat_tests)
 other-number false own number other = refl
@@ -68,7 +68,7 @@ own-number : (version : Bool) (own number : ℕ) → own ≡ number → (version
 own-number true own number same = grind (arith, nat_tests)
 own-number false own number same = refl
 
--- the name of a number that a record has, where none has named it before
+-- the name that a record gives a version index, if none has named it before
 gives-here :
     (file : List ℕ) (number : ℕ) (records : List VisitedRecord) (met : VisitedRecord) (name : VersionNameRef) (version : Bool) → names_version file met ≡ version
     → number_in (number_word file met) ≡ number → named_by file number records ≡ None → GivesName file met version name
@@ -80,7 +80,7 @@ gives-here file number records met name false is own none gives =
     let unnamed = not-named file number records met (own-number (names_version file met) _ number own ∙ is) ∙ none in
     rw (unnamed, gives) tt
 
--- a record that is taken in where its number has no name
+-- a record that is added if its version index has no name
 new-names :
     (file : List ℕ) (records : List VisitedRecord) (met : VisitedRecord) (names : List VersionNameRef) (own : ℕ) (name : VersionNameRef) → own < length names
     → number_in (number_word file met) ≡ own → name_at names own ≡ Nowhere → GivesName file met (names_version file met) name
@@ -99,7 +99,7 @@ new-names file records met names own name inside is nowhere gives before number 
           rw (kept, unnamed) (before number)
     ]
 
--- a place that is kept of it
+-- the place that is stored for it
 place-here :
     (file : List ℕ) (number : ℕ) (records : List VisitedRecord) (met : VisitedRecord) (version : Bool) → names_version file met ≡ version
     → number_in (number_word file met) ≡ number → named_by file number records ≡ None
@@ -138,7 +138,7 @@ take-new file records met names places own place name inside is nowhere gives he
       placed = new-places file records met places own place is none here before.placed;
     }
 
--- and one where it has
+-- and one if it has
 pub take-old :
     (file : List ℕ) (records : List VisitedRecord) (met : VisitedRecord) (names : List VersionNameRef) (places : List ℕ) (own : ℕ)
     → number_in (number_word file met) ≡ own → (name_at names own ≡ Nowhere → ⊥)
@@ -157,7 +157,7 @@ take-old file records met names places own is somewhere before = record {
           | inr other ↦ not-named file number records met (other-number (names_version file met) (number_in (number_word file met)) number (λ e. other (sym is ∙ e)))
         ]
 
--- no number has a name where there is no record
+-- no version index has a name if there is no record
 pub none-names : (file : List ℕ) (count number : ℕ) → IsNameOfRecord file (named_by file number []) (name_at (replicate count Nowhere) number)
 none-names file count number =
     let none = named-none file number in
@@ -168,13 +168,13 @@ none-names file count number =
           rw (none, here) tt
     ]
 
--- a name of a number that is low enough
+-- a name of a version index that is low enough
 pub name-fits : (number : ℕ) (name : VersionNameRef) → number < 1024 → NameFits number name
 name-fits number Nowhere low = tt
 name-fits number (Defined index) low = low
 name-fits number (Needed index) low = low
 
--- a number behind the last has no name
+-- a version index past the last has no name
 pub behind-last :
     (file : List ℕ) (o : Option VisitedRecord) (names : List VersionNameRef) (number : ℕ) → length names ≤ number → IsNameOfRecord file o (name_at names number)
     → IsNameOfRecord file o Nowhere

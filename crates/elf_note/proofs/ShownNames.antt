@@ -1,4 +1,4 @@
--- A note's name as it is shown, by what a search of its front found.
+-- A note's name as it is shown, by what a search of its prefix found.
 use Rattle.std.proofs.Common.{◌≡◌, ℕ, ◌+◌, ◌<◌, ◌≤◌, min, Bool, true, false, List, length, take, drop, Some, None, Ok, ◌⊎◌, inl, inr, ap, sym, ◌∙◌, refl, arith, length-take, take-take}
 use Rattle.std.proofs.lemmas.List.{take_all}
 use Rattle.elf_model.specs.Prelude.{Cut, Note, note_shown, nul_in, slice}
@@ -7,7 +7,7 @@ use Rattle.elf_model.proofs.NoteLoops.{note-shown-found, note-shown-all, note-sh
 use Rattle.elf_model.proofs.Nuls.{some-free}
 use Rattle.elf_table.specs.NamesRead.{Searched}
 
--- a front of the name
+-- a prefix of the name
 front-is : (file : List ℕ) (at size want : ℕ) (note : Note) → want ≤ size → note.name ≡ slice file at size → slice file at want ≡ take want note.name
 front-is file at size want note few e = sym (take-take want size (drop at file) few) ∙ ap (take want) (sym e)
 

@@ -1,14 +1,14 @@
--- What reads on credit come to, one after another.
+-- The sum of reads on credit, one after another.
 use Rattle.std.proofs.Common.{ℕ, ◌+◌, ◌≤◌, arith}
 use Rattle.elf_source.specs.Source.{CountedState, ReadsUpTo}
 use Rattle.elf_source.proofs.ReadsLaws.{ReadsUpTo-none, ReadsUpTo-then, ReadsUpTo-to}
 use Rattle.elf_note.specs.Ahead.{ReadsOnCredit}
 
--- nothing was read, and no credit was added that isn't counted
+-- nothing was read, and no credit was added that is not counted
 pub SpendsAtMost-none : (c : CountedState) (before after n : ℕ) → after ≤ before + n → ReadsOnCredit c c before after n
 SpendsAtMost-none c before after n within = record { reads = ReadsUpTo-none c (before + n); account = omega arith }
 
--- reads that take nothing of the credit
+-- reads that take nothing from the credit
 pub SpendsAtMost-reads : {a b : CountedState} {n : ℕ} (x : ℕ) → ReadsUpTo a b n → ReadsOnCredit a b x x n
 SpendsAtMost-reads x p = record { reads = ReadsUpTo-to p (omega (arith, p.at_most)); account = omega (arith, p.at_most) }
 

@@ -1,4 +1,4 @@
--- What a step over a window says of the notes that are left.
+-- The effect of a step over a window on the notes that are left.
 use Rattle.std.proofs.Common.{◌≡◌, ℕ, ◌+◌, ◌-◌, ◌<◌, ◌≤◌, min, true, false, List, length, take, drop, Some, Ok, ◌⊎◌, inl, inr, ap, sym, ◌∙◌, refl, arith, length-take, take-take}
 use Rattle.std.proofs.lemmas.Bool.{cases_lt}
 use Rattle.std.proofs.lemmas.List.{take_all}
@@ -22,7 +22,7 @@ no-cut (Source fault at) budget is = cc
 short : (file : List ℕ) (w : WindowState) → bytes_left w < 12 → length (rest file w) < 12
 short file w few = omega (arith, length-take (bytes_left w) (drop w.at file))
 
--- zeros alone are left
+-- only zeros are left
 pub left-zeros : (a : ℕ) (file : List ℕ) (w : WindowState) → bytes_left w < 12 → are_zeros (rest file w) ≡ true → notes_left a file w ≡ no_notes
 left-zeros a file w few z = walk-ends a w.at (rest file w) (next-ends a (rest file w) (short file w few) z)
 
@@ -30,7 +30,7 @@ left-zeros a file w few z = walk-ends a w.at (rest file w) (next-ends a (rest fi
 pub left-few : (a : ℕ) (file : List ℕ) (w : WindowState) → bytes_left w < 12 → are_zeros (rest file w) ≡ false → notes_left a file w ≡ cut_at w.at
 left-few a file w few z = walk-broken a w.at (rest file w) (next-tails a (rest file w) (short file w few) z)
 
--- the head of what is left is the note's
+-- the first bytes of what is left are the note's header
 record Heads (bytes : List ℕ) (head : NoteHead) : Type 0 where
   name : n_namesz bytes 0 ≡ head.namesz
   descriptor : n_descsz bytes 0 ≡ head.descsz
@@ -46,7 +46,7 @@ heads file at size head h s = record {
 end-is : (a : ℕ) (bytes : List ℕ) (head : NoteHead) → Heads bytes head → first_end a bytes ≡ descriptor_start a head.namesz head.descsz + head.descsz
 end-is a bytes head e = rw (e.name, e.descriptor) refl
 
--- the note that the head says does not fit
+-- the note of this header does not fit
 pub left-short : (a : ℕ) (file : List ℕ) (w : WindowState) (head : NoteHead) → IsNoteHead file w.at head → range_end w ≤ length file → 12 ≤ bytes_left w
     → bytes_left w < descriptor_start a head.namesz head.descsz + head.descsz → notes_left a file w ≡ cut_at w.at
 left-short a file w head s ends h few =
@@ -58,7 +58,7 @@ left-short a file w head s ends h few =
 pub size-parts : (s t n : ℕ) → s ≤ n → min (s + t) n ≡ s + min t (n - s)
 size-parts s t n few = omega arith
 
--- a note stands there
+-- there is a whole note
 pub left-found : (a : ℕ) (file : List ℕ) (old new : WindowState) (head : NoteHead) → IsNoteHead file old.at head → range_end old ≤ length file → 12 ≤ bytes_left old
     → descriptor_start a head.namesz head.descsz + head.descsz ≤ bytes_left old → range_end new ≡ range_end old
     → new.at ≡ old.at + note_size a head.namesz head.descsz (bytes_left old)
@@ -75,7 +75,7 @@ left-found a file old new head s ends h fits same moved =
     ∙ ap (λ (x : List ℕ). with_note (first_note a (rest file old)) (walk a (old.at + size) x)) behind
     ∙ ap (λ (x : ℕ). with_note (first_note a (rest file old)) (walk a x (rest file new))) (sym moved)
 
--- the first bytes of a front
+-- the first bytes of a prefix
 pub first-bytes : (file : List ℕ) (at size shown : ℕ) → shown ≡ min size 32 → take 32 (slice file at size) ≡ slice file at shown
 first-bytes file at size shown e = go (cases_lt size 32)
   where
@@ -119,7 +119,7 @@ found-tells file a cap old new head name_end name desc place desc_at shown here 
       },
     )
 
--- the places of a note's parts, one behind the other
+-- the places of a note's consecutive parts
 pub moved-by : (a at namesz descsz left behind place start moved : ℕ) → place ≡ at + descriptor_start a namesz descsz → start ≡ descriptor_start a namesz descsz
     → descriptor_start a namesz descsz + descsz ≤ left → behind + descriptor_start a namesz descsz ≡ left
     → moved ≡ place + descsz + min (bytes_to_alignment a (start + descsz)) (behind - descsz) → moved ≡ at + note_size a namesz descsz left

@@ -1,4 +1,4 @@
--- Records that are taken in one after the other.
+-- Records that are added one after the other.
 use Rattle.std.proofs.Common.{◌≡◌, ℕ, ◌*◌, ◌≤◌, Bool, true, false, if◌then◌else◌, List, [], ◌∷◌, ◌++◌, Option, None, Result, Err, refl, sym, ap, subst, ◌∙◌, append_assoc, append-nil, arith}
 use Rattle.std.proofs.Math.Nat.{mul-le-mul_right}
 use Rattle.elf_model.specs.Versions.{VisitedRecord, Versions, no_versions, with_visited}
@@ -9,7 +9,7 @@ use Rattle.elf_table.specs.declared.fault.Fault.TheVariants.{Refused, Source}
 use Rattle.elf_note.specs.Prelude.{BufferedTable, KeepsWalk, NamesNumbers, ReadsNumberNames, ReturnsVersion, VersionCursorState, unheld, unread, why_stopped_now}
 use Rattle.elf_note.specs.declared.version_names.VersionNameRef.{VersionNameRef}
 
--- what may still be asked for grows with the records that are left
+-- what may still be read grows with the records that are left
 less-unheld : (h : BufferedTable) (new old each : ℕ) → new ≤ old → unheld h (new * each) ≤ unheld h (old * each)
 less-unheld h new old each fewer = go h.whole
   where
@@ -23,11 +23,11 @@ unread-fewer old new keeps =
     let each = keeps.same_each in
     rw (held, each) (less-unheld old.held new.left old.left old.each keeps.fewer)
 
--- some records in front of those that are left
+-- some records before those that are left
 abbrev pub after_all : List VisitedRecord → Versions → Versions
 after_all records left = record { met = records ++ left.met; cut = left.cut }
 
--- before the first step none was met
+-- before the first step none was visited
 pub met-none : (file : List ℕ) (records : List VisitedRecord) (all : Versions) (names : List VersionNameRef) (places : List ℕ) → NamesNumbers file records names places
     → (seen : List VisitedRecord) × (all ≡ after_all seen all) × NamesNumbers file (records ++ seen) names places
 met-none file records all names places is = ([], refl, subst (λ (met : List VisitedRecord). NamesNumbers file met names places) (sym (append-nil records)) is)
@@ -40,7 +40,7 @@ stops-all file records seen all left new names places (Refused refusal) before t
     λ other. ap (λ (v : Versions). v.cut) (before ∙ ap (after_all seen) (tells other))
 stops-all file records seen all left new names places (Source fault at) before tells = tt
 
--- one record more behind those that were met
+-- one record more after those that were visited
 pub behind-more :
     (seen : List VisitedRecord) (met : VisitedRecord) (all left new : Versions) → all ≡ after_all seen left → left ≡ with_visited met new
     → all ≡ after_all (seen ++ met ∷ []) new
@@ -54,7 +54,7 @@ pub names-more :
     → NamesNumbers file (records ++ (seen ++ met ∷ [])) names places
 names-more file records seen met names places is = subst (λ (all : List VisitedRecord). NamesNumbers file all names places) (append_assoc records seen (met ∷ [])) is
 
--- at the end all were met
+-- at the end all were visited
 pub end-cut : (seen : List VisitedRecord) (all left : Versions) → all ≡ after_all seen left → left ≡ no_versions None → all.cut ≡ None
 end-cut seen all left before none = ap (λ (v : Versions). v.cut) (before ∙ ap (after_all seen) none)
 
@@ -65,7 +65,7 @@ end-names file records seen all left names places before none is =
     let met : all.met ≡ seen = ap (λ (v : Versions). v.met) (before ∙ ap (after_all seen) none) ∙ append-nil seen in
     subst (λ (m : List VisitedRecord). NamesNumbers file (records ++ m) names places) (sym met) is
 
--- a cursor that had not failed read as it says
+-- a cursor that had not failed read as stated
 pub going-did :
     {X : Type 0} {a b : CountedState} {n : ℕ} {P : List ℕ → Type 0} (failed : Option Fault) (result : Result X Fault) → failed ≡ None
     → CallDid a b (why_stopped_now failed result) n P → CallDid a b (fault_of_result result) n P

@@ -1,4 +1,4 @@
--- Words that are those of a record of a file.
+-- Fields that are those of a record of a file.
 use Rattle.std.proofs.Common.{◌≡◌, ℕ, ◌+◌, ◌^◌, ◌<◌, ◌≤◌, nat_lt, Bool, true, false, if◌then◌else◌, List, Option, None, Some, IfSome, Err, ◌⊎◌, inl, inr, refl, ap, ◌∙◌, arith}
 use Rattle.std.proofs.lemmas.Bool.Decides.{nat_tests}
 use Rattle.elf_model.specs.Prelude.{RecordCursorState, field, first_refusal, name_distance, name_end, name_index, record_checks, record_size, visited_at, word_checks}
@@ -24,12 +24,12 @@ end-is file Definition at = refl
 end-is file File at = refl
 end-is file Need at = refl
 
--- where the name is
+-- the location of the name
 pub named-where : (file : List ℕ) (kind : VersionKind) (at : ℕ) (words : VersionRecordFields) → HoldsWords file (record { kind = kind; at = at }) words
     → distance_of_name kind words.aux ≡ name_distance file (record { kind = kind; at = at })
 named-where file kind at words h = ap (distance_of_name kind) h.aux ∙ distance-is file kind at
 
--- the checks of the words are those of the record
+-- the checks of the fields are those of the record
 pub checks-are : (file : List ℕ) (kind : VersionKind) (at size place : ℕ) (words : VersionRecordFields) → HoldsWords file (record { kind = kind; at = at }) words
     → checks_of kind size place at words ≡ word_checks file size place (record { kind = kind; at = at })
 checks-are file kind at size place words h =
@@ -38,14 +38,14 @@ checks-are file kind at size place words h =
     let number = h.number in
     rw (version, number, ends) refl
 
--- what holds the name ends behind where it begins
+-- the structure that holds the name ends after its start
 pub distance-inside : (kind : VersionKind) (aux : ℕ) → distance_of_name kind aux ≤ end_of_named_record kind aux
 unfolding distance_of_name end_of_named_record
 distance-inside Definition aux = omega arith
 distance-inside File aux = omega arith
 distance-inside Need aux = omega arith
 
--- what a record may ask for
+-- what a record may read
 pub asks-words : (h : BufferedTable) (kind : VersionKind) → unheld h (record_size kind) ≤ unheld h (bytes_each kind)
 asks-words h kind = go h.whole kind
   where
@@ -65,7 +65,7 @@ asks-name h kind = go h.whole kind
     go false File = omega arith
     go false Need = omega arith
 
--- the checks of a record that is in the table are those of its words
+-- the checks of a record that is in the table are those of its fields
 pub record-checked :
     (file : List ℕ) (table size : ℕ) (s : RecordPosition) (words : VersionRecordFields) → s.place + record_size s.kind ≤ size
     → HoldsWords file (visited_at table (record_position_of s)) words
@@ -82,7 +82,7 @@ pub fits_along :
 fits_along size kind None near same = tt
 fits_along size kind (Some s) near same = record { near = near.0; owner = omega (arith, near.1); pays = rw same (omega arith) }
 
--- the index of a name: behind a definition, and in any other record
+-- the index of a name: after a definition, and in any other record
 pub definition-index :
     (file : List ℕ) (at : ℕ) (words : VersionRecordFields) → HoldsWords file (record { kind = Definition; at = at }) words
     → field file (at + words.aux) 4 ≡ name_index file (record { kind = Definition; at = at })
@@ -98,7 +98,7 @@ own-index file Definition at words (inr is) h = cc
 own-index file File at words is h = h.name
 own-index file Need at words is h = h.name
 
--- where a read fails no check is told
+-- if a read fails no check is returned
 pub read-fails : (file : List ℕ) (table size : ℕ) (stand : RecordCursorState) (fault : Fault) → IsOfRead fault → ReadsRecord file table size stand (Err fault)
 read-fails file table size stand (Refused refusal) budget = λ other. absurd (other budget)
 read-fails file table size stand (Source fault at) budget = tt

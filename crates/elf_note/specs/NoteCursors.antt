@@ -1,4 +1,4 @@
--- What a cursor over notes gives, note by note.
+-- What a cursor over notes yields, note by note.
 use Rattle.std.specs.Prelude.{ℕ, ◌≡◌, ◌+◌, ◌^◌, ◌<◌, ◌≤◌, min, suc, Bool, true, false, List, [], length, take, ◌⊎◌, Option, None, Some, Result, Ok, Err}
 use Rattle.elf_model.specs.Prelude.{Cut as ShownCut, DisplayedName, Note, NoteScan, SHOWN_DESCRIPTOR, bytes_to_alignment, descriptor_start, note_align, note_shown, slice, walk_from, with_note}
 use Rattle.elf_model.specs.declared.causes.Cause.TheVariants.{NoteCut}
@@ -12,8 +12,8 @@ use Rattle.elf_table.specs.declared.fault.Fault.TheVariants.{Refused}
 use Rattle.elf_note.specs.declared.note.FoundNote.{FoundNote}
 use Rattle.elf_note.specs.declared.note_row.NoteRow.{NoteRow}
 
--- a cursor: its table, the alignment of its notes, the bytes of the table that are left, the note that it shows with the
--- first bytes of its descriptor, and the fault where it failed
+-- a cursor: its table, the alignment of its notes, the bytes of the table that are left, the
+-- current note with the first bytes of its descriptor, and the fault if it failed
 pub record NoteCursorState : Type 0 where
   pub table : TableRange
   pub align : ℕ
@@ -33,7 +33,7 @@ pub record StartsNotes (table : TableRange) (align : ℕ) (c : NoteCursorState) 
 abbrev pub rest : List ℕ → WindowState → List ℕ
 rest file w = slice file w.at (bytes_left w)
 
--- the notes of some bytes from an offset on, up to the offset where they are cut, if they are
+-- the notes of some bytes at an offset, up to the offset of a malformed one, if there is one
 abbrev pub notes_from : ℕ → ℕ → List ℕ → NoteScan
 notes_from a at bytes = walk_from a (suc (length bytes)) at bytes
 
@@ -45,7 +45,7 @@ notes_left a file w = notes_from a w.at (rest file w)
 abbrev pub no_notes : NoteScan
 no_notes = record { notes = []; cut = None }
 
--- no note is left, and what is left at an offset is none
+-- no note is left, and the bytes left at an offset are malformed
 abbrev pub cut_at : ℕ → NoteScan
 cut_at at = record { notes = []; cut = Some at }
 
@@ -53,7 +53,7 @@ cut_at at = record { notes = []; cut = Some at }
 abbrev pub note_cut : ℕ → Fault
 note_cut at = Refused (record { at = at; cause = NoteCut })
 
--- what a step fails with: a fault of a read, or the refusal of what is left
+-- the fault of a step: a fault of a read, or the refusal of what is left
 abbrev pub StopsNote : ℕ → Fault → Type 0
 StopsNote at fault = IsOfRead fault ⊎ (fault ≡ note_cut at)
 
@@ -62,14 +62,14 @@ abbrev pub NameIs : NameEnd → List ℕ → DisplayedName → Type 0
 NameIs Whole bytes shown = shown ≡ ShownWhole bytes
 NameIs Cut bytes shown = shown ≡ ShownCut bytes
 
--- how many bytes a note takes of those that are left, for the sizes of its name and its descriptor
+-- how many of the bytes that are left a note takes, for the sizes of its name and its descriptor
 abbrev pub note_size : ℕ → ℕ → ℕ → ℕ → ℕ
 note_size a namesz descsz left =
     let size = descriptor_start a namesz descsz + descsz in
     min (size + bytes_to_alignment a size) left
 
--- a note of a file at an offset as it is found, with its name as it is shown and the first bytes of its descriptor, which is
--- the file's at its place
+-- a note of a file at an offset as it is found, with its name as it is shown and the first bytes of
+-- its descriptor, which are the file's at that place
 pub record IsNoteFound (file : List ℕ) (a cap at : ℕ) (note : Note) (found : FoundNote) (name descriptor : List ℕ) : Type 0 where
   pub its_place : found.at ≡ at
   pub namesz : found.head.namesz ≡ length note.name
@@ -80,23 +80,24 @@ pub record IsNoteFound (file : List ℕ) (a cap at : ℕ) (note : Note) (found :
   pub first_bytes : descriptor ≡ take SHOWN_DESCRIPTOR note.descriptor
   pub whole : note.descriptor ≡ slice file found.desc_at (length note.descriptor)
 
--- the notes that were left are a note, as it is found, and those that are left
+-- the notes that were left are a note, as it is found, and those that are left now
 abbrev pub GivesNote : List ℕ → ℕ → ℕ → ℕ → List ℕ → List ℕ → NoteScan → NoteScan → FoundNote → Type 0
 GivesNote file a cap at name descriptor old new found =
     (note : Note) × (old ≡ with_note note new) × IsNoteFound file a cap at note found name descriptor
 
--- what a step over the next note says of the notes that were left and are left
+-- the relation of the notes that were left before a step over the next note and those left after it
 abbrev pub ReturnsNote : List ℕ → ℕ → ℕ → ℕ → List ℕ → List ℕ → NoteScan → NoteScan → Result (Option FoundNote) Fault → Type 0
 ReturnsNote file a cap at name bytes old new (Ok (Some found)) = GivesNote file a cap at name (take found.shown bytes) old new found
 ReturnsNote file a cap at name bytes old new (Ok None) = old ≡ no_notes
 ReturnsNote file a cap at name bytes old new (Err fault) = fault ≡ note_cut at → old ≡ cut_at at
 
--- a note takes at least its head, and at the end nothing is left
+-- a note takes at least its header, and at the end nothing is left
 abbrev pub PassesNote : ℕ → ℕ → Option FoundNote → Type 0
 PassesNote before after (Some found) = (after + 12 ≤ before) × (found.at + 12 < 2 ^ 64) × (found.shown ≤ 32)
 PassesNote before after None = after ≡ 0
 
--- a note takes its own bytes of those that are left, with its padding, and its descriptor ends among them
+-- a note takes its own bytes of those that are left, with its padding, and its descriptor ends
+-- among them
 pub record TakesItsBytes (a : ℕ) (old new : WindowState) (found : FoundNote) : Type 0 where
   pub size : bytes_left new + note_size a found.head.namesz found.head.descsz (bytes_left old) ≡ bytes_left old
   pub ends : found.desc_at + found.head.descsz ≤ range_end old
@@ -105,28 +106,28 @@ abbrev pub TakesNoteBytes : ℕ → WindowState → WindowState → Option Found
 TakesNoteBytes a old new (Some found) = TakesItsBytes a old new found
 TakesNoteBytes a old new None = Unit {0}
 
--- the same of a step of a cursor
+-- the same for a step of a cursor
 abbrev PassesOverNote : NoteCursorState → NoteCursorState → Result Bool Fault → Type 0
 PassesOverNote old new (Ok true) = TakesItsBytes old.align old.ahead new.ahead new.found
 PassesOverNote old new (Ok false) = Unit {0}
 PassesOverNote old new (Err fault) = Unit {0}
 
--- where a step leaves a cursor: behind a note, at the end, or failed
+-- the position of a cursor after a step: after a note, at the end, or failed
 abbrev LeavesNote : NoteCursorState → NoteCursorState → Result Bool Fault → Type 0
 LeavesNote old new (Ok true) = (old.failed ≡ None) × (new.failed ≡ None) × (bytes_left new.ahead + 12 ≤ bytes_left old.ahead)
 LeavesNote old new (Ok false) = (old.failed ≡ None) × (new.failed ≡ None) × (bytes_left new.ahead ≡ 0)
 LeavesNote old new (Err fault) = (new.failed ≡ Some fault) × (old.failed ≡ None → StopsNote old.ahead.at fault)
 
--- what a step of a cursor says of a file's notes: those that were left are the one that it shows now and those that are
--- left; or none; or they are cut here
+-- the relation of a step of a cursor to a file's notes: those that were left are the current one
+-- and those that are left now; or there was none; or they are malformed here
 abbrev StepTells : List ℕ → ℕ → NoteCursorState → NoteCursorState → List ℕ → Result Bool Fault → Type 0
 StepTells file cap old new name (Ok true) =
     GivesNote file old.align cap old.ahead.at name new.descriptor (notes_left old.align file old.ahead) (notes_left old.align file new.ahead) new.found
 StepTells file cap old new name (Ok false) = notes_left old.align file old.ahead ≡ no_notes
 StepTells file cap old new name (Err fault) = old.failed ≡ None → fault ≡ note_cut old.ahead.at → notes_left old.align file old.ahead ≡ cut_at old.ahead.at
 
--- what every step keeps, fault or not: the table and the alignment, and no byte is asked for twice; a cursor that had failed
--- is as it was
+-- what every step keeps, fault or not: the table and the alignment, and no byte is requested twice;
+-- a cursor that had failed is unchanged
 pub record KeepsNotes (one_read : SourceState → ℕ → ℕ → SourceState → Type 0) (before after : CountedState) (old new : NoteCursorState) : Type 0 where
   pub same_table : new.table ≡ old.table
   pub same_align : new.align ≡ old.align
@@ -134,7 +135,7 @@ pub record KeepsNotes (one_read : SourceState → ℕ → ℕ → SourceState �
   pub onward : ReadsOnward one_read before.source after.source (frontier old.ahead) (frontier new.ahead)
   pub unchanged : (fault : Fault) → old.failed ≡ Some fault → new ≡ old
 
--- a step of a cursor, where it answers whether it gave a note
+-- a step of a cursor that returns whether it yielded a note
 pub record AdvancesNote (file : Option (List ℕ)) (cap : ℕ) (old new : NoteCursorState) (name : List ℕ) (result : Result Bool Fault) : Type 0 where
   pub leaves : LeavesNote old new result
   pub passes : PassesOverNote old new result
@@ -150,7 +151,7 @@ pub record ShowsNote (c : NoteCursorState) (row : NoteRow) : Type 0 where
   pub its_descriptor : row.desc_at ≡ c.found.desc_at
   pub its_bytes : row.desc.now ≡ c.descriptor
 
--- the same, where it answers the note
+-- the same, for a step that returns the note
 abbrev pub StepsNote : Option (List ℕ) → ℕ → NoteCursorState → NoteCursorState → List ℕ → Result (Option NoteRow) Fault → Type 0
 StepsNote file cap old new name (Ok (Some row)) = AdvancesNote file cap old new name (Ok true) × ShowsNote new row
 StepsNote file cap old new name (Ok None) = AdvancesNote file cap old new name (Ok false)

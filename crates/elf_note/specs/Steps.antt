@@ -4,8 +4,8 @@ use Rattle.elf_source.specs.Source.{CountedState, ReadsUpTo}
 use Rattle.elf_table.specs.Prelude.{IsReadFault}
 use Rattle.elf_table.specs.declared.fault.Fault.{Fault}
 
--- WHAT A STEP READ, fault or not: it asked for at most n bytes, and the first fault says what is so; a cursor that had failed
--- answers the same fault, and reads nothing
+-- WHAT A STEP READS, fault or not: it requests at most n bytes, and the first fault satisfies
+-- `IsReadFault`; a cursor that had failed returns the same fault, and reads nothing
 pub record StepReads {X : Type 0} (before after : CountedState) (n : ℕ) (failed : Option Fault) (result : Result X Fault) : Type 0 where
   pub reads : ReadsUpTo before after n
   pub says : failed ≡ None → IfErr result (IsReadFault before after n)

@@ -13,8 +13,8 @@ use elf_table::{Cursor, Fault, Row, Table};
 use std::marker::Model;
 
 /// A cursor over the dynamic entries of a table, of a section or of a segment (gABI 5, Dynamic
-/// Section). It reads as a cursor over rows does, and gives the rows up to and with the first whose
-/// tag is DT_NULL, or all.
+/// Section). It reads as a cursor over rows does, and yields the rows up to and including the first
+/// whose tag is DT_NULL, or all.
 #[derive(Drop)]
 pub struct DynCursor {
     cursor: Cursor,
@@ -33,7 +33,8 @@ impl Model for DynCursor {
         × (d.ended ≡ true → d.cursor.failed ≡ None) };
 }
 
-/// A cursor before the first entry of `table`, whose rows have 16 bytes (gABI 5, Dynamic Section).
+/// Creates a cursor before the first entry of `table`, whose rows have 16 bytes (gABI 5, Dynamic
+/// Section).
 pub fn dynamic_rows(table: Table) -> DynCursor
     requires { table.entry ≡ 16 }
     ensures { StartsEntries table result }
@@ -45,13 +46,13 @@ pub fn dynamic_rows(table: Table) -> DynCursor
 }
 
 impl DynCursor {
-    /// Goes to the next entry, and answers whether there is one. Behind an entry with the tag
-    /// DT_NULL there is none. What it asks for is no longer unread: all calls together ask for no
-    /// more than the table's bytes, each byte at most once.
+    /// Advances to the next entry and returns whether there is one. After an entry with the tag
+    /// DT_NULL there is none. All calls together read no more than the table's bytes, each byte at
+    /// most once.
     ///
     /// # Errors
-    /// A fault of a read, or a refusal for want of budget, at the next entry's offset. From then on
-    /// each call answers the same and reads nothing.
+    /// Returns a fault of a read, or the refusal `Budget`, at the next entry's offset. Each later
+    /// call returns the same and reads nothing.
     pub fn advance<S: Source>(&mut self, src: &mut Counted<S>) -> Result<bool, Fault>
         requires { TableInBounds src.old.seen.size self.old.cursor.table }
         ensures asks { StepReads src.old src.new (unread_bytes self.old.cursor)
@@ -69,8 +70,8 @@ impl DynCursor {
         Ok(true)
     }
 
-    /// The row of the entry that the last step gave: its index, its file offset and its 16 bytes.
-    /// After a fault it has no bytes.
+    /// Returns the row of the current entry: its index, its file offset and its 16 bytes. After a
+    /// fault it has no bytes.
     pub fn row(&self) -> Row<'_>
         requires { 0 < self.now.cursor.index }
         ensures { ShowsRow self.now.cursor result }
@@ -89,8 +90,8 @@ impl DynCursor {
     ghost use Rattle.elf_note.specs.Steps.{StepReads};
     ghost use Rattle.elf_note.specs.contracts.dyn_cursor.DynCursor.{the_row};
 
-    /// The row of the next entry, lent from the cursor's window until the next call, or None behind
-    /// the last entry.
+    /// Returns the row of the next entry, borrowed from the cursor's window until the next call, or
+    /// `None` after the last entry.
     ///
     /// # Errors
     /// As for [`DynCursor::advance`].
@@ -109,7 +110,7 @@ impl DynCursor {
     }
 }
 
-/// The entry whose bytes a row has, 16 of them (gABI 5, Dynamic Section).
+/// Decodes the entry in a row of 16 bytes (gABI 5, Dynamic Section).
 pub fn entry_in(row: &Row<'_>) -> Dyn
     requires { length row.now.bytes.now ≡ 16 }
     ensures { (file : List ℕ) (at : ℕ) → row.now.bytes.now ≡ slice file at 16 →
@@ -118,7 +119,7 @@ pub fn entry_in(row: &Row<'_>) -> Dyn
     Dyn::decode(row.bytes.first_chunk().unwrap())
 }
 
-// Whether an entry ends its array.
+// Returns `true` if an entry ends its array.
 fn is_null(entry: &Dyn) -> bool
     ensures { (file : List ℕ) (at : ℕ) → IsDyn file at entry.now →
         result ≡ (d_tag file at == DT_NULL) }

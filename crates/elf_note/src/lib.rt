@@ -1,10 +1,9 @@
-//! Names and symbols that the rows of a table refer to, read ahead of the rows that want them. No
-//! call takes memory.
+//! Names and symbols that the rows of a table refer to, read ahead of those rows.
 //!
-//! Notes and dynamic entries, read from their tables one after the other.
+//! Cursors over notes and over dynamic entries.
 //!
 //! Symbol versions (Linux Standard Base Core, Symbol Versioning): a cursor over the records of
-//! definitions and of needs, and the names of their numbers. No call takes memory.
+//! definitions and of needs, and the names of version indices. No call of this crate allocates.
 #![tactic(auto)]
 
 mod dyn_cursor;

@@ -1,4 +1,4 @@
-//! Where a name is.
+//! The location of a name.
 use elf_table::Names;
 
 /// An index into a string table, as `st_name` and `sh_name` are, with the entry that holds it
@@ -9,6 +9,6 @@ pub struct NameIndex {
     pub names: Names,
     /// The index of the name's first byte.
     pub off: u64,
-    /// The file offset of the entry that holds the index. Refusals of the name point there.
+    /// The file offset of the entry that holds the index. Refusals of the name point to it.
     pub at: u64,
 }

@@ -14,31 +14,33 @@ use elf_record::{Cause, NoteHead, Refusal};
 use elf_source::{Counted, Source};
 use elf_table::{Fault, NameBuf, NameEnd, NameLimit, WINDOW_BYTES, Window};
 
-/// The size of a note's head in bytes.
+/// The size of a note header in bytes.
 pub(crate) const HEAD_BYTES: usize = 12;
-/// How many bytes of a descriptor are shown.
+/// The number of bytes of a descriptor that are shown.
 pub(crate) const SHOWN_DESCRIPTOR: usize = 32;
 
-/// What is known of a note beside its name and its descriptor.
+/// What is known of a note besides its name and its descriptor.
 #[derive(Clone, Copy)]
 pub(crate) struct FoundNote {
-    /// The file offset of its head.
+    /// The file offset of its header.
     pub(crate) at: u64,
-    /// Its head.
+    /// Its header.
     pub(crate) head: NoteHead,
-    /// How its name ends.
+    /// Whether its name is shown whole.
     pub(crate) name_end: NameEnd,
     /// The file offset of its descriptor.
     pub(crate) desc_at: u64,
-    /// How many bytes of its descriptor are shown.
+    /// The number of bytes of its descriptor that are shown.
     pub(crate) shown: u64,
 }
 
-/// Goes over the next note with its padding. Its name is then in `name`, and the first bytes of its
-/// descriptor are in `desc`. None where only zero bytes are left, fewer than 12.
+/// Reads the next note and moves past its padding. Its name is then in `name`, and the first bytes
+/// of its descriptor are in `desc`. Returns `None` if fewer than 12 bytes are left, all of them
+/// zero.
 ///
 /// # Errors
-/// Refused with `NoteCut` at the note's offset where no note stands there. Else a fault of a read.
+/// Returns the refusal `NoteCut` at the note's offset if there is no whole note; otherwise a fault
+/// of a read.
 pub(crate) fn next_note<S: Source>(
     window: &mut Window<WINDOW_BYTES>,
     src: &mut Counted<S>,
@@ -88,8 +90,8 @@ pub(crate) fn next_note<S: Source>(
     }))
 }
 
-// Reads the first bytes of a descriptor, which stands so far behind its note's start, and passes
-// over the others and the padding.
+// Reads the first bytes of a descriptor, at the given distance from its note's start, and skips the
+// others and the padding.
 fn read_rest<S: Source>(
     window: &mut Window<WINDOW_BYTES>,
     src: &mut Counted<S>,
@@ -117,7 +119,7 @@ fn read_rest<S: Source>(
     Ok(())
 }
 
-// The fault that refuses a table of notes at an offset.
+// Returns the fault that refuses a table of notes at an offset.
 fn cut(at: u64) -> Fault
     ensures { result ≡ note_cut at }
 {

@@ -12,8 +12,9 @@ use elf_table::{Fault, NameBuf, NameEnd, NameLimit, Table, WINDOW_BYTES, Window}
 use std::marker::Model;
 
 /// A cursor over the notes of a table (gABI 5, Note Section). It reads at most 4,096 bytes at once,
-/// each byte of the table at most once and in order, and never past the table's end. What is not
-/// shown of a name or a descriptor is passed over. The first bytes of each descriptor are lent.
+/// each byte of the table at most once and in order, and never past the table's end. The part of a
+/// name or a descriptor that is not shown is skipped. The first bytes of each descriptor are
+/// borrowed from the cursor.
 #[derive(Drop)]
 pub struct NoteCursor {
     table: Table,
@@ -46,8 +47,8 @@ impl Model for NoteCursor {
 }
 
 impl NoteCursor {
-    /// A cursor before the first note of `table`, whose rows are single bytes. Notes are aligned to
-    /// 8 bytes where `align` is 8, else to 4, from the table's start on.
+    /// Creates a cursor before the first note of `table`, whose rows are single bytes. Notes are
+    /// aligned to 8 bytes if `align` is 8, otherwise to 4, counted from the start of the table.
     pub fn new(table: Table, align: u64) -> NoteCursor
         requires { table.entry ≡ 1 }
         ensures { StartsNotes table align result }
@@ -63,16 +64,15 @@ impl NoteCursor {
         }
     }
 
-    /// Goes to the next note with its padding, and answers whether there is one. A table with bytes
-    /// ends within the source's length. The note's name, as it is shown with at most `cap` bytes, is
-    /// then in `name`. What it asks for is no longer unread: all calls together ask for no more than
-    /// the table's bytes, each byte at most once.
+    /// Advances to the next note and returns whether there is one. A table with bytes ends within
+    /// the source's length. The note's name, as it is shown with at most `cap` bytes, is then in
+    /// `name`. All calls together read no more than the table's bytes, each byte at most once.
     ///
     /// # Errors
-    /// Refused with `NoteCut` at the file offset where no note stands; else a fault of a read, or a
-    /// refusal for want of budget, at the offset that was asked for. Then nothing of the next note is
-    /// given, and `name` holds any bytes. From then on each call answers the same fault and reads
-    /// nothing.
+    /// Returns the refusal `NoteCut` at the file offset where there is no whole note; otherwise a
+    /// fault of a read, or the refusal `Budget`, at the offset of the read. Then no part of the
+    /// next note is returned, and the contents of `name` are unspecified. Each later call returns
+    /// the same fault and reads nothing.
     pub fn advance<S: Source>(
         &mut self,
         src: &mut Counted<S>,
@@ -101,7 +101,7 @@ impl NoteCursor {
         }
     }
 
-    /// The note that the last step gave; before the first step one without meaning.
+    /// Returns the current note; before the first step it has no meaning.
     pub fn row(&self) -> NoteRow<'_>
         ensures shows { ShowsNote self.now result }
         ensures few { length result.desc.now ≤ 32 }
@@ -133,8 +133,8 @@ impl NoteCursor {
     ghost use Rattle.elf_note.specs.Steps.{StepReads};
     ghost use Rattle.elf_note.specs.contracts.note_cursor.NoteCursor.{the_row};
 
-    /// The next note, lent from the cursor until the next call, or None at the table's end. Its
-    /// name is then in `name`.
+    /// Returns the next note, borrowed from the cursor until the next call, or `None` at the
+    /// table's end. Its name is then in `name`.
     ///
     /// # Errors
     /// As for [`NoteCursor::advance`].
@@ -157,7 +157,7 @@ impl NoteCursor {
     }
 }
 
-// What a cursor shows before its first step.
+// Returns the note of a cursor before its first step.
 fn no_note() -> FoundNote
     ensures { (result.at ≡ 0) × (result.shown ≡ 0) }
 {

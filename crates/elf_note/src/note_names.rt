@@ -7,11 +7,11 @@ ghost use Rattle.elf_note.specs.NoteCursors.{NameIs};
 use elf_source::{Counted, Source};
 use elf_table::{Fault, NameBuf, NameEnd, NameLimit, WINDOW_BYTES, Window, search_name};
 
-/// Passes over the next `size` bytes, a note's name, and leaves in `name` what is shown of it with
-/// at most `cap` bytes: those before its first NUL, or all.
+/// Skips the next `size` bytes, a note's name, and leaves in `name` what is shown of it with at
+/// most `cap` bytes: those before its first NUL, or all.
 ///
 /// # Errors
-/// A fault of a read. Then `name` holds any bytes.
+/// Returns a fault of a read. Then the contents of `name` are unspecified.
 pub(crate) fn read_name<S: Source>(
     window: &mut Window<WINDOW_BYTES>,
     src: &mut Counted<S>,

@@ -14,17 +14,17 @@ use elf_source::{Counted, Source};
 use elf_table::{Fault, NameBuf, NameEnd, NameLimit, Table, find_nul, refused};
 use std::marker::Model;
 
-/// How many bytes of names are held at most.
+/// The largest number of bytes of names that are held.
 pub(crate) const NAMES_BYTES: usize = 4096;
-/// How many bytes of symbols are held at most, 136 of them.
+/// The largest number of bytes of symbols that are held: 136 symbols.
 pub(crate) const SYMBOLS_BYTES: usize = 3264;
-/// How many bytes of a name are asked for where it doesn't follow the last.
+/// The number of bytes of a name that are read if it does not follow the last one.
 const PIECE: u64 = 64;
 
-/// The names and the symbols that the rows of tables refer to, read ahead. Each call adds what it
-/// may ask for to a credit, and asks for what it wants; where names or symbols follow one another
-/// it asks for more at once, up to 4,096 bytes, as far as the credit goes. All calls together ask
-/// for no more than they may.
+/// The names and the symbols that the rows of tables refer to, read ahead. Each call adds the bytes
+/// that it may read to a credit, and reads what it needs; if names or symbols follow one another it
+/// reads more at once, up to 4,096 bytes, as far as the credit allows. All calls together read no
+/// more than they may.
 #[derive(Drop)]
 pub struct ReadAhead {
     names: ReadBuffer<NAMES_BYTES>,
@@ -41,7 +41,7 @@ impl Model for ReadAhead {
 }
 
 impl ReadAhead {
-    /// Nothing read, and no credit.
+    /// Creates a value with nothing read and no credit.
     pub fn new() -> ReadAhead
         ensures { (result.names.bytes ≡ []) × (result.symbols.bytes ≡ []) × (result.credit ≡ 0) }
     {
@@ -53,17 +53,17 @@ impl ReadAhead {
     }
 
     /// Reads the name at an index of a string table into `name`: the bytes before its NUL, or its
-    /// first `cap` bytes where it has more (gABI 4, String Table). An empty string table has the
-    /// empty name at index 0. What is not held it reads in pieces of at most 4,096 bytes, until the
-    /// first NUL is held, and never past the string table's end; `name_bytes` of the cap is added to
-    /// the credit, and what it asks for is taken from it. After a fault `name` holds any bytes, and
-    /// after one of a read no names are held.
+    /// first `cap` bytes if it has more (gABI 4, String Table). An empty string table has the empty
+    /// name at index 0. Bytes that are not held are read in pieces of at most 4,096 bytes, until
+    /// the first NUL is held, and never past the string table's end; `name_bytes` of the cap is
+    /// added to the credit, and the bytes that are read are taken from it. After a fault the
+    /// contents of `name` are unspecified, and after a fault of a read no names are held.
     ///
     /// # Errors
-    /// Refused at the entry that holds the index: `NameOutside` where the index is not below the
-    /// table's size, `NameUnended` where no more than `cap` bytes are left and none is a NUL;
-    /// `Budget`, only where a limit is set, at the offset of the piece that it has no room for.
-    /// Else a fault of the source, at the first byte of the name that was not held.
+    /// Returns a refusal at the entry that holds the index: `NameOutside` if the index is not below
+    /// the table's size, `NameUnended` if no more than `cap` bytes are left and none is a NUL;
+    /// `Budget`, only if a limit is set, at the offset of the piece that exceeds it. Otherwise
+    /// returns a fault of the source, at the first byte of the name that was not held.
     pub fn name<S: Source>(
         &mut self,
         src: &mut Counted<S>,
@@ -98,12 +98,12 @@ impl ReadAhead {
         refused(index.at, Cause::NameUnended)
     }
 
-    /// The symbol at the index `index`, which is below `len()`, of a table with rows of 24 bytes
-    /// (gABI 4, Symbol Table). 24 bytes are added to the credit, and what it asks for, of the table
-    /// from the symbol on, is taken from it.
+    /// Reads the symbol at the index `index`, which is below `len()`, of a table with rows of 24
+    /// bytes (gABI 4, Symbol Table). 24 bytes are added to the credit, and the bytes that are read,
+    /// which start at the symbol, are taken from it.
     ///
     /// # Errors
-    /// A fault of the read, or a refusal for want of budget, at the symbol's offset. Then no
+    /// Returns a fault of the read, or the refusal `Budget`, at the symbol's offset. Then no
     /// symbols are held.
     pub fn symbol<S: Source>(
         &mut self,
@@ -127,8 +127,8 @@ impl ReadAhead {
         Ok(Sym::decode(whole(self.symbols.part(at, SYMBOL_BYTES))))
     }
 
-    // Looks through `want` bytes of a name, or fewer up to the first NUL, and adds those before it
-    // to `name`, as far as `cap`. Answers whether there is a NUL.
+    // Searches `want` bytes of a name, or fewer up to the first NUL, and adds those before it to
+    // `name`, as far as `cap`. Returns whether there is a NUL.
     fn search<S: Source>(
         &mut self,
         src: &mut Counted<S>,
@@ -164,7 +164,7 @@ impl ReadAhead {
     }
 }
 
-// The bytes of a symbol as an array.
+// Returns the bytes of a symbol as an array.
 fn whole(bytes: &[u8]) -> &[u8; 24]
     requires { length bytes.now ≡ 24 }
     ensures { result.now ≡ bytes.now }
@@ -172,7 +172,7 @@ fn whole(bytes: &[u8]) -> &[u8; 24]
     bytes.first_chunk().unwrap()
 }
 
-// What a name may ask for, in whole pieces of 64 bytes.
+// Returns the number of bytes that a name may read, in whole pieces of 64 bytes.
 fn name_cost(cap: NameLimit) -> u64
     ensures value { result ≡ name_bytes cap.bytes }
     ensures enough { cap.bytes + 1 ≤ result }

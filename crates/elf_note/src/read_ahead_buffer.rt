@@ -1,4 +1,4 @@
-//! The fixed buffers that reading ahead takes.
+//! The fixed buffers for reading ahead.
 use crate::read_ahead::{NAMES_BYTES, SYMBOLS_BYTES};
 
 /// The size in bytes of the fixed buffers of a [`crate::ReadAhead`]: the bytes of names, and of

@@ -1,4 +1,4 @@
-//! A stretch of a file that is held.
+//! A buffer of consecutive bytes of a file.
 ghost use Rattle.std.specs.Prelude.{◌≡◌, ℕ, ◌+◌, ◌-◌, ◌^◌, ◌<◌, ◌≤◌, [], length, min, IfErr, OnOk};
 ghost use Rattle.elf_model.specs.Bytes.{slice};
 ghost use Rattle.elf_note.specs.Ahead.{BringsHeld, LosesAt, OnCredit, StaysOf, reach};
@@ -7,13 +7,13 @@ use elf_source::{Counted, Source};
 use elf_table::{Fault, fill};
 use std::marker::Model;
 
-/// How many bytes behind a stretch a wanted byte still counts as the next.
+/// How many bytes past the end of the buffer a byte still counts as the next one.
 const NEAR: u64 = 64;
 
-/// A stretch of a file: the bytes that the last read gave. Where others are wanted it reads from
-/// the first of them on. A read takes few bytes, and twice those of the read before it, as far as
-/// there is room, where that one served: where bytes were found in the stretch, or those now wanted
-/// stand right behind it.
+/// A buffer of consecutive bytes of a file: those of the last read. If other bytes are needed it
+/// reads again, starting at the first of them. A read takes few bytes; it takes twice those of the
+/// read before it, up to the capacity, if that one was useful: if bytes were found in the buffer,
+/// or those now needed follow it directly.
 #[derive(Drop)]
 pub(crate) struct ReadBuffer<const N: usize> {
     at: u64,
@@ -37,7 +37,7 @@ impl<const N: usize> Model for ReadBuffer<N> {
 }
 
 impl<const N: usize> ReadBuffer<N> {
-    /// A stretch of no bytes. A read where bytes are wanted that don't follow takes `few`.
+    /// Creates an empty buffer. A read of bytes that do not follow the last ones takes `few`.
     pub(crate) fn new(few: u64) -> ReadBuffer<N>
         requires { (few ≤ N) × (N ≤ 4096) }
         ensures { result.bytes ≡ [] }
@@ -52,12 +52,12 @@ impl<const N: usize> ReadBuffer<N> {
         }
     }
 
-    /// Holds the `count` bytes from the offset `at` on. Where it doesn't hold them it reads those
-    /// and more, as far as there is room and credit, and none from the offset `end` on. What it
-    /// asks for is taken from `credit`.
+    /// Fills the buffer so that it holds the `count` bytes at the offset `at`. If it does not hold
+    /// them it reads them and more, as far as the capacity and the credit allow, and none at or
+    /// past the offset `end`. The bytes that are read are taken from `credit`.
     ///
     /// # Errors
-    /// A fault of the read, or a refusal for want of budget, at `at`. Then nothing is held.
+    /// Returns a fault of the read, or the refusal `Budget`, at `at`. Then nothing is held.
     pub(crate) fn fill_buf<S: Source>(
         &mut self,
         src: &mut Counted<S>,
@@ -89,7 +89,7 @@ impl<const N: usize> ReadBuffer<N> {
         Ok(())
     }
 
-    // How many bytes a read at an offset is to take.
+    // Returns the number of bytes that a read at an offset is to take.
     fn next_span(&self, at: u64) -> u64
         ensures { result ≤ N }
     {
@@ -101,7 +101,7 @@ impl<const N: usize> ReadBuffer<N> {
         self.few
     }
 
-    /// The bytes that are held from the offset `at` on, at most `most`.
+    /// Returns the bytes that are held at the offset `at` and after, at most `most`.
     pub(crate) fn part(&self, at: u64, most: u64) -> &[u8]
         requires { (self.now.at ≤ at) × (at ≤ reach self.now) }
         ensures size { length result.now ≡ min most (reach self.now - at) }

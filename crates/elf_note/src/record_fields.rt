@@ -1,4 +1,4 @@
-//! What a record of symbol versions holds, whatever its kind.
+//! The fields of a record of symbol versions of any kind.
 ghost use Rattle.std.specs.Prelude.{◌≡◌, ℕ, List};
 ghost use Rattle.elf_record.specs.Prelude.{IsVerdef, IsVernaux, IsVerneed};
 ghost use Rattle.elf_model.specs.declared.versions.VersionKind.TheVariants.{Definition, File, Need};
@@ -6,12 +6,13 @@ ghost use Rattle.elf_note.specs.Words.{HoldsWords};
 
 use elf_record::{Verdef, Vernaux, Verneed};
 
-/// The words of a record. Those that its kind has not are 0, and the version of its layout is 1.
+/// The fields of a record. Fields that its kind does not have are 0, and the version of its layout
+/// is then 1.
 #[derive(Clone, Copy)]
 pub(crate) struct VersionRecordFields {
     /// The version of its layout.
     pub(crate) version: u16,
-    /// Its number, with the bit that hides it.
+    /// Its version index, with the hidden bit.
     pub(crate) number: u16,
     /// Its flags.
     pub(crate) flags: u16,
@@ -19,13 +20,13 @@ pub(crate) struct VersionRecordFields {
     pub(crate) hash: u32,
     /// The distance from it to its name, or to its first version.
     pub(crate) aux: u32,
-    /// The index of its name, where the record holds it.
+    /// The index of its name, if the record itself holds it.
     pub(crate) name: u32,
     /// The distance from it to the next of its kind; 0 ends the chain.
     pub(crate) next: u32,
 }
 
-/// The words of a definition.
+/// Returns the fields of a definition.
 #[tactic(auto, unfolding(elf_model::specs::Versions::version_word, elf_model::specs::Versions::number_word, elf_model::specs::Versions::flags_word, elf_model::specs::Versions::hash_word, elf_model::specs::Versions::next_word, crate::specs::Words::aux_word, crate::specs::Words::HoldsName))]
 pub(crate) fn of_definition(entry: &Verdef) -> VersionRecordFields
     ensures { (file : List ℕ) (at : ℕ) → IsVerdef file at entry.now →
@@ -42,7 +43,7 @@ pub(crate) fn of_definition(entry: &Verdef) -> VersionRecordFields
     }
 }
 
-/// The words of a needed file.
+/// Returns the fields of a needed file.
 #[tactic(auto, unfolding(elf_model::specs::Versions::version_word, elf_model::specs::Versions::number_word, elf_model::specs::Versions::flags_word, elf_model::specs::Versions::hash_word, elf_model::specs::Versions::next_word, crate::specs::Words::aux_word, crate::specs::Words::HoldsName))]
 pub(crate) fn of_file(entry: &Verneed) -> VersionRecordFields
     ensures { (file : List ℕ) (at : ℕ) → IsVerneed file at entry.now →
@@ -59,7 +60,7 @@ pub(crate) fn of_file(entry: &Verneed) -> VersionRecordFields
     }
 }
 
-/// The words of a needed version.
+/// Returns the fields of a needed version.
 #[tactic(auto, unfolding(elf_model::specs::Versions::version_word, elf_model::specs::Versions::number_word, elf_model::specs::Versions::flags_word, elf_model::specs::Versions::hash_word, elf_model::specs::Versions::next_word, crate::specs::Words::aux_word, crate::specs::Words::HoldsName))]
 pub(crate) fn of_need(entry: &Vernaux) -> VersionRecordFields
     ensures { (file : List ℕ) (at : ℕ) → IsVernaux file at entry.now →

@@ -1,4 +1,4 @@
-//! Where a walk over symbol versions stands, and where a record leads it.
+//! The position of a walk over symbol versions, and the position that follows a record.
 ghost use Rattle.std.specs.Prelude.{◌≡◌, ℕ, ◌+◌, ◌^◌, ◌<◌, ◌≤◌, List, Some, IfSome, MatchOption, option_map};
 ghost use Rattle.elf_model.specs.Prelude.{IsBudgetRefusal, along, first_position, first_refusal, number_in, record_size, visited_at};
 ghost use Rattle.elf_model.specs.declared.versions.VersionKind.TheVariants.{Need};
@@ -9,22 +9,22 @@ use crate::record_fields::VersionRecordFields;
 use elf_record::sizes::{VERSION_DEFINITION_BYTES, VERSION_NAME_BYTES, VERSION_NEED_BYTES};
 use elf_record::{Cause, Refusal, VERSION_NUMBERS, VersionKind, version_number};
 
-/// Where a walk stands.
+/// The position of a walk.
 #[derive(Clone, Copy)]
 pub struct RecordPosition {
-    /// The kind of the record that is to come.
+    /// The kind of the next record.
     pub kind: VersionKind,
-    /// Its place in the table, or behind it.
+    /// Its offset in the table, or past its end.
     pub place: u128,
-    /// The file offset of what led there.
+    /// The file offset of the header, tag or record that led there.
     pub from: u64,
-    /// Of a needed version, the place of its file.
+    /// For a needed version, the offset of its file.
     pub owner: u64,
-    /// Of a needed version, the distance from its file to the next.
+    /// For a needed version, the distance from its file to the next.
     pub files: u32,
 }
 
-/// The size of a record of a kind, in bytes.
+/// Returns the size of a record of a kind, in bytes.
 pub fn record_bytes(kind: VersionKind) -> u64
     ensures value { result ≡ record_size kind }
     ensures range { (16 ≤ result) × (result ≤ 20) }
@@ -35,7 +35,7 @@ pub fn record_bytes(kind: VersionKind) -> u64
     }
 }
 
-/// How many bytes a record may ask for, with its name.
+/// Returns the number of bytes that a record may read, with its name.
 pub(crate) fn bytes_each(kind: VersionKind) -> u64
     ensures value { result ≡ bytes_each kind }
     ensures range { (record_size kind ≤ result) × (result ≤ 28) }
@@ -46,8 +46,8 @@ pub(crate) fn bytes_each(kind: VersionKind) -> u64
     }
 }
 
-/// Where a walk begins over a table of so many bytes, of which something tells at a file offset;
-/// nowhere in one of no bytes.
+/// Returns the position before the first record of a table of `size` bytes, whose header or tag is
+/// at the file offset `head`; `None` if the table is empty.
 pub(crate) fn first(kind: VersionKind, head: u64, size: u64) -> Option<RecordPosition>
     requires { kind ≡ Need → ⊥ }
     ensures stands { option_map record_position_of result ≡ first_position kind head size }
@@ -66,7 +66,7 @@ pub(crate) fn first(kind: VersionKind, head: u64, size: u64) -> Option<RecordPos
     })
 }
 
-/// The distance from a record to what holds the index of its name.
+/// Returns the distance from a record to the structure that holds the index of its name.
 #[tactic(auto, unfolding(crate::specs::Words::distance_of_name))]
 pub(crate) fn name_distance(kind: VersionKind, aux: u32) -> u64
     ensures value { result ≡ distance_of_name kind aux }
@@ -78,8 +78,8 @@ pub(crate) fn name_distance(kind: VersionKind, aux: u32) -> u64
     }
 }
 
-/// The first check of a record's words that fails: the version of its layout, its number, and its
-/// name, which is in the table.
+/// Returns the first check of a record's fields that fails: the version of its layout, its version
+/// index, and whether its name is in the table.
 pub(crate) fn refused_words(
     size: u64,
     stand: &RecordPosition,
@@ -104,7 +104,7 @@ pub(crate) fn refused_words(
     None
 }
 
-// The distance from a record to the end of what holds its name.
+// Returns the distance from a record to the end of the structure that holds its name.
 #[tactic(auto, unfolding(crate::specs::Words::end_of_named_record))]
 fn name_end(kind: VersionKind, aux: u32) -> u64
     ensures value { result ≡ end_of_named_record kind aux }
@@ -116,14 +116,14 @@ fn name_end(kind: VersionKind, aux: u32) -> u64
     }
 }
 
-// The refusal for a cause at a file offset.
+// Returns the refusal for a cause at a file offset.
 fn refused(at: u64, cause: Cause) -> Option<Refusal>
     ensures { result ≡ Some (record { at = at; cause = cause }) }
 {
     Some(Refusal { at, cause })
 }
 
-/// Where a record leads a walk.
+/// Returns the position that follows a record.
 #[tactic(auto, using(crate::proofs::WordLaws::fits_along), unfolding(elf_model::specs::Versions::next_position, elf_model::specs::Versions::next_word, crate::specs::Words::aux_word))]
 pub(crate) fn behind(
     table: u64,
@@ -166,7 +166,8 @@ pub(crate) fn behind(
     }
 }
 
-// Where a record leads by the distance from it to the next of its kind, of which 0 is the end.
+// Returns the position that follows a record, by the distance from it to the next of its kind, of
+// which 0 is the end.
 fn along(kind: VersionKind, place: u64, from: u64, distance: u32) -> Option<RecordPosition>
     ensures leads { (table : ℕ) → from ≡ table + place →
         option_map record_position_of result ≡ along table kind place distance 0 }

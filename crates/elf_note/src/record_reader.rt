@@ -1,4 +1,4 @@
-//! A record of symbol versions, read where a walk stands.
+//! A record of symbol versions, read at the position of a walk.
 ghost use Rattle.std.specs.Prelude.{◌≡◌, ℕ, ◌+◌, ◌^◌, ◌<◌, ◌≤◌, List, IfOk};
 ghost use Rattle.elf_table.specs.Ledger.{IsRead};
 ghost use Rattle.elf_model.specs.Versions.{visited_at, name_index, record_size};
@@ -13,19 +13,19 @@ use elf_record::{Verdef, Vernaux, Verneed, VersionKind, word};
 use elf_source::{Counted, Source};
 use elf_table::Fault;
 
-/// A record, and where it leads a walk.
+/// A record, and the position that follows it.
 #[derive(Clone, Copy)]
 pub(crate) struct VersionRecordStep {
     /// The record.
     pub(crate) record: VersionRecord,
-    /// Where it leads.
+    /// The position that follows it.
     pub(crate) next: Option<RecordPosition>,
 }
 
-/// Reads the record where a walk stands, which is in the table.
+/// Reads the record at the position of a walk, which is in the table.
 ///
 /// # Errors
-/// The first of its checks that fails; else a fault of a read.
+/// Returns the first of its checks that fails; otherwise a fault of a read.
 pub(crate) fn read_record<S: Source>(
     held: &TableBuffer,
     src: &mut Counted<S>,
@@ -53,7 +53,7 @@ pub(crate) fn read_record<S: Source>(
     })
 }
 
-// The words of a record that is in the table.
+// Reads the fields of a record that is in the table.
 fn read_words<S: Source>(
     held: &TableBuffer,
     src: &mut Counted<S>,
@@ -83,8 +83,8 @@ fn read_words<S: Source>(
     }
 }
 
-// The index of the name of a record whose words are known, and whose name is in the table: a
-// definition's is read.
+// Returns the index of the name of a record whose fields are known, and whose name is in the table:
+// that of a definition is read.
 fn read_name<S: Source>(
     held: &TableBuffer,
     src: &mut Counted<S>,
@@ -110,7 +110,7 @@ fn read_name<S: Source>(
     }
 }
 
-// A record at a file offset as it is given, by its words and the index of its name.
+// Returns the record at a file offset, by its fields and the index of its name.
 fn given(stand: &RecordPosition, at: u64, words: &VersionRecordFields, name: u32) -> VersionRecord
     requires { at + distance_of_name stand.now.kind words.now.aux < 2 ^ 64 }
     ensures is { (file : List ℕ) (table : ℕ) → at ≡ table + stand.now.place →

@@ -2,7 +2,7 @@
 ghost use Rattle.std.specs.Prelude.{◌≡◌, ◌<◌, min};
 ghost use Rattle.elf_model.specs.Notes.{bytes_to_alignment, alignment_gap};
 
-// How many bytes there are from `place` to the next multiple of `align`.
+// Returns the number of bytes from `place` to the next multiple of `align`.
 fn bytes_to_alignment(align: u64, place: u64) -> u64
     requires { 0 < align }
     ensures value { result ≡ bytes_to_alignment align place }
@@ -11,8 +11,8 @@ fn bytes_to_alignment(align: u64, place: u64) -> u64
     (align - place % align) % align
 }
 
-/// How many bytes stand between a note's name and its descriptor, for their sizes: none where the
-/// descriptor is empty.
+/// Returns the number of bytes between a note's name and its descriptor, for their sizes: none if
+/// the descriptor is empty.
 pub fn alignment_gap(align: u64, namesz: u32, descsz: u32) -> u64
     requires { 0 < align }
     ensures value { result ≡ alignment_gap align namesz descsz }
@@ -24,8 +24,9 @@ pub fn alignment_gap(align: u64, namesz: u32, descsz: u32) -> u64
     bytes_to_alignment(align, 12 + u64::from(namesz))
 }
 
-/// How many bytes stand behind a note of `size` bytes in its table, of which `left` bytes are left
-/// behind the note: those up to the next multiple of the alignment, or fewer at the table's end.
+/// Returns the number of padding bytes after a note of `size` bytes, if `left` bytes of its table
+/// are left after the note: those up to the next multiple of the alignment, or fewer at the table's
+/// end.
 pub fn padding(align: u64, size: u64, left: u64) -> u64
     requires { 0 < align }
     ensures { result ≡ min (bytes_to_alignment align size) left }

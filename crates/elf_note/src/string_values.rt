@@ -1,4 +1,4 @@
-//! Where dynamic entries say that their string table is.
+//! The location of a string table, by the dynamic entries.
 ghost use Rattle.std.specs.Prelude.{◌≡◌, ℕ, List, Option, IfErr, IfOk};
 ghost use Rattle.elf_model.specs.Prelude.{DT_STRSZ, DT_STRTAB, d_tag, d_un};
 ghost use Rattle.elf_record.specs.Dyn.{IsDyn};
@@ -11,7 +11,8 @@ use elf_record::numbers::{DT_STRSZ, DT_STRTAB};
 use elf_source::{Counted, Source};
 use elf_table::{Fault, Table};
 
-/// Where the string table of dynamic entries is in memory, as they say (gABI 5, Dynamic Section).
+/// The location of the string table of dynamic entries in memory, by those entries (gABI 5, Dynamic
+/// Section).
 #[derive(Clone, Copy)]
 pub struct DynamicStrings {
     /// Its virtual address, the value of the first DT_STRTAB, if there is one.
@@ -20,12 +21,12 @@ pub struct DynamicStrings {
     pub size: Option<u64>,
 }
 
-/// Goes over the dynamic entries of a table, whose rows have 16 bytes, up to and with the first
-/// DT_NULL, and answers where they say that their string table is. It asks for each byte of the
-/// table at most once.
+/// Iterates over the dynamic entries of a table, whose rows have 16 bytes, up to and including the
+/// first DT_NULL, and returns the location of their string table. It reads each byte of the table
+/// at most once.
 ///
 /// # Errors
-/// A fault of a read, or a refusal for want of budget, at an entry's offset.
+/// Returns a fault of a read, or the refusal `Budget`, at an entry's offset.
 pub fn dynamic_strings<S: Source>(
     table: Table,
     src: &mut Counted<S>,
@@ -47,7 +48,7 @@ pub fn dynamic_strings<S: Source>(
     Ok(DynamicStrings { address, size })
 }
 
-/// A value that was found, or that of an entry where it has the tag.
+/// Returns a value found before, or that of an entry if it has the tag.
 pub fn first_of(found: Option<u64>, tag: u64, entry: &Dyn) -> Option<u64>
     ensures { (file : List ℕ) (at : ℕ) → IsDyn file at entry.now →
         result ≡ first_value found (value_here file at tag) }

@@ -8,7 +8,7 @@ use elf_source::{Counted, Source};
 use elf_table::{Fault, Table, fill};
 use std::marker::Model;
 
-/// How many bytes of a table are held at most.
+/// The largest number of bytes of a table that are held.
 pub const VERSIONS_BUFFER_BYTES: usize = 4096;
 
 /// The bytes of a table whose rows are single bytes: all of them are held, or none.
@@ -36,11 +36,11 @@ impl Model for TableBuffer {
 }
 
 impl TableBuffer {
-    /// The bytes of `table`, which ends within the source's length. It reads all at once where they
-    /// are no more than `most` and than 4,096, and else nothing.
+    /// Reads the bytes of `table`, which ends within the source's length. It reads all at once if
+    /// they are at most `most` and at most 4,096, and otherwise nothing.
     ///
     /// # Errors
-    /// A fault of the read, or a refusal for want of budget, at the table's first byte.
+    /// Returns a fault of the read, or the refusal `Budget`, at the table's first byte.
     pub(crate) fn load<S: Source>(
         src: &mut Counted<S>,
         table: Table,
@@ -69,7 +69,7 @@ impl TableBuffer {
         })
     }
 
-    /// The bytes of `table`, none of which are held.
+    /// Creates a buffer of `table` that holds none of its bytes.
     pub(crate) fn unread(table: Table) -> TableBuffer
         requires { table.entry ≡ 1 }
         ensures its_table { result.table ≡ table }
@@ -83,7 +83,7 @@ impl TableBuffer {
         }
     }
 
-    /// The table.
+    /// Returns the table.
     pub(crate) fn table(&self) -> Table
         ensures is { result ≡ self.now.table }
         ensures bytes { self.now.table.entry ≡ 1 }
@@ -92,12 +92,12 @@ impl TableBuffer {
         self.table
     }
 
-    /// Fills `out`, at most 4,096 bytes, with the table's bytes from a place on: without a read where
-    /// they are held, else by one.
+    /// Fills `out`, at most 4,096 bytes, with the table's bytes at a place: without a read if they
+    /// are held, otherwise by one.
     ///
     /// # Errors
-    /// A fault of the read, or a refusal for want of budget, at the first of these bytes. Then `out`
-    /// holds any bytes.
+    /// Returns a fault of the read, or the refusal `Budget`, at the first of these bytes. Then the
+    /// contents of `out` are unspecified.
     pub(crate) fn read<S: Source>(
         &self,
         src: &mut Counted<S>,

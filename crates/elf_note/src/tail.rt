@@ -7,11 +7,11 @@ ghost use Rattle.elf_note.specs.NoteCursors.{rest};
 use elf_source::{Counted, Source};
 use elf_table::{Fault, WINDOW_BYTES, Window};
 
-/// Whether all bytes that are left are zero, which are no more than the window holds. They are
-/// passed over.
+/// Returns `true` if all bytes that are left are zero; they are no more than the window holds. They
+/// are skipped.
 ///
 /// # Errors
-/// A fault of a read.
+/// Returns a fault of a read.
 pub(crate) fn ends_in_zeros<S: Source>(
     window: &mut Window<WINDOW_BYTES>,
     src: &mut Counted<S>,
@@ -30,7 +30,7 @@ pub(crate) fn ends_in_zeros<S: Source>(
     Ok(zeros)
 }
 
-/// Whether all bytes are zero.
+/// Returns `true` if all bytes are zero.
 pub fn are_zeros(bytes: &[u8]) -> bool
     ensures { result ≡ are_zeros bytes.now }
 {

@@ -17,11 +17,11 @@ use elf_source::{Counted, Source};
 use elf_table::{Fault, Table, refused};
 use std::marker::Model;
 
-/// A cursor over the records of a table of definitions, or of needs (Linux Standard Base Core, Symbol
-/// Versioning). It goes from record to record by the distances that they hold, and reads no count. A
-/// table of at most 4,096 bytes is read at once, where that is no more than its records may ask for:
-/// each 20 bytes and 8 for its name, or 16, for as many as have room in the table one behind the
-/// other. Of any other each record is read alone.
+/// A cursor over the records of a table of definitions, or of needs (Linux Standard Base Core,
+/// Symbol Versioning). It follows the distances in the records, and reads no count. A table of at
+/// most 4,096 bytes is read at once, if that is no more than its records may read: each 20 bytes
+/// and 8 for its name, or 16, for as many consecutive records as fit in the table. In any other
+/// table each record is read alone.
 #[derive(Drop)]
 pub struct VersionCursor {
     held: TableBuffer,
@@ -50,13 +50,14 @@ impl Model for VersionCursor {
 }
 
 impl VersionCursor {
-    /// A cursor before the first record of `table`, whose rows are single bytes and which ends within
-    /// the source's length: of definitions, or of needed files with their versions. What tells of the
-    /// table stands at the file offset `head`; refusals point there where no record stands at its
-    /// first byte. What it asks for the cursor may no longer ask for.
+    /// Creates a cursor before the first record of `table`, whose rows are single bytes and which
+    /// ends within the source's length: of definitions, or of needed files with their versions. The
+    /// header or tag that describes the table is at the file offset `head`; refusals point to it if
+    /// there is no record at the table's first byte. The bytes read here count as those of the
+    /// cursor's calls.
     ///
     /// # Errors
-    /// A fault of the read of the whole table, or a refusal for want of budget, at its first byte.
+    /// Returns a fault of the read of the whole table, or the refusal `Budget`, at its first byte.
     pub fn new<S: Source>(
         src: &mut Counted<S>,
         kind: VersionKind,
@@ -87,8 +88,9 @@ impl VersionCursor {
         })
     }
 
-    /// A cursor as by [`VersionCursor::new`] that reads each record alone, whatever the table's size:
-    /// for a walk that may end before the table does. A step asks for no more than its record may.
+    /// Creates a cursor as [`VersionCursor::new`] does, but one that reads each record alone, for
+    /// any size of the table: for a walk that may end before the table does. A step reads no more
+    /// than its record may.
     pub fn one_by_one(kind: VersionKind, head: u64, table: Table) -> VersionCursor
         requires bytes { table.entry ≡ 1 }
         requires kind { kind ≡ Need → ⊥ }
@@ -106,8 +108,8 @@ impl VersionCursor {
         }
     }
 
-    /// A cursor that reads each record alone, and goes on where another walk stood over `table`, whose
-    /// rows are single bytes: no more than `left` records are met.
+    /// Creates a cursor that reads each record alone, and resumes another walk over `table`, whose
+    /// rows are single bytes: at most `left` records are visited.
     pub fn resumed(table: Table, standing: Option<RecordPosition>, left: u64) -> VersionCursor
         requires bytes { table.entry ≡ 1 }
         requires fits { IfSome standing (IsPositionInTable table.count 28) }
@@ -126,7 +128,7 @@ impl VersionCursor {
         }
     }
 
-    /// Where the walk stands; None behind the last record.
+    /// Returns the position of the walk; `None` after the last record.
     pub fn standing(&self) -> Option<RecordPosition>
         ensures is { result ≡ self.now.standing }
         ensures fits { IfSome result (IsPositionInTable self.now.held.table.count self.now.each) }
@@ -134,15 +136,16 @@ impl VersionCursor {
         self.standing
     }
 
-    /// Goes to the next record, or answers None behind the last. All calls together ask for no more
-    /// than the records may that have room in the table one behind the other.
+    /// Advances to the next record, or returns `None` after the last. All calls together read no
+    /// more than the consecutive records that fit in the table may.
     ///
     /// # Errors
-    /// Refused where no record is met: `VersionCut` at what led there, where it is not in the table or
-    /// where as many records are met as have room, and at the record whose name is not in the table;
-    /// `BadVersion` at one of another layout; `VersionIndex` at one whose number is 1,024 or more.
-    /// Else a fault of a read, or a refusal for want of budget, at the offset that was asked for. From
-    /// then on each call answers the same fault and reads nothing.
+    /// Returns a refusal if there is no valid record: `VersionCut` at the structure that led there,
+    /// if the record is not in the table or as many records were visited as fit in it, and at the
+    /// record whose name is not in the table; `BadVersion` at one of another layout; `VersionIndex`
+    /// at one whose version index is 1,024 or more. Otherwise returns a fault of a read, or the
+    /// refusal `Budget`, at the offset of the read. Each later call returns the same fault and
+    /// reads nothing.
     pub fn advance<S: Source>(
         &mut self,
         src: &mut Counted<S>,
@@ -169,7 +172,7 @@ impl VersionCursor {
         }
     }
 
-    // Meets the record that is to come.
+    // Visits the next record.
     fn meet<S: Source>(
         &mut self,
         src: &mut Counted<S>,

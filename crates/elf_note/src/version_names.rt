@@ -1,4 +1,4 @@
-//! The names of the numbers of versions.
+//! The names of version indices.
 ghost use Rattle.std.specs.Prelude.{◌≡◌, ℕ, ◌<◌, List, [], ◌∷◌, ◌++◌, None, length, slice_set};
 ghost use Rattle.elf_table.specs.Prelude.{CallDid, TableInBounds, fault_of_result};
 ghost use Rattle.elf_model.specs.Versions.{VisitedRecord, VERSION_NUMBERS, named_by, names_version, number_in};
@@ -12,19 +12,19 @@ use elf_source::{Counted, Source};
 use elf_table::Fault;
 use std::marker::Model;
 
-/// How many numbers versions may have, below which they are.
+/// The bound of version indices: each is below it.
 const NUMBERS: usize = elf_record::VERSION_NUMBERS as usize;
 
 /// The size in bytes of the fixed storage of [`VersionNames`].
 pub const NUMBER_NAMES_BYTES: usize = 8 * NUMBERS;
 
-/// How many places there are where those of all numbers are kept.
+/// The number of places if those of all version indices are kept.
 pub const ALL_PLACES: usize = NUMBERS;
 
-/// Where the name of a number is.
+/// The location of the name of a version index.
 #[derive(Clone, Copy, PartialEq, Eq)]
 pub enum VersionNameRef {
-    /// No record names the number.
+    /// No record names the version index.
     Nowhere,
     /// A definition does: the index in the string table of the definitions.
     Defined(u32),
@@ -32,7 +32,7 @@ pub enum VersionNameRef {
     Needed(u32),
 }
 
-/// Where the names of the numbers of versions are, 0 to 1,023: of each number that of the first
+/// The locations of the names of the version indices 0 to 1,023: for each index that of the first
 /// record that names its version. So the names of all symbols' versions are found in one walk over
 /// definitions and needs.
 #[derive(Drop)]
@@ -53,7 +53,7 @@ impl Model for VersionNames {
 }
 
 impl VersionNames {
-    /// No number has a name.
+    /// Creates a table in which no version index has a name.
     pub fn new() -> VersionNames
         ensures { (file : List ℕ) (places : List ℕ) → NamesNumbers file [] result places }
     {
@@ -62,7 +62,7 @@ impl VersionNames {
         }
     }
 
-    /// Where the name of a number is.
+    /// Returns the location of the name of a version index.
     pub fn name(&self, number: u16) -> VersionNameRef
         ensures is { result ≡ name_at self.now number }
         ensures fits { NameFits number result }
@@ -77,9 +77,9 @@ impl VersionNames {
         }
     }
 
-    /// Takes in a record whose number is below 1,024, behind others: it names its number where none
-    /// of them does. Of the first numbers, as many as there are `places`, it keeps where the file
-    /// tells of the name: the offset of what holds its index.
+    /// Adds a record whose version index is below 1,024, after others: it names its index if none
+    /// of them does. For the first version indices, as many as there are `places`, it stores the
+    /// file offset of the structure that holds the index of the name.
     pub fn take(&mut self, given: &VersionRecord, places: &mut [u64])
         requires { number_in given.now.number < VERSION_NUMBERS }
         ensures names { (file : List ℕ) (records : List VisitedRecord) (met : VisitedRecord) →
@@ -94,11 +94,11 @@ impl VersionNames {
         }
     }
 
-    /// Takes in all records that a cursor still gives, behind others, as [`VersionNames::take`] does.
-    /// What it asks for the cursor may no longer ask for.
+    /// Adds all records that a cursor still yields, after others, as [`VersionNames::take`] does.
+    /// The bytes read here count as those of the cursor's calls.
     ///
     /// # Errors
-    /// As for [`VersionCursor::advance`]. Then some of the records were taken in.
+    /// As for [`VersionCursor::advance`]. Then some of the records were added.
     pub fn take_all<S: Source>(
         &mut self,
         src: &mut Counted<S>,
@@ -120,7 +120,7 @@ impl VersionNames {
     }
 }
 
-// Keeps the place of a number, where there is one for it.
+// Stores the place of a version index, if there is room for it.
 fn put_place(places: &mut [u64], number: usize, at: u64)
     ensures { places.new ≡ slice_set places.old number at }
 {
@@ -129,7 +129,7 @@ fn put_place(places: &mut [u64], number: usize, at: u64)
     }
 }
 
-// The name that a record gives its number, if it names a version.
+// Returns the name that a record gives its version index, if it names a version.
 #[tactic(auto, unfolding(elf_model::specs::Versions::names_version, elf_model::specs::Versions::flags_word))]
 fn names(given: &VersionRecord) -> VersionNameRef
     ensures { (file : List ℕ) (met : VisitedRecord) → IsVersion file met given.now →

@@ -1,4 +1,4 @@
-//! Bytes that are taken out of a window.
+//! Bytes that are read through a window.
 ghost use Rattle.std.specs.Prelude.{◌≡◌, ℕ, ◌+◌, ◌≤◌, List, length, Some, OnOk};
 ghost use Rattle.elf_model.specs.Bytes.{slice};
 ghost use Rattle.elf_table.specs.Prelude.{HasLeft, HoldsBytes, ReadsThrough};
@@ -6,10 +6,10 @@ ghost use Rattle.elf_table.specs.Prelude.{HasLeft, HoldsBytes, ReadsThrough};
 use elf_source::{Counted, Source};
 use elf_table::{Fault, WINDOW_BYTES, Window};
 
-/// Fills `out` with the next bytes of a window, and passes over them.
+/// Fills `out` with the next bytes of a window, and moves past them.
 ///
 /// # Errors
-/// A fault of a read. Then `out` is as it was.
+/// Returns a fault of a read. Then `out` is unchanged.
 pub(crate) fn take<S: Source>(
     window: &mut Window<WINDOW_BYTES>,
     src: &mut Counted<S>,

@@ -3,7 +3,7 @@ use Rattle.std.proofs.Common.{◌≡◌, ℕ, List, [], ◌∷◌, ◌++◌, len
 use Rattle.std.specs.Cmp.Lexicographic.{slice_cmp}
 use Rattle.std.specs.Ordering.{ordering_then}
 
--- a text against two pieces is its front against the first, then what is behind against the second
+-- a text against two pieces: its prefix against the first, then the rest against the second
 pub compared_after : (text front behind : List ℕ)
     → slice_cmp nat_cmp text (front ++ behind) ≡ ordering_then (slice_cmp nat_cmp (take (length front) text) front) (slice_cmp nat_cmp (drop (length front) text) behind)
 compared_after text [] behind = refl

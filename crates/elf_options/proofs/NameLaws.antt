@@ -1,4 +1,4 @@
--- The names of lines, by the first line and those behind it.
+-- The names of lines: those of the first line and those of the rest.
 use Rattle.std.proofs.Common.{◌≡◌, ℕ, Bool, suc, ◌<◌, List, [], ◌∷◌, ◌++◌, All, cond, true, nat_lt, length, slice_index_or, refl, ap, sym, subst, ◌∙◌, append_assoc, arith}
 use Rattle.std.proofs.lemmas.Bool.Decides.{nat_tests}
 use Rattle.std.proofs.lemmas.List.Elements.{All-cons}
@@ -22,7 +22,7 @@ module _ (versions : Bool) where
       let e : nat_lt 0 (length (b ∷ line)) ≡ true = grind (arith, nat_tests) in
       ap (λ t. cond t ((b ∷ line) ∷ line_names rest) (line_names rest)) e
 
-  -- the names of a line and of those behind it
+  -- the names of a line and of those after it
   names_split : (line : List ℕ) (rest : List (List ℕ)) → line_names (line ∷ rest) ≡ line_names (line ∷ []) ++ line_names rest
   names_split [] rest = refl
   names_split (b ∷ line) rest = is_kept b line rest ∙ ap (λ names. names ++ line_names rest) (sym (is_kept b line []))
@@ -34,7 +34,7 @@ module _ (versions : Bool) where
       let one : All (IsRowName versions) ((b ∷ line) ∷ []) = subst (All (IsRowName versions)) (is_kept b line []) first in
       subst (All (IsRowName versions)) (sym (is_kept b line rest)) (All-cons (IsRowName versions) (b ∷ line) (line_names rest) (one 0 [] (omega arith)) behind)
 
-  -- what is wrong with a line, or with those behind it, is wrong with them together
+  -- what is wrong with a line, or with those after it, is wrong with them together
   pub bad_first : (line : List ℕ) (rest : List (List ℕ)) (fault : NamesFault) → IsNoNames versions (line_names (line ∷ [])) fault → IsNoNames versions (line_names (line ∷ rest)) fault
   bad_first [] rest BadName bad = absurd (bad (λ k d low. absurd (omega (arith, low))))
   bad_first (b ∷ line) rest BadName bad = λ all.
@@ -50,7 +50,7 @@ module _ (versions : Bool) where
   bad_rest (b ∷ line) rest Read bad = bad
   bad_rest (b ∷ line) rest TooLarge bad = bad
 
-  -- a line's names are put behind those that are there
+  -- a line's names are appended to those that are there
   pub put_line : (line : List ℕ) (rest left old new all : List (List ℕ)) → left ≡ line ∷ rest → new ≡ old ++ line_names (line ∷ [])
       → old ++ line_names left ≡ all → new ++ line_names rest ≡ all
   put_line line rest left old new all lines put is =

@@ -1,4 +1,4 @@
--- What a search among sorted texts finds.
+-- The result of a search among sorted texts.
 use Rattle.std.proofs.Common.{◌≡◌, ℕ, zero, suc, ◌<◌, ◌≤◌, ◌||◌, Bool, true, false, List, [], ◌∷◌, length, get_or, take, max, All, Ordering, Less, Equal, Greater, Result, Ok, Err, refl, sym, ap, ◌∙◌, arith, inl, inr, is_eq, nat_cmp}
 use Rattle.std.specs.Borrow.{Bor}
 use Rattle.std.specs.Cmp.Lexicographic.{slice_cmp}
@@ -21,7 +21,7 @@ any_text : (test : List ℕ → Bool) (texts : List (Bor (List ℕ))) → list_a
 any_text test [] = refl
 any_text test (text ∷ texts) = ap (λ more. test text.now || more) (any_text test texts)
 
--- the order of two texts says whether they are the same, whichever comes first
+-- the order of two texts says whether they are the same, in either direction
 same_by : (text wanted : List ℕ) (order : Ordering) → slice_cmp nat_cmp text wanted ≡ order → bytes_eq wanted text ≡ is_eq (ordering_reverse order)
 same_by text wanted order is =
     sym (is_eq-slice_cmp wanted text) ∙ ap is_eq (nat_list_cmp_total.antisymm wanted text ∙ ap ordering_reverse is)

@@ -1,4 +1,4 @@
--- Which texts spell words that are required.
+-- Which texts are required traits.
 use Rattle.std.proofs.Common.{◌≡◌, ◌≢◌, ◌==◌, ◌<◌, ℕ, zero, suc, Bool, true, false, List, [], ◌∷◌, ◌++◌, length, get_or, codes, Option, None, Some, option_map, refl, ap, sym, ◌∙◌, subst, arith}
 use Rattle.std.specs.Prelude.{bytes_eq, if◌then◌else◌, ◌||◌}
 use Rattle.std.specs.Borrow.{Bor}
@@ -19,14 +19,14 @@ use Rattle.elf_model.specs.declared.traits.SearchPath.TheVariants as path
 use Rattle.elf_model.specs.declared.traits.TraitColumn.TheVariants as column
 use Rattle.elf_options.specs.Spelled.{column_named, column_words, split_at_sign, parsed_trait_word, word_in, word_of_parts, word_under}
 
--- THE FIRST SIGN parts a text
+-- THE FIRST EQUALS SIGN splits a text
 not_same : (a b : ℕ) → a ≢ b → (a == b) ≡ false
 not_same a b other = grind (arith, nat_tests, other)
 
 is_equal_name : (a : ℕ) → (a == a) ≡ true
 is_equal_name a = grind (arith, nat_tests)
 
--- what a byte more makes of the parts
+-- how one more byte changes the parts
 parted_behind : (byte : ℕ) (bytes : List ℕ) → (byte == 61) ≡ false
     → split_at_sign 61 (byte ∷ bytes) ≡ option_map {T = List ℕ × List ℕ} {U = List ℕ × List ℕ} (λ parts. (byte ∷ parts.0, parts.1)) (split_at_sign 61 bytes)
 unfolding split_at_sign
@@ -55,7 +55,8 @@ parted text (Some x) h =
     let parts = split_parts 61 text (Some x) h (omega arith) in
     sym (ap (split_at_sign 61) parts.0 ∙ first_at x.0.now x.1.now parts.1)
 
--- WHAT A TEXT THAT SPELLS A WORD IS MADE OF. What stands before the sign and behind it makes the text
+-- THE PARTS OF A TEXT THAT IS A REQUIRED TRAIT. What is before the sign and after it makes up the
+-- text
 abbrev Makes : List ℕ → Option (List ℕ × List ℕ) → Type 0
 Makes text None = Unit {0}
 Makes text (Some parts) = text ≡ parts.0 ++ 61 ∷ parts.1
@@ -164,7 +165,7 @@ cet_listed true false = refl
 cet_listed false true = refl
 cet_listed false false = refl
 
--- one of two words is listed where both are
+-- one of two words is listed if both are
 either_listed : (words : List (List ℕ)) (first second : List ℕ) → list_any (bytes_eq first) words ≡ true → list_any (bytes_eq second) words ≡ true
     → (b : Bool) → list_any (bytes_eq (either_word b first second)) words ≡ true
 either_listed words first second one other true = one
@@ -194,7 +195,7 @@ word_listed t column.Canary = either_listed (column_words column.Canary) (codes 
 word_listed t column.Fortify = either_listed (column_words column.Fortify) (codes "fortify") (codes "-") refl refl t.fortify
 word_listed t column.Path = path_listed t.path
 
--- what stands behind the name of a column and the sign is a word of that column
+-- what follows the name of a column and the sign is a word of that column
 spelled : (its_column : TraitColumn) (word : List ℕ) → parsed_trait_word (column_name its_column ++ 61 ∷ word) ≡ word_in its_column word
 unfolding parsed_trait_word split_at_sign column_named column_name
 spelled column.Kind word = refl
@@ -207,7 +208,7 @@ spelled column.Canary word = refl
 spelled column.Fortify word = refl
 spelled column.Path word = refl
 
--- a word behind the sign
+-- a word after the sign
 signed : (its_column : TraitColumn) (word : List ℕ) → column_name its_column ++ 61 ∷ word ≡ column_name its_column ++ codes "=" ++ word
 unfolding column_name
 signed column.Kind word = refl

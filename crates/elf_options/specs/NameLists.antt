@@ -1,4 +1,4 @@
--- The names of a list, which has one a line.
+-- The names of a list, one per line.
 use Rattle.std.specs.Prelude.{ℕ, Bool, true, ◌≡◌, ◌≤◌, ◌<◌, ◌+◌, ◌==◌, ⊤, nat_lt, List, [], length, filter, All, Option, None, Some, Result, Ok, Err}
 use Rattle.std.specs.Borrow.{Bor}
 use Rattle.std.specs.List.{slice_split}
@@ -6,7 +6,7 @@ use Rattle.elf_model.specs.Prelude.{IsWanted, is_complete, parse_query}
 use Rattle.elf_options.specs.declared.names_fault.NamesFault.{NamesFault}
 use Rattle.elf_options.specs.declared.names_fault.NamesFault.TheVariants.{Read, TooLarge, BadName, Memory}
 
--- the lines of a text: what stands between its newlines, before the first and behind the last
+-- the lines of a text: what is between its newlines, before the first and after the last
 abbrev pub text_lines : List ℕ → List (List ℕ)
 text_lines text = slice_split (λ b. b == 10) text
 
@@ -14,15 +14,17 @@ text_lines text = slice_split (λ b. b == 10) text
 abbrev pub line_names : List (List ℕ) → List (List ℕ)
 line_names lines = filter (λ line. nat_lt 0 (length line)) lines
 
--- THE NAMES OF A LIST: a last line without a newline counts, an empty line doesn't, and a carriage return is a byte like others
+-- THE NAMES OF A LIST: a last line without a newline counts, an empty line doesn't, and a carriage
+-- return is a byte like others
 abbrev pub listed_names : List ℕ → List (List ℕ)
 listed_names text = line_names (text_lines text)
 
--- bytes are a name that can be looked for: 1 to 4,096 of them, none NUL; and where a name may have a version, neither is empty
+-- bytes are a valid row name: 1 to 4,096 of them, none NUL; and if a name may have a version,
+-- neither is empty
 abbrev pub IsRowName : (versions : Bool) → List ℕ → Type 0
 IsRowName versions bytes = IsWanted bytes × (length bytes ≤ 4096) × (versions ≡ true → is_complete (parse_query bytes) ≡ true)
 
--- the text of a list is the whole file, which has no more than 67,108,864 bytes
+-- the text of a list is the whole file, which has at most 67,108,864 bytes
 abbrev pub IsListText : (file text : List ℕ) → Result (Unit {0}) NamesFault → Type 0
 IsListText file text (Ok x) = (text ≡ file) × (length file ≤ 67108864)
 IsListText file text (Err TooLarge) = 67108864 < length file
@@ -30,18 +32,18 @@ IsListText file text (Err Read) = ⊤
 IsListText file text (Err Memory) = ⊤
 IsListText file text (Err BadName) = ⊥
 
--- why there are none of some names of a list: one is none that can be looked for, or there is no memory
+-- why a list gives no names: one is not a valid row name, or memory is exhausted
 abbrev pub IsNoNames : (versions : Bool) → List (List ℕ) → NamesFault → Type 0
 IsNoNames versions names BadName = All (IsRowName versions) names → ⊥
 IsNoNames versions names Memory = ⊤
 IsNoNames versions names _ = ⊥
 
--- the lines of what is left of a text; where none is left there is none
+-- the lines of the rest of a text; none if nothing is left
 abbrev pub after_lines : Option (Bor (List ℕ)) → List (List ℕ)
 after_lines None = []
 after_lines (Some text) = text_lines text.now
 
--- how many bytes are left of a text, with one for its end
+-- how many bytes are left of a text, and one for its end
 abbrev pub after_bytes : Option (Bor (List ℕ)) → ℕ
 after_bytes None = 0
 after_bytes (Some text) = length text.now + 1

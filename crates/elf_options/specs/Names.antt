@@ -9,6 +9,6 @@ use Rattle.std.specs.Ordering.{nat_cmp}
 abbrev pub texts_of : List (Bor (List ℕ)) → List (List ℕ)
 texts_of texts = map (λ text. text.now) texts
 
--- no text is below the one before it, by their bytes as numbers, from the first on
+-- no text is less than the one before it, compared byte by byte as numbers
 abbrev pub NeverDescend : List (Bor (List ℕ)) → Type 0
 NeverDescend texts = IsSorted (λ text other. slice_cmp nat_cmp text.now other.now) texts

@@ -11,7 +11,7 @@ use Rattle.elf_options.specs.Chosen.{choice_of}
 abbrev pub style_of : ListingStyle → Styled
 style_of style = record { cap = style.cap.bytes; gnu = style.gnu; by_segments = style.by_segments; format = style.format; choice = choice_of style.choice; versions = style.versions }
 
--- how many headers may be permitted
+-- how many headers may be allowed
 abbrev pub AreHeaders : ℕ → Type 0
 AreHeaders headers = (1 ≤ headers) × (headers ≤ 65279)
 
@@ -19,17 +19,18 @@ AreHeaders headers = (1 ≤ headers) × (headers ≤ 65279)
 abbrev pub AreNameBytes : ℕ → Type 0
 AreNameBytes bytes = (1 ≤ bytes) × (bytes ≤ 4096)
 
--- a cap of so many bytes is given where they may be shown, and not else
+-- a limit of this many bytes is returned exactly if that many may be shown
 abbrev pub PermitsName : ℕ → Option NameLimit → Type 0
 PermitsName bytes None = AreNameBytes bytes → ⊥
 PermitsName bytes (Some cap) = cap.bytes ≡ bytes
 
--- limits with this number and this budget are given where the number is permitted, and not else
+-- limits with this number and this budget are returned exactly if the number is allowed
 abbrev pub PermitsHeaders : ℕ → Option ℕ → Option Limits → Type 0
 PermitsHeaders headers budget None = AreHeaders headers → ⊥
 PermitsHeaders headers budget (Some limits) = (limits.headers ≡ headers) × (limits.budget ≡ budget)
 
--- caps with these numbers, of the standards' names, and no budget are given where the numbers are permitted, and not else
+-- caps with these numbers, of the standards' names, and no budget are returned exactly if the
+-- numbers are allowed
 abbrev pub Permits : ℕ → ℕ → Option Caps → Type 0
 Permits headers name None = AreHeaders headers × AreNameBytes name → ⊥
 Permits headers name (Some caps) =

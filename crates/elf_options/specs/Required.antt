@@ -1,4 +1,4 @@
--- Words that are required, as the definitions have them.
+-- Required traits, as the definitions have them.
 use Rattle.std.specs.Prelude.{List, map}
 use Rattle.elf_model.specs.TraitWords.{Required}
 use Rattle.elf_options.specs.declared.required.RequiredTrait.{RequiredTrait}

@@ -1,4 +1,4 @@
--- The words that are required, as texts spell them.
+-- The required traits, as texts.
 use Rattle.std.specs.Prelude.{ℕ, ◌≡◌, ◌==◌, bytes_eq, if◌then◌else◌, true, false, List, [], ◌∷◌, codes, Option, None, Some, option_map}
 use Rattle.std.specs.List.{list_any}
 use Rattle.elf_model.specs.Prelude.{Required, column_word, lacking_text}
@@ -6,7 +6,7 @@ use Rattle.elf_model.specs.declared.traits.Hardening.{Hardening}
 use Rattle.elf_model.specs.declared.traits.TraitColumn.{TraitColumn}
 use Rattle.elf_model.specs.declared.traits.TraitColumn.TheVariants as column
 
--- what stands before and behind the first of the bytes that is this sign
+-- what is before and after the first byte that is this sign
 unfoldable pub split_at_sign : ℕ → List ℕ → Option (List ℕ × List ℕ)
 split_at_sign sign [] = None
 split_at_sign sign (byte ∷ bytes) = elim (byte == sign) [
@@ -41,7 +41,7 @@ column_words column.Canary = codes "canary" ∷ codes "-" ∷ []
 column_words column.Fortify = codes "fortify" ∷ codes "-" ∷ []
 column_words column.Path = codes "rpath" ∷ codes "runpath" ∷ codes "-" ∷ []
 
--- the word of a column, where it is one of those
+-- the word of a column, if it is one of those
 abbrev pub word_in : TraitColumn → List ℕ → Option Required
 word_in its_column word = elim (list_any (bytes_eq word) (column_words its_column)) [
   | true ↦ Some (record { column = its_column; word = word })
@@ -56,11 +56,12 @@ abbrev pub word_of_parts : Option (List ℕ × List ℕ) → Option Required
 word_of_parts None = None
 word_of_parts (Some parts) = word_under (column_named parts.0) parts.1
 
--- THE WORD THAT A TEXT SPELLS: the name of a column, an equals sign, and a word that a line can have there
+-- THE WORD THAT A TEXT REQUIRES: the name of a column, an equals sign, and a word that a line can
+-- have there
 unfoldable pub parsed_trait_word : List ℕ → Option Required
 parsed_trait_word text = word_of_parts (split_at_sign 61 text)
 
--- JUST THOSE texts spell words of what some file has
+-- JUST THOSE texts are words of some file
 pub record SpellsTraits : Type 0 where
   pub told : (t : Hardening) (its_column : TraitColumn) → parsed_trait_word (lacking_text t its_column) ≡ Some (record { column = its_column; word = column_word t its_column })
   pub tells : (text : List ℕ) (required : Required) → parsed_trait_word text ≡ Some required

@@ -4,12 +4,12 @@ ghost use Rattle.std.specs.Prelude.{◌≤◌};
 use crate::row_filter::RowFilter;
 use elf_model::Format;
 
-/// The most headers that may be permitted.
+/// The maximum number of headers that may be allowed.
 const MAX_HEADERS: u16 = 65_279;
-/// The most bytes of a name that may be shown.
+/// The maximum number of bytes of a name that may be shown.
 const MAX_NAME: u16 = 4_096;
 
-/// How many bytes of a name are shown, 1 to 4,096.
+/// The number of bytes of a name that are shown, 1 to 4,096.
 #[derive(Clone, Copy)]
 pub struct NameLimit {
     /// The number of bytes.
@@ -21,7 +21,7 @@ pub struct NameLimit {
 impl NameLimit {
     ghost use Rattle.elf_options.specs.Permitted.{PermitsName};
 
-    /// The cap of 1 to 4,096 bytes of a name; None for other numbers.
+    /// Creates the limit of 1 to 4,096 bytes of a name; returns None for other numbers.
     pub fn new(bytes: u16) -> Option<NameLimit>
         ensures { PermitsName bytes result }
     {
@@ -32,23 +32,25 @@ impl NameLimit {
     }
 }
 
-/// How rows are shown: how many bytes of a name, whether numbers of the GNU system have names beside
-/// those of the standards, by which headers tables are found, how a line is written, which rows
-/// that end in the name of a symbol or of a version are shown, and whether the version of a symbol
-/// stands behind its name.
+/// How rows are shown.
+///
+/// Says how many bytes of a name are shown, whether GNU-specific numbers have names besides those
+/// of the standards, by which headers tables are found, how a line is written, which rows that end
+/// in the name of a symbol or of a version are shown, and whether the version of a symbol follows
+/// its name.
 #[derive(Clone, Copy)]
 pub struct ListingStyle<'n> {
-    /// How many bytes of a name are shown.
+    /// The number of bytes of a name that are shown.
     pub cap: NameLimit,
-    /// Whether numbers of the GNU system have names.
+    /// Whether GNU-specific numbers have names.
     pub gnu: bool,
-    /// Whether tables are found by the program headers also where there are section headers.
+    /// Whether tables are found by the program headers even if there are section headers.
     pub by_segments: bool,
     /// How a line is written.
     pub format: Format,
     /// Which rows that end in the name of a symbol or of a version are shown.
     pub choice: RowFilter<'n>,
-    /// Whether the version of a symbol stands behind its name.
+    /// Whether the version of a symbol follows its name.
     pub versions: bool,
 }
 
@@ -57,8 +59,9 @@ impl ListingStyle<'_> {
     ghost use Rattle.elf_model.specs.Style.{standard};
     ghost use Rattle.elf_options.specs.Permitted.{style_of};
 
-    /// So many bytes of a name, the names of the standards alone, tables found by the section headers
-    /// where there are some, lines in columns, every row, and no versions behind names.
+    /// Returns the default style with the given limit on names: the names of the standards alone,
+    /// tables found by the section headers if there are any, lines in columns, every row, and no
+    /// versions after names.
     pub fn standard(cap: NameLimit) -> ListingStyle<'static>
         ensures same { result.cap ≡ cap }
         ensures style { style_of result ≡ standard cap.bytes }
@@ -74,8 +77,8 @@ impl ListingStyle<'_> {
     }
 }
 
-/// The limits on what is read of a file: how many section headers, and as many program headers, are
-/// permitted, and how many bytes may be read, where that is limited.
+/// The limits on what is read of a file: how many section headers, and how many program headers,
+/// are allowed, and how many bytes may be read, if that is limited.
 #[derive(Clone, Copy)]
 pub struct Limits {
     /// The number of headers.
@@ -89,8 +92,8 @@ pub struct Limits {
 impl Limits {
     ghost use Rattle.elf_options.specs.Permitted.{PermitsHeaders};
 
-    /// The limits of 1 to 65,279 headers and of a read budget, where there is one; None for other
-    /// numbers of headers.
+    /// Creates the limits of 1 to 65,279 headers and an optional read budget; returns None for
+    /// other numbers of headers.
     pub fn new(headers: u16, budget: Option<u64>) -> Option<Limits>
         ensures { PermitsHeaders headers budget result }
     {
@@ -114,8 +117,8 @@ impl<'n> Caps<'n> {
     ghost use Rattle.std.specs.Prelude.{◌≡◌, Some};
     ghost use Rattle.elf_options.specs.Permitted.{Permits};
 
-    /// The caps of 1 to 65,279 headers and 1 to 4,096 bytes of a name, in the standards' names, with
-    /// no limit on what is read; None for other numbers.
+    /// Creates the caps of 1 to 65,279 headers and 1 to 4,096 bytes of a name, in the standards'
+    /// names, with no limit on what is read; returns None for other numbers.
     pub fn new(headers: u16, name: u16) -> Option<Caps<'static>>
         ensures { Permits headers name result }
     {
@@ -124,7 +127,7 @@ impl<'n> Caps<'n> {
         Some(Caps { limits, style })
     }
 
-    /// The same caps with a read budget: so many bytes may be read, and no more.
+    /// Returns these caps with a read budget of `bytes`: no more bytes may be read.
     pub fn with_budget(self, bytes: u64) -> Caps<'n>
         ensures headers { result.limits.headers ≡ self.entry.limits.headers }
         ensures style { result.style ≡ self.entry.style }
@@ -139,21 +142,21 @@ impl<'n> Caps<'n> {
         }
     }
 
-    /// How many headers are permitted, 1 to 65,279.
+    /// Returns how many headers are allowed, 1 to 65,279.
     pub fn headers(&self) -> u16
         ensures { result ≡ self.now.limits.headers }
     {
         self.limits.headers
     }
 
-    /// How many bytes of a name are shown, 1 to 4,096.
+    /// Returns the number of bytes of a name that are shown, 1 to 4,096.
     pub fn name(&self) -> u16
         ensures { result ≡ self.now.style.cap.bytes }
     {
         self.style.cap.bytes
     }
 
-    /// How many bytes may be read, where that is limited.
+    /// Returns how many bytes may be read, if that is limited.
     pub fn budget(&self) -> Option<u64>
         ensures { result ≡ self.now.limits.budget }
     {

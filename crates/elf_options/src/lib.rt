@@ -1,9 +1,11 @@
-//! What users ask for: a name, or a name and a version, that a loader of the GNU system looks up; texts in
-//! order, among which a name is looked for, and which rows of a listing are shown by them; and the words
-//! that are required of a file's traits. No call takes memory.
+//! What users ask for: how much of a file is read and shown, what is looked up, which rows are
+//! listed, and which traits a file must have.
 //!
-//! The names of which rows are shown: those among the words, and those of a list, which has one a line;
-//! and how rows are shown by them.
+//! [`Caps`] limits what is read and says how rows are shown. [`SymbolQuery`] is a name, or a name
+//! and a version, that a GNU loader looks up. [`RowFilter`] selects rows of a listing by sorted
+//! texts, and [`RequiredTrait`] is a word that a file must have in a column. [`read_names`] and
+//! [`gather_names`] gather the names that select rows, from the arguments and from a list with one
+//! per line; only these two allocate.
 #![tactic(auto)]
 
 mod caps;

@@ -6,15 +6,18 @@ ghost use Rattle.elf_options.specs.declared.names_fault.NamesFault.TheVariants.{
 use crate::names_fault::NamesFault;
 use std::io::{ErrorKind, Read};
 
-/// The most bytes of a list.
+/// The maximum size of a list in bytes.
 const LIST_BYTES: usize = 67_108_864;
 
-/// Reads the text of a list into `text`, which is empty. No more is read than one byte above the most
-/// that a list may have.
+/// Reads the text of a list into `text`, which is empty. At most one byte more than the maximum
+/// size is read.
 ///
 /// # Errors
-/// `Read` where the list can't be read, `TooLarge` where it has more than 67,108,864 bytes, `Memory`
-/// where there is none for the text. What was read stays in `text`.
+/// - `Read` if the list can't be read.
+/// - `TooLarge` if it has more than 67,108,864 bytes.
+/// - `Memory` if there is not enough memory for the text.
+///
+/// What was read stays in `text`.
 pub fn read_names<I: Read>(list: &mut I, text: &mut Vec<u8>) -> Result<(), NamesFault>
     requires { text.old.items ≡ [] }
     ensures { (bytes : List ℕ) → I.remaining list.old ≡ Some bytes →
@@ -27,10 +30,10 @@ pub fn read_names<I: Read>(list: &mut I, text: &mut Vec<u8>) -> Result<(), Names
     }
 }
 
-/// Whether a list has no more bytes than it may.
+/// Checks that a list is not larger than the maximum.
 ///
 /// # Errors
-/// `TooLarge` where it has more.
+/// Returns `TooLarge` if it is larger.
 fn check_size(text: &[u8]) -> Result<(), NamesFault>
     ensures few { IfOk result (λ _. length text.now ≤ 67108864) }
     ensures many { IfErr result (λ fault. (fault ≡ TooLarge) × (67108864 < length text.now)) }

@@ -1,4 +1,4 @@
-//! Some texts in order, among which a name is looked for.
+//! Sorted texts, among which a name is searched.
 ghost use Rattle.std.specs.Prelude.{◌≡◌, bytes_eq};
 ghost use Rattle.std.specs.List.{list_any};
 ghost use Rattle.std.specs.List.Sorted.{IsPermutation};
@@ -9,7 +9,7 @@ ghost use Rattle.elf_options.specs.Names.{NeverDescend, texts_of};
 use crate::versioned_name::VersionedName;
 use std::marker::Model;
 
-/// Texts in the rising order of their bytes, which a caller lends. One may come more than once.
+/// Texts of the caller in ascending byte order. One may occur more than once.
 #[derive(Drop)]
 pub struct SortedStrings<'a> {
     texts: &'a [&'a [u8]],
@@ -26,7 +26,7 @@ impl<'a> Model for SortedStrings<'a> {
     ghost invariant = { λ s. NeverDescend s.texts.now };
 }
 
-/// Puts texts into the rising order of their bytes.
+/// Sorts texts in ascending byte order.
 pub fn sort_strings(texts: &mut [&[u8]])
     ensures same { IsPermutation (texts_of texts.old) (texts_of texts.new) }
     ensures sorted { NeverDescend texts.new }
@@ -35,7 +35,7 @@ pub fn sort_strings(texts: &mut [&[u8]])
 }
 
 impl<'a> SortedStrings<'a> {
-    /// Sorted texts, to look in.
+    /// Creates a view of sorted texts, to search.
     pub fn new(texts: &'a [&'a [u8]]) -> SortedStrings<'a>
         requires { NeverDescend texts.now }
         ensures { result ≡ texts_of texts.now }
@@ -43,14 +43,14 @@ impl<'a> SortedStrings<'a> {
         SortedStrings { texts }
     }
 
-    /// Whether one of the texts has these bytes. It compares as many as the logarithm of their number.
+    /// Returns `true` if one of the texts has these bytes. It compares logarithmically many texts.
     pub fn has(&self, text: &[u8]) -> bool
         ensures { result ≡ list_any (bytes_eq text.now) self.now }
     {
         self.texts.binary_search(&text).is_ok()
     }
 
-    /// Whether one of the texts is a name with its version.
+    /// Returns `true` if one of the texts is a name with its version.
     pub(crate) fn has_joined(&self, joined: &VersionedName<'_>) -> bool
         ensures { result ≡ list_any (bytes_eq (joined_text joined.now)) self.now }
     {
@@ -59,7 +59,7 @@ impl<'a> SortedStrings<'a> {
             .is_ok()
     }
 
-    /// How many bytes the longest text has.
+    /// Returns the length in bytes of the longest text.
     #[tactic(auto, unfolding(elf_model::specs::Choice::most_bytes))]
     pub fn longest(&self) -> usize
         ensures { result ≡ most_bytes self.now }

@@ -1,14 +1,14 @@
-//! Why there are no names.
+//! Why the names of a list could not be gathered.
 
-/// Why there are no names.
+/// Why the names of a list could not be gathered.
 #[derive(Clone, Copy, PartialEq)]
 pub enum NamesFault {
     /// The list can't be read.
     Read,
     /// The list has too many bytes.
     TooLarge,
-    /// A line of the list is no name that can be looked for.
+    /// A line of the list is not a valid row name.
     BadName,
-    /// There was no memory.
+    /// Memory is exhausted.
     Memory,
 }

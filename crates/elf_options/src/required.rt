@@ -1,11 +1,11 @@
 //! What is required of a file's traits.
 use elf_model::TraitColumn;
 
-/// A word that is required of a column.
+/// A word that is required in a column.
 #[derive(Clone, Copy)]
 pub struct RequiredTrait<'a> {
     /// The column.
     pub column: TraitColumn,
-    /// The word that it is to have.
+    /// The required word.
     pub word: &'a str,
 }

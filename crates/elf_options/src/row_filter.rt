@@ -5,32 +5,33 @@ use crate::names::SortedStrings;
 use crate::symbol_query::{has_sign, has_sign_first};
 use crate::versioned_name::VersionedName;
 
-/// What stands before a version in a text that asks for it.
+/// The sign before a version in a text.
 const PLAIN_SIGN: &[u8] = b"@";
-/// What stands before a version in a text that asks for a default one.
+/// The sign before a default version in a text.
 const DEFAULT_SIGN: &[u8] = b"@@";
 
-/// Which rows of a listing that end in the name of a symbol or of a version are shown: every row, or
-/// those whose name, with its version, is what one of some texts asks for, which a caller lends.
+/// A filter for the rows of a listing that end in the name of a symbol or of a version: every row,
+/// or those whose name, with its version, matches one of the caller's texts.
 #[derive(Clone, Copy)]
 pub struct RowFilter<'a> {
-    /// Whether rows are chosen by their names.
+    /// Whether rows are selected by their names.
     pub by_name: bool,
-    /// Whether a text may ask for a version, as [`crate::parse_query`] parts it; else each is a name.
+    /// Whether a text may have a version, as [`crate::parse_query`] splits it; otherwise each is a
+    /// name.
     pub versions: bool,
-    /// The texts, in the rising order of their bytes.
+    /// The texts, in ascending byte order.
     pub texts: &'a [&'a [u8]],
     pub ghost sorted: { NeverDescend texts.now },
 }
 
-/// The version behind a name, as it is shown.
+/// The version after a name, as it is shown.
 #[derive(Clone, Copy)]
 pub struct VersionSuffix<'a> {
-    /// Its name, or the front of it.
+    /// Its name, or a prefix of it.
     pub name: &'a [u8],
     /// Whether more of its name is cut off.
     pub is_cut: bool,
-    /// Whether it is the default one of the name.
+    /// Whether it is the default version of the name.
     pub is_default: bool,
 }
 
@@ -40,7 +41,7 @@ impl<'a> RowFilter<'a> {
     ghost use Rattle.elf_options.specs.Chosen.{after_of, choice_of};
     ghost use Rattle.elf_options.specs.Names.{texts_of};
 
-    /// Every row.
+    /// Creates the filter that shows every row.
     pub fn every_row() -> RowFilter<'static>
         ensures { choice_of result ≡ EveryRow }
     {
@@ -51,9 +52,9 @@ impl<'a> RowFilter<'a> {
         }
     }
 
-    /// Those whose name, with its version, is what one of these texts asks for, byte for byte: a
-    /// name, or with `versions` NAME, NAME@VERSION or NAME@@VERSION. [`crate::sort_strings`] puts them
-    /// in order.
+    /// Creates the filter that shows the rows whose name, with its version, matches one of these
+    /// texts, byte for byte: a name, or with `versions` NAME, NAME@VERSION or NAME@@VERSION.
+    /// [`crate::sort_strings`] sorts them.
     pub fn rows_of(texts: &'a [&'a [u8]], versions: bool) -> RowFilter<'a>
         requires { NeverDescend texts.now }
         ensures { choice_of result ≡ RowsOf (map (wanted_text versions) (texts_of texts.now)) }
@@ -65,9 +66,10 @@ impl<'a> RowFilter<'a> {
         }
     }
 
-    /// Whether the row of a name with nothing behind it is shown. A name of which more is cut off
-    /// than these bytes is none of the texts. It compares as many texts as the logarithm of their
-    /// number.
+    /// Returns `true` if the row of a name without a version is shown.
+    ///
+    /// A name that is cut off after these bytes matches no text. It compares logarithmically many
+    /// texts.
     #[tactic(auto, using(elf_model::proofs::ChoiceLemmas::names_are_chosen, elf_model::proofs::ChoiceLemmas::names_alone_are_chosen, elf_model::proofs::ChoiceLemmas::cut_names_are_none))]
     pub fn shows(&self, name: &[u8], is_cut: bool) -> bool
         ensures { result ≡ chooses (choice_of self.now) (shown_as is_cut name.now) NoSuffix }
@@ -85,7 +87,7 @@ impl<'a> RowFilter<'a> {
         is_named && !has_sign(name)
     }
 
-    /// Whether the row of a name with a version behind it is shown, in three such searches.
+    /// Returns `true` if the row of a name with a version is shown, by three such searches.
     #[tactic(auto, using(elf_model::proofs::ChoiceLemmas::names_are_chosen, elf_model::proofs::ChoiceLemmas::names_alone_are_chosen, elf_model::proofs::ChoiceLemmas::versions_are_chosen, elf_model::proofs::ChoiceLemmas::cut_names_are_none))]
     pub fn shows_version(&self, name: &[u8], is_cut: bool, version: &VersionSuffix<'_>) -> bool
         ensures { result ≡ chooses (choice_of self.now)
@@ -97,7 +99,7 @@ impl<'a> RowFilter<'a> {
         self.versions && !is_cut && self.has_version(name, version) && !has_sign(name)
     }
 
-    /// Whether one of the texts is this name with its version.
+    /// Returns `true` if one of the texts is this name with its version.
     fn has_version(&self, name: &[u8], version: &VersionSuffix<'_>) -> bool
         ensures { result ≡ has_version (texts_of self.now.texts.now) name.now
             version.now.is_default (shown_as version.now.is_cut version.now.name.now) }

@@ -1,4 +1,4 @@
-//! The names of words and of a list together.
+//! The names of the arguments and of a list together.
 ghost use Rattle.std.specs.Prelude.{◌≡◌, ◌++◌, ◌∷◌, [], All, IfErr, IfOk, true, false};
 ghost use Rattle.std.specs.Prelude.{is_some};
 ghost use Rattle.std.specs.List.Sorted.{IsPermutation};
@@ -14,16 +14,18 @@ use crate::symbol_query::parse_query;
 use memchr::memchr;
 use std::alloc::Global;
 
-/// The most bytes of a name.
+/// The maximum number of bytes of a name.
 const MOST_BYTES: usize = 4_096;
 
-/// The names that stand among words, and behind them those of a list, in the rising order of their
-/// bytes. A list has one a line: a last line without a newline counts, an empty line doesn't, and a
-/// carriage return is a byte like others.
+/// Gathers the names among the arguments and those of a list, in ascending byte order.
+///
+/// A list has one per line: a last line without a newline counts, an empty line doesn't, and a
+/// carriage return is a byte like any other.
 ///
 /// # Errors
-/// `BadName` where a line of the list can't be looked for ([`is_valid_row_name`], by whether a name may have a
-/// version); `Memory` where there is none for the names.
+/// - `BadName` if a line of the list is not valid ([`is_valid_row_name`], by whether a name may
+///   have a version).
+/// - `Memory` if there is not enough memory for the names.
 pub fn gather_names<'a>(
     alloc: Global,
     words: &[&'a str],
@@ -43,10 +45,10 @@ pub fn gather_names<'a>(
     Ok(names)
 }
 
-/// Puts words behind the names that are there.
+/// Appends the arguments to the names that are there.
 ///
 /// # Errors
-/// `Memory` where there is none for them.
+/// Returns `Memory` if there is not enough memory for them.
 fn push_words<'a>(names: &mut Vec<&'a [u8]>, words: &[&'a str]) -> Result<(), NamesFault>
     ensures names { IfOk result (λ _.
         texts_of names.new.items ≡ texts_of names.old.items ++ texts_of words.now) }
@@ -60,10 +62,11 @@ fn push_words<'a>(names: &mut Vec<&'a [u8]>, words: &[&'a str]) -> Result<(), Na
     Ok(())
 }
 
-/// Puts the names of a list behind those that are there.
+/// Appends the names of a list to those that are there.
 ///
 /// # Errors
-/// `BadName` where one can't be looked for; `Memory` where there is none for them.
+/// - `BadName` if one is not valid.
+/// - `Memory` if there is not enough memory for them.
 fn push_lines<'a>(
     names: &mut Vec<&'a [u8]>,
     list: &'a [u8],
@@ -83,10 +86,11 @@ fn push_lines<'a>(
     Ok(())
 }
 
-/// Puts a line behind the names that are there, if it is not empty.
+/// Appends a line to the names that are there, if it is not empty.
 ///
 /// # Errors
-/// `BadName` where it can't be looked for; `Memory` where there is none for it.
+/// - `BadName` if it is not valid.
+/// - `Memory` if there is not enough memory for it.
 fn push_line<'a>(
     names: &mut Vec<&'a [u8]>,
     line: &'a [u8],
@@ -109,7 +113,7 @@ fn push_line<'a>(
     }
 }
 
-/// Whether bytes are a name that can be looked for: 1 to 4,096 of them, none NUL; and where a name may
+/// Returns `true` if bytes are a valid row name: 1 to 4,096 of them, none NUL; and if a name may
 /// have a version, as NAME@VERSION or NAME@@VERSION, neither of them empty.
 pub fn is_valid_row_name(bytes: &[u8], versions: bool) -> bool
     ensures yes { result ≡ true → IsRowName versions bytes.now }
@@ -121,7 +125,7 @@ pub fn is_valid_row_name(bytes: &[u8], versions: bool) -> bool
     !versions || parse_query(bytes).is_complete()
 }
 
-/// Whether one of these bytes is NUL.
+/// Returns `true` if one of these bytes is NUL.
 fn has_nul(bytes: &[u8]) -> bool
     ensures { result ≡ is_some (nul_in bytes.now) }
 {

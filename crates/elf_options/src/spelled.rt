@@ -1,4 +1,4 @@
-//! The words that are required, as texts spell them.
+//! The required traits, parsed from texts.
 ghost use Rattle.std.specs.Prelude.{◌≡◌, bytes_eq, map, option_map};
 ghost use Rattle.std.specs.List.{list_any};
 ghost use Rattle.elf_options.specs.Required.{required_word};
@@ -8,8 +8,8 @@ ghost use Rattle.elf_options.specs.Spelled.{split_at_sign, parsed_trait_word, wo
 use crate::required::RequiredTrait;
 use elf_model::TraitColumn;
 
-/// The word that a text spells: the name of a column, `=` and a word that the line of a file can have in
-/// that column, as in `relro=full`. None for another text.
+/// Parses a required trait: the name of a column, `=` and a word that the line of a file can have
+/// in that column, as in `relro=full`. Returns None for any other text.
 #[tactic(auto, unfolding(crate::specs::Spelled::parsed_trait_word))]
 pub fn parsed_trait_word(text: &str) -> Option<RequiredTrait<'_>>
     ensures { option_map required_word result ≡ parsed_trait_word text.now }
@@ -18,14 +18,14 @@ pub fn parsed_trait_word(text: &str) -> Option<RequiredTrait<'_>>
     word_in(column_named(name)?, word)
 }
 
-/// What stands before and behind the first `=`.
+/// Returns what is before and after the first `=`.
 fn parted(text: &str) -> Option<(&str, &str)>
     ensures { option_map (λ parts. (parts.0.now, parts.1.now)) result ≡ split_at_sign 61 text.now }
 {
     text.split_once('=')
 }
 
-/// The column of this name.
+/// Returns the column of this name.
 #[tactic(auto, unfolding(crate::specs::Spelled::column_named))]
 fn column_named(name: &str) -> Option<TraitColumn>
     ensures { result ≡ column_named name.now }
@@ -44,7 +44,7 @@ fn column_named(name: &str) -> Option<TraitColumn>
     }
 }
 
-/// A word of a column, where the line of a file can have it there.
+/// Returns a word of a column, if the line of a file can have it there.
 fn word_in(column: TraitColumn, word: &str) -> Option<RequiredTrait<'_>>
     ensures { option_map required_word result ≡ word_in column word.now }
 {
@@ -54,7 +54,7 @@ fn word_in(column: TraitColumn, word: &str) -> Option<RequiredTrait<'_>>
     Some(RequiredTrait { column, word })
 }
 
-/// Whether a word is one of some.
+/// Returns `true` if a word is one of the given ones.
 fn is_among(word: &str, mut words: &[&str]) -> bool
     ensures { result ≡ list_any (bytes_eq word.now) (map (λ other. other.now) words.entry.now) }
 {
@@ -67,7 +67,7 @@ fn is_among(word: &str, mut words: &[&str]) -> bool
     false
 }
 
-/// The words that the lines of files can have in a column.
+/// Returns the words that the lines of files can have in a column.
 #[tactic(auto, unfolding(crate::specs::Spelled::column_words))]
 fn column_words(column: TraitColumn) -> &'static [&'static str]
     ensures { map (λ word. word.now) result.now ≡ column_words column }
@@ -85,7 +85,7 @@ fn column_words(column: TraitColumn) -> &'static [&'static str]
     }
 }
 
-/// Just those texts spell words of what some file has.
+/// Just those texts are words of some file.
 pub fn spells_traits()
     ensures { SpellsTraits }
 {}

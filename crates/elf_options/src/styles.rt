@@ -1,4 +1,4 @@
-//! How rows are shown by names.
+//! How rows are shown if they are filtered by name.
 ghost use Rattle.std.specs.Prelude.{◌≡◌};
 ghost use Rattle.elf_options.specs.Permitted.{style_of};
 ghost use Rattle.elf_options.specs.Names.{NeverDescend, texts_of};
@@ -8,10 +8,11 @@ use crate::caps::{ListingStyle, NameLimit};
 use crate::names::SortedStrings;
 use crate::row_filter::RowFilter;
 
-/// How rows are shown of which those alone stand whose name, with its version, is what one of these texts
-/// asks for, which are in the rising order of their bytes: as `style` has it, but that as many bytes of a
-/// name are looked at as the longest text has, 1 to 4,096; and where versions stand behind names, no
-/// fewer than `style` shows. Where they do, a text may ask for a version.
+/// Returns `style` with a filter for the rows whose name, with its version, matches one of these
+/// texts, which are in ascending byte order.
+///
+/// As many bytes of a name are compared as the longest text has, 1 to 4,096; and if versions follow
+/// names, no fewer than `style` shows. In that case a text may have a version.
 pub fn style_with_names<'n>(style: ListingStyle<'_>, names: &'n [&'n [u8]]) -> ListingStyle<'n>
     requires { NeverDescend names.now }
     ensures { style_of result ≡ named_style (texts_of names.now) (style_of style.entry) }
@@ -26,7 +27,7 @@ pub fn style_with_names<'n>(style: ListingStyle<'_>, names: &'n [&'n [u8]]) -> L
     }
 }
 
-/// How many bytes of a name are looked at at least.
+/// Returns the least number of bytes of a name that are compared.
 fn least_cap(versions: bool, cap: NameLimit) -> NameLimit
     ensures { result.bytes ≡ least_cap versions cap.bytes }
 {
@@ -37,7 +38,7 @@ fn least_cap(versions: bool, cap: NameLimit) -> NameLimit
     }
 }
 
-/// How many bytes of a name are looked at for these texts, and so many at least.
+/// Returns how many bytes of a name are compared for these texts, at least the given number.
 fn cap_of(names: &[&[u8]], least: NameLimit) -> NameLimit
     requires { NeverDescend names.now }
     ensures { result.bytes ≡ named_cap (texts_of names.now) least.bytes }

@@ -3,17 +3,17 @@ ghost use Rattle.std.specs.Prelude.{◌≡◌, ◌==◌, ◌<◌, length, positi
 ghost use Rattle.elf_model.specs.Prelude.{AT_SIGN, asked_after, asked_name, has_sign, has_sign_first, is_complete, parse_query};
 ghost use Rattle.elf_options.specs.Wants.{asked_of, query_of};
 
-/// What stands between a name and its version.
+/// The sign between a name and its version.
 const AT_SIGN: u8 = b'@';
 
-/// Which version of a symbol is asked for.
+/// The version of a symbol that is looked up.
 #[derive(Clone, Copy)]
 pub enum VersionQuery<'a> {
-    /// The one that a name alone takes: a version that is not hidden, or none.
+    /// The version that a name alone takes: one that is not hidden, or none.
     NoVersion,
-    /// One by its name.
+    /// A version by its name.
     Version(&'a [u8]),
-    /// One by its name, which is to be the symbol's default version too.
+    /// A version by its name, which must be the symbol's default version.
     DefaultVersion(&'a [u8]),
 }
 
@@ -22,12 +22,12 @@ pub enum VersionQuery<'a> {
 pub struct SymbolQuery<'a> {
     /// The name of the symbol.
     pub name: &'a [u8],
-    /// The version that is asked for.
+    /// The version to look up.
     pub asked: VersionQuery<'a>,
 }
 
 impl<'a> SymbolQuery<'a> {
-    /// Whether neither the name nor a version that is asked for is empty.
+    /// Returns `true` if neither the name nor a given version is empty.
     #[tactic(auto, unfolding(elf_model::specs::Loader::is_complete))]
     pub fn is_complete(&self) -> bool
         ensures { result ≡ is_complete (query_of self.now) }
@@ -37,7 +37,7 @@ impl<'a> SymbolQuery<'a> {
 }
 
 impl<'a> VersionQuery<'a> {
-    /// The name of the version that is asked for, if one is.
+    /// Returns the name of the version, if one is given.
     pub fn name(&self) -> Option<&'a [u8]>
         ensures { option_map (λ name. name.now) result ≡ asked_name (asked_of self.now) }
     {
@@ -49,7 +49,7 @@ impl<'a> VersionQuery<'a> {
         }
     }
 
-    // Whether a version is asked for whose name is empty.
+    // Returns `true` if a version is given whose name is empty.
     fn has_empty_name(&self) -> bool
         ensures { result ≡ elim (asked_name (asked_of self.now)) [
           | None ↦ false
@@ -64,9 +64,9 @@ impl<'a> VersionQuery<'a> {
     }
 }
 
-/// What a text NAME, NAME@VERSION or NAME@@VERSION asks for: it is parted at its first `@`, and
-/// behind a second that follows directly the version is to be the default one. A version may hold
-/// further `@`. Each part may be empty.
+/// Parses a text NAME, NAME@VERSION or NAME@@VERSION: it is split at its first `@`, and after a
+/// second that follows directly the version must be the default one. A version may contain further
+/// `@`. Each part may be empty.
 #[tactic(auto, unfolding(elf_model::specs::Loader::parse_query))]
 pub fn parse_query(text: &[u8]) -> SymbolQuery<'_>
     ensures { query_of result ≡ parse_query text.now }
@@ -83,7 +83,7 @@ pub fn parse_query(text: &[u8]) -> SymbolQuery<'_>
     }
 }
 
-// The place of the first sign.
+// Returns the position of the first sign.
 fn find_sign(text: &[u8]) -> Option<usize>
     ensures first { position (λ byte. byte == AT_SIGN) text.now ≡ result }
     ensures below { IfSome result (λ place. place < length text.now) }
@@ -96,7 +96,7 @@ fn find_sign(text: &[u8]) -> Option<usize>
     None
 }
 
-// The version behind the first sign.
+// Returns the version after the first sign.
 fn asked_after(text: &[u8]) -> VersionQuery<'_>
     ensures { asked_of result ≡ asked_after text.now }
 {
@@ -106,14 +106,14 @@ fn asked_after(text: &[u8]) -> VersionQuery<'_>
     VersionQuery::Version(text)
 }
 
-/// Whether the sign stands in a name.
+/// Returns `true` if the sign is in a name.
 pub(crate) fn has_sign(name: &[u8]) -> bool
     ensures { result ≡ has_sign name.now }
 {
     name.contains(&AT_SIGN)
 }
 
-/// Whether the sign stands at the front of a text.
+/// Returns `true` if a text begins with the sign.
 pub(crate) fn has_sign_first(text: &[u8]) -> bool
     ensures { result ≡ has_sign_first text.now }
 {

@@ -6,19 +6,19 @@ ghost use Rattle.elf_options.specs.Joins.{joined_text};
 
 use std::cmp::Ordering;
 
-/// A name, a sign and a version, which are one text together.
+/// A name, a sign and a version, which together are one text.
 #[derive(Clone, Copy)]
 pub struct VersionedName<'a> {
     /// The name.
     pub name: &'a [u8],
-    /// What stands between them.
+    /// The sign between them.
     pub sign: &'static [u8],
     /// The version.
     pub version: &'a [u8],
 }
 
 impl VersionedName<'_> {
-    /// How a text stands to this one, by their bytes in order.
+    /// Compares a text with this one, byte by byte.
     #[tactic(auto, using(crate::proofs::JoinedLaws::compared_after))]
     pub(crate) fn compare(&self, text: &[u8]) -> Ordering
         ensures { result ≡ slice_cmp nat_cmp text.now (joined_text self.now) }
@@ -30,7 +30,7 @@ impl VersionedName<'_> {
         }
     }
 
-    /// How what stands behind the name stands to this text's.
+    /// Compares the part after the name with the same part of this text.
     #[tactic(auto, using(crate::proofs::JoinedLaws::compared_after))]
     fn compare_after(&self, behind: &[u8]) -> Ordering
         ensures { result ≡ slice_cmp nat_cmp behind.now
@@ -44,7 +44,7 @@ impl VersionedName<'_> {
     }
 }
 
-/// The first bytes of a text, so many or all, and those behind them.
+/// Splits a text after the given number of bytes, or at its end.
 fn split_at_sign(text: &[u8], place: usize) -> (&[u8], &[u8])
     ensures front { result.0.now ≡ take place text.now }
     ensures behind { result.1.now ≡ drop place text.now }

@@ -1,4 +1,4 @@
--- What holds of the bytes of parts one behind the other.
+-- The bytes of consecutive parts.
 use Rattle.std.proofs.Common.{◌≡◌, ℕ, zero, suc, ◌+◌, ◌*◌, ◌/◌, ◌%◌, ◌^◌, ◌<◌, ◌≤◌, List, [], ◌∷◌, ◌++◌, length, take, drop, refl, sym, ◌∙◌, ap, arith, append_assoc, length-append, length-drop, append-nil, subst, zero-add, inl, inr}
 use Rattle.std.proofs.Math.Nat.{pow-succ'}
 use Rattle.std.proofs.Math.Seq.{take-add}
@@ -22,7 +22,7 @@ length-part_spelling : (part : RecordField) → PartFits part → length (part_s
 length-part_spelling (Number width value) fits = length-little width value
 length-part_spelling (Raw width bytes) fits = fits
 
--- a part's bytes are where it stands
+-- a part's bytes are at its offset
 part_stands : (front rest : List ℕ) (at : ℕ) (part : RecordField) → length front ≡ at → PartFits part
     → PartStands (front ++ (part_spelling part ++ rest)) at part
 unfolding field
@@ -35,7 +35,7 @@ pub place-is : (at k : ℕ) → place at k ≡ at + k
 place-is at zero = omega arith
 place-is at (suc k) = refl
 
--- parts one behind the other stand where their bytes are
+-- consecutive parts are where their bytes are
 all_stand : (front : List ℕ) (k : ℕ) (parts : List RecordField) → length front ≡ k → AllFit parts → FieldsAreAt (front ++ spelling parts) 0 k parts
 all_stand front k [] here fits = tt
 all_stand front k (part ∷ parts) here fits =
@@ -55,7 +55,7 @@ little-number (b ∷ bytes) byte =
     let high : (b + 256 * number bytes) / 256 ≡ number bytes = omega arith in
     rw (low, high) (ap (λ rest. b ∷ rest) (little-number bytes (λ i. byte (suc i))))
 
--- a part of some bytes has bytes
+-- a part of bytes is bytes
 pub IsBytes-slice : (file : List ℕ) (at width : ℕ) → IsBytes file → IsBytes (slice file at width)
 IsBytes-slice file at width byte i =
     elim (cases_lt i width) [
@@ -72,7 +72,7 @@ part_is file at (Number width value) byte inside stands =
     sym (ap (little width) stands ∙ (ap (λ n. little n (number (slice file at width))) (sym size) ∙ little-number (slice file at width) (IsBytes-slice file at width byte)))
 part_is file at (Raw width bytes) byte inside stands = sym stands
 
--- where parts stand one behind the other, the bytes are theirs
+-- if parts are consecutive, the bytes are theirs
 all_is : (file : List ℕ) (k : ℕ) (parts : List RecordField) → IsBytes file → k + total_width parts ≤ length file → FieldsAreAt file 0 k parts
     → slice file k (total_width parts) ≡ spelling parts
 all_is file k [] byte inside stands = refl
@@ -83,7 +83,7 @@ all_is file k (part ∷ parts) byte inside stands =
     ∙ (ap (λ front. front ++ slice file (k + width_of part) (total_width parts)) (part_is file k part byte (omega arith) here)
     ∙ ap (λ rest. part_spelling part ++ rest) (all_is file (k + width_of part) parts byte (omega arith) stands.1)))
 
--- what stands in a part of a file stands in the file
+-- what is in a part of a file is in the file
 part_in : (file : List ℕ) (at size k : ℕ) (part : RecordField) → k + width_of part ≤ size → PartStands (slice file at size) (place 0 k) part → PartStands file (place at k) part
 part_in file at size k (Number width value) inside stands =
     stands ∙ (ap (λ p. field (slice file at size) p width) (place-is 0 k ∙ zero-add k) ∙ (field-slice file at size k width inside ∙ ap (λ p. field file p width) (sym (place-is at k))))
@@ -95,7 +95,7 @@ all_in file at size k [] inside stands = tt
 all_in file at size k (part ∷ parts) inside stands =
     (part_in file at size k part (omega arith) stands.0, all_in file at size (k + width_of part) parts (omega arith) stands.1)
 
--- the parts of some bytes of a file stand in the file
+-- the parts of some bytes of a file are in the file
 pub parts_in_file : (file : List ℕ) (at : ℕ) (bytes : List ℕ) (parts : List RecordField) → bytes ≡ slice file at (total_width parts) → FieldsAreAt bytes 0 0 parts → FieldsAreAt file at 0 parts
 parts_in_file file at bytes parts is stands = all_in file at (total_width parts) 0 parts (omega arith) (rw is at stands)
 
@@ -106,7 +106,7 @@ joined_onto-is front (part ∷ parts) = joined_onto-is (front ++ part_spelling p
 pub joined-is : (parts : List RecordField) → joined parts ≡ spelling parts
 joined-is parts = joined_onto-is [] parts
 
--- the bytes of parts are read back as those parts
+-- the bytes of parts are decoded to those parts
 pub spelling_stands : (bytes : List ℕ) (parts : List RecordField) → bytes ≡ spelling parts → AllFit parts → FieldsAreAt bytes 0 0 parts
 spelling_stands bytes parts is fits = rw is (all_stand [] 0 parts refl fits)
 
@@ -115,7 +115,7 @@ pub only_spelling : (bytes : List ℕ) (parts : List RecordField) → IsBytes by
 only_spelling bytes parts byte size stands =
     sym (take_all (total_width parts) bytes (omega arith)) ∙ all_is bytes 0 parts byte (omega arith) stands
 
--- what is said of the bytes that some parts are encoded in
+-- the contract of the bytes that some parts are encoded in
 pub record IsEncoding (result : List ℕ) (parts : List RecordField) : Type 0 where
   pub spelled : result ≡ spelling parts
   pub stands : FieldsAreAt result 0 0 parts

@@ -10,7 +10,7 @@ use Rattle.elf_record.specs.declared.dyn_entry.Dyn.{Dyn}
 use Rattle.elf_record.specs.declared.rela.Rela.{Rela}
 use Rattle.elf_record.proofs.PartLaws.{IsBytes-slice}
 
--- the number of some bytes has room in so many
+-- the number of some bytes fits in that many bytes
 number_below : (bytes : List ℕ) → IsBytes bytes → number bytes < 256 ^ length bytes
 unfolding number
 number_below [] byte = omega arith
@@ -27,7 +27,7 @@ field_below file at width byte inside =
     let size : length (slice file at width) ≡ width = length-take-le width (drop at file) room in
     subst (λ n. number (slice file at width) < 256 ^ n) size (number_below (slice file at width) (IsBytes-slice file at width byte))
 
--- the bits of the number that some bits are
+-- the bits of the number that some bits represent
 bits-twos_complement : (n : ℕ) → n < 256 ^ 8 → cast_unsigned w64 (twos_complement n) ≡ n
 bits-twos_complement n below =
     let same : 2 ^ 64 - 1 - n ≡ 2 ^ 64 - suc n = omega arith in

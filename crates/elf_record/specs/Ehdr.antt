@@ -5,7 +5,7 @@ use Rattle.elf_model.specs.declared.causes.Refusal.{Refusal}
 use Rattle.elf_record.specs.Parts.{RecordField, Number, Raw}
 use Rattle.elf_record.specs.declared.ehdr.Ehdr.{Ehdr}
 
--- at an offset stands a file header with these fields, each at its place (gABI 4, ELF Header)
+-- at an offset is a file header with these fields, each at its place (gABI 4, ELF Header)
 pub record IsEhdr (file : List ℕ) (at : ℕ) (r : Ehdr) : Type 0 where
   pub ident_magic : r.ident_magic ≡ slice file at 4
   pub ident_class : r.ident_class ≡ field file (at + 4) 1
@@ -38,7 +38,8 @@ ehdr_parts r =
     ∷ Number 2 r.e_phentsize ∷ Number 2 r.e_phnum ∷ Number 2 r.e_shentsize ∷ Number 2 r.e_shnum
     ∷ Number 2 r.e_shstrndx ∷ []
 
--- the answer of the check of a file's identification: the header's fields, or the first check that fails
+-- the result of the check of a file's identification: the header's fields, or the first check that
+-- fails
 abbrev pub IsChecked : List ℕ → Result Ehdr Refusal → Type 0
 IsChecked file result =
     MatchResult result (λ header. (first_refusal (ident_checks file) ≡ None) × IsEhdr file 0 header)

@@ -1,9 +1,9 @@
--- A record as the list of its parts, one behind the other. What is said of each record's bytes is
--- proved once, of such lists.
+-- A record as the list of its consecutive parts. The facts about each record's bytes are proved
+-- once, for such lists.
 use Rattle.std.specs.Prelude.{ℕ, zero, suc, ◌≡◌, ◌+◌, ◌^◌, ◌<◌, List, [], ◌∷◌, ◌++◌, length}
 use Rattle.elf_model.specs.Bytes.{field, slice, little}
 
--- a number in a field of so many bytes, or bytes as they are
+-- a number in a field of the given size in bytes, or bytes unchanged
 pub data RecordField : Type 0 where
   Number : (width value : ℕ) → RecordField
   Raw : (width : ℕ) → (bytes : List ℕ) → RecordField
@@ -18,27 +18,27 @@ abbrev pub part_spelling : RecordField → List ℕ
 part_spelling (Number width value) = little width value
 part_spelling (Raw width bytes) = bytes
 
--- a part has room in its bytes
+-- a part fits in its bytes
 abbrev pub PartFits : RecordField → Type 0
 PartFits (Number width value) = value < 256 ^ width
 PartFits (Raw width bytes) = length bytes ≡ width
 
--- an offset, so far behind another
+-- an offset plus a distance
 abbrev pub place : ℕ → ℕ → ℕ
 place at zero = at
 place at (suc k) = at + suc k
 
--- a part stands in a file at an offset
+-- a part is in a file at an offset
 abbrev pub PartStands : List ℕ → ℕ → RecordField → Type 0
 PartStands file at (Number width value) = value ≡ field file at width
 PartStands file at (Raw width bytes) = bytes ≡ slice file at width
 
--- the same of parts one behind the other
+-- the bytes of consecutive parts
 abbrev pub spelling : List RecordField → List ℕ
 spelling [] = []
 spelling (part ∷ parts) = part_spelling part ++ spelling parts
 
--- the same, as bytes are put behind those that stand already
+-- the same, appended to bytes that are already there
 abbrev pub joined_onto : List ℕ → List RecordField → List ℕ
 joined_onto front [] = front
 joined_onto front (part ∷ parts) = joined_onto (front ++ part_spelling part) parts
@@ -54,7 +54,7 @@ abbrev pub AllFit : List RecordField → Type 0
 AllFit [] = Unit {0}
 AllFit (part ∷ parts) = PartFits part × AllFit parts
 
--- parts stand one behind the other in a file, the first of them so far behind an offset
+-- parts are consecutive in a file, the first of them at this distance from an offset
 abbrev pub FieldsAreAt : List ℕ → ℕ → ℕ → List RecordField → Type 0
 FieldsAreAt file at k [] = Unit {0}
 FieldsAreAt file at k (part ∷ parts) = PartStands file (place at k) part × FieldsAreAt file at (k + width_of part) parts

@@ -4,7 +4,7 @@ use Rattle.elf_model.specs.Bytes.{field}
 use Rattle.elf_record.specs.Parts.{RecordField, Number}
 use Rattle.elf_record.specs.declared.phdr.Phdr.{Phdr}
 
--- at an offset stands a program header with these fields, each at its place (gABI 5, Program Header)
+-- at an offset is a program header with these fields, each at its place (gABI 5, Program Header)
 pub record IsPhdr (file : List ℕ) (at : ℕ) (r : Phdr) : Type 0 where
   pub p_type : r.p_type ≡ field file at 4
   pub p_flags : r.p_flags ≡ field file (at + 4) 4

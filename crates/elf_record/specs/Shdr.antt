@@ -4,7 +4,7 @@ use Rattle.elf_model.specs.Bytes.{field}
 use Rattle.elf_record.specs.Parts.{RecordField, Number}
 use Rattle.elf_record.specs.declared.shdr.Shdr.{Shdr}
 
--- at an offset stands a section header with these fields, each at its place (gABI 4, Section Header)
+-- at an offset is a section header with these fields, each at its place (gABI 4, Section Header)
 pub record IsShdr (file : List ℕ) (at : ℕ) (r : Shdr) : Type 0 where
   pub sh_name : r.sh_name ≡ field file at 4
   pub sh_type : r.sh_type ≡ field file (at + 4) 4

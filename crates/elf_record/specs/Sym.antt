@@ -6,7 +6,7 @@ use Rattle.elf_record.specs.declared.sym.Sym.{Sym}
 use Rattle.elf_record.specs.declared.sym.SymbolSection.{SymbolSection}
 use Rattle.elf_record.specs.declared.sym.SymbolSection.TheVariants.{Undefined, Section, Absolute, Common, Reserved}
 
--- at an offset stands a symbol with these fields, each at its place (gABI 4, Symbol Table)
+-- at an offset is a symbol with these fields, each at its place (gABI 4, Symbol Table)
 pub record IsSym (file : List ℕ) (at : ℕ) (r : Sym) : Type 0 where
   pub st_name : r.st_name ≡ field file at 4
   pub st_info : r.st_info ≡ field file (at + 4) 1
@@ -21,7 +21,7 @@ sym_parts r =
     Number 4 r.st_name ∷ Number 1 r.st_info ∷ Number 1 r.st_other ∷ Number 2 r.st_shndx
     ∷ Number 8 r.st_value ∷ Number 8 r.st_size ∷ []
 
--- where a symbol with this section index is defined (gABI 4, Special Section Indexes)
+-- the section of a symbol with this section index (gABI 4, Special Section Indexes)
 abbrev pub IsPlace : ℕ → SymbolSection → Type 0
 IsPlace index Undefined = index ≡ SHN_UNDEF
 IsPlace index (Section section) = (index ≡ section) × (0 < index) × (index < SHN_LORESERVE)

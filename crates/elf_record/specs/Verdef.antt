@@ -4,7 +4,8 @@ use Rattle.elf_model.specs.Bytes.{field}
 use Rattle.elf_record.specs.Parts.{RecordField, Number}
 use Rattle.elf_record.specs.declared.verdef.Verdef.{Verdef}
 
--- at an offset stands a version definition with these fields, each at its place (Linux Standard Base Core, Symbol Versioning)
+-- at an offset is a version definition with these fields, each at its place (Linux Standard Base
+-- Core, Symbol Versioning)
 pub record IsVerdef (file : List ℕ) (at : ℕ) (r : Verdef) : Type 0 where
   pub vd_version : r.vd_version ≡ field file at 2
   pub vd_flags : r.vd_flags ≡ field file (at + 2) 2

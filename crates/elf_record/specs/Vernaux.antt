@@ -1,10 +1,11 @@
--- A version that is needed of a file as a record of fields.
+-- A needed version as a record of fields.
 use Rattle.std.specs.Prelude.{ℕ, ◌≡◌, ◌+◌, List, [], ◌∷◌}
 use Rattle.elf_model.specs.Bytes.{field}
 use Rattle.elf_record.specs.Parts.{RecordField, Number}
 use Rattle.elf_record.specs.declared.vernaux.Vernaux.{Vernaux}
 
--- at an offset stands a needed version with these fields, each at its place (Linux Standard Base Core, Symbol Versioning)
+-- at an offset is a needed version with these fields, each at its place (Linux Standard Base Core,
+-- Symbol Versioning)
 pub record IsVernaux (file : List ℕ) (at : ℕ) (r : Vernaux) : Type 0 where
   pub vna_hash : r.vna_hash ≡ field file at 4
   pub vna_flags : r.vna_flags ≡ field file (at + 4) 2

@@ -1,10 +1,11 @@
--- A file of which versions are needed as a record of fields.
+-- A file whose versions are needed as a record of fields.
 use Rattle.std.specs.Prelude.{ℕ, ◌≡◌, ◌+◌, List, [], ◌∷◌}
 use Rattle.elf_model.specs.Bytes.{field}
 use Rattle.elf_record.specs.Parts.{RecordField, Number}
 use Rattle.elf_record.specs.declared.verneed.Verneed.{Verneed}
 
--- at an offset stands a file of which versions are needed with these fields, each at its place (Linux Standard Base Core, Symbol Versioning)
+-- at an offset is a file whose versions are needed with these fields, each at its place (Linux
+-- Standard Base Core, Symbol Versioning)
 pub record IsVerneed (file : List ℕ) (at : ℕ) (r : Verneed) : Type 0 where
   pub vn_version : r.vn_version ≡ field file at 2
   pub vn_cnt : r.vn_cnt ≡ field file (at + 2) 2

@@ -7,7 +7,7 @@ use arrayvec::ArrayVec;
 /// A dynamic entry of an ELF64 file, 16 bytes (gABI 5, Dynamic Section).
 #[derive(Clone, Copy)]
 pub struct Dyn {
-    /// What the entry is of, at 0, in two's complement.
+    /// The entry's tag, at 0, in two's complement.
     pub d_tag: i64,
     /// The entry's value or its virtual address, at 8. The tag decides which.
     pub d_un: u64,
@@ -32,7 +32,7 @@ impl Dyn {
         }
     }
 
-    /// The record's bytes: those that `decode` reads these fields from, and no others.
+    /// Returns the record's bytes: those that `decode` reads these fields from, and no others.
     pub fn encode(&self) -> [u8; 16]
         ensures spelled { result ≡ spelling (dyn_parts self.now) }
         ensures fields { IsDyn result 0 self.now }

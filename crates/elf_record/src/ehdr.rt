@@ -13,7 +13,7 @@ const MAGIC: u32 = 0x464c_457f;
 const CLASS_64: u8 = 2;
 /// The data encoding of little-endian files.
 const DATA_LITTLE_ENDIAN: u8 = 1;
-/// The one version of the identification.
+/// The only version of the identification.
 const VERSION_CURRENT: u8 = 1;
 
 /// The file header of an ELF64 file, 64 bytes at offset 0 (gABI 4, ELF Header).
@@ -99,8 +99,7 @@ impl Ehdr {
         }
     }
 
-    /// The same file header, which locates no section headers: e_shoff, e_shnum and e_shstrndx
-    /// are 0.
+    /// Returns the same file header without section headers: e_shoff, e_shnum and e_shstrndx are 0.
     pub fn without_sections(&self) -> Ehdr
         ensures { (file : List ℕ) → IsEhdr file 0 self.now →
             IsEhdr (without_sections file) 0 result }
@@ -113,7 +112,7 @@ impl Ehdr {
         }
     }
 
-    /// The record's bytes: those that `decode` reads these fields from, and no others.
+    /// Returns the record's bytes: those that `decode` reads these fields from, and no others.
     pub fn encode(&self) -> [u8; 64]
         ensures spelled { result ≡ spelling (ehdr_parts self.now) }
         ensures fields { IsEhdr result 0 self.now }
@@ -127,7 +126,8 @@ impl Ehdr {
     /// (gABI 4, ELF Identification). The other fields are not checked.
     ///
     /// # Errors
-    /// The first check that fails: `NotElf` at 0, `BadClass` at 4, `BadData` at 5, `BadVersion` at 6.
+    /// Returns the first check that fails: `NotElf` at 0, `BadClass` at 4, `BadData` at 5,
+    /// `BadVersion` at 6.
     pub fn check(bytes: &[u8; 64]) -> Result<Ehdr, Refusal>
         ensures checked { IsChecked bytes.now result }
         ensures in_file { (file : List ℕ) → bytes.now ≡ slice file 0 64 → IsChecked file result }

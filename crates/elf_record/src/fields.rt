@@ -1,4 +1,4 @@
-//! Little-endian numbers at a place in some bytes.
+//! Little-endian numbers at an offset in some bytes.
 ghost use Rattle.std.specs.Prelude.{◌≡◌, ◌+◌, ◌^◌, ◌<◌, ◌≤◌, ◌++◌, length};
 ghost use Rattle.elf_model.specs.Prelude.{field, little, slice, twos_complement};
 ghost use Rattle.std.specs.Int.{cast_unsigned, w64};
@@ -7,7 +7,7 @@ ghost use Rattle.arrayvec.specs.ArrayVec.{array_vec_len};
 use arrayvec::ArrayVec;
 use byteorder::{ByteOrder, LittleEndian};
 
-/// The byte at a place.
+/// Reads the byte at an offset.
 pub(crate) fn u8_at(bytes: &[u8], at: usize) -> u8
     requires { at + 1 ≤ length bytes.now }
     ensures { result ≡ field bytes.now at 1 }
@@ -15,7 +15,7 @@ pub(crate) fn u8_at(bytes: &[u8], at: usize) -> u8
     bytes[at]
 }
 
-/// The number of two bytes at a place.
+/// Reads the number of two bytes at an offset.
 pub fn u16_at(bytes: &[u8], at: usize) -> u16
     requires { at + 2 ≤ length bytes.now }
     ensures { result ≡ field bytes.now at 2 }
@@ -23,7 +23,7 @@ pub fn u16_at(bytes: &[u8], at: usize) -> u16
     LittleEndian::read_u16(&bytes[at..])
 }
 
-/// The number of four bytes at a place.
+/// Reads the number of four bytes at an offset.
 pub(crate) fn u32_at(bytes: &[u8], at: usize) -> u32
     requires { at + 4 ≤ length bytes.now }
     ensures { result ≡ field bytes.now at 4 }
@@ -31,7 +31,7 @@ pub(crate) fn u32_at(bytes: &[u8], at: usize) -> u32
     LittleEndian::read_u32(&bytes[at..])
 }
 
-/// The number of eight bytes at a place.
+/// Reads the number of eight bytes at an offset.
 pub fn u64_at(bytes: &[u8], at: usize) -> u64
     requires { at + 8 ≤ length bytes.now }
     ensures { result ≡ field bytes.now at 8 }
@@ -39,7 +39,7 @@ pub fn u64_at(bytes: &[u8], at: usize) -> u64
     LittleEndian::read_u64(&bytes[at..])
 }
 
-/// The signed number of eight bytes at a place, in two's complement.
+/// Reads the signed number of eight bytes at an offset, in two's complement.
 pub(crate) fn i64_at(bytes: &[u8], at: usize) -> i64
     requires { at + 8 ≤ length bytes.now }
     ensures value { result ≡ twos_complement (field bytes.now at 8) }
@@ -49,7 +49,7 @@ pub(crate) fn i64_at(bytes: &[u8], at: usize) -> i64
     u64_at(bytes, at).cast_signed()
 }
 
-/// The `N` bytes at a place.
+/// Reads the `N` bytes at an offset.
 pub(crate) fn array_at<const N: usize>(bytes: &[u8], at: usize) -> [u8; N]
     requires { at + N ≤ length bytes.now }
     ensures { result ≡ slice bytes.now at N }
@@ -59,7 +59,7 @@ pub(crate) fn array_at<const N: usize>(bytes: &[u8], at: usize) -> [u8; N]
     array
 }
 
-/// Puts one byte at the end.
+/// Appends one byte.
 pub(crate) fn put_u8<const N: usize>(out: &mut ArrayVec<u8, N>, value: u8)
     requires { array_vec_len out.old + 1 ≤ N }
     ensures items { out.new.items ≡ out.old.items ++ little 1 value }
@@ -69,7 +69,7 @@ pub(crate) fn put_u8<const N: usize>(out: &mut ArrayVec<u8, N>, value: u8)
     put_bytes(out, &[value]);
 }
 
-/// Puts the two bytes of a number at the end.
+/// Appends the two bytes of a number.
 pub(crate) fn put_u16<const N: usize>(out: &mut ArrayVec<u8, N>, value: u16)
     requires { array_vec_len out.old + 2 ≤ N }
     ensures items { out.new.items ≡ out.old.items ++ little 2 value }
@@ -81,7 +81,7 @@ pub(crate) fn put_u16<const N: usize>(out: &mut ArrayVec<u8, N>, value: u16)
     put_bytes(out, &bytes);
 }
 
-/// Puts the four bytes of a number at the end.
+/// Appends the four bytes of a number.
 pub(crate) fn put_u32<const N: usize>(out: &mut ArrayVec<u8, N>, value: u32)
     requires { array_vec_len out.old + 4 ≤ N }
     ensures items { out.new.items ≡ out.old.items ++ little 4 value }
@@ -93,7 +93,7 @@ pub(crate) fn put_u32<const N: usize>(out: &mut ArrayVec<u8, N>, value: u32)
     put_bytes(out, &bytes);
 }
 
-/// Puts the eight bytes of a number at the end.
+/// Appends the eight bytes of a number.
 pub(crate) fn put_u64<const N: usize>(out: &mut ArrayVec<u8, N>, value: u64)
     requires { array_vec_len out.old + 8 ≤ N }
     ensures items { out.new.items ≡ out.old.items ++ little 8 value }
@@ -105,7 +105,7 @@ pub(crate) fn put_u64<const N: usize>(out: &mut ArrayVec<u8, N>, value: u64)
     put_bytes(out, &bytes);
 }
 
-/// Puts the eight bytes of a signed number at the end, in two's complement.
+/// Appends the eight bytes of a signed number, in two's complement.
 pub(crate) fn put_i64<const N: usize>(out: &mut ArrayVec<u8, N>, value: i64)
     requires { array_vec_len out.old + 8 ≤ N }
     ensures items { out.new.items ≡ out.old.items ++ little 8 (cast_unsigned w64 value) }
@@ -116,7 +116,7 @@ pub(crate) fn put_i64<const N: usize>(out: &mut ArrayVec<u8, N>, value: i64)
     put_u64(out, value.cast_unsigned());
 }
 
-/// Puts the bytes of an array at the end.
+/// Appends the bytes of an array.
 pub(crate) fn put_array<const N: usize, const K: usize>(out: &mut ArrayVec<u8, N>, bytes: &[u8; K])
     requires { array_vec_len out.old + K ≤ N }
     ensures items { out.new.items ≡ out.old.items ++ bytes.now }
@@ -126,7 +126,7 @@ pub(crate) fn put_array<const N: usize, const K: usize>(out: &mut ArrayVec<u8, N
     put_bytes(out, bytes);
 }
 
-/// Puts bytes at the end.
+/// Appends bytes.
 fn put_bytes<const N: usize>(out: &mut ArrayVec<u8, N>, bytes: &[u8])
     requires { array_vec_len out.old + length bytes.now ≤ N }
     ensures items { out.new.items ≡ out.old.items ++ bytes.now }

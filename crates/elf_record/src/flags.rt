@@ -3,7 +3,8 @@ ghost use Rattle.std.specs.Prelude.{⊤, [], ◌∷◌, codes};
 
 use bitflags::{Flag, Flags};
 
-/// A section's flags, as the number `sh_flags` of a section header (gABI 4, Section Attribute Flags).
+/// A section's flags, as the number `sh_flags` of a section header (gABI 4, Section Attribute
+/// Flags).
 ///
 /// Bits without a name are kept.
 #[derive(Clone, Copy)]

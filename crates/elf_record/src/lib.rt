@@ -1,5 +1,5 @@
-//! The fixed records of an ELF64 file: each is decoded from its bytes and encoded into them, with all
-//! bytes kept in fields.
+//! The fixed-size records of an ELF64 file: each is decoded from its bytes and encoded into them,
+//! with every byte kept in a field.
 #![tactic(auto)]
 
 mod dyn_entry;

@@ -1,20 +1,20 @@
-//! The heads of notes.
+//! Note headers.
 ghost use Rattle.std.specs.Prelude.{◌≡◌, ℕ, List, length};
 
 use crate::fields::{put_u32, u32_at};
 use arrayvec::ArrayVec;
 
-/// The head of a note, 12 bytes: three words of four bytes, as the usual tools write it (gABI 5, Note
-/// Section, whose words have eight bytes in 64-bit files).
+/// The header of a note, 12 bytes: three words of four bytes, as the usual tools write it (gABI 5,
+/// Note Section, whose words have eight bytes in 64-bit files).
 ///
 /// The name and the descriptor follow it, each padded; the sizes do not count the padding.
 #[derive(Clone, Copy)]
 pub struct NoteHead {
-    /// The size of the note's name in bytes, its ending NUL counted, at 0.
+    /// The size of the note's name in bytes, with its terminating NUL, at 0.
     pub namesz: u32,
     /// The size of the note's descriptor in bytes, at 4.
     pub descsz: u32,
-    /// The note's type, at 8. The name decides what it means.
+    /// The note's type, at 8. Its meaning depends on the name.
     pub kind: u32,
 }
 
@@ -37,7 +37,7 @@ impl NoteHead {
         }
     }
 
-    /// The record's bytes: those that `decode` reads these fields from, and no others.
+    /// Returns the record's bytes: those that `decode` reads these fields from, and no others.
     pub fn encode(&self) -> [u8; 12]
         ensures spelled { result ≡ spelling (note_head_parts self.now) }
         ensures fields { IsNoteHead result 0 self.now }

@@ -5,9 +5,10 @@ ghost use Rattle.elf_model.specs.Listing.{all_parts};
 
 use bitflags::{Flag, Flags};
 
-/// A set of parts of a listing, as the number of its bits: HEADER 1, SECTIONS 2, SEGMENTS 4,
-/// SYMBOLS 8, RELOCS 16, NOTES 32, DYNAMIC 64, and in listings of the GNU system VERSIONS 128.
-/// Other bits have no meaning and are ignored.
+/// A set of parts of a listing, as a number whose bits are the parts.
+///
+/// HEADER is 1, SECTIONS 2, SEGMENTS 4, SYMBOLS 8, RELOCS 16, NOTES 32, DYNAMIC 64, and in GNU
+/// listings VERSIONS 128. Other bits have no meaning and are ignored.
 #[derive(Clone, Copy)]
 pub struct Parts(pub u16);
 
@@ -26,7 +27,7 @@ impl Parts {
     pub const NOTES: Parts = Parts(32);
     /// The dynamic entries.
     pub const DYNAMIC: Parts = Parts(64);
-    /// The symbol versions, of listings of the GNU system alone.
+    /// The symbol versions, of GNU listings only.
     pub const VERSIONS: Parts = Parts(128);
 
     /// All parts that have a name.
@@ -67,8 +68,8 @@ impl Parts {
 }
 
 impl Parts {
-    /// The parts of the set that listings know: all but the symbol versions, and in listings of the
-    /// GNU system (`gnu`) these too.
+    /// Returns the parts of the set that listings know: all except the symbol versions, and in GNU
+    /// listings (`gnu`) these too.
     pub fn known(self, gnu: bool) -> Parts
         ensures { result.0 ≡ bit_and self.0 (all_parts gnu) }
     {

@@ -15,7 +15,7 @@ pub struct Phdr {
     pub p_offset: u64,
     /// The virtual address of the segment's first byte, at 16.
     pub p_vaddr: u64,
-    /// Its physical address where that means anything, at 24.
+    /// Its physical address, if that is meaningful, at 24.
     pub p_paddr: u64,
     /// The segment's size in the file in bytes, at 32.
     pub p_filesz: u64,
@@ -49,7 +49,7 @@ impl Phdr {
         }
     }
 
-    /// The record's bytes: those that `decode` reads these fields from, and no others.
+    /// Returns the record's bytes: those that `decode` reads these fields from, and no others.
     pub fn encode(&self) -> [u8; 56]
         ensures spelled { result ≡ spelling (phdr_parts self.now) }
         ensures fields { IsPhdr result 0 self.now }

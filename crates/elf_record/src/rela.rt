@@ -7,12 +7,12 @@ use arrayvec::ArrayVec;
 /// A relocation entry with an addend, 24 bytes (gABI 4, Relocation).
 #[derive(Clone, Copy)]
 pub struct Rela {
-    /// Where the relocation applies, at 0: in a relocatable file an offset in bytes in the section that
-    /// sh_info names.
+    /// The place of the relocation, at 0: in a relocatable file an offset in bytes in the section
+    /// that sh_info names.
     pub r_offset: u64,
     /// The symbol's index, in the high 32 bits, and the relocation's type, in the low 32, at 8.
     pub r_info: u64,
-    /// The number that is added, at 16, in two's complement.
+    /// The addend, at 16, in two's complement.
     pub r_addend: i64,
 }
 
@@ -36,7 +36,7 @@ impl Rela {
         }
     }
 
-    /// The record's bytes: those that `decode` reads these fields from, and no others.
+    /// Returns the record's bytes: those that `decode` reads these fields from, and no others.
     pub fn encode(&self) -> [u8; 24]
         ensures spelled { result ≡ spelling (rela_parts self.now) }
         ensures fields { IsRela result 0 self.now }
@@ -46,14 +46,14 @@ impl Rela {
         self.spelled().into_inner().unwrap()
     }
 
-    /// The symbol's index: the high 32 bits of `r_info` (gABI 4, Relocation).
+    /// Returns the symbol's index: the high 32 bits of `r_info` (gABI 4, Relocation).
     pub fn symbol(&self) -> u32
         ensures { result ≡ self.now.r_info / 2 ^ 32 }
     {
         (self.r_info >> 32) as u32
     }
 
-    /// The relocation's type: the low 32 bits of `r_info` (gABI 4, Relocation).
+    /// Returns the relocation's type: the low 32 bits of `r_info` (gABI 4, Relocation).
     pub fn kind(&self) -> u32
         ensures { result ≡ self.now.r_info % 2 ^ 32 }
     {

@@ -15,19 +15,20 @@ pub struct Shdr {
     pub sh_type: u32,
     /// The section's flags, at 8: the bits of a `SectionFlags`.
     pub sh_flags: u64,
-    /// The virtual address of the section's first byte, at 16; 0 where it is not in memory.
+    /// The virtual address of the section's first byte, at 16; 0 if it is not in memory.
     pub sh_addr: u64,
     /// The file offset of the section's first byte, at 24.
     pub sh_offset: u64,
-    /// The section's size in bytes, at 32. A section without bytes in the file has one too.
+    /// The section's size in bytes, at 32, also of a section without bytes in the file.
     pub sh_size: u64,
-    /// The index of a section that this one refers to, at 40. The type decides what it means.
+    /// The index of a section that this one refers to, at 40. Its meaning depends on the type.
     pub sh_link: u32,
-    /// Further information, at 44. The type decides what it means.
+    /// Further information, at 44. Its meaning depends on the type.
     pub sh_info: u32,
     /// The alignment of the section's address in bytes, at 48; 0 and 1 mean none.
     pub sh_addralign: u64,
-    /// The size of an entry in bytes, at 56, where the section is a table of such entries; else 0.
+    /// The size of an entry in bytes, at 56, if the section is a table of fixed-size entries;
+    /// otherwise 0.
     pub sh_entsize: u64,
 }
 
@@ -57,7 +58,8 @@ impl Shdr {
         }
     }
 
-    /// Whether the section holds relocation entries for the section of an index (gABI 4, Relocation).
+    /// Returns `true` if the section has relocation entries for the section of an index (gABI 4,
+    /// Relocation).
     pub fn applies_to(&self, section: u16) -> bool
         ensures { (file : List ℕ) (at : ℕ) → IsShdr file at self.now →
             result ≡ applies_to file section at }
@@ -65,7 +67,7 @@ impl Shdr {
         self.sh_type == SHT_RELA && self.sh_info == u32::from(section)
     }
 
-    /// The record's bytes: those that `decode` reads these fields from, and no others.
+    /// Returns the record's bytes: those that `decode` reads these fields from, and no others.
     pub fn encode(&self) -> [u8; 64]
         ensures spelled { result ≡ spelling (shdr_parts self.now) }
         ensures fields { IsShdr result 0 self.now }

@@ -1,4 +1,4 @@
-//! The sizes of the fixed records in a file, in bytes.
+//! The sizes of the fixed-size records in a file, in bytes.
 
 /// The size of a section header (gABI 4, Section Header).
 pub const SECTION_HEADER_BYTES: u64 = 64;
@@ -10,12 +10,12 @@ pub const SYMBOL_BYTES: u64 = 24;
 pub const RELOCATION_BYTES: u64 = 24;
 /// The size of a dynamic entry (gABI 5, Dynamic Section).
 pub const DYNAMIC_BYTES: u64 = 16;
-/// The size of the version of a symbol (Linux Standard Base Core, Symbol Versioning).
+/// The size of a symbol's version entry (Linux Standard Base Core, Symbol Versioning).
 pub const SYMBOL_VERSION_BYTES: u64 = 2;
 /// The size of a version definition (Linux Standard Base Core, Symbol Versioning).
 pub const VERSION_DEFINITION_BYTES: u64 = 20;
 /// The size of a name of a version definition (Linux Standard Base Core, Symbol Versioning).
 pub const VERSION_NAME_BYTES: u64 = 8;
-/// The size of a file of which versions are needed, and of such a version (Linux Standard Base Core,
+/// The size of a file whose versions are needed, and of such a version (Linux Standard Base Core,
 /// Symbol Versioning).
 pub const VERSION_NEED_BYTES: u64 = 16;

@@ -18,11 +18,11 @@ pub struct Sym {
     pub st_shndx: u16,
     /// The symbol's value, at 8: in a relocatable file its offset in bytes in its section.
     pub st_value: u64,
-    /// The symbol's size in bytes, at 16; 0 where it has none or it is not known.
+    /// The symbol's size in bytes, at 16; 0 if it has none or it is not known.
     pub st_size: u64,
 }
 
-/// Where a symbol is defined (gABI 4, Special Section Indexes).
+/// The section of a symbol (gABI 4, Special Section Indexes).
 #[derive(Clone, Copy)]
 pub enum SymbolSection {
     /// Not in this file: the index 0.
@@ -33,7 +33,7 @@ pub enum SymbolSection {
     Absolute,
     /// In no section yet, as a common block: the index 0xfff2.
     Common,
-    /// By one of the other reserved indices, from 0xff00 on.
+    /// By one of the other reserved indices, starting at 0xff00.
     Reserved(u16),
 }
 
@@ -59,7 +59,7 @@ impl Sym {
         }
     }
 
-    /// The record's bytes: those that `decode` reads these fields from, and no others.
+    /// Returns the record's bytes: those that `decode` reads these fields from, and no others.
     pub fn encode(&self) -> [u8; 24]
         ensures spelled { result ≡ spelling (sym_parts self.now) }
         ensures fields { IsSym result 0 self.now }
@@ -69,28 +69,28 @@ impl Sym {
         self.spelled().into_inner().unwrap()
     }
 
-    /// The binding: the high four bits of `st_info` (gABI 4, Symbol Binding).
+    /// Returns the binding: the high four bits of `st_info` (gABI 4, Symbol Binding).
     pub fn binding(&self) -> u8
         ensures { result ≡ self.now.st_info / 16 }
     {
         self.st_info / 16
     }
 
-    /// The type: the low four bits of `st_info` (gABI 4, Symbol Types).
+    /// Returns the type: the low four bits of `st_info` (gABI 4, Symbol Types).
     pub fn kind(&self) -> u8
         ensures { result ≡ self.now.st_info % 16 }
     {
         self.st_info % 16
     }
 
-    /// The visibility: the low two bits of `st_other` (gABI 4, Symbol Visibility).
+    /// Returns the visibility: the low two bits of `st_other` (gABI 4, Symbol Visibility).
     pub fn visibility(&self) -> u8
         ensures { result ≡ self.now.st_other % 4 }
     {
         self.st_other % 4
     }
 
-    /// Where the symbol is defined, by `st_shndx` (gABI 4, Special Section Indexes).
+    /// Returns the section of the symbol, by `st_shndx` (gABI 4, Special Section Indexes).
     pub fn place(&self) -> SymbolSection
         ensures { IsPlace self.now.st_shndx result }
     {

@@ -6,16 +6,16 @@ use arrayvec::ArrayVec;
 
 /// A version definition, 20 bytes (Linux Standard Base Core, Symbol Versioning).
 ///
-/// Its names stand apart from it.
+/// Its names are stored apart from it.
 #[derive(Clone, Copy)]
 pub struct Verdef {
     /// The version of its layout, which is 1, at 0.
     pub vd_version: u16,
     /// Its flags, at 2.
     pub vd_flags: u16,
-    /// Its number, at 4.
+    /// Its version index, at 4.
     pub vd_ndx: u16,
-    /// How many names it has, its own and its parents', at 6.
+    /// The number of its names, its own and its parents', at 6.
     pub vd_cnt: u16,
     /// The hash of its name, at 8.
     pub vd_hash: u32,
@@ -48,7 +48,7 @@ impl Verdef {
         }
     }
 
-    /// The record's bytes: those that `decode` reads these fields from, and no others.
+    /// Returns the record's bytes: those that `decode` reads these fields from, and no others.
     pub fn encode(&self) -> [u8; 20]
         ensures spelled { result ≡ spelling (verdef_parts self.now) }
         ensures fields { IsVerdef result 0 self.now }

@@ -1,4 +1,4 @@
-//! The records of versions that are needed.
+//! The records of needed versions.
 ghost use Rattle.std.specs.Prelude.{◌≡◌, ℕ, List, length};
 
 use crate::fields::{put_u16, put_u32, u16_at, u32_at};
@@ -11,7 +11,7 @@ pub struct Vernaux {
     pub vna_hash: u32,
     /// Its flags, at 4.
     pub vna_flags: u16,
-    /// Its number, at 6.
+    /// Its version index, at 6.
     pub vna_other: u16,
     /// The string table index of its name, at 8.
     pub vna_name: u32,
@@ -40,7 +40,7 @@ impl Vernaux {
         }
     }
 
-    /// The record's bytes: those that `decode` reads these fields from, and no others.
+    /// Returns the record's bytes: those that `decode` reads these fields from, and no others.
     pub fn encode(&self) -> [u8; 16]
         ensures spelled { result ≡ spelling (vernaux_parts self.now) }
         ensures fields { IsVernaux result 0 self.now }

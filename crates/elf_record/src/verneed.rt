@@ -1,17 +1,17 @@
-//! The records of files of which versions are needed.
+//! The records of files whose versions are needed.
 ghost use Rattle.std.specs.Prelude.{◌≡◌, ℕ, List, length};
 
 use crate::fields::{put_u16, put_u32, u16_at, u32_at};
 use arrayvec::ArrayVec;
 
-/// A file of which versions are needed, 16 bytes (Linux Standard Base Core, Symbol Versioning).
+/// A file whose versions are needed, 16 bytes (Linux Standard Base Core, Symbol Versioning).
 ///
-/// Its versions stand apart from it.
+/// Its versions are stored apart from it.
 #[derive(Clone, Copy)]
 pub struct Verneed {
     /// The version of its layout, which is 1, at 0.
     pub vn_version: u16,
-    /// How many versions are needed of it, at 2.
+    /// The number of versions that are needed of it, at 2.
     pub vn_cnt: u16,
     /// The string table index of its name, at 4.
     pub vn_file: u32,
@@ -42,7 +42,7 @@ impl Verneed {
         }
     }
 
-    /// The record's bytes: those that `decode` reads these fields from, and no others.
+    /// Returns the record's bytes: those that `decode` reads these fields from, and no others.
     pub fn encode(&self) -> [u8; 16]
         ensures spelled { result ≡ spelling (verneed_parts self.now) }
         ensures fields { IsVerneed result 0 self.now }

@@ -4,7 +4,7 @@ ghost use Rattle.elf_model.specs.Bytes.{field, slice};
 
 use crate::fields::u32_at;
 
-/// The number of a word of four bytes, as those of a hash table (gABI 5, Hash Table).
+/// Returns the number of a word of four bytes, such as those of a hash table (gABI 5, Hash Table).
 pub fn word(bytes: &[u8; 4]) -> u32
     ensures value { result ≡ field bytes.now 0 4 }
     ensures stands { (file : List ℕ) (at : ℕ) → bytes.now ≡ slice file at 4 →

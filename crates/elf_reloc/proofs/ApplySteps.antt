@@ -15,7 +15,7 @@ use Rattle.elf_reloc.specs.declared.apply_section.Applied.{Applied}
 use Rattle.elf_reloc.specs.declared.entry.ApplyTarget.{ApplyTarget as TargetCode}
 use Rattle.elf_reloc.proofs.WindowSteps.{front_none}
 
--- what a pass says of the patches
+-- what a pass implies for the patches
 pub and_ok : (patch : StoredBytes) (rest : Result (List StoredBytes) Refusal) (patches : List StoredBytes) → rest ≡ Ok patches → and_patches patch rest ≡ Ok (patch ∷ patches)
 unfolding and_patches
 and_ok patch rest patches h = rw h refl

@@ -1,4 +1,4 @@
--- What is asked for within a limit, and what a refusal for want of budget says, stage by stage.
+-- What is requested within a limit, and what the refusal `Budget` implies, stage by stage.
 use Rattle.std.proofs.Common.{◌≡◌, ℕ, ◌+◌, ◌-◌, ◌*◌, ◌≤◌, Bool, true, false, min, Result, Ok, Err, arith}
 use Rattle.std.specs.Prelude.{IfErr, List}
 use Rattle.std.proofs.Math.Nat.{mul-le-mul_right}
@@ -10,7 +10,7 @@ use Rattle.elf_table.specs.declared.fault.Fault.{Fault}
 use Rattle.elf_table.specs.declared.run_fault.RunFault.{RunFault}
 use Rattle.elf_reloc.specs.Prelude.{ApplySays, BudgetTooSmall, ReadsWithin, windows, write_passes}
 
--- what was asked for
+-- what was requested
 pub spends_reads : {a b : CountedState} {n : ℕ} (k : ℕ) → ReadsUpTo a b n → b.asked ≤ a.asked + k → ReadsWithin a b k
 spends_reads {b = b} k reads asked = grind arith
 
@@ -24,11 +24,11 @@ spends_then k reads spends asked = grind (arith, KeepsSource-then)
 pub fault_applies : (a b : CountedState) (out : OutState) (n k : ℕ) (fault : Fault) → n ≤ k → IsReadFault a b n fault → ApplySays a b out k (stop_of fault)
 fault_applies a b out n k fault few says = grind arith
 
--- a check's refusal is none
+-- a check's refusal is not one
 pub check_applies : (a b : CountedState) (out : OutState) (k : ℕ) (fault : Fault) → IsOfCheck fault → ApplySays a b out k (stop_of fault)
 check_applies a b out k fault check = grind arith
 
--- a want of budget is what a fault says
+-- `Budget` is what a fault implies
 pub says_wants : (a b : CountedState) (out : OutState) (n : ℕ) (fault : RunFault) → ApplySays a b out n fault → BudgetTooSmall a n fault
 says_wants a b out n fault says = grind arith
 
@@ -45,7 +45,7 @@ says_after {a = a} {b = b} c out m k fault reads within says = grind (arith, IsS
 pub wants_after : {a b : CountedState} {n : ℕ} (m k : ℕ) (fault : RunFault) → ReadsUpTo a b n → b.asked + m ≤ a.asked + k → BudgetTooSmall b m fault → BudgetTooSmall a k fault
 wants_after {a = a} {b = b} m k fault reads within wants = grind arith
 
--- of an answer
+-- for a result
 module _ {X : Type 0} (result : Result X RunFault) where
   by_fault : {P Q : RunFault → Type 0} → ((fault : RunFault) → P fault → Q fault) → IfErr result P → IfErr result Q
   by_fault {P = P} {Q = Q} step h = of_result result h

@@ -1,4 +1,4 @@
--- What a walk asks for, by the entries of the file.
+-- What a walk requests, by the entries of the file.
 use Rattle.std.proofs.Common.{◌≡◌, ℕ, zero, suc, ◌+◌, ◌-◌, ◌*◌, ◌/◌, ◌<◌, ◌≤◌, true, false, List, ◌++◌, length, flat_map, None, Some, refl, sym, ap, ◌∙◌, arith, length-append}
 use Rattle.std.proofs.Math.Nat.{mul-le-mul_left, mul-le-mul_right, mul_assoc}
 use Rattle.std.proofs.lemmas.Bool.Decides.{nat_tests}
@@ -70,7 +70,7 @@ walk_is : (file : List ℕ) (target : ApplyTarget) → HoldsSectionHeaders file 
 unfolding walk_all
 walk_is file target belongs = grind (arith, entries_are file target belongs)
 
--- where the checks before the entries pass, those before the section headers do
+-- if the checks before the entries pass, those before the section headers do
 early_none : (file : List ℕ) (headers : ℕ) → first_refusal (load_checks file headers) ≡ None → first_refusal (early_checks file headers) ≡ None
 early_none file headers none = grind (arith, first_refusal-some (early_checks file headers) (section_name_checks file))
 
@@ -91,7 +91,7 @@ pub load_within : (file : List ℕ) (header : Ehdr) (size slots section : ℕ) (
 load_within file header size slots section layout passes is same passed =
     grind (arith, early_is file header size slots is same, cost_loaded file slots section layout passes, cost_least file slots section layout passes, first_refusal-none (header_checks file) (early_checks file slots) passed)
 
--- what a target's passes cost is what the definition has
+-- the cost of a target's passes is that of the definition
 pub cost_stands : (file : List ℕ) (headers : ℕ) (target : ApplyTarget) (at : ℕ) (passes : ℕ) → HoldsSectionHeaders file target.file.loaded target.file.store.now → first_refusal (header_checks file ++ early_checks file headers) ≡ None
     → length (slice file at target.size) ≡ target.size → IsApplyTarget file headers target at
     → cost_with file headers target.section target.layout.now passes ≡ 64 + 64 * e_shnum file + passes_cost target passes
@@ -101,7 +101,7 @@ cost_stands file headers target at passes belongs early long stands =
 pub windows_same : (file : List ℕ) (headers : ℕ) (target : ApplyTarget) (at : ℕ) → length (slice file at target.size) ≡ target.size → IsApplyTarget file headers target at → window_passes file target.section ≡ 1 + windows target.size
 windows_same file headers target at long stands = ap (λ n. 1 + (n + 63) / 64) (sym (ap length stands.bytes) ∙ long)
 
--- For every source: a section has no more entries than the file's size gives.
+-- For every source: a section has no more entries than the file's size allows.
 table_inside : (bytes : List ℕ) (at size place : ℕ) → first_refusal (table_checks_of bytes at size place 24) ≡ None → sh_size bytes at ≤ size
 table_inside bytes at size place none = grind (arith, nat_tests)
 

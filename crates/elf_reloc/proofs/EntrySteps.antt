@@ -1,4 +1,4 @@
--- What an entry gives.
+-- What an entry yields.
 use Rattle.std.proofs.Common.{◌≡◌, ℕ, ◌+◌, nat_lt, false, List, Some, Ok, Err, arith}
 use Rattle.elf_model.specs.Prelude.{ApplyTarget, Fails, Layout, base_value, change_of, entry_checks, entry_value, named_value, plt_entry_value, r_offset, r_sym, section_symbol_value, symbol_value, system_value, unnamed_value}
 use Rattle.elf_model.specs.declared.relocation_types.RelocationBase.TheVariants.{Linkage, Symbol, Table, Thread}

@@ -16,7 +16,7 @@ use Rattle.elf_reloc.specs.Prelude.{Explains, ExplainsLoaded, Lacks, ReturnsSymb
 use Rattle.elf_reloc.specs.declared.missing_item.MissingItem.{MissingItem}
 use Rattle.elf_reloc.proofs.NamingLaws.{unnamed}
 
--- nothing is wanted for other causes
+-- nothing is needed for other causes
 wants_none : (cause : Cause) (type : RelocationType) (layout : Layout) (section : ℕ) (symbol : Option (ℕ × ℕ)) → may_be_missing cause ≡ false → wanted cause type layout section symbol ≡ None
 unfolding wanted may_be_missing
 wants_none Unplaced type layout section symbol h = absurd (cc)
@@ -79,7 +79,7 @@ load_explains file headers lack (Refused refusal) name store passed slots loads 
     first_refusal-none (header_checks file) (load_checks file headers) passed ∙ (ap (λ (n : ℕ). first_refusal (load_checks file n)) (sym slots) ∙ loads other)
 load_explains file headers lack (Source fault at) name store passed slots loads = tt
 
--- behind those checks nothing is refused but for want of budget
+-- after those checks nothing is refused except with `Budget`
 pub loaded_explains : (file : List ℕ) (headers : ℕ) (lack : Option MissingEntry) (result : Result (Option (MissingAddress × NameEnd)) Fault) (name : List ℕ)
     → ExplainsLoaded lack result name → Explains file headers lack result name
 loaded_explains file headers lack (Ok found) name explains = explains

@@ -1,4 +1,4 @@
--- The checks of a request to apply, behind those of the file and of the section's index and flags.
+-- The checks of a request to apply, after those of the file and of the section's index and flags.
 use Rattle.std.proofs.Common.{◌≡◌, ℕ, ◌==◌, ◌||◌, nat_lt, not, true, false, List, [], None, Some, refl}
 use Rattle.elf_model.specs.Prelude.{EM_X86_64, ET_REL, apply_checks, e_machine, e_shnum, e_type, first_refusal, has_no_bytes, held_bytes, is_compressed, is_section_outside, section_at, sh_offset, sh_size, slice}
 use Rattle.elf_model.specs.declared.causes.Cause.TheVariants.{TableOutside}

@@ -32,14 +32,14 @@ same_behind base now low high le h =
 pub front_part : (base now : List ℕ) (h : PendingState) (k : ℕ) → k ≤ length h.bytes → IsPartlyWritten base now h → take k h.bytes ≡ slice now h.low k
 front_part base now h k few midway = ap (take k) midway.held ∙ take-take k (length h.bytes) (drop h.low now) few
 
--- its front is forgotten
+-- its prefix is discarded
 pub midway_skip : (base now : List ℕ) (h after : PendingState) (k : ℕ) → k ≤ length h.bytes → after.low ≡ h.low + k → after.bytes ≡ drop k h.bytes → IsPartlyWritten base now h → IsPartlyWritten base now after
 midway_skip base now h after k few low bytes midway =
     let long = length-drop k h.bytes in
     let rest = slice-rest now h.low (length h.bytes) k few in
     record { long = midway.long; within = grind arith; held = grind arith; rest = grind arith }
 
--- nothing is held: what stands behind is as it was
+-- nothing is held: what comes after is unchanged
 none_rest : (base now : List ℕ) (h : PendingState) → h.bytes ≡ [] → IsPartlyWritten base now h → drop h.low now ≡ drop h.low base
 none_rest base now h none midway = grind (arith, midway.rest)
 
@@ -104,7 +104,8 @@ midway_patch base now h after patch from fits low bytes same midway =
     let behind = drop_put now patch (h.low + length h.bytes) inside fits in
     record { long = grind arith; within = grind arith; held = grind arith; rest = grind arith }
 
--- what is held ends before an offset: all of it was written, and what stands behind it up to there is the file's
+-- what is held ends before an offset: all of it was written, and what follows it up to there is the
+-- file's
 module _ (file : List ℕ) (at size : ℕ) (now : List ℕ) (h after : PendingState) (k end low : ℕ) (is : k ≡ min (end - h.low) (length h.bytes)) (le : h.low ≤ end) (at_low : after.low ≡ h.low + k) (bytes : after.bytes ≡ drop k h.bytes) (there : low ≡ after.low) (more : low < end) where
   pub all_gone : after.bytes ≡ []
   all_gone = let long : length after.bytes ≡ length h.bytes - k = ap length bytes ∙ length-drop k h.bytes in nil_from_length after.bytes (omega (arith, long, is, at_low, there, more))
@@ -118,7 +119,7 @@ module _ (file : List ℕ) (at size : ℕ) (now : List ℕ) (h after : PendingSt
       ap (λ l. l ++ slice file (at + low) (end - low)) (front_part (slice file at size) now h k few midway)
       ∙ (ap (λ l. slice now h.low k ++ l) behind ∙ sym (slice_split now h.low (end - h.low) k (end - low) (omega (arith, there, at_low, more))))
 
--- what is written is a front, and then more
+-- what is written is a prefix, and then more
 pub writes_then : (X : Type 0) (a b c : OutState) (result : Result X RunFault) (xs ys : List ℕ) → SinkTakes a b xs → WritesBytes b c result ys → WritesBytes a c result (xs ++ ys)
 writes_then X a b c result xs ys before this = grind (arith, SinkTakes-then {a = a} {b = b} {c = c} xs ys, SinkTakesPrefix-then {a = a} {b = b} {c = c} xs ys)
 
@@ -132,7 +133,7 @@ front_more a b text xs ys e h = rw e (SinkTakesPrefix-more xs ys h)
 pub unread_after : (X : Type 0) (a b : OutState) (c d : CountedState) (fault : Fault) (result : Result X RunFault) (text : List ℕ) → result ≡ Err (stop_of fault) → UnreadSays c d fault → SinkTakes a b text → WritesBytes a b result text
 unread_after X a b c d fault result text is un h = grind (arith, SinkTakesPrefix-all {a = a} {b = b} text [], append-nil text)
 
--- patches that never fall
+-- patches that never decrease
 rises_less : (low high : ℕ) (patches : List StoredBytes) → low ≤ high → OffsetsAscend high patches → OffsetsAscend low patches
 unfolding OffsetsAscend
 rises_less low high [] le h = tt
@@ -147,7 +148,7 @@ rises_first : (low : ℕ) (patch : StoredBytes) (patches : List StoredBytes) →
 unfolding OffsetsAscend
 rises_first low patch patches h = (h.0, (h.1, (omega arith, h.1)))
 
--- equal fronts have equal parts
+-- equal prefixes have equal parts
 fronts_take : (a b : List ℕ) (low k : ℕ) → take (low + k) a ≡ take (low + k) b → take low a ≡ take low b
 fronts_take a b low k e = sym (take-take low (low + k) a (omega arith)) ∙ (ap (take low) e ∙ take-take low (low + k) b (omega arith))
 
@@ -158,7 +159,7 @@ module _ (base text : List ℕ) (h : PendingState) (left : List SectionChange) (
   now_inside : AllInside (length known.now) known.patches
   now_inside = let long : length known.now ≡ length base = known.midway.long in rw long known.inside
 
-  -- what stands before the first patch that is left is final
+  -- what comes before the first patch that is left is final
   final_front : (k : ℕ) → All (λ patch. k ≤ patch.at) known.patches → take k known.now ≡ take k text
   final_front k all = sym (final_below known.patches known.now k now_inside all) ∙ ap (take k) known.ends
 
@@ -239,7 +240,7 @@ module _ (base text : List ℕ) (h : PendingState) (left : List SectionChange) (
       absurd (cc)
   underway_failed X (Unread fault at) result rest is = let P : Result X RunFault → Type 0 = λ r. WritesBytes a b r text in subst P (sym is) underway_front
 
--- the begin
+-- the start
 pub underway_start : (base : List ℕ) (h : PendingState) (left : List SectionChange) (patches : List StoredBytes) (a : OutState) → h.low ≡ 0 → h.bytes ≡ [] → patches_of left ≡ Ok patches → AllInside (length base) patches → OffsetsAscend 0 patches
     → UnderWay base (patched patches base) h left a a
 underway_start base h left patches a low none are inside rises =
@@ -257,6 +258,6 @@ underway_start base h left patches a low none are inside rises =
       takes = subst Q (sym low) (SinkTakes-nothing a);
     }
 
--- a fault of the walk, by the change that it stands for
+-- a fault of the walk, by the change that it corresponds to
 pub finds_refusal : (file : List ℕ) (target : TargetCode) (old new : RelocationWalk) (fault : Fault) (a b : CountedState) → IsUnlimitedReadFault a b fault → FindsEntry file target old new (Err fault) → (refusal : Refusal) → fault ≡ Refuses refusal → (more : List SectionChange) × (changes_left file target old ≡ Fails refusal ∷ more)
 finds_refusal file target old new fault a b wanted finds refusal e = grind arith

@@ -1,4 +1,4 @@
--- What an entry lacks, step by step.
+-- What is missing for an entry, step by step.
 use Rattle.std.proofs.Common.{◌≡◌, ◌≢◌, ℕ, ◌/◌, ◌%◌, ◌^◌, ◌==◌, Bool, true, false, List, Option, None, Some, Result, Ok, Err, refl, sym, ap, ◌∙◌, arith}
 use Rattle.std.proofs.lemmas.Bool.Decides.{nat_tests}
 use Rattle.elf_model.specs.Prelude.{Layout, first_refusal, kind_of, linked_at, missing, missing_of, r_sym, r_type, strings_of, symbol_checks, wanted}
@@ -13,12 +13,12 @@ use Rattle.elf_reloc.specs.declared.missing_item.MissingItem.{MissingItem}
 use Rattle.elf_reloc.specs.declared.missing_item.RelocationSymbol.{RelocationSymbol}
 
 module _ (file : List ℕ) (header : ℕ) (layout : Layout) (section : ℕ) (refusal : Refusal) where
-  -- the type is none that stores a value
+  -- the type stores no value
   pub untyped : kind_of (r_type file refusal.at) ≡ None → missing file header layout section refusal ≡ None
   unfolding missing
   untyped h = rw (h, missing) refl
 
-  -- the symbol is none
+  -- there is no symbol
   pub unlinked : first_refusal (symbol_checks file header refusal.at) ≢ None → missing file header layout section refusal ≡ None
   unfolding missing
   unlinked h = grind arith
@@ -29,12 +29,12 @@ module _ (file : List ℕ) (header : ℕ) (layout : Layout) (section : ℕ) (ref
   unfolding missing
   missing_by named type is kind = grind (arith, nat_tests, is.passed, is.zero, is.fields)
 
--- the name of a symbol stands in the table that its section links to
+-- the name of a symbol is in the table that its section links to
 names_of : (file : List ℕ) (header rela : ℕ) (named : RelocationSymbol) → NamesEntrySymbol file header rela named → named.name ≢ 0
     → strings_in file named.names ≡ strings_of file (linked_at file header)
 names_of file header rela named is some = (is.fields (λ zero. some (is.zero zero).0)).2
 
--- what is missing, by what is wanted
+-- what is missing, by the address that is needed
 pub lacks_by : (file : List ℕ) (header rela kind : ℕ) (named : RelocationSymbol) (wanted : Option LayoutAddress) (missed : Option MissingAddress) (found : Option MissingItem)
     → NamesEntrySymbol file header rela named → missed ≡ missing_of kind named.name wanted → LackOf kind named wanted found → Lacks file header missed found
 unfolding missing_of

@@ -17,7 +17,7 @@ lookup_most (item ∷ items) some = omega arith
 pub ReadsUpTo-more : (a b : CountedState) (n k : ℕ) → n ≤ k → ReadsUpTo a b n → ReadsUpTo a b k
 ReadsUpTo-more a b n k within reads = grind arith
 
--- so many bytes from an index of a string table on, or all up to its end
+-- a number of bytes at an index of a string table, or all up to its end
 pub front_is : (file : List ℕ) (at size index most n : ℕ) → index < size → n ≡ min (size - index) (most + 1) → slice file (at + index) n ≡ slice (slice file at size) index (most + 1)
 front_is file at size index most n inside is = elim (cases_lt (size - index) (most + 1)) [
   | inl short ↦
@@ -27,7 +27,7 @@ front_is file at size index most n inside is = elim (cases_lt (size - index) (mo
   | inr fits ↦ ap (slice file (at + index)) (omega (arith, is, fits)) ∙ sym (slice-slice file at size index (most + 1) (omega (arith, fits)))
 ]
 
--- where there is nothing to look through or to look at, and past the table's end
+-- if there is nothing to search or to read, and past the table's end
 pub no_names : (strings : List ℕ) (index : ℕ) (items : List (List ℕ × ℕ)) → items ≡ [] → address_named strings index items ≡ Ok None
 unfolding address_named
 no_names strings index [] none = refl

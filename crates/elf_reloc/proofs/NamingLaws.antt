@@ -1,4 +1,4 @@
--- What is told of a symbol's name.
+-- What is returned for a symbol's name.
 use Rattle.std.proofs.Common.{◌≡◌, ◌≢◌, ℕ, List, [], Some, Option, None, Result, Ok, Err, refl, arith}
 use Rattle.elf_model.specs.Prelude.{DisplayedName, ITEM_NAME_SIZE, resolved_symbol_name, shown}
 use Rattle.elf_model.specs.declared.causes.Cause.{Cause}
@@ -12,7 +12,7 @@ use Rattle.elf_table.specs.declared.fault.Fault.TheVariants.{Refused, Source}
 use Rattle.elf_table.proofs.LedgerLaws.{CallDid-of}
 use Rattle.elf_reloc.specs.Explained.{ReturnsSymbolName, WithoutName}
 
--- there is no name where st_name is 0, else the one that is shown
+-- there is no name if st_name is 0, otherwise the one that is shown
 pub unnamed : (strings : List ℕ) (index : ℕ) → index ≡ 0 → resolved_symbol_name strings index ≡ Ok (ShownWhole [])
 unfolding resolved_symbol_name
 unnamed strings index zero = rw zero refl
@@ -26,7 +26,7 @@ pub read_tells : (at : ℕ) (end : NameEnd) (bytes : List ℕ) (answer : Result 
 read_tells at Whole bytes answer read = read
 read_tells at Cut bytes answer read = read
 
--- a name that was not
+-- a name that was not read
 pub fault_tells : (a b : CountedState) (n at : ℕ) (name : List ℕ) (answer : List ℕ → Result DisplayedName Cause) (fault : Fault) (result : Result (Option NameEnd) Fault)
     → WithoutName fault result → ReadsUpTo a b n → IsReadFault a b n fault → ((file : List ℕ) → a.seen.file ≡ Some file → Refuses at fault (answer file))
     → CallDid a b (fault_of_result result) n (λ file. ReturnsSymbolName (answer file) result name)

@@ -32,7 +32,7 @@ module _ {A : Type 0} (step : A → StoredBytes → A) (value : A) where
 pub checks_fault : (fault : Fault) (answer : Result (Bool × ℕ) Refusal) → ValueOrRefusal {X = Bool × ℕ} (Err fault) answer → ChecksEntries (Err fault) answer
 checks_fault fault answer h = grind arith
 
--- the same fault, where the answer is another value
+-- the same fault, if the result is another value
 pub folds-fault : (X : Type 0) {A : Type 0} (fault : Fault) (value : A) (answer : Result A Refusal) → ValueOrRefusal {X = A} (Err fault) answer → Folds {X = X} (Err fault) value answer
 folds-fault X fault value answer h = grind arith
 

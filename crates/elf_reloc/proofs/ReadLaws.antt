@@ -1,4 +1,4 @@
--- What a fault says of reads one after another, and where no limit is set.
+-- What a fault implies for reads one after another, and if no limit is set.
 use Rattle.std.proofs.Common.{◌≡◌, ℕ, ◌+◌, ◌≤◌, None, Result, arith}
 use Rattle.std.specs.Prelude.{IfErr}
 use Rattle.elf_source.specs.Source.{CountedState, ReadsUpTo}
@@ -6,7 +6,7 @@ use Rattle.elf_source.proofs.ReadsLaws.{IsSourceFault-then}
 use Rattle.elf_table.specs.Prelude.{IsOfCheck, IsReadFault, IsUnlimitedReadFault}
 use Rattle.elf_table.specs.declared.fault.Fault.{Fault}
 
--- without a limit nothing is refused for want of budget
+-- without a limit nothing is refused with `Budget`
 pub not_over : (a b : CountedState) (n : ℕ) (fault : Fault) → a.most ≡ None → IsReadFault a b n fault → IsUnlimitedReadFault a b fault
 not_over a b n fault none says = grind arith
 
@@ -14,7 +14,7 @@ not_over a b n fault none says = grind arith
 pub IsUnlimitedReadFault-then : (a b c : CountedState) (n : ℕ) (fault : Fault) → ReadsUpTo a b n → IsUnlimitedReadFault b c fault → IsUnlimitedReadFault a c fault
 IsUnlimitedReadFault-then a b c n fault reads says = grind (arith, IsSourceFault-then)
 
--- the same in a bound on all reads
+-- the same with a bound on all reads
 pub IsReadFault-then : (a b c : CountedState) (n m k : ℕ) (fault : Fault) → ReadsUpTo a b n → b.asked + m ≤ a.asked + k → IsReadFault b c m fault → IsReadFault a c k fault
 IsReadFault-then a b c n m k fault reads within says = grind (arith, IsSourceFault-then)
 

@@ -17,7 +17,7 @@ use Rattle.elf_reloc.proofs.WindowSteps.{and_is, length_patched}
 abbrev pub offsets_of : List StoredBytes → List ℕ
 offsets_of patches = map (λ (patch : StoredBytes). patch.at) patches
 
--- what a pass over patches says of their offsets
+-- what a pass over patches implies for their offsets
 pub rising_is : (so low : _) (last : Bool × ℕ) (changes : List SectionChange) (patches : List StoredBytes) → patches_of changes ≡ Ok patches → folded rising (so, low) changes ≡ Ok last → last.0 ≡ (so && never_fall_from low (offsets_of patches))
 unfolding folded patches_of never_fall_from
 rising_is so low last [] patches e h = grind arith
@@ -118,7 +118,7 @@ sections_give target (at ∷ headers) =
     gives_as _ _ _ _ refl (offsets_at-append target.file (entries_in target.file target.section at) (flat_map (entries_in target.file target.section) headers))
     (gives_both (section_changes target at) (flat_map (section_changes target) headers) _ _ (section_gives target at) (sections_give target headers))
 
--- a pass that goes through all entries tells whether their offsets never fall
+-- a pass over all entries returns whether their offsets never decrease
 module _ (target : ApplyTarget) (last : Bool × ℕ) (patches : List StoredBytes) (are : patches_of (changes_of target) ≡ Ok patches) (h : folded rising (true, 0) (changes_of target) ≡ Ok last) where
   named_by_record : last.0 ≡ never_fall_from 0 (offsets_of patches)
   named_by_record = rising_is true 0 last (changes_of target) patches are h
@@ -134,7 +134,8 @@ module _ (target : ApplyTarget) (last : Bool × ℕ) (patches : List StoredBytes
   pub patches_rise : last.0 ≡ true → OffsetsAscend 0 patches
   patches_rise rises = never_rises 0 patches (sym named_by_record ∙ rises)
 
--- what is stored where no entry is refused: bytes within the section, whether their offsets never fall, and the answer
+-- what is stored if no entry is refused: bytes within the section, whether their offsets never
+-- decrease, and the result
 pub record Stores (file : List ℕ) (headers : ℕ) (target : TargetCode) (at : ℕ) (rises : Bool) : Type 0 where
   pub patches : List StoredBytes
   pub are : patches_of (changes_all file target) ≡ Ok patches
@@ -144,7 +145,7 @@ pub record Stores (file : List ℕ) (headers : ℕ) (target : TargetCode) (at : 
   pub long : target.size ≡ length (patched patches (slice file at target.size))
   pub text : applied file headers target.section target.layout.now ≡ Ok (patched patches (slice file at target.size))
 
--- a pass through the entries of a target of the code tells it
+-- a pass over the entries of a target of the code returns it
 module _ (src : CountedState) (target : TargetCode) (at : ℕ) (has : HasSection src target at) (file : List ℕ) (held : src.seen.file ≡ Some file) where
   pub section_long : length (slice file at target.size) ≡ target.size
   section_long = let belongs = has.opened.belongs file held in slice-size file at target.size (omega (arith, belongs.size, has.opened.size, has.within))

@@ -1,4 +1,4 @@
--- What a limit has room for, and what is asked for within it.
+-- What a limit has room for, and what is requested within it.
 use Rattle.std.proofs.Common.{◌≡◌, ℕ, zero, suc, ◌+◌, ◌-◌, ◌*◌, ◌^◌, ◌<◌, ◌≤◌, Bool, true, false, inl, inr, min, Option, Some, Result, refl, sym, ap, ◌∙◌, subst, arith}
 use Rattle.std.specs.Prelude.{List, IfErr, ◌⊎◌}
 use Rattle.std.proofs.Math.Dec.{leb}
@@ -12,12 +12,12 @@ use Rattle.elf_table.specs.declared.run_fault.RunFault.{RunFault}
 use Rattle.elf_reloc.specs.Prelude.{ApplyFaultSays, ApplySays, NotForBudget, OverBudget, ReadsWithin, RoomFor, WritesBytes, WritesOrWants, entries_from, walk_all, windows, write_passes}
 use Rattle.elf_reloc.specs.declared.entry.ApplyTarget.{ApplyTarget}
 
--- what a pass asks for, by the number of entries and what each of them asks for
+-- what a pass requests, by the number of entries and what each of them requests
 walk_by : (target : ApplyTarget) (entries each : ℕ) → entries ≡ entries_from target 0 → each ≡ 48 + layout_names_cost target.layout.now → entries * each ≡ walk_all target
 unfolding walk_all
 walk_by target entries each counted costs = grind arith
 
--- a product and a sum that stay at 2^128 - 1 are exact where they are small
+-- a product and a sum that saturate at 2^128 - 1 are exact if they are small
 sum_small :
     (passes exact size most pass walks all : ℕ) → pass ≡ min exact (2 ^ 128 - 1) → walks ≡ min (passes * pass) (2 ^ 128 - 1) → all ≡ min (walks + size) (2 ^ 128 - 1) → most < 2 ^ 64 → all ≤ most
     → passes * exact + size ≤ most
@@ -65,13 +65,13 @@ room_for src target bytes passes entries each size pass walks all is small count
 pub some_size : (src : CountedState) (rises : Bool) (size walk : ℕ) → OverBudget src (write_passes rises size * walk + size) → 0 < size
 some_size src rises size walk over = grind arith
 
--- what the passes that write ask for, by the order of the entries
+-- what the passes that write request, by the order of the entries
 pub write_asks :
     (rises : Bool) (size walk before after : ℕ) → (rises ≡ true → after ≤ before + (walk + size)) → after ≤ before + (windows size * walk + size)
     → after ≤ before + (write_passes rises size * walk + size)
 write_asks rises size walk before after once all = grind arith
 
--- a limit was taken away
+-- a limit was removed
 module _ (a b : CountedState) (bytes : Option ℕ) (limits : SetsLimit a b bytes) where
   pub open_free : (loaded : LoadedFile) (store : StoreState) → IsOpen a loaded store → IsOpen b loaded store
   open_free loaded store opened = record { size = grind arith; belongs = λ file held. opened.belongs file (ap (λ (s : SourceState). s.file) (sym limits.seen) ∙ held) }
@@ -83,7 +83,7 @@ module _ (a b : CountedState) (bytes : Option ℕ) (limits : SetsLimit a b bytes
   pub says_free : {X : Type 0} (d : CountedState) (out : OutState) (n : ℕ) (result : Result X RunFault) → IfErr result (ApplyFaultSays NotForBudget b d out) → IfErr result (ApplySays a d out n)
   says_free d out n result says = grind arith
 
--- the same where it is taken away last
+-- the same if it is removed last
 module _ (a b d : CountedState) (bytes : Option ℕ) (limits : SetsLimit b d bytes) where
   pub spends_last : (n : ℕ) → ReadsWithin a b n → ReadsWithin a d n
   spends_last n spends = grind arith
@@ -91,6 +91,6 @@ module _ (a b d : CountedState) (bytes : Option ℕ) (limits : SetsLimit b d byt
   pub says_last : {X : Type 0} (out : OutState) (n : ℕ) (result : Result X RunFault) → IfErr result (ApplySays a b out n) → IfErr result (ApplySays a d out n)
   says_last out n result says = grind arith
 
--- a text that was written, where nothing is refused
+-- a text that was written, if nothing is refused
 pub never_wants : {X : Type 0} (old new : OutState) (result : Result X RunFault) (text : List ℕ) → WritesBytes old new result text → WritesOrWants old new result text
 never_wants old new result text h = grind arith

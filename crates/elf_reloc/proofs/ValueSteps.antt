@@ -17,7 +17,7 @@ value_is :
 unfolding value
 value_is n s l a p other = let f : (n == R_X86_64_NONE) ≡ false = ne_eqb n R_X86_64_NONE other in rw (f, value) refl
 
--- the low bytes of a number, where it is in the range
+-- the low bytes of a number, if it is in the range
 abbrev pub patch_in : RelocationType → ℕ → Bool → Result (List ℕ) Cause
 patch_in type number in_range = elim (not in_range) [ true ↦ Err Overflow | false ↦ Ok (little type.width number) ]
 

@@ -47,7 +47,7 @@ rows-none : (file : List ℕ) (target : TargetCode) (at i : ℕ) → rows_change
 unfolding rows_changes places_from
 rows-none file target at i = refl
 
--- what a section gives
+-- the changes of a section
 pub section_none : (t : ApplyTarget) (at : ℕ) → applies_to t.file t.section at ≡ false → section_changes t at ≡ []
 unfolding section_changes
 section_none t at h = rw (h, section_changes) refl
@@ -60,7 +60,7 @@ pub section_rows : (file : List ℕ) (target : TargetCode) (at : ℕ) → applie
 unfolding section_changes rows_changes
 section_rows file target at h f = rw (h, section_changes) (rw (f, section_changes) refl)
 
--- what is left where no row is left
+-- what is left if no row is left
 pub left-rows : (file : List ℕ) (target : TargetCode) (e : RelocationWalk) → e.cursor.left ≡ 0 → changes_left file target e ≡ changes_from file target e.next (sections_of target - e.next)
 unfolding changes_left
 left-rows file target e none = grind (arith, rows-none)
@@ -68,7 +68,7 @@ left-rows file target e none = grind (arith, rows-none)
 pub left-end : (file : List ℕ) (target : TargetCode) (e : RelocationWalk) → e.cursor.left ≡ 0 → sections_of target ≤ e.next → changes_left file target e ≡ []
 left-end file target e none past = grind (arith, left-rows, from-none)
 
--- the next section was passed: it gives nothing
+-- the next section was skipped: it has no changes
 pub left-passed : (file : List ℕ) (target : TargetCode) (old new : RelocationWalk) → old.cursor.left ≡ 0 → new.cursor.left ≡ 0 → new.next ≡ old.next + 1 → old.next < sections_of target
     → section_changes (target_as file target) (section_at file old.next) ≡ [] → changes_left file target old ≡ changes_left file target new
 left-passed file target old new none none' step below nothing = grind (arith, left-rows, from-next)
@@ -89,7 +89,7 @@ left-refused file target old refusal none below are = (
       ∙ ap (λ l. l ++ changes_from file target (old.next + 1) (sections_of target - (old.next + 1))) are),
 )
 
--- a row was given
+-- a row was yielded
 pub left-row : (file : List ℕ) (target : TargetCode) (old new : RelocationWalk) (at : ℕ) → new.next ≡ old.next → new.current ≡ old.current → new.cursor.index ≡ old.cursor.index + 1 → new.cursor.left + 1 ≡ old.cursor.left
     → at ≡ sh_offset file (section_at file old.current) + old.cursor.index * 24
     → changes_left file target old ≡ entry_changes (target_as file target) (section_at file old.current) at ++ changes_left file target new
@@ -177,12 +177,12 @@ cost-fault : (target : TargetCode) (old new : RelocationWalk) (before after : �
 unfolding walk_left
 cost-fault target old new before after fault next failed account = rw (next, failed) (omega (arith, account))
 
--- the bytes that are still to be read of a section are left to ask for
+-- the bytes that are still to be read of a section are left to request
 pub unread-left : (target : TargetCode) (e : RelocationWalk) → unread_bytes e.cursor ≤ walk_left target e
 unfolding walk_left
 unread-left target e = omega arith
 
--- reads by what was left to ask for
+-- reads within what was left to request
 pub reads-left : {a b : CountedState} {n : ℕ} (left left' : ℕ) → ReadsUpTo a b n → b.asked + left' ≤ a.asked + left → ReadsUpTo a b left
 reads-left left left' reads account = ReadsUpTo-to reads (omega (arith, account))
 
@@ -198,7 +198,7 @@ pub finds-fault : (file : List ℕ) (target : TargetCode) (old mid new : Relocat
 finds-fault file target old mid new (Refused refusal) same walked = λ other. let found = walked other in (found.0, same ∙ found.1)
 finds-fault file target old mid new (Source fault at) same walked = tt
 
--- a row was read, and then what is beside it
+-- a row was read, and then what else it needs
 pub row-asks : (target : TargetCode) (old new : RelocationWalk) (a b c : CountedState) → new.next ≡ old.next → old.cursor.failed ≡ None → new.cursor.failed ≡ None → new.cursor.left + 1 ≡ old.cursor.left
     → ReadsUpTo a b (unread_bytes old.cursor) → b.asked + unread_bytes new.cursor ≤ a.asked + unread_bytes old.cursor → ReadsUpTo b c (beside_entry_cost target) → AsksOf a c target old new
 row-asks target old new a b c same f f' less reads account own =
@@ -231,7 +231,7 @@ fault-asks target old new a b fault next failed reads account =
     let all = cost-fault target old new a.asked b.asked fault next failed account in
     record { reads = reads-left (walk_left target old) (walk_left target new) reads all; account = all }
 
--- no row is left: what the step to the next section did
+-- no row is left: the effect of the step to the next section
 pub end-asks : (target : TargetCode) (old new : RelocationWalk) (a b : CountedState) (cursor : CursorState) → cursor ≡ old.cursor
     → walk_left target new ≤ walk_left target (record { cursor = cursor; symbols = old.symbols; current = old.current; next = old.next; count = old.count })
     → ReadsUpTo a b (unread_bytes old.cursor) → b.asked + unread_bytes cursor ≤ a.asked + unread_bytes old.cursor → AsksOf a b target old new
@@ -241,7 +241,7 @@ end-asks target old new a b cursor same fewer reads account =
     let all : b.asked + walk_left target new ≤ a.asked + walk_left target old = omega arith in
     record { reads = reads-left (walk_left target old) (walk_left target new) reads all; account = all }
 
--- what a row gives is the first of what is left
+-- the change of a row is the first of what is left
 module _ (file : List ℕ) (target : TargetCode) (old new : RelocationWalk) (at : ℕ) (next : new.next ≡ old.next) (here : new.current ≡ old.current) (index : new.cursor.index ≡ old.cursor.index + 1) (less : new.cursor.left + 1 ≡ old.cursor.left)
     (place : at ≡ sh_offset file (section_at file old.current) + old.cursor.index * 24) where
   pub row-stores : (placed : PlacedPatch) → entry_changes (target_as file target) (section_at file old.current) at ≡ Put (patch_as placed) ∷ [] → changes_left file target old ≡ Put (patch_as placed) ∷ changes_left file target new

@@ -33,7 +33,7 @@ folded_window low n (Put patch ∷ changes) patches window h =
     folded_window low n changes p.0 (put (clipped low n patch) window) p.1 ∙ ap (λ ps. Ok (patched (map (clipped low n) ps) window)) (sym p.2)
 folded_window low n (Fails refusal ∷ changes) patches window h = cc
 
--- the window that a pass leaves is the patched section's
+-- the window after a pass is the patched section's
 pub window_is : (file : List ℕ) (at size low n : ℕ) (changes : List SectionChange) (patches : List StoredBytes) (read : List ℕ) → at + size ≤ length file → low + n ≤ size → read ≡ slice file (at + low) n
     → patches_of changes ≡ Ok patches → AllInside size patches → folded (storing low n) read changes ≡ Ok (slice (patched patches (slice file at size)) low n)
 window_is file at size low n changes patches read within fits is h inside =
@@ -50,7 +50,7 @@ folds_ok value expected answer h e = cc
 pub front_none : (a : OutState) (text : List ℕ) → SinkTakesPrefix a a text
 front_none a text = record { front = []; rest = text; split = refl; takes = SinkTakes-nothing a }
 
--- a pass failed: a refusal can't be, and a fault of the source leaves nothing written
+-- a pass failed: a refusal is impossible, and a fault of the source leaves nothing written
 pub pass_failed : (X : Type 0) (b c : CountedState) (a : OutState) (fault : Fault) (result : Result X RunFault) (text value : List ℕ) (answer : Result (List ℕ) Refusal)
     → result ≡ Err (stop_of fault) → answer ≡ Ok text → IsUnlimitedReadFault b c fault → Folds {X = X} (Err fault) value answer → WritesBytes a a result text
 pass_failed X b c a fault result text value answer is ok other folds = grind (arith, front_none)
@@ -59,20 +59,20 @@ pass_failed X b c a fault result text value answer is ok other folds = grind (ar
 pub fault_says : (a b : CountedState) (out : OutState) (fault : Fault) → IsUnlimitedReadFault a b fault → ApplyFaultSays NotForBudget a b out (stop_of fault)
 fault_says a b out fault says = grind arith
 
--- a fault behind other reads
+-- a fault after other reads
 pub says_behind : (IsReadFault : Refusal → Type 0) (a b c : CountedState) (n : ℕ) (out : OutState) (stop : RunFault) → ReadsUpTo a b n → ApplyFaultSays IsReadFault b c out stop → ApplyFaultSays IsReadFault a c out stop
 says_behind IsReadFault a b c n out (Refused refusal) reads says = says
 says_behind IsReadFault a b c n out (Source fault at) reads says = (IsSourceFault-then a.seen b.seen c.seen fault reads.keeps says.0, says.1)
 says_behind IsReadFault a b c n out (Out fault) reads says = says
 
--- a front is no longer than all
+-- a prefix is no longer than all
 pub front_written : (a b : OutState) (text : List ℕ) → SinkTakesPrefix a b text → b.written ≤ a.written + length text
 front_written a b text h =
     let long = ap length h.split ∙ length-append h.front h.rest in
     let counts = h.takes.counts in
     omega (arith, long, counts)
 
--- one window more
+-- one more window
 pub take_more : (text : List ℕ) (done n : ℕ) → take (done + n) text ≡ take done text ++ slice text done n
 take_more text done n = take-add done n text
 
@@ -102,7 +102,7 @@ windows_end a b patches base done size long inside past h =
     let kept = length_patched patches base size long inside in
     let P : List ℕ → Type 0 = λ t. SinkTakes a b t in subst P (take_all done (patched patches base) (omega (arith, kept, past))) h
 
--- the account
+-- the sum of the reads
 pub windows_account : (size done count next walk before after start bound : ℕ) → done < size → count ≡ min (size - done) 64 → next ≡ done + count → after ≤ before + (walk + count)
     → before + (windows (size - done) * walk + (size - done)) ≤ bound → after + (windows (size - next) * walk + (size - next)) ≤ bound
 windows_account size done count next walk before after start bound below is step asked within =
@@ -111,7 +111,8 @@ windows_account size done count next walk before after start bound below is step
     let split : (windows (size - next) + 1) * walk ≡ windows (size - next) * walk + walk = omega arith in
     omega (arith, product, split)
 
--- what a pass answered of a window that was read: the patched section's, or none of it was written
+-- the result of a pass over a window that was read: the patched section's, or none of it was
+-- written
 pub window_done : (file : List ℕ) (at size low n m : ℕ) (changes : List SectionChange) (patches : List StoredBytes) (read : List ℕ) → at + size ≤ length file → low + n ≤ size → read ≡ slice file (at + low) n → m ≡ n
     → patches_of changes ≡ Ok patches → AllInside size patches → folded (storing low m) read changes ≡ Ok (slice (patched patches (slice file at size)) low n)
 window_done file at size low n m changes patches read within fits is same h inside =
@@ -129,5 +130,5 @@ takes_start a text = SinkTakes-nothing a
 pub short_take : (n size : ℕ) → n ≤ size → length {A = ℕ} (take n (replicate size 0)) ≡ n
 short_take n size few = let zeros : List ℕ = replicate size 0 in length-take-le n zeros (let long : length zeros ≡ size = length-replicate {A = ℕ} size 0 in omega (arith, long))
 
--- what a call that stops says
+-- what a call that stops implies
 pub ruleset stopping = (err_from_is_err_and, front_none, front_written, IsSourceFault-then)

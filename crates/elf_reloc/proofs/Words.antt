@@ -1,4 +1,4 @@
--- The definitions that functions calculate, opened for their checks.
+-- The definitions that functions compute, unfolded for their checks.
 use Rattle.elf_model.specs.Prelude.{apply_checks, base_value, change_of, entry_changes, entry_checks, entry_value, held_bytes, layout_names_cost, named_value, patch_of, place_value, plt_entry_value, symbol_value, system_value, whole}
 use Rattle.elf_layout.specs.Layouts.{names_for}
 use Rattle.elf_reloc.specs.Entries.{term_of, taken_place}

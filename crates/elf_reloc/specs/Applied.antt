@@ -15,19 +15,19 @@ use Rattle.elf_reloc.specs.InOrder.{OffsetsAscend}
 use Rattle.elf_reloc.specs.Walk.{walk_all}
 use Rattle.elf_reloc.specs.Windows.{OfPatches, WroteBytes, windows}
 
--- where a section's bytes stand, or the first check that fails
+-- the location of a section's bytes, or the first check that fails
 abbrev pub HeldIs : List ℕ → ℕ → Result (ℕ × ℕ) Fault → Type 0
 HeldIs file section (Ok found) = (first_refusal (apply_checks file section) ≡ None) × (slice file found.0 found.1 ≡ held_bytes file (section_at file section))
 HeldIs file section (Err (Refuses refusal)) = first_refusal (apply_checks file section) ≡ Some refusal
 HeldIs file section (Err (Unread fault at)) = Unit {0}
 
--- the text of an answer: nothing where it is refused
+-- the text of a result: nothing if it is refused
 abbrev pub text_of : Result (List ℕ) Refusal → List ℕ
 text_of (Ok text) = text
 text_of (Err refusal) = []
 
--- WHAT WAS WRITTEN of an answer: all its bytes, with their number and that of the entries; nothing where it is refused, or for
--- want of budget; a front of them at a fault
+-- WHAT IS WRITTEN for a result: all its bytes, with their number and that of the entries; nothing
+-- if it is refused, or with `Budget`; a prefix of them on a fault
 abbrev pub Applies : OutState → OutState → Result Applied RunFault → ℕ → Result (List ℕ) Refusal → Type 0
 Applies old new (Ok done) entries answer =
     (text : List ℕ) × (answer ≡ Ok text) × SinkTakes old new text × (done.size ≡ length text) × (done.entries ≡ entries)
@@ -35,81 +35,85 @@ Applies old new (Err (Refused refusal)) entries answer = ((IsBudgetRefusal refus
 Applies old new (Err (Source fault at)) entries answer = SinkTakesPrefix old new (text_of answer)
 Applies old new (Err (Out fault)) entries answer = SinkTakesPrefix old new (text_of answer)
 
--- HOW MANY BYTES WERE WRITTEN, for every source: as many as the answer says, or no more than so many at a fault
+-- HOW MANY BYTES ARE WRITTEN, for every source: as many as the result says, or no more than n on a
+-- fault
 abbrev pub WroteMost : OutState → OutState → Result Applied RunFault → ℕ → Type 0
 WroteMost old new (Ok done) most = (done.size ≤ most) × (new.written ≡ min (old.written + done.size) (2 ^ 128 - 1))
 WroteMost old new (Err fault) most = new.written ≤ old.written + most
 
--- what a want of budget says: a limit was set, and so many bytes more would have passed it
+-- the meaning of `Budget`: a limit was set, and n bytes more would have exceeded it
 pub record OverBudget (src : CountedState) (n : ℕ) : Type 0 where
   pub most : ℕ
   pub is_set : src.most ≡ Some most
   pub above : most < src.asked + n
 
--- a fault is for want of budget only where so many bytes more would have passed the limit
+-- a fault is `Budget` only if n bytes more would have exceeded the limit
 abbrev pub BudgetTooSmall : CountedState → ℕ → RunFault → Type 0
 BudgetTooSmall src n (Refused refusal) = IsBudgetRefusal refusal → OverBudget src n
 BudgetTooSmall src n (Source fault at) = Unit {0}
 BudgetTooSmall src n (Out fault) = Unit {0}
 
--- what a fault says of the source and the output, by reads of at most n bytes: a refusal for want of budget is at an offset
--- of the source, and so many bytes more would have passed the limit; a fault of the source names the read that stopped, and
--- at a fault of the output the sink has failed
+-- what a fault implies for the source and the output, by reads of at most n bytes: the refusal
+-- `Budget` is at an offset of the source, and n bytes more would have exceeded the limit; a fault
+-- of the source points to the read that stopped, and on a fault of the output the sink has failed
 abbrev pub ApplySays : CountedState → CountedState → OutState → ℕ → RunFault → Type 0
 ApplySays old new out n (Refused refusal) = IsBudgetRefusal refusal → (refusal.at < old.seen.size) × OverBudget old n
 ApplySays old new out n (Source fault at) = IsSourceFault old.seen new.seen fault × (at ≡ new.stopped)
 ApplySays old new out n (Out fault) = IsOutFault out fault
 
--- WHAT WAS ASKED FOR, for every source: at most n bytes more, and never past a limit that was set; the source is kept
+-- WHAT IS REQUESTED, for every source: at most n bytes more, and never past a limit that was set;
+-- the source is kept
 pub record ReadsWithin (old new : CountedState) (n : ℕ) : Type 0 where
   pub keeps : KeepsSource old.seen new.seen
   pub grows : old.asked ≤ new.asked
   pub at_most : new.asked ≤ old.asked + n
   pub within : (most : ℕ) → old.most ≡ Some most → new.asked ≤ most
 
--- a target stands for a section of the file whose bytes stand at an offset, and no check before its entries fails
+-- a target is that of a section of the file whose bytes are at an offset, and no check before its
+-- entries fails
 pub record IsApplyTarget (file : List ℕ) (headers : ℕ) (target : ApplyTarget) (at : ℕ) : Type 0 where
   pub passed : first_refusal (before_entries file headers target.section) ≡ None
   pub bytes : slice file at target.size ≡ held_bytes file (section_at file target.section)
 
--- what so many passes through the entries ask for, and the section
+-- what a number of passes over the entries request, and the section
 abbrev pub passes_cost : ApplyTarget → ℕ → ℕ
 passes_cost target passes = passes * walk_all target + target.size
 
--- how many bytes may be asked for behind the section headers, for every source: so many passes through as many sections of
--- entries as there may be headers, each as large as the file, and the file
+-- how many bytes may be requested after the section headers, for every source: a number of passes
+-- over as many sections of entries as there may be headers, each as large as the file, and the file
 abbrev pub after_ceiling : ℕ → ℕ → Layout → ℕ
 after_ceiling size headers layout = (1 + (size + 63) / 64) * (headers * (size / 24 * (48 + layout_names_cost layout))) + size
 
--- how many bytes may be asked for, for every source
+-- how many bytes may be requested, for every source
 abbrev pub apply_ceiling : ℕ → ℕ → Layout → ℕ
 apply_ceiling size headers layout = 64 + 64 * headers + after_ceiling size headers layout
 
--- how many passes through the entries write a section of so many bytes: one for each window, and at most one where the
--- offsets of the entries never fall
+-- how many passes over the entries write a section of a size: one for each window, and at most one
+-- if the offsets of the entries never decrease
 abbrev pub write_passes : Bool → ℕ → ℕ
 write_passes true size = min 1 (windows size)
 write_passes false size = windows size
 
--- a limit has room for the passes that write a section, or they would pass it
+-- a limit has room for the passes that write a section, or they would exceed it
 abbrev pub RoomFor : CountedState → ℕ → Bool → Type 0
 RoomFor src n room = MatchBool room ((most : ℕ) → src.most ≡ Some most → src.asked + n ≤ most) (OverBudget src n)
 
--- a section whose bytes stand at an offset may be written within a limit: the target's file is that of the source, and the
--- bytes lie within the source, whose offsets fit
+-- a section whose bytes are at an offset may be written within a limit: the target's file is that
+-- of the source, and the bytes lie within the source, whose offsets fit
 pub record HasSection (src : CountedState) (target : ApplyTarget) (at : ℕ) : Type 0 where
   pub opened : IsOpen src target.file.loaded target.file.store.now
   pub within : at + target.size ≤ src.seen.size
   pub fits : src.seen.size < 2 ^ 64
 
--- a text was written, or a front of it, or nothing for want of budget
+-- a text was written, or a prefix of it, or nothing with `Budget`
 abbrev pub WritesOrWants : {X : Type 0} → OutState → OutState → Result X RunFault → List ℕ → Type 0
 WritesOrWants old new (Ok x) text = SinkTakes old new text
 WritesOrWants old new (Err (Refused refusal)) text = IsBudgetRefusal refusal × (new ≡ old)
 WritesOrWants old new (Err (Source fault at)) text = SinkTakesPrefix old new text
 WritesOrWants old new (Err (Out fault)) text = SinkTakesPrefix old new text
 
--- what a call did that writes a section whose entries were checked, unless a limit has no room for the passes
+-- the effect of a call that writes a section whose entries were checked, unless a limit has no room
+-- for the passes
 pub record WritesWithin {X : Type 0} (before after : CountedState) (old new : OutState) (result : Result X RunFault) (target : ApplyTarget) (at : ℕ) (rises : Bool) : Type 0 where
   pub says : IfErr result (ApplySays before after new (passes_cost target (write_passes rises target.size)))
   pub reads : ReadsWithin before after (passes_cost target (write_passes rises target.size))
@@ -117,8 +121,8 @@ pub record WritesWithin {X : Type 0} (before after : CountedState) (old new : Ou
   pub wrote : WroteBytes old new result target.size
   pub text : (file : List ℕ) → before.seen.file ≡ Some file → OfPatches target at (λ patches text. (rises ≡ true → OffsetsAscend 0 patches) → WritesOrWants old new result text) file
 
--- what a call did that checks all entries and writes the section, whose bytes stand at an offset: two passes where the
--- offsets of the entries never fall
+-- the effect of a call that checks all entries and writes the section, whose bytes are at an
+-- offset: two passes if the offsets of the entries never decrease
 pub record AppliesTarget (before after : CountedState) (old new : OutState) (result : Result Applied RunFault) (target : ApplyTarget) (at : ℕ) : Type 0 where
   pub says : IfErr result (ApplySays before after new (passes_cost target (1 + windows target.size)))
   pub reads : ReadsWithin before after (passes_cost target (1 + windows target.size))
@@ -136,7 +140,8 @@ pub record MayApply (src : CountedState) (loaded : LoadedFile) (store : StoreSta
   pub opened : IsOpen src loaded store
   pub fits : src.seen.size < 2 ^ 64
 
--- what a call did that writes a section of a loaded file, for whose headers there are so many slots
+-- the effect of a call that writes a section of a loaded file, with a number of slots for its
+-- headers
 pub record AppliesLoaded (before after : CountedState) (old new : OutState) (result : Result Applied RunFault) (slots section : ℕ) (layout : Layout) : Type 0 where
   pub says : IfErr result (ApplySays before after new (after_ceiling before.seen.size slots layout))
   pub reads : ReadsWithin before after (after_ceiling before.seen.size slots layout)
@@ -149,7 +154,7 @@ pub record AppliesLoaded (before after : CountedState) (old new : OutState) (res
   pub text : (file : List ℕ) → before.seen.file ≡ Some file → first_refusal (header_checks file) ≡ None
       → Applies old new result (length (entries_for file section)) (applied file slots section layout)
 
--- WHAT A CALL DID that writes a section of a file, for whose headers there are so many slots
+-- THE EFFECT OF A CALL that writes a section of a file, with a number of slots for its headers
 pub record AppliesFile (before after : CountedState) (old new : OutState) (result : Result Applied RunFault) (slots section : ℕ) (layout : Layout) : Type 0 where
   pub says : IfErr result (ApplySays before after new (apply_ceiling before.seen.size slots layout))
   pub text : (file : List ℕ) → before.seen.file ≡ Some file → Applies old new result (length (entries_for file section)) (applied file slots section layout)

@@ -1,4 +1,4 @@
--- What a relocation entry stores, as the code has it, in the words of the definitions.
+-- What a relocation entry stores, as the code has it, in the terms of the model.
 use Rattle.std.specs.Prelude.{ℕ, ◌≡◌, ◌+◌, ◌≤◌, IfSome, true, false, List, [], ◌∷◌, length, Option, None, Some, Result, Ok, Err}
 use Rattle.elf_model.specs.Prelude.{ApplyTarget, Fails, IsBudgetRefusal, Put, SectionChange, StoredBytes, first_refusal, layout_names_cost, named_value, place_value, r_sym, symbol_checks, takes_place}
 use Rattle.elf_model.specs.declared.causes.Cause.{Cause}
@@ -15,7 +15,7 @@ use Rattle.elf_reloc.specs.declared.entry.RelocationSymbols.{RelocationSymbols}
 use Rattle.elf_reloc.specs.declared.entry.CachedAddress.{CachedAddress}
 use Rattle.elf_reloc.specs.declared.entry.ApplyTarget.{ApplyTarget as TargetCode}
 
--- what relocations are applied to
+-- the target of relocations
 abbrev pub target_as : List ℕ → TargetCode → ApplyTarget
 target_as file target = record { file = file; section = target.section; size = target.size; layout = target.layout.now }
 
@@ -23,18 +23,18 @@ target_as file target = record { file = file; section = target.section; size = t
 abbrev pub patch_as : PlacedPatch → StoredBytes
 patch_as placed = record { at = placed.offset; bytes = patched_bytes placed.patch }
 
--- they lie within so many bytes
+-- they lie within a size
 abbrev pub IsPlacedInside : ℕ → PlacedPatch → Type 0
 IsPlacedInside size placed = placed.offset + length (patched_bytes placed.patch) ≤ size
 
--- what an entry gives: nothing, bytes that are stored, or its fault, unless that is for want of budget
+-- the result for an entry: nothing, bytes that are stored, or its fault, unless that is `Budget`
 abbrev pub Changes : Result (Option PlacedPatch) Fault → List SectionChange → Type 0
 Changes (Ok None) changes = changes ≡ []
 Changes (Ok (Some placed)) changes = changes ≡ Put (patch_as placed) ∷ []
 Changes (Err (Refused refusal)) changes = (IsBudgetRefusal refusal → ⊥) → changes ≡ Fails refusal ∷ []
 Changes (Err (Source fault at)) changes = Unit {0}
 
--- what an entry of a type gives: bytes that are stored, or its fault, unless that is for want of budget
+-- the result for an entry of a type: bytes that are stored, or its fault, unless that is `Budget`
 abbrev pub Does : Result PlacedPatch Fault → SectionChange → Type 0
 Does (Ok placed) change = change ≡ Put (patch_as placed)
 Does (Err (Refused refusal)) change = (IsBudgetRefusal refusal → ⊥) → change ≡ Fails refusal
@@ -45,7 +45,7 @@ abbrev pub value_or : Option ℕ → ℕ → Cause → Result ℕ Refusal
 value_or (Some value) at cause = Ok value
 value_or None at cause = Err (record { at = at; cause = cause })
 
--- B, where the symbol's checks pass
+-- B, if the symbol's checks pass
 unfoldable pub term_of : RelocationBase → ApplyTarget → ℕ → ℕ → Result ℕ Refusal
 term_of base target at rela =
     elim (first_refusal (symbol_checks target.file at rela)) [
@@ -53,7 +53,7 @@ term_of base target at rela =
       | None ↦ named_value base target at rela
     ]
 
--- P where the formula takes it, else 0
+-- P if the formula uses it, otherwise 0
 unfoldable pub taken_place : Formula → ApplyTarget → ℕ → Result ℕ Refusal
 taken_place formula target rela =
     elim (takes_place formula) [
@@ -61,22 +61,24 @@ taken_place formula target rela =
       | false ↦ Ok 0
     ]
 
--- what an entry took of a symbol is what each entry takes that names it so
+-- the address that an entry used of a symbol is that which each entry uses that names it in the
+-- same way
 abbrev IsSymbolTaken : List ℕ → TargetCode → ℕ → CachedAddress → Type 0
 IsSymbolTaken file target header taken =
     (rela : ℕ) → taken.symbol ≡ r_sym file rela → term_of taken.base (target_as file target) header rela ≡ Ok taken.value
 
--- the symbols that the entries of the section with this header refer to, and what the last of them took
+-- the symbols that the entries of the section with this header refer to, and the address that the
+-- last of them used
 pub record Refers (file : List ℕ) (target : TargetCode) (header : ℕ) (symbols : RelocationSymbols) : Type 0 where
   pub linked : RefersTo file header symbols.linked
   pub last : IfSome symbols.last (IsSymbolTaken file target header)
 
--- what an entry asks for beside its own bytes: a symbol and names
+-- what an entry requests besides its own bytes: a symbol and names
 abbrev pub beside_entry_cost : TargetCode → ℕ
 beside_entry_cost target = 24 + layout_names_cost target.layout.now
 
--- what a call did for an entry of a section: what it costs, that the symbols stay those that the section's entries refer to,
--- and what it says of the entry, which is read from the file
+-- the effect of a call for an entry of a section: its cost, that the symbols stay those that the
+-- section's entries refer to, and its result for the entry, which is read from the file
 pub record DidFor (before after : CountedState) (target : TargetCode) (old new : RelocationSymbols) (stop : Option Fault) (reads : List ℕ → Type 0) (tells : List ℕ → ℕ → Type 0) : Type 0 where
   pub costs : CallReads before after stop (beside_entry_cost target)
   pub same : new.linked ≡ old.linked

@@ -1,4 +1,4 @@
--- What a layout lacks where a section was refused, as the code answers it, and what that asks for.
+-- What a layout is missing if a section was refused, as the code returns it, and what that reads.
 use Rattle.std.specs.Prelude.{ℕ, ◌≡◌, ◌≢◌, ◌+◌, ◌*◌, ◌/◌, ◌-◌, ◌≤◌, ◌==◌, ◌&&◌, nat_lt, Bool, true, false, List, ◌++◌, Option, None, Some, Result, Ok, Err, IfSome}
 use Rattle.elf_model.specs.Prelude.{DisplayedName, IsBudgetRefusal, MissingEntry, first_refusal, header_checks, linked_at, load_checks, missing_of, pad64, r_sym, refused_in, relocates_at, section_at, st_name, st_shndx, st_type, strings_of, symbol_at, symbol_checks}
 use Rattle.elf_model.specs.declared.causes.Cause.{Cause}
@@ -15,7 +15,7 @@ use Rattle.elf_table.specs.declared.fault.Fault.TheVariants.{Refused, Source}
 use Rattle.elf_reloc.specs.declared.missing_item.MissingItem.{MissingItem}
 use Rattle.elf_reloc.specs.declared.missing_item.RelocationSymbol.{RelocationSymbol}
 
--- an entry that is refused for this cause may lack an address
+-- an entry that is refused for this cause may be missing an address
 unfoldable pub may_be_missing : Cause → Bool
 may_be_missing Unplaced = true
 may_be_missing Undefined = true
@@ -26,31 +26,33 @@ may_be_missing _ = false
 abbrev pub entry_bytes : ℕ
 entry_bytes = 48 + pad64 256
 
--- WHAT IS NEVER PASSED: the file header, a section header for each slot, and those
+-- THE UPPER BOUND of reads: the file header, a section header for each slot, and those
 abbrev pub explain_bytes : ℕ → ℕ
 explain_bytes slots = 64 + 64 * slots + entry_bytes
 
--- what is lacking, with the bytes of the symbol's name
+-- what is missing, with the bytes of the symbol's name
 abbrev pub lack_as : List ℕ → Option (MissingAddress × NameEnd) → Option MissingEntry
 lack_as name None = None
 lack_as name (Some found) = Some (record { missing = found.0; name = shown_by found.1 name })
 
--- WHAT IS EXPLAINED of a file: what the layout lacks; or the refusal of the file's own checks, unless it is for want of budget
+-- THE EXPLANATION for a file: what the layout is missing; or the refusal of the file's own checks,
+-- unless it is `Budget`
 abbrev pub Explains : List ℕ → (headers : ℕ) → Option MissingEntry → Result (Option (MissingAddress × NameEnd)) Fault → List ℕ → Type 0
 Explains file headers lack (Ok found) name = lack_as name found ≡ lack
 Explains file headers lack (Err (Refused refusal)) name = (IsBudgetRefusal refusal → ⊥) → first_refusal (header_checks file ++ load_checks file headers) ≡ Some refusal
 Explains file headers lack (Err (Source fault at)) name = Unit {0}
 
--- the same behind those checks: nothing is refused but for want of budget
+-- the same after those checks: nothing is refused except with `Budget`
 abbrev pub ExplainsLoaded : Option MissingEntry → Result (Option (MissingAddress × NameEnd)) Fault → List ℕ → Type 0
 ExplainsLoaded lack (Ok found) name = lack_as name found ≡ lack
 ExplainsLoaded lack (Err fault) name = IsOfRead fault
 
--- an entry of 24 bytes of a table stands at an offset
+-- an entry of 24 bytes of a table is at an offset
 abbrev pub has_row : TableRange → ℕ → Bool
 has_row table at = let index = (at - table.at) / 24 in nat_lt index table.count && row_at table index == at
 
--- a section relocates another and has an entry at an offset, and refers to these symbols; or it does not
+-- a section relocates another and has an entry at an offset, and refers to these symbols; or it
+-- does not
 abbrev pub HasEntry : List ℕ → ℕ → ℕ → ℕ → Option (Option (TableRange × StringTableRange)) → Type 0
 HasEntry file section rela header None = relocates_at file section rela header ≡ false
 HasEntry file section rela header (Some linked) = (relocates_at file section rela header ≡ true) × RefersTo file header linked
@@ -69,7 +71,8 @@ abbrev pub EntryRead : List ℕ → ℕ → Result Rela Fault → Type 0
 EntryRead file at (Ok entry) = IsRela file at entry
 EntryRead file at (Err fault) = IsOfRead fault
 
--- the symbol that an entry names is symbol 0, or one of the linked table's, whose names are those of its string table
+-- the symbol that an entry names is symbol 0, or one of the linked table's, whose names are those
+-- of its string table
 pub record NamesEntrySymbol (file : List ℕ) (header rela : ℕ) (named : RelocationSymbol) : Type 0 where
   pub passed : first_refusal (symbol_checks file header rela) ≡ None
   pub zero : r_sym file rela ≡ 0 → (named.name ≡ 0) × (named.symbol ≡ None)
@@ -85,12 +88,13 @@ EntrySymbolRead file header rela (Ok None) = first_refusal (symbol_checks file h
 EntrySymbolRead file header rela (Ok (Some named)) = NamesEntrySymbol file header rela named
 EntrySymbolRead file header rela (Err fault) = IsOfRead fault
 
--- what an entry of the type of a number lacks, by its symbol and what is wanted
+-- what is missing for an entry of the type of a number, by its symbol and the address that is
+-- needed
 abbrev pub LackOf : (kind : ℕ) → RelocationSymbol → Option LayoutAddress → Option MissingItem → Type 0
 LackOf kind named wanted None = missing_of kind named.name wanted ≡ None
 LackOf kind named wanted (Some lacking) = (missing_of kind named.name wanted ≡ Some lacking.missing) × (lacking.names ≡ named.names)
 
--- what is missing is known, with the string table of the symbol's name where it has one
+-- what is missing is known, with the string table of the symbol's name if it has one
 abbrev pub Lacks : List ℕ → (header : ℕ) → Option MissingAddress → Option MissingItem → Type 0
 Lacks file header missing None = missing ≡ None
 Lacks file header missing (Some lacking) =
@@ -107,7 +111,7 @@ ReturnsSymbolName answer (Ok (Some end)) name = answer ≡ Ok (shown_by end name
 ReturnsSymbolName answer (Ok None) name = (cause : Cause) × (answer ≡ Err cause)
 ReturnsSymbolName answer (Err fault) name = IsOfRead fault
 
--- a name that is refused by a check is none; any other fault stays
+-- a name that is refused by a check is none; any other fault is unchanged
 abbrev pub WithoutName : Fault → Result (Option NameEnd) Fault → Type 0
 WithoutName fault (Ok (Some end)) = ⊥
 WithoutName fault (Ok None) = (refusal : Refusal) × (fault ≡ Refused refusal) × (IsBudgetRefusal refusal → ⊥)

@@ -26,17 +26,17 @@ use elf_table::{
     Fault, HeaderStore, Loaded, RunFault, SectionView, header, is_out_of_bounds, load, refused,
 };
 
-/// What was applied.
+/// The result of applying relocations.
 #[derive(Clone, Copy)]
 pub struct Applied {
-    /// How many bytes the section has, all of which were written.
+    /// The number of bytes of the section, all of which were written.
     pub size: u64,
-    /// How many relocation entries there are for the section, those that store nothing too.
+    /// The number of relocation entries for the section, including those that store nothing.
     pub entries: u128,
 }
 
-/// Where the bytes of a section stand, and how many there are; none for a section without bytes in
-/// the file.
+/// Returns the file offset and the number of the section's bytes; none for a section without bytes
+/// in the file.
 #[tactic(auto, unfolding(crate::proofs::Words::request))]
 fn held(file: &SectionView<'_>, section: u16) -> Result<(u64, u64), Fault>
     ensures refusal { IfErr result IsOfCheck }
@@ -68,14 +68,14 @@ fn held(file: &SectionView<'_>, section: u16) -> Result<(u64, u64), Fault>
     Ok((found.sh_offset, found.sh_size))
 }
 
-/// Whether an index names a section that has relocations: section 0 has none.
+/// Returns `true` if an index names a section that has relocations: section 0 has none.
 fn is_section(section: u16, count: u16) -> bool
     ensures { result ≡ not (section == 0 || not (nat_lt section count)) }
 {
     section != 0 && section < count
 }
 
-/// Whether a section holds no bytes in the file (gABI 4, Section Types).
+/// Returns `true` if a section holds no bytes in the file (gABI 4, Section Types).
 fn has_no_bytes(header: &Shdr) -> bool
     ensures { (bytes : List ℕ) (at : ℕ) → IsShdr bytes at header.now →
         result ≡ has_no_bytes bytes at }
@@ -83,8 +83,8 @@ fn has_no_bytes(header: &Shdr) -> bool
     header.sh_type == SHT_NOBITS || header.sh_type == SHT_NULL
 }
 
-/// Whether a section is compressed, so that relocation entries speak of other bytes than those that
-/// stand in the file (gABI 4, Section Compression).
+/// Returns `true` if a section is compressed, so that relocation entries refer to other bytes than
+/// those in the file (gABI 4, Section Compression).
 fn is_compressed(header: &Shdr) -> bool
     ensures { (bytes : List ℕ) (at : ℕ) → IsShdr bytes at header.now →
         result ≡ is_compressed bytes at }
@@ -92,8 +92,8 @@ fn is_compressed(header: &Shdr) -> bool
     header.sh_flags & SectionFlags::COMPRESSED.0 == SectionFlags::COMPRESSED.0
 }
 
-/// Writes the section, whose bytes stand at the file offset `at`: in one pass where the offsets of
-/// the entries never fall, else window by window.
+/// Writes the section, whose bytes are at the file offset `at`: in one pass if the offsets of the
+/// entries never decrease, otherwise window by window.
 fn write_section<S: Source, W: Sink>(
     src: &mut Counted<S>,
     target: &ApplyTarget<'_>,
@@ -116,8 +116,8 @@ fn write_section<S: Source, W: Sink>(
     write_by_windows(src, target, at, out)
 }
 
-/// How many passes through the entries write so many bytes: one for each window, and at most one
-/// where the offsets of the entries never fall.
+/// Returns the number of passes over the entries that write `size` bytes: one for each window, and
+/// at most one if the offsets of the entries never decrease.
 fn write_passes(rises: bool, size: u64) -> u64
     ensures { result ≡ write_passes rises size }
 {
@@ -125,7 +125,8 @@ fn write_passes(rises: bool, size: u64) -> u64
     if rises { windows.min(1) } else { windows }
 }
 
-/// Whether what is left of a limit has room for what the passes that write may ask for at most.
+/// Returns `true` if what is left of the read budget is enough for what the passes that write may
+/// read.
 fn has_room<S: Source>(src: &Counted<S>, target: &ApplyTarget<'_>, checked: &Checked) -> bool
     requires { checked.now.entries ≡ entries_from target.now 0 }
     ensures { RoomFor src.now (passes_cost target.now
@@ -140,9 +141,9 @@ fn has_room<S: Source>(src: &Counted<S>, target: &ApplyTarget<'_>, checked: &Che
     walks.saturating_add(u128::from(target.size)) <= u128::from(left)
 }
 
-/// Writes the section, whose entries were checked and whose bytes stand at the file offset `at`.
-/// Where a limit has no room for it, it is refused before the first byte; else the limit is taken
-/// away, as the passes ask for no more than it has left.
+/// Writes the section, whose entries were checked and whose bytes are at the file offset `at`. If
+/// the read budget is too small for it, it is refused before the first byte; otherwise the limit is
+/// removed, since the passes read no more than was left.
 fn write_checked<S: Source, W: Sink>(
     src: &mut Counted<S>,
     target: &ApplyTarget<'_>,
@@ -164,7 +165,7 @@ fn write_checked<S: Source, W: Sink>(
     write_section(src, target, at, checked.rises, out)
 }
 
-/// Checks all entries, and then writes the section, whose bytes stand at the file offset `at`.
+/// Checks all entries, and then writes the section, whose bytes are at the file offset `at`.
 fn apply_target<S: Source, W: Sink>(
     src: &mut Counted<S>,
     target: &ApplyTarget<'_>,
@@ -208,25 +209,25 @@ fn apply_loaded<S: Source, W: Sink>(
 
 /// Writes the bytes of a section of a relocatable file for x86-64 with its relocations applied:
 /// those of all sections of entries with addends whose sh_info is the section, in the order of
-/// their index, so that the later of two entries that overlap stands (gABI 4, Relocation; x86-64
+/// their index, so that of two entries that overlap the later one wins (gABI 4, Relocation; x86-64
 /// psABI, Relocation). A section of the type NOBITS or NULL has no bytes. The store is loaded with
 /// the file's section headers. All entries are checked before the first byte is written; then the
-/// section is written in one pass where their offsets never fall, and else window by window, 64
-/// bytes each. Where a limit is set on the source no byte past it is asked for; afterwards no limit
-/// is set.
+/// section is written in one pass if their offsets never decrease, and otherwise window by window,
+/// 64 bytes each. If a limit is set on the source no byte past it is read; afterwards no limit is
+/// set.
 ///
 /// # Errors
-/// The first refusal, with nothing written where the file is known: the header's and the load's;
-/// `NotRel` at 0x10 for a file that is not relocatable, at 0x12 for another machine; `BadLink` at
-/// 0x3c for section 0 or an index that no section has; at the section's header `Unsupported` where
-/// it is compressed, then `TableOutside`; then, section by section of entries, its table's checks,
-/// and for each entry, at its offset, `Unsupported`, `PlaceOutside`, `BadLink`, `SymbolIndex`,
-/// `Undefined` or `Unsupported` for a symbol whose value or entry is not known, `Unplaced`,
-/// `Overflow`; the fault of a name that is compared is at its symbol's offset. A fault of the source
-/// or of the output: what went out is a front of the section. `Budget`, with nothing written, only
-/// where a limit is set that the cost would pass: at the offset of the read that it has no room for,
-/// or at the section's own offset in the file where what is left of it is less than what the passes
-/// that write may ask for. Then more of the limit may be left unused.
+/// Returns the first refusal, with nothing written if the file is known: the header's and the
+/// load's; `NotRel` at 0x10 for a file that is not relocatable, at 0x12 for another machine;
+/// `BadLink` at 0x3c for section 0 or an index that no section has; at the section's header
+/// `Unsupported` if it is compressed, then `TableOutside`; then, section by section of entries, its
+/// table's checks, and for each entry, at its offset, `Unsupported`, `PlaceOutside`, `BadLink`,
+/// `SymbolIndex`, `Undefined` or `Unsupported` for a symbol whose value or entry is not known,
+/// `Unplaced`, `Overflow`; the fault of a name that is compared is at its symbol's offset. Returns
+/// a fault of the source or of the output; a prefix of the section was written. Returns `Budget`,
+/// with nothing written, only if a limit is set that the cost would exceed: at the offset of the
+/// read that exceeds it, or at the section's own offset in the file if what is left of it is less
+/// than the passes that write may read. Then more of the limit may be left unused.
 pub fn apply<S: Source, W: Sink>(
     src: &mut Counted<S>,
     store: &mut HeaderStore,
@@ -240,7 +241,7 @@ pub fn apply<S: Source, W: Sink>(
     ensures text { (file : List ℕ) → src.old.seen.file ≡ Some file →
         Applies out.old out.new result (length (entries_for file section))
         (applied file store.old.slots section layout.now) }
-    // Never for want of budget where the cost fits.
+    // Never with `Budget` if the cost fits.
     ensures enough { (file : List ℕ) → src.old.seen.file ≡ Some file → IfErr result
         (BudgetTooSmall src.old (apply_cost_by_order file store.old.slots section layout.now)) }
     ensures cost { (file : List ℕ) → src.old.seen.file ≡ Some file → src.new.asked
@@ -255,8 +256,8 @@ pub fn apply<S: Source, W: Sink>(
     apply_with(src, store, section, &Addresses::fixed(layout), out)
 }
 
-/// The same as [`apply`], with its errors, in addresses that are kept otherwise: those that a caller
-/// lends too. What it may ask for is by how they are kept.
+/// Does the same as [`apply`], with its errors, for addresses that are stored in another way: also
+/// those borrowed from the caller. How much it may read depends on how they are stored.
 pub fn apply_with<S: Source, W: Sink>(
     src: &mut Counted<S>,
     store: &mut HeaderStore,
@@ -274,7 +275,7 @@ pub fn apply_with<S: Source, W: Sink>(
     result
 }
 
-/// Writes the bytes of a section within the limit, where one is set.
+/// Writes the bytes of a section within the limit, if one is set.
 fn apply_within<S: Source, W: Sink>(
     src: &mut Counted<S>,
     store: &mut HeaderStore,

@@ -9,9 +9,9 @@ use elf_table::{Names, SectionView, Table};
 /// Symbols with the string table of their names.
 pub(crate) type LinkedSymbolTable = Option<(Table, Names)>;
 
-/// The first section of relocation entries for a section whose checks pass and of whose entries one
-/// stands at the file offset `rela` (gABI 4, Relocation): the symbols that it refers to. None where
-/// there is no such section. No bytes are read.
+/// Returns the symbols of the first section of relocation entries for a section whose checks pass
+/// and which has an entry at the file offset `rela` (gABI 4, Relocation); `None` if there is no
+/// such section. No bytes are read.
 pub(crate) fn entries_at(
     file: &SectionView<'_>,
     section: u16,
@@ -30,8 +30,8 @@ pub(crate) fn entries_at(
     None
 }
 
-/// The symbols that the section of an index refers to, where it holds relocation entries for
-/// another, its checks pass, and one of its entries stands at the file offset `rela`.
+/// Returns the symbols that the section of an index refers to, if it holds relocation entries for
+/// another, its checks pass, and one of its entries is at the file offset `rela`.
 fn entry_in(
     file: &SectionView<'_>,
     index: u16,
@@ -57,7 +57,7 @@ fn entry_in(
     }
 }
 
-/// Whether an entry of a table of relocation entries stands at a file offset.
+/// Returns `true` if a table of relocation entries has an entry at a file offset.
 fn has_row(table: &Table, at: u64) -> bool
     ensures { result ≡ has_row table.now at }
 {

@@ -24,7 +24,7 @@ use elf_table::{Fault, Names, SectionView, Table, refused};
 /// Symbols with the string table of their names.
 pub(crate) type LinkedSymbolTable = Option<(Table, Names)>;
 
-/// The address of a symbol that an entry took, by its type's base.
+/// The address of a symbol that an entry uses, by its type's base.
 #[derive(Clone, Copy)]
 pub(crate) struct CachedAddress {
     pub(crate) symbol: u32,
@@ -32,16 +32,16 @@ pub(crate) struct CachedAddress {
     pub(crate) value: u64,
 }
 
-/// The symbols that the entries of a section refer to, and the address that the last of them took.
-/// An entry that takes the same reads nothing for it.
+/// The symbols that the entries of a section refer to, and the address that the last of them used.
+/// An entry that uses the same reads nothing for it.
 #[derive(Clone, Copy)]
 pub(crate) struct RelocationSymbols {
     pub(crate) linked: LinkedSymbolTable,
     pub(crate) last: Option<CachedAddress>,
 }
 
-/// What relocations are applied to: a section of a loaded file, of which it holds `size` bytes,
-/// with the addresses that are given.
+/// The target of relocations: a section of a loaded file, of which it holds `size` bytes, with the
+/// addresses that are given.
 #[derive(Clone, Copy)]
 pub(crate) struct ApplyTarget<'a> {
     pub(crate) file: SectionView<'a>,
@@ -50,8 +50,7 @@ pub(crate) struct ApplyTarget<'a> {
     pub(crate) size: u64,
 }
 
-/// The bytes that an entry, which stands at the file offset `at`, stores at an offset of the
-/// section.
+/// The bytes that an entry, which is at the file offset `at`, stores at an offset of the section.
 #[derive(Clone, Copy)]
 pub(crate) struct PlacedPatch {
     pub(crate) at: u64,
@@ -59,8 +58,8 @@ pub(crate) struct PlacedPatch {
     pub(crate) patch: Patch,
 }
 
-/// What an entry stores, or nothing: R_X86_64_NONE stores nothing, and nothing of it is checked
-/// (x86-64 psABI, Relocation). The entry stands at the file offset `at`.
+/// Returns what an entry stores, or nothing: R_X86_64_NONE stores nothing, and nothing of it is
+/// checked (x86-64 psABI, Relocation). The entry is at the file offset `at`.
 #[tactic(auto, unfolding(crate::proofs::Words::entry))]
 pub(crate) fn entry_change<S: Source>(
     src: &mut Counted<S>,
@@ -86,7 +85,7 @@ pub(crate) fn entry_change<S: Source>(
     Ok(Some(placed))
 }
 
-/// The relocation type of a number, where the layout has addresses that its base may take.
+/// Returns the relocation type of a number, if the layout has addresses that its base may use.
 #[tactic(auto, unfolding(elf_model::specs::Apply::where_based))]
 fn based_type(layout: &Addresses<'_>, kind: u32) -> Option<RelocationType>
     ensures value { result ≡ where_based layout.now (kind_of kind) }
@@ -100,7 +99,7 @@ fn based_type(layout: &Addresses<'_>, kind: u32) -> Option<RelocationType>
     Some(found)
 }
 
-/// What an entry of a type stores.
+/// Returns what an entry of a type stores.
 #[tactic(auto, unfolding(crate::proofs::Words::typed))]
 fn stored<S: Source>(
     src: &mut Counted<S>,
@@ -132,15 +131,15 @@ fn stored<S: Source>(
     }
 }
 
-/// Whether so many bytes from an offset on end past a size.
+/// Returns `true` if `width` bytes at an offset end past a size.
 fn ends_past(offset: u64, width: u32, size: u64) -> bool
     ensures { result ≡ nat_lt size (offset + width) }
 {
     u128::from(offset) + u128::from(width) > u128::from(size)
 }
 
-/// B of the symbol of an index, which the entry at `at` names: what the last entry took where that
-/// is the same.
+/// Returns B of the symbol of an index, which the entry at `at` names: the address that the last
+/// entry used if that is the same.
 fn taken_value<S: Source>(
     src: &mut Counted<S>,
     target: &ApplyTarget<'_>,
@@ -168,7 +167,7 @@ fn taken_value<S: Source>(
     Ok(value)
 }
 
-/// B of symbol 0, which the entry at `at` names: S and L are 0, and it has no other entry.
+/// Returns B of symbol 0, which the entry at `at` names: S and L are 0, and it has no other entry.
 #[tactic(auto, unfolding(elf_model::specs::Placing::unnamed_value))]
 fn unnamed_value(base: RelocationBase, at: u64) -> Result<u64, Fault>
     ensures { AnswersUnread result (unnamed_value base at) }
@@ -179,7 +178,8 @@ fn unnamed_value(base: RelocationBase, at: u64) -> Result<u64, Fault>
     }
 }
 
-/// B of the symbol of an index, which the entry at `at` names; of symbol 0 nothing is read.
+/// Returns B of the symbol of an index, which the entry at `at` names; for symbol 0 nothing is
+/// read.
 #[tactic(auto, unfolding(crate::proofs::Words::term))]
 fn named_value<S: Source>(
     src: &mut Counted<S>,
@@ -216,8 +216,8 @@ fn named_value<S: Source>(
     base_value(src, target.layout, &named, at, base)
 }
 
-/// P, the section's address and an offset modulo 2^64, where the section has an address; 0 where
-/// the formula does not take it.
+/// Returns P, the section's address and an offset modulo 2^64, if the section has an address; 0 if
+/// the formula does not use it.
 #[tactic(auto, unfolding(crate::proofs::Words::place))]
 fn place_value(target: &ApplyTarget<'_>, offset: u64, formula: Formula) -> Option<u64>
     ensures { (file : List ℕ) (at : ℕ) → offset ≡ r_offset file at →

@@ -14,23 +14,24 @@ use elf_record::{Cause, Refusal};
 use elf_source::{Counted, Source};
 use elf_table::{Fault, HeaderStore, NameBuf, NameEnd, SectionView, header, load};
 
-/// What the layout lacks where the section of an index of a relocatable file was refused in it: by
-/// the relocation entry that stands at the refusal's offset, in the first section of entries for the
-/// section whose checks pass and that has one there (gABI 4, Relocation). The name of the entry's
-/// symbol is read into `name`, its first 255 bytes, as many as the name of an item has at most; it
-/// is empty where `st_name` is 0.
+/// Returns what the layout is missing if the section of an index of a relocatable file was refused
+/// with it: by the relocation entry at the refusal's offset, in the first section of entries for
+/// the section whose checks pass and that has one there (gABI 4, Relocation). The name of the
+/// entry's symbol is read into `name`, its first 255 bytes, the largest size of an item's name; it
+/// is empty if `st_name` is 0.
 ///
-/// None where no address would help: the refusal is for another cause than `Unplaced`, `Undefined`
-/// or `Unsupported`, with nothing read; there is no such entry; its type stores no value; it names
-/// no symbol of the linked table, or one whose name has a fault; or what is wanted has an address.
+/// The result is `None` if no address would help: the refusal has another cause than `Unplaced`,
+/// `Undefined` or `Unsupported`, and then nothing is read; there is no such entry; its type stores
+/// no value; it names no symbol of the linked table, or one whose name has a fault; or the needed
+/// address is there.
 ///
 /// The section headers are loaded into the store. At most the file header, as many section headers
-/// as the store has slots, the entry, its symbol and the symbol's name are asked for. After None or
-/// a fault `name` holds any bytes.
+/// as the store has slots, the entry, its symbol and the symbol's name are read. After `None` or a
+/// fault the contents of `name` are unspecified.
 ///
 /// # Errors
-/// The first of the checks of [`header`] and of [`load`] that fails. A fault of the source, or
-/// `Budget` where a limit has no room for a read, at the offset that was asked for.
+/// Returns the first of the checks of [`header`] and of [`load`] that fails. Returns a fault of the
+/// source, or `Budget` if a read exceeds the limit, at the offset of the read.
 pub fn explain<S: Source>(
     src: &mut Counted<S>,
     store: &mut HeaderStore,
@@ -60,7 +61,7 @@ pub fn explain<S: Source>(
     )
 }
 
-/// Whether an entry that is refused for this cause may lack an address.
+/// Returns `true` if an entry that is refused for this cause may be missing an address.
 #[tactic(auto, unfolding(crate::specs::Explained::may_be_missing))]
 fn may_be_missing(cause: Cause) -> bool
     ensures { result ≡ may_be_missing cause }
@@ -71,10 +72,10 @@ fn may_be_missing(cause: Cause) -> bool
     )
 }
 
-/// What the layout lacks where a section of a loaded file was refused.
+/// Returns what the layout is missing if a section of a loaded file was refused.
 ///
 /// # Errors
-/// A fault of a read, or a refusal for want of budget, at the offset that was asked for.
+/// Returns a fault of a read, or the refusal `Budget`, at the offset of the read.
 fn explain_loaded<S: Source>(
     src: &mut Counted<S>,
     file: &SectionView<'_>,

@@ -1,4 +1,4 @@
-//! The section with its relocations applied, in one pass over entries whose offsets never fall.
+//! The section with its relocations applied, in one pass over entries whose offsets never decrease.
 ghost use Rattle.std.specs.Prelude.{◌≡◌, ◌+◌, ◌-◌, ◌^◌, ◌<◌, ◌≤◌, ℕ, List, None, Some, []};
 ghost use Rattle.std.specs.Prelude.{IfErr, OnOk, length, take, drop};
 ghost use Rattle.elf_model.specs.Prelude.{clipped, put, slice};
@@ -20,10 +20,10 @@ use elf_source::{Counted, Out, OutFault, Sink, Source};
 use elf_table::{Fault, RunFault, fill};
 use std::marker::Model;
 
-/// How many bytes are read at once.
+/// The number of bytes that are read at once.
 const PAGE: usize = 4096;
 
-/// The bytes of the section from an offset on that were read and are not written yet.
+/// The bytes of the section at an offset that were read and are not written yet.
 #[derive(Drop)]
 struct PendingBytes {
     low: u64,
@@ -45,7 +45,7 @@ impl Model for PendingBytes {
 }
 
 impl PendingBytes {
-    /// Nothing, at the section's begin.
+    /// Creates an empty buffer at the section's start.
     fn new() -> PendingBytes
         ensures { IsHeldFrom result 0 [] }
     {
@@ -57,14 +57,14 @@ impl PendingBytes {
         }
     }
 
-    /// Where it begins.
+    /// Returns the offset at which it starts.
     fn low(&self) -> u64
         ensures { result ≡ self.now.low }
     {
         self.low
     }
 
-    /// How many bytes there are.
+    /// Returns the number of bytes.
     fn len(&self) -> usize
         ensures value { result ≡ length self.now.bytes }
         ensures few { result ≤ 4096 }
@@ -72,7 +72,7 @@ impl PendingBytes {
         self.count
     }
 
-    /// Forgets the first bytes.
+    /// Discards the first bytes.
     fn skip(&mut self, count: usize)
         requires few { count ≤ length self.old.bytes }
         requires fits { self.old.low + count < 2 ^ 64 }
@@ -83,7 +83,7 @@ impl PendingBytes {
         self.count -= count;
     }
 
-    /// Writes the first bytes, and forgets them.
+    /// Writes the first bytes, and discards them.
     fn release<W: Sink>(&mut self, count: usize, out: &mut Out<W>) -> Result<(), OutFault>
         requires few { count ≤ length self.old.bytes }
         requires fits { self.old.low + count < 2 ^ 64 }
@@ -96,7 +96,7 @@ impl PendingBytes {
         answer
     }
 
-    /// Goes to an offset with nothing held: what stands before it is written.
+    /// Moves to an offset with nothing held: what comes before it is written.
     fn jump(&mut self, end: u64)
         requires { self.old.bytes ≡ [] }
         ensures { IsHeldFrom self.new end [] }
@@ -104,8 +104,8 @@ impl PendingBytes {
         self.low = end;
     }
 
-    /// Reads on where there are not so many bytes, as many as there is room for, to the section's
-    /// end, its size, at most.
+    /// Reads more if fewer bytes than needed are held, up to the capacity and at most to the
+    /// section's end, its size.
     #[tactic(auto, using(crate::proofs::WindowSteps::stopping))]
     fn read_ahead_pending<S: Source>(
         &mut self,
@@ -155,7 +155,7 @@ impl PendingBytes {
         put_in(&mut self.bytes[from..end], low, placed);
     }
 
-    /// Writes what stands before an offset of the section, whose bytes stand at `at`.
+    /// Writes what comes before an offset of the section, whose bytes are at `at`.
     #[tactic(auto, using(crate::proofs::WindowSteps::stopping))]
     fn advance<S: Source, W: Sink>(
         &mut self,
@@ -185,7 +185,7 @@ impl PendingBytes {
         Ok(())
     }
 
-    /// Writes what stands before the place of an entry, and stores its bytes.
+    /// Writes what comes before the place of an entry, and stores its bytes.
     #[tactic(auto, using(crate::proofs::WindowSteps::stopping))]
     fn store<S: Source, W: Sink>(
         &mut self,
@@ -215,7 +215,7 @@ impl PendingBytes {
     }
 }
 
-/// A page that begins with bytes of another.
+/// Returns a page that begins with bytes of another.
 fn moved(bytes: &[u8], from: usize, count: usize) -> [u8; PAGE]
     requires inside { from + count ≤ length bytes.now }
     requires few { count ≤ 4096 }
@@ -227,7 +227,7 @@ fn moved(bytes: &[u8], from: usize, count: usize) -> [u8; PAGE]
     page
 }
 
-/// How many bytes there are.
+/// Returns the number of bytes.
 fn width_of(patch: Patch) -> usize
     ensures value { result ≡ length (patched_bytes patch) }
     ensures few { result ≤ 8 }
@@ -241,7 +241,7 @@ fn width_of(patch: Patch) -> usize
     }
 }
 
-/// Writes bytes of the source as they stand.
+/// Writes bytes of the source unchanged.
 #[tactic(auto, using(crate::proofs::WindowSteps::stopping))]
 fn copy<S: Source, W: Sink>(
     src: &mut Counted<S>,
@@ -264,7 +264,7 @@ fn copy<S: Source, W: Sink>(
     Ok(())
 }
 
-/// Writes as many bytes of the source as `page` has, which is left with them.
+/// Writes as many bytes of the source as `page` has; they are left in it.
 #[tactic(auto, using(crate::proofs::WindowSteps::stopping))]
 fn copy_through<S: Source, W: Sink>(
     src: &mut Counted<S>,
@@ -285,7 +285,7 @@ fn copy_through<S: Source, W: Sink>(
     Ok(())
 }
 
-/// Writes the section, whose bytes stand at `at`, where the offsets of the entries never fall.
+/// Writes the section, whose bytes are at `at`, if the offsets of the entries never decrease.
 pub(crate) fn write_one_pass<S: Source, W: Sink>(
     src: &mut Counted<S>,
     target: &ApplyTarget<'_>,

@@ -2,8 +2,8 @@
 //!
 //! Relocations applied to a section of a relocatable file for x86-64.
 //!
-//! What a layout lacks where a section was refused: the relocation type of the entry, the name of
-//! its symbol, and the address that would help. No call takes memory.
+//! What a layout is missing if a section was refused: the relocation type of the entry, the name of
+//! its symbol, and the address that would help. No call allocates.
 #![tactic(auto)]
 
 mod apply_section;

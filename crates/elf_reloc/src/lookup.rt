@@ -15,10 +15,11 @@ use elf_record::{Cause, Sym, SymbolSection};
 use elf_source::{Counted, Source};
 use elf_table::{Fault, Names, fill, refused};
 
-/// How many bytes of a symbol's name are read at most: the longest name of a layout, and its NUL.
+/// The largest number of bytes of a symbol's name that are read: the longest name of a layout, and
+/// its NUL.
 const NAME_BUFFER_BYTES: usize = ITEM_NAME_BYTES + 1;
 
-/// A symbol that stands at an offset of the file, with the string table of its name.
+/// A symbol at an offset of the file, with the string table of its name.
 #[derive(Clone, Copy)]
 pub(crate) struct SymbolEntry {
     pub(crate) fields: Sym,
@@ -26,8 +27,8 @@ pub(crate) struct SymbolEntry {
     pub(crate) at: u64,
 }
 
-/// The address of the first item whose name is the symbol's, where there is one: each is compared.
-/// Without items the name is not looked at; a refusal names the symbol.
+/// Returns the address of the first item whose name is the symbol's, if there is one: each is
+/// compared. Without items the name is not read; a refusal points to the symbol.
 #[tactic(auto, unfolding(elf_model::specs::Placing::address_named))]
 fn compared<S: Source>(
     src: &mut Counted<S>,
@@ -49,8 +50,8 @@ fn compared<S: Source>(
     Ok(None)
 }
 
-/// The same among names in rising order: as many bytes of the symbol's name as the longest of them
-/// has are read once, and searched for.
+/// Does the same for sorted names: as many bytes of the symbol's name as the longest of them has
+/// are read once, and searched for.
 fn searched<S: Source>(
     src: &mut Counted<S>,
     symbol: &SymbolEntry,
@@ -76,7 +77,7 @@ fn searched<S: Source>(
     read_name(src, symbol, &mut bytes[..count], names)
 }
 
-/// The address of the name whose first bytes are read, as many as `front` has.
+/// Returns the address of the name whose first bytes are read, as many as `front` has.
 fn read_name<S: Source>(
     src: &mut Counted<S>,
     symbol: &SymbolEntry,
@@ -98,7 +99,7 @@ fn read_name<S: Source>(
     }
 }
 
-/// The address of the name of a symbol among those that are looked through for a base, where there
+/// Returns the address of the name of a symbol among those that are searched for a base, if there
 /// is one.
 #[tactic(auto, unfolding(elf_model::specs::ApplyCost::lookup_cost))]
 fn address_named<S: Source>(
@@ -117,8 +118,8 @@ fn address_named<S: Source>(
     }
 }
 
-/// An offset from an address modulo 2^64; without an address the entry, which stands at `entry`, is
-/// refused.
+/// Returns an offset from an address modulo 2^64; without an address the entry, which is at
+/// `entry`, is refused.
 fn placed_at(entry: u64, address: Option<u64>, offset: u64) -> Result<u64, Fault>
     ensures { AnswersUnread result (placed_at entry address offset) }
 {
@@ -128,8 +129,8 @@ fn placed_at(entry: u64, address: Option<u64>, offset: u64) -> Result<u64, Fault
     }
 }
 
-/// The value of an undefined or common symbol without a definition: 0 where it is undefined and
-/// weak (gABI 4, Symbol Binding).
+/// Returns the value of an undefined or common symbol without a definition: 0 if it is undefined
+/// and weak (gABI 4, Symbol Binding).
 fn undefined_value(symbol: &Sym, entry: u64) -> Result<u64, Fault>
     ensures value { (file : List ℕ) (at : ℕ) → IsSym file at symbol.now →
         ValueOrRefusal result (undefined_value file entry at) }
@@ -141,8 +142,8 @@ fn undefined_value(symbol: &Sym, entry: u64) -> Result<u64, Fault>
     refused(entry, Cause::Undefined)
 }
 
-/// The value of an undefined or common symbol: its definition in the layout, or the value that it
-/// has without one.
+/// Returns the value of an undefined or common symbol: its definition in the layout, or the value
+/// that it has without one.
 #[tactic(auto, unfolding(elf_layout::specs::Layouts::names_for))]
 fn defined_value<S: Source>(
     src: &mut Counted<S>,
@@ -163,8 +164,8 @@ fn defined_value<S: Source>(
     }
 }
 
-/// Whether a symbol is defined in the file, and what its value means is specific to the operating
-/// system or the processor (gABI 4, Symbol Types).
+/// Returns `true` if a symbol is defined in the file, and the meaning of its value is specific to
+/// the operating system or the processor (gABI 4, Symbol Types).
 #[tactic(auto, unfolding(elf_model::specs::Placing::is_system_specific))]
 fn is_system_specific(symbol: &Sym) -> bool
     ensures { (file : List ℕ) (at : ℕ) → IsSym file at symbol.now →
@@ -177,9 +178,9 @@ fn is_system_specific(symbol: &Sym) -> bool
     is_defined && symbol.kind() >= STT_LOOS
 }
 
-/// S of such a symbol: of an indirect function the address of its procedure linkage table entry,
-/// where the layout has one; else the entry that names it is refused as one of a type that is not
-/// applied.
+/// Returns S of such a symbol: for an indirect function the address of its procedure linkage table
+/// entry, if the layout has one; otherwise the entry that names it is refused as one of a type that
+/// is not applied.
 #[tactic(auto, unfolding(elf_model::specs::Placing::system_value, elf_layout::specs::Layouts::names_for))]
 fn system_value<S: Source>(
     src: &mut Counted<S>,
@@ -198,8 +199,8 @@ fn system_value<S: Source>(
     refused(entry, Cause::Unsupported)
 }
 
-/// S of any other symbol (gABI 4, Symbol Values). Refusals that are none of its name are at the
-/// entry that names it.
+/// Returns S of any other symbol (gABI 4, Symbol Values). Refusals other than those of its name are
+/// at the entry that names it.
 #[tactic(auto, unfolding(elf_model::specs::Placing::section_symbol_value))]
 fn section_symbol_value<S: Source>(
     src: &mut Counted<S>,
@@ -225,7 +226,7 @@ fn section_symbol_value<S: Source>(
     }
 }
 
-/// S, the value of a symbol.
+/// Returns S, the value of a symbol.
 #[tactic(auto, unfolding(crate::proofs::Words::value))]
 fn symbol_value<S: Source>(
     src: &mut Counted<S>,
@@ -243,8 +244,8 @@ fn symbol_value<S: Source>(
     section_symbol_value(src, layout, symbol, entry)
 }
 
-/// L, the address of a symbol's procedure linkage table entry, where the layout has one; else S. An
-/// indirect function has none then, and is not looked for again.
+/// Returns L, the address of a symbol's procedure linkage table entry, if the layout has one;
+/// otherwise S. An indirect function has none then, and is not searched again.
 #[tactic(auto, unfolding(crate::proofs::Words::linkage))]
 fn plt_entry_value<S: Source>(
     src: &mut Counted<S>,
@@ -263,8 +264,8 @@ fn plt_entry_value<S: Source>(
     }
 }
 
-/// The address of a symbol's entry among those that are looked through for a base; without one the
-/// relocation entry at `entry` is refused as one of a type that is not applied.
+/// Returns the address of a symbol's entry among those that are searched for a base; without one
+/// the relocation entry at `entry` is refused as one of a type that is not applied.
 #[tactic(auto, unfolding(elf_model::specs::Placing::entry_value))]
 fn entry_value<S: Source>(
     src: &mut Counted<S>,
@@ -284,8 +285,8 @@ fn entry_value<S: Source>(
     }
 }
 
-/// B, the address of a symbol that a base takes. Refusals that are none of its name are at the entry
-/// that names it.
+/// Returns B, the address of a symbol that a base uses. Refusals other than those of its name are
+/// at the entry that names it.
 #[tactic(auto, unfolding(crate::proofs::Words::based))]
 pub(crate) fn base_value<S: Source>(
     src: &mut Counted<S>,

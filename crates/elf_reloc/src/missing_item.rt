@@ -1,4 +1,4 @@
-//! What an entry lacks in a layout.
+//! What a layout is missing for an entry.
 ghost use Rattle.std.specs.Prelude.{◌≡◌, ◌+◌, ◌≤◌, ℕ, List, IfOk, IfSome};
 ghost use Rattle.elf_model.specs.Prelude.{missing, missing_for_type, missing_ifunc_entry, missing_place, name_wanted, r_sym, wanted};
 ghost use Rattle.elf_table.specs.Prelude.{CallDid, RefersTo, StringsInBounds, SymbolTableInBounds, fault_of_result};
@@ -15,8 +15,8 @@ use elf_record::{Cause, Refusal, Rela};
 use elf_source::{Counted, Source};
 use elf_table::{Fault, Names, fill};
 
-/// The symbol that an entry names: where its name begins, its section index and its type, which
-/// symbol 0 does not have, the string table of its name, and the file offset at which it stands.
+/// The symbol that an entry names: the index of its name, its section index and its type, which
+/// symbol 0 does not have, the string table of its name, and its file offset.
 #[derive(Clone, Copy)]
 pub(crate) struct RelocationSymbol {
     pub(crate) name: u32,
@@ -25,7 +25,8 @@ pub(crate) struct RelocationSymbol {
     pub(crate) at: u64,
 }
 
-/// What an entry lacks, with the string table of its symbol's name, and the symbol's file offset.
+/// What is missing for an entry, with the string table of its symbol's name, and the symbol's file
+/// offset.
 #[derive(Clone, Copy)]
 pub(crate) struct MissingItem {
     pub(crate) missing: MissingAddress,
@@ -33,11 +34,11 @@ pub(crate) struct MissingItem {
     pub(crate) at: u64,
 }
 
-/// What the entry at a refusal's offset lacks, which refers to these symbols, for a section: by the
-/// entry and its symbol, 24 bytes each.
+/// Returns what is missing for the entry at a refusal's offset, which refers to these symbols, for
+/// a section: by the entry and its symbol, 24 bytes each.
 ///
 /// # Errors
-/// A fault of a read, or a refusal for want of budget, at the offset that was asked for.
+/// Returns a fault of a read, or the refusal `Budget`, at the offset of the read.
 pub(crate) fn lacking_at<S: Source>(
     src: &mut Counted<S>,
     layout: &Addresses<'_>,
@@ -64,10 +65,10 @@ pub(crate) fn lacking_at<S: Source>(
     Ok(lacking_of(kind, &named, wanted))
 }
 
-/// The relocation entry at the file offset `at` (gABI 4, Relocation): one read of 24 bytes.
+/// Reads the relocation entry at the file offset `at` (gABI 4, Relocation): one read of 24 bytes.
 ///
 /// # Errors
-/// A fault of the read, or a refusal for want of budget, at that offset.
+/// Returns a fault of the read, or the refusal `Budget`, at that offset.
 fn read_entry<S: Source>(src: &mut Counted<S>, at: u64) -> Result<Rela, Fault>
     requires { at + 24 ≤ src.old.seen.size }
     ensures { CallDid src.old src.new (fault_of_result result) 24
@@ -78,11 +79,11 @@ fn read_entry<S: Source>(src: &mut Counted<S>, at: u64) -> Result<Rela, Fault>
     Ok(Rela::decode(&bytes))
 }
 
-/// The symbol of an index, which an entry names: symbol 0, of which nothing is read, or one of the
-/// symbols that are linked to; None where there is no such symbol.
+/// Returns the symbol of an index, which an entry names: symbol 0, of which nothing is read, or one
+/// of the symbols that are linked to; `None` if there is no such symbol.
 ///
 /// # Errors
-/// A fault of the read, or a refusal for want of budget, at the symbol's offset.
+/// Returns a fault of the read, or the refusal `Budget`, at the symbol's offset.
 fn read_symbol<S: Source>(
     src: &mut Counted<S>,
     linked: LinkedSymbolTable,
@@ -120,7 +121,8 @@ fn read_symbol<S: Source>(
     }))
 }
 
-/// What an entry of the type of a number lacks, which names this symbol, where something is wanted.
+/// Returns what is missing for an entry of the type of a number, which names this symbol, if an
+/// address is needed.
 #[tactic(auto, unfolding(elf_model::specs::Explain::missing_of))]
 fn lacking_of(
     kind: u32,
@@ -141,10 +143,10 @@ fn lacking_of(
     })
 }
 
-/// What is wanted where an entry of a type was refused for a cause, by the section index of its
-/// symbol and the symbol's type. For want of a section's address: that of the section that is
-/// relocated where the formula takes P and it has none, else that of the symbol's section. For want
-/// of a name's: what the type's base takes of it; for want of an entry: that.
+/// Returns the address that is needed if an entry of a type was refused for a cause, by the section
+/// index of its symbol and the symbol's type. For `Unplaced`: that of the section that is relocated
+/// if the formula uses P and it has none, otherwise that of the symbol's section. For `Undefined`:
+/// the one that the type's base uses of the name; for `Unsupported`: the entry.
 #[tactic(auto, unfolding(elf_model::specs::Explain::wanted))]
 fn wanted(
     cause: Cause,
@@ -163,8 +165,8 @@ fn wanted(
     }
 }
 
-/// The section without an address: that which is relocated where the formula takes P, else the
-/// symbol's, where its index is one of a section.
+/// Returns the section without an address: that which is relocated if the formula uses P, otherwise
+/// the symbol's, if its index is one of a section.
 #[tactic(auto, unfolding(elf_model::specs::Explain::missing_place, elf_model::specs::Explain::symbol_place))]
 fn missing_place(
     formula: Formula,
@@ -184,7 +186,7 @@ fn missing_place(
     None
 }
 
-/// What a base takes of a symbol's name is wanted; nothing where the entry names symbol 0.
+/// Returns the address of a symbol's name that a base uses; nothing if the entry names symbol 0.
 #[tactic(auto, unfolding(elf_model::specs::Explain::name_wanted))]
 fn name_wanted(base: RelocationBase, symbol: Option<(u16, u8)>) -> Option<LayoutAddress>
     ensures { result ≡ name_wanted base symbol }
@@ -195,8 +197,8 @@ fn name_wanted(base: RelocationBase, symbol: Option<(u16, u8)>) -> Option<Layout
     }
 }
 
-/// The entry that is wanted of a symbol where the relocation entry is not applied without: that
-/// which the base takes, where S has none; nothing where the entry names symbol 0.
+/// Returns the entry that a symbol needs if the relocation entry is not applied without: that which
+/// the base uses, if S has none; nothing if the entry names symbol 0.
 #[tactic(auto, unfolding(elf_model::specs::Explain::missing_for_type))]
 fn missing_for_type(base: RelocationBase, symbol: Option<(u16, u8)>) -> Option<LayoutAddress>
     ensures { result ≡ missing_for_type base symbol }
@@ -209,8 +211,8 @@ fn missing_for_type(base: RelocationBase, symbol: Option<(u16, u8)>) -> Option<L
     }
 }
 
-/// What S of a type that is specific to the system wants: of an indirect function its procedure
-/// linkage table entry; nothing helps with another.
+/// Returns the address that S of a type specific to the system needs: for an indirect function its
+/// procedure linkage table entry; nothing helps with another.
 #[tactic(auto, unfolding(elf_model::specs::Explain::missing_ifunc_entry))]
 fn missing_ifunc_entry(kind: u8) -> Option<LayoutAddress>
     ensures { result ≡ missing_ifunc_entry kind }

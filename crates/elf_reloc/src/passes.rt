@@ -12,21 +12,21 @@ use crate::walk::RelocationWalk;
 use elf_source::{Counted, Source};
 use elf_table::Fault;
 
-/// What a pass that only checks found.
+/// The result of a pass that only checks.
 #[derive(Clone, Copy)]
 pub(crate) struct Checked {
-    /// Whether the offsets of the entries that store bytes never fall.
+    /// Whether the offsets of the entries that store bytes never decrease.
     pub(crate) rises: bool,
     /// The last of those offsets.
     pub(crate) low: u64,
-    /// How many entries there are.
+    /// The number of entries.
     pub(crate) entries: u128,
 }
 
 /// Checks all entries.
 ///
 /// # Errors
-/// The first refusal, or a fault of the source.
+/// Returns the first refusal, or a fault of the source.
 pub(crate) fn check<S: Source>(
     src: &mut Counted<S>,
     target: &ApplyTarget<'_>,
@@ -50,7 +50,7 @@ pub(crate) fn check<S: Source>(
     })
 }
 
-/// Whether offsets never fall, with one more.
+/// Returns `true` if offsets never decrease, with one more.
 fn still_rises(rises: bool, low: u64, offset: u64) -> bool
     ensures { result ≡ (rises && nat_le low offset) }
 {
@@ -60,7 +60,7 @@ fn still_rises(rises: bool, low: u64, offset: u64) -> bool
 /// Stores what the entries store into a window, which begins at an offset of the section.
 ///
 /// # Errors
-/// The first refusal, or a fault of the source.
+/// Returns the first refusal, or a fault of the source.
 pub(crate) fn patch_window<S: Source>(
     src: &mut Counted<S>,
     target: &ApplyTarget<'_>,

@@ -10,12 +10,12 @@ use elf_record::Cause;
 use elf_source::{Counted, Source};
 use elf_table::{Fault, NameBuf, NameEnd, NameLimit};
 
-/// Reads the name of the symbol into `name`, its first 255 bytes; where `st_name` is 0 it has none,
-/// and nothing is read (gABI 4, Symbol Table). None where the name has a fault. Then, and after a
-/// fault, `name` holds any bytes.
+/// Reads the name of the symbol into `name`, its first 255 bytes; if `st_name` is 0 it has none,
+/// and nothing is read (gABI 4, Symbol Table). Returns `None` if the name has a fault. Then, and
+/// after a fault, the contents of `name` are unspecified.
 ///
 /// # Errors
-/// A fault of a read, or a refusal for want of budget, at the offset that was asked for.
+/// Returns a fault of a read, or the refusal `Budget`, at the offset of the read.
 pub(crate) fn read_name<S: Source>(
     src: &mut Counted<S>,
     lacking: &MissingItem,
@@ -43,10 +43,10 @@ pub(crate) fn read_name<S: Source>(
     }
 }
 
-/// No name where a check refuses it.
+/// Returns no name if a check refuses it.
 ///
 /// # Errors
-/// Any other fault, as it is.
+/// Returns any other fault unchanged.
 fn unless_refused(fault: Fault) -> Result<Option<NameEnd>, Fault>
     ensures { WithoutName fault result }
 {

@@ -10,8 +10,8 @@ use elf_record::Rela;
 use elf_source::{Counted, Source};
 use elf_table::{Cursor, Fault, Row, Table};
 
-/// The relocation entries for a section, one after another: the rows of a section of entries, the
-/// sections that are still to be looked at, and how many entries the sections before those have.
+/// An iterator over the relocation entries for a section: the rows of a section of entries, the
+/// sections that are still to be read, and how many entries the sections before those have.
 #[derive(Drop)]
 pub(crate) struct RelocationWalk {
     cursor: Cursor,
@@ -21,18 +21,18 @@ pub(crate) struct RelocationWalk {
     count: u128,
 }
 
-/// What a step of the walk gives.
+/// The result of a step of the walk.
 pub(crate) enum WalkStep {
     /// An entry that stores bytes.
     Stores(PlacedPatch),
-    /// Nothing: the walk goes on.
+    /// Nothing: the walk continues.
     Nothing,
-    /// There is no entry any more.
+    /// There are no more entries.
     End,
 }
 
 impl RelocationWalk {
-    /// Before the first entry.
+    /// Creates a walk before the first entry.
     pub(crate) fn new() -> RelocationWalk
         ensures { BeginsWalk result }
     {
@@ -48,17 +48,17 @@ impl RelocationWalk {
         }
     }
 
-    /// How many entries the sections have that were opened so far.
+    /// Returns the number of entries of the sections that were opened so far.
     pub(crate) fn count(&self) -> u128
         ensures { result ≡ self.now.count }
     {
         self.count
     }
 
-    /// The next entry that stores bytes, or None past the last.
+    /// Returns the next entry that stores bytes, or `None` after the last.
     ///
     /// # Errors
-    /// The first refusal, or a fault of the source. Then it is of no use any more.
+    /// Returns the first refusal, or a fault of the source. Then the walk is of no further use.
     pub(crate) fn next<S: Source>(
         &mut self,
         src: &mut Counted<S>,
@@ -78,7 +78,7 @@ impl RelocationWalk {
         }
     }
 
-    /// One step: an entry, or a section.
+    /// Takes one step: an entry, or a section.
     fn step<S: Source>(
         &mut self,
         src: &mut Counted<S>,
@@ -101,7 +101,7 @@ impl RelocationWalk {
         }
     }
 
-    /// Goes to the next section: its entries, where it has some for the target.
+    /// Moves to the next section: its entries, if it has some for the target.
     fn open(&mut self, target: &ApplyTarget<'_>) -> Result<WalkStep, Fault>
         requires goes { IsWalkAlive target.now.file.loaded.size target.now self.old }
         requires none { self.old.cursor.left ≡ 0 }

@@ -13,11 +13,11 @@ use elf_table::{RunFault, fill};
 /// The size of a window in bytes.
 const WINDOW: usize = 64;
 
-/// Writes the section, whose bytes stand at the file offset `at`.
+/// Writes the section, whose bytes are at the file offset `at`.
 ///
 /// # Errors
-/// A refusal of an entry, only where the source answers otherwise than before; a fault of the
-/// source or of the output.
+/// Returns a refusal of an entry, only if the source returns other bytes than before; a fault of
+/// the source or of the output.
 pub(crate) fn write_by_windows<S: Source, W: Sink>(
     src: &mut Counted<S>,
     target: &ApplyTarget<'_>,
@@ -41,8 +41,8 @@ pub(crate) fn write_by_windows<S: Source, W: Sink>(
     Ok(())
 }
 
-/// Writes one window of the section, as many bytes from `low` on as `window` has, at most 64, which
-/// is left with them.
+/// Writes one window of the section, as many bytes at `low` as `window` has, at most 64; they are
+/// left in it.
 #[tactic(auto, using(crate::proofs::WindowSteps::stopping))]
 fn write_window<S: Source, W: Sink>(
     src: &mut Counted<S>,

@@ -1,4 +1,4 @@
--- Zeros put one after another for what a file header tells of section headers.
+-- Zeros written one byte at a time over the fields of a file header that locate section headers.
 use Rattle.std.proofs.Common.{◌≡◌, ℕ, suc, ◌+◌, ◌<◌, if◌then◌else◌, Bool, true, false, Option, None, Some, List, [], ◌∷◌, ◌++◌, length, take, drop, slice_set, slice_index_or, refl, ap, sym, ◌∙◌, arith, append_assoc, append-nil}
 use Rattle.std.proofs.Math.Seq.{drop-length, take-length}
 use Rattle.std.proofs.lemmas.List.{take_more_set, drop_more, drop-set-lt}
@@ -47,7 +47,7 @@ pub read_shown : (hides : Bool) (source : Option (List ℕ)) (at n : ℕ) (read 
 read_shown false source at n read file h is slice = slice file is
 read_shown true source at n read file h is slice = cc
 
--- and with zeros for what is hidden where that is hidden
+-- and with zeros for what is hidden, if it is hidden
 pub read_hidden : (hides : Bool) (source : Option (List ℕ)) (at n : ℕ) (read file : List ℕ) → hides ≡ true → file_by hides source ≡ Some file
     → ((bytes : List ℕ) → source ≡ Some bytes → read ≡ take n (drop at bytes)) → without_sections_from at read ≡ take n (drop at file)
 read_hidden false source at n read file h is slice = cc
@@ -56,7 +56,7 @@ read_hidden true (Some bytes) at n read file h is slice =
     let same : without_sections bytes ≡ file = cc in
     ap (without_sections_from at) (slice bytes refl) ∙ sym (view_in_slices bytes at n) ∙ ap (λ l. take n (drop at l)) same
 
--- what is shown where it is hidden, of a file of which all or as much was shown before
+-- what is shown of a masked file, if all of it or the same part was shown before
 pub view_of : (hides : Bool) (source : Option (List ℕ)) (file : List ℕ) → file_by hides source ≡ Some file → file_by true source ≡ Some (without_sections file)
 view_of false source file is = ap (option_map without_sections) is
 view_of true None file is = cc
@@ -64,11 +64,11 @@ view_of true (Some bytes) file is =
     let same : without_sections bytes ≡ file = cc in
     ap Some (sym (view_is_its_own bytes) ∙ ap without_sections same)
 
--- what is kept of a source is kept of what is seen of it
+-- what is kept of a source is kept of its state
 keeps_seen : (hides : Bool) (s t : SourceState) → KeepsSource s t → KeepsSource (seen_by hides s) (seen_by hides t)
 keeps_seen hides s t k = record { same_size = k.same_size; no_fewer = k.no_fewer; same_file = ap (file_by hides) k.same_file; same_whole = k.same_whole }
 
--- reads while something is hidden, which is shown again as before
+-- reads while something is hidden, after which it is shown again as before
 pub ReadsUpTo-hidden : {a b c d : CountedState} {n : ℕ} → MasksSectionHeaders a b true → ReadsUpTo b c n → MasksSectionHeaders c d a.hides → ReadsUpTo a d n
 ReadsUpTo-hidden {a} {b} {c} {d} {n} hide p show =
     let kept : KeepsSource a.source d.source = rw (hide.same_source, ← show.same_source) at p.view.keeps in
@@ -80,7 +80,7 @@ ReadsUpTo-hidden {a} {b} {c} {d} {n} hide p show =
       view = record { keeps = kept; hides = show.is_hidden };
     }
 
--- what is honest is so, whatever is hidden of it
+-- an honest source is honest, hidden fields or not
 file_seen : (first second : Bool) (source : Option (List ℕ)) (file : List ℕ) → file_by first source ≡ Some file
     → (bytes : List ℕ) × (file_by second source ≡ Some bytes)
 file_seen first second None file is = elim first as (λ b. file_by b None ≡ Some file → (bytes : List ℕ) × (file_by second None ≡ Some bytes)) [ true ↦ λ no. cc | false ↦ λ no. cc ] is
@@ -98,7 +98,7 @@ IsSourceFault-hidden Device hide show p = omega (arith, hide.same_failures, show
 IsSourceFault-hidden {a} {b} {c} {d} Ended hide show p = λ honest.
     p (rw (c.is_seen) (IsHonest-seen d.hides c.hides c.source (rw (show.same_source) at (rw (d.is_seen) at honest))))
 
--- a refusal for want of budget while something is hidden
+-- a budget refusal while something is hidden
 pub ExceedsBudget-hidden : {a b c d : CountedState} {n : ℕ} → MasksSectionHeaders a b true → MasksSectionHeaders c d a.hides → ExceedsBudget b c n → ExceedsBudget a d n
 ExceedsBudget-hidden hide show p = record {
   most = p.most;
@@ -107,7 +107,7 @@ ExceedsBudget-hidden hide show p = record {
   late = omega (arith, show.same_asked, p.late);
 }
 
--- what is shown where something is hidden is a file of which all or as much was shown before
+-- what is shown of a masked file comes from a file of which all or the same part was shown before
 pub hidden_file : {a b : CountedState} → MasksSectionHeaders a b true → (viewed : List ℕ) → b.seen.file ≡ Some viewed
     → (file : List ℕ) × (a.seen.file ≡ Some file) × (viewed ≡ without_sections file)
 hidden_file {a} {b} hide viewed is =

@@ -1,16 +1,16 @@
--- What a sink that holds bytes back has given to the sink below it.
+-- What a sink that holds bytes back has passed to the sink below it.
 use Rattle.std.proofs.Common.{◌≡◌, ℕ, ◌+◌, ◌-◌, ◌≤◌, List, [], ◌++◌, Option, None, Some, Result, refl, sym, ap, ◌∙◌, length, take, drop, subst, append-nil, append_assoc, arith}
 use Rattle.std.specs.Io.KnownBytes.{Appends, Keeps, WriteAppends, append_known}
 use Rattle.std.proofs.KnownBytes.{append_known-moved}
 use Rattle.std.proofs.lemmas.List.{take-append-drop, take-take, drop-append-le, drop-take, drop-drop, length-drop, length-take-le}
 
--- the bytes between two places
+-- the bytes between two positions
 pub between : (room : List ℕ) (from to : ℕ) → from ≤ to → take (to - from) (drop from room) ≡ drop from (take to room)
 between room from to le =
     let whole : from + (to - from) ≡ to = omega (arith, le) in
     sym (ap (λ k. drop from (take k room)) (sym whole) ∙ drop-take from (to - from) room)
 
--- the first r of them went out
+-- the first r of them were written
 pub Released : (a b : Option (List ℕ)) (room : List ℕ) (from to r : ℕ) → from ≤ to → Appends a b (take r (take (to - from) (drop from room)))
     → Keeps (append_known a (drop from (take to room))) (append_known b (drop (from + r) (take to room)))
 Released a b room from to r le p =
@@ -20,7 +20,7 @@ Released a b room from to r le p =
     subst (λ (l : List ℕ). Keeps (append_known a all) (append_known b l)) rest
     (append_known-moved a b (take r all) (drop r all) all front (sym (take-append-drop r all)))
 
--- all of them went out
+-- all of them were written
 pub Released_all : (a b : Option (List ℕ)) (room : List ℕ) (from to r : ℕ) → from ≤ to → from + r ≡ to → Appends a b (take r (take (to - from) (drop from room)))
     → Keeps (append_known a (drop from (take to room))) (append_known b [])
 Released_all a b room from to r le all p =
@@ -49,7 +49,7 @@ held_back below room from to less count first all fits =
       omega (arith, length-drop less (take to room), sized, all),
     )
 
--- where nothing is held
+-- if nothing is held
 pub nothing_held : (room : List ℕ) (from to : ℕ) → from ≡ to → drop from (take to room) ≡ []
 nothing_held room from to same =
     let whole : to ≡ to + 0 = omega arith in

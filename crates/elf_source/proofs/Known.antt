@@ -1,4 +1,4 @@
--- Known bytes over several turns of a loop that writes.
+-- Known bytes over several iterations of a loop that writes.
 use Rattle.std.proofs.Common.{◌≡◌, ℕ, ◌+◌, ◌^◌, ◌-◌, ◌≤◌, List, Option, sym, ap, ◌∙◌, min, length, take, drop, subst}
 use Rattle.std.specs.Io.KnownBytes.{Appends}
 use Rattle.std.proofs.KnownBytes.{Appends-trans}
@@ -6,7 +6,7 @@ use Rattle.std.proofs.Math.Seq.{take-add}
 use Rattle.std.proofs.lemmas.List.{take-append-drop, length-take-le, take_rest}
 use Rattle.elf_source.specs.Output.{OutState, SinkTakesPrefix}
 
--- the first d bytes, and then n of those that are left
+-- the first d bytes, and then n of the remaining ones
 pub Appends_turn : (a b c : Option (List ℕ)) (bytes : List ℕ) (d n : ℕ) → Appends a b (take d bytes) → Appends b c (take n (take (length bytes - d) (drop d bytes))) → Appends a c (take (d + n) bytes)
 Appends_turn a b c bytes d n p q =
     let left = subst (λ (l : List ℕ). Appends b c (take n l)) (take_rest bytes d) q in

@@ -1,4 +1,4 @@
--- A line that was held, by what was written behind it.
+-- A line that was held, by what was written after it.
 use Rattle.std.proofs.Common.{◌≡◌, ℕ, ◌-◌, ◌≤◌, List, [], ◌∷◌, ◌++◌, length, take, Option, None, Some, refl, sym, ap, ◌∙◌, append-nil, append_assoc, arith}
 use Rattle.std.specs.Io.KnownBytes.{Appends, append_known}
 use Rattle.std.proofs.Math.Seq.{take-append_seam}
@@ -9,7 +9,7 @@ use Rattle.elf_source.specs.declared.holding_sink.DeferredLine.{DeferredLine}
 use Rattle.elf_source.specs.declared.faults.OutFault.{OutFault}
 use Rattle.elf_source.proofs.PutsLaws.{SinkTakes-then}
 
--- two lists that end in as many bytes begin alike
+-- two lists that end in equally long parts begin alike
 alike : (w x back line : List ℕ) → w ++ back ≡ x ++ line → length back ≡ length line → w ≡ x
 alike w x back line same many =
     let sized : length w ≡ length x = omega (arith, ap length same, length-append w back, length-append x line, many) in
@@ -29,7 +29,7 @@ none_of : (bytes : List ℕ) → length bytes ≡ 0 → bytes ≡ []
 none_of [] none = refl
 none_of (byte ∷ bytes) none = absurd (cc)
 
--- nothing is held back of an output that was broken off
+-- nothing is held back of an output that failed
 pub broken_takes : (old new : OutState) (fault : OutFault) → FailsOutput old new fault → SinkTakes old new []
 broken_takes old new fault p = record {
   appends = rw p.taken (Appends-nil old.taken);
@@ -48,13 +48,13 @@ module _ (began mid old : OutState) (line : List ℕ) (held : DeferredLine) (p :
     room = p.room;
   }
 
-  -- as many bytes are held as it has, where nothing was written behind it
+  -- at least its bytes are held, if nothing was written after it
   pub enough_held : (bytes : List ℕ) → SinkTakes mid old bytes → old.written ≡ held.start → held.start - held.before ≤ old.held
   enough_held bytes q is =
       let none : length bytes ≡ 0 = omega (arith, q.counts, p.counts, p.few, is) in
       omega (arith, q.still none, p.holds, p.start, p.before)
 
-  -- it stands before what was written behind it
+  -- it comes before what was written after it
   pub line_ends : (new : OutState) (bytes : List ℕ) → SinkTakes mid old bytes → EndsLine held old new → SinkTakes began new (before_text line bytes)
   line_ends new [] q ends =
       let is : old.written ≡ held.start = omega (arith, q.counts, p.counts, mid.fits) in
@@ -70,7 +70,7 @@ module _ (began mid old : OutState) (line : List ℕ) (held : DeferredLine) (p :
       let more : old.written ≡ held.start → ⊥ = λ is. omega (arith, q.counts, p.counts, p.few, is) in
       rw (ends.stays more) (SinkTakes-then line (byte ∷ bytes) line_taken q)
 
-  -- a front of a text behind it
+  -- a prefix of a text after it
   pub line_front : (new : OutState) (text : List ℕ) → SinkTakesPrefix mid old text → EndsLine held old new → SinkTakesPrefix began new (before_text line text)
   line_front new text q ends = by_front q.front refl
     where

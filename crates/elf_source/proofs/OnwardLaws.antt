@@ -1,4 +1,4 @@
--- Reads one behind the other, and then more of them.
+-- Consecutive reads, and then more of them.
 use Rattle.std.proofs.Common.{◌≡◌, ℕ, ◌+◌, ◌≤◌, List, [], ◌∷◌, ◌++◌, refl, subst, arith}
 use Rattle.elf_source.specs.Prelude.{AreMade, AreOnward, ReadsOnward, SourceState}
 
@@ -26,7 +26,7 @@ lists_then : (low middle next high : ℕ) (first second : List (ℕ × ℕ)) →
 lists_then low middle next high [] second less p q = onward_lower low next high second (omega (arith, less, p)) q
 lists_then low middle next high (read ∷ first) second less p q = (p.0, lists_then (read.0 + read.1) middle next high first second less p.1 q)
 
--- reads, and then others behind them
+-- reads, and then others after them
 pub onward_then : (one_read : SourceState → ℕ → ℕ → SourceState → Type 0) (a b c : SourceState) (low middle next high : ℕ) → middle ≤ next
     → ReadsOnward one_read a b low middle → ReadsOnward one_read b c next high → ReadsOnward one_read a c low high
 onward_then one_read a b c low middle next high less p q = record {

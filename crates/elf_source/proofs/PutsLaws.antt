@@ -1,4 +1,4 @@
--- What one put after another comes to.
+-- The result of consecutive puts.
 use Rattle.std.proofs.Common.{ℕ, List, [], ◌++◌, sym, ap, refl, ◌∙◌, append_assoc, length-append, arith}
 use Rattle.std.proofs.KnownBytes.{Appends-nil, Appends-trans}
 use Rattle.elf_source.specs.Output.{OutState, SinkTakes, SinkTakesPrefix}
@@ -16,7 +16,7 @@ SinkTakes-then {a} {b} {c} xs ys p q = record {
   room = q.room ∙ p.room;
 }
 
--- all of some bytes, and then a front of others
+-- all of some bytes, and then a prefix of others
 pub SinkTakesPrefix-then : {a b c : OutState} (xs ys : List ℕ) → SinkTakes a b xs → SinkTakesPrefix b c ys → SinkTakesPrefix a c (xs ++ ys)
 SinkTakesPrefix-then xs ys p q = record {
   front = xs ++ q.front;
@@ -25,7 +25,7 @@ SinkTakesPrefix-then xs ys p q = record {
   takes = SinkTakes-then xs q.front p q.takes;
 }
 
--- a front of some bytes is one of more bytes
+-- a prefix of some bytes is one of more bytes
 pub SinkTakesPrefix-more : {a b : OutState} (xs ys : List ℕ) → SinkTakesPrefix a b xs → SinkTakesPrefix a b (xs ++ ys)
 SinkTakesPrefix-more xs ys p = record {
   front = p.front;
@@ -34,6 +34,6 @@ SinkTakesPrefix-more xs ys p = record {
   takes = p.takes;
 }
 
--- all of some bytes is a front of more
+-- all of some bytes is a prefix of more
 pub SinkTakesPrefix-all : {a b : OutState} (xs ys : List ℕ) → SinkTakes a b xs → SinkTakesPrefix a b (xs ++ ys)
 SinkTakesPrefix-all xs ys p = record { front = xs; rest = ys; split = refl; takes = p }

@@ -1,4 +1,4 @@
--- What a range gives of the file that it is a range of.
+-- What a range returns of its parent's file.
 use Rattle.std.proofs.Common.{◌≡◌, ℕ, ◌+◌, ◌-◌, ◌≤◌, List, length, take, drop, Option, None, Some, Result, Ok, Err, sym, ap, refl, ◌∙◌, take-take, drop-drop, arith}
 use Rattle.std.proofs.lemmas.List.{drop-take}
 use Rattle.std.proofs.Math.Seq.{take-length}
@@ -13,7 +13,7 @@ slice_within bytes start size at n h =
     ap (λ k. drop at (take k (drop start bytes))) (sym e) ∙ drop-take at (size - at) (drop start bytes) in
     ap (take n) d ∙ take-take n (size - at) (drop at (drop start bytes)) (omega arith) ∙ ap (take n) (drop-drop at start bytes)
 
--- what was read of the file below is the slice of the range's file
+-- what was read of the parent's file is the slice of the range's file
 read_of : (below : Option (List ℕ)) (file out : List ℕ) (start size at n : ℕ) → at + n ≤ size → file_within below start size ≡ Some file
     → ((bytes : List ℕ) → below ≡ Some bytes → out ≡ take n (drop (start + at) bytes)) → out ≡ take n (drop at file)
 read_of None file out start size at n h is read = cc
@@ -34,7 +34,7 @@ all_of (Some bytes) size sized = ap Some (ap (λ n. take n bytes) (sym (sized by
 pub whole_file : (seen : SourceState) → file_within seen.file 0 seen.size ≡ seen.file
 whole_file seen = all_of seen.file seen.size seen.sized
 
--- a range that begins at the start and has the size of what it is a range of is whole
+-- a range that begins at 0 and has the size of its parent is whole
 pub is_whole : (r : RangeOf) → r.start ≡ 0 → r.size ≡ r.below.size → IsWholeRange (seen_range r)
 is_whole r first all =
     let same : file_within r.below.file r.start r.size ≡ r.below.file =

@@ -1,4 +1,4 @@
--- What reads one after another come to.
+-- The result of consecutive reads.
 use Rattle.std.proofs.Common.{ℕ, ◌+◌, ◌≤◌, ◌∙◌, sym, refl, arith}
 use Rattle.elf_source.specs.Prelude.{CountedState, ExceedsBudget, IsSourceFault, KeepsSource, ReadsUpTo, SourceState}
 use Rattle.elf_source.specs.declared.faults.SourceFault.TheVariants.{Device, Ended}
@@ -30,7 +30,7 @@ ReadsUpTo-then p q = record {
   view = record { keeps = KeepsSource-then p.view.keeps q.view.keeps; hides = q.view.hides ∙ p.view.hides };
 }
 
--- reads, in a bound that is known otherwise
+-- reads, with an equal bound
 pub ReadsUpTo-to : {a b : CountedState} {n k : ℕ} → ReadsUpTo a b n → b.asked ≤ a.asked + k → ReadsUpTo a b k
 ReadsUpTo-to p within = record { keeps = p.keeps; grows = p.grows; at_most = within; same_limit = p.same_limit; view = p.view }
 
@@ -39,7 +39,7 @@ pub IsSourceFault-then : (a b c : SourceState) (fault : SourceFault) → KeepsSo
 IsSourceFault-then a b c Device p q = omega arith
 IsSourceFault-then a b c Ended p q = q
 
--- a refusal for want of budget after other reads, in a bound on all
+-- a budget refusal after other reads, with a bound on all
 pub ExceedsBudget-then : {a b c : CountedState} {m : ℕ} (n k : ℕ) → b.asked + m ≤ a.asked + k → ReadsUpTo a b n → ExceedsBudget b c m → ExceedsBudget a c k
 ExceedsBudget-then n k within p q = record { most = q.most; is_set = sym p.same_limit ∙ q.is_set; above = omega arith; late = q.late }
 

@@ -1,4 +1,4 @@
--- What reads in turns come to.
+-- The result of reads in turns.
 use Rattle.std.proofs.Common.{◌≡◌, ℕ, ◌+◌, ◌-◌, ◌≤◌, ◌<◌, List, [], ◌∷◌, ◌++◌, length, take, drop, sym, ap, ◌∙◌, Result, Ok, Err, IfErr, refl, arith, length-append, length-drop, length-take-le}
 use Rattle.std.proofs.Math.Seq.{take-add, take-append-add, take-length}
 use Rattle.std.proofs.lemmas.List.{drop-drop, take-append-le}
@@ -8,7 +8,7 @@ use Rattle.elf_source.specs.declared.faults.SourceFault.TheVariants.{Device, End
 use Rattle.elf_source.specs.declared.faults.SourceFault.{SourceFault}
 use borrow.Rule.Slice.PartMut.{put_mid, post_of, mid_of, same_len_mid}
 
--- the first bytes of a buffer, and some of those that a turn put behind them
+-- the first bytes of a buffer, and some of those that a turn wrote after them
 pub take-put_part : (got count room : ℕ) (out part : List ℕ) → got ≤ length out → count ≤ length part
     → take (got + count) (put_mid got room out part) ≡ take got out ++ take count part
 take-put_part got count room out part within some =
@@ -17,7 +17,7 @@ take-put_part got count room out part within some =
     ∙ take-append-add (take got out) (part ++ post_of got room out) count
     ∙ ap (λ rest. take got out ++ rest) (take-append-le count part (post_of got room out) some)
 
--- the first bytes of a range of a file, and those of a turn that stand behind them
+-- the first bytes of a range of a file, and those of a turn that follow them
 pub filled_then : (file out part : List ℕ) (at got count room : ℕ) → got ≤ length out → count ≤ length part
     → take got out ≡ take got (drop at file) → take count part ≡ take count (drop (at + got) file)
     → take (got + count) (put_mid got room out part) ≡ take (got + count) (drop at file)
@@ -27,21 +27,21 @@ filled_then file out part at got count room within some before turn =
     ∙ ap (λ rest. take got (drop at file) ++ rest) (turn ∙ ap (take count) (sym (drop-drop got at file)))
     ∙ sym (take-add got count (drop at file))
 
--- a source whose reads fail only at `Device`, where it is honest, isn't honest at any other fault
+-- a source whose reads fail only with `Device` while it is honest isn't honest at any other fault
 pub ended-is_known : (old new : SourceState) (result : Result (Unit {0}) SourceFault) → (result ≡ Err Device → ⊥)
     → (IsHonest new → IfErr result (λ fault. fault ≡ Device)) → IfErr result (IsSourceFault old new)
 ended-is_known old new (Ok x) other fails = tt
 ended-is_known old new (Err Device) other fails = absurd (other refl)
 ended-is_known old new (Err Ended) other fails = λ honest. search fails
 
--- a turn gave no more bytes than there was room for
+-- a turn returned no more bytes than there was room for
 pub turn_within : (got count : ℕ) (out part : List ℕ) → got ≤ length out → length part ≡ length (mid_of got (length out - got) out)
     → count ≤ length (mid_of got (length out - got) out) → got + count ≤ length (put_mid got (length out - got) out part)
 turn_within got count out part within same some =
     let room = length-take-le (length out - got) (drop got out) (omega (arith, length-drop got out)) in
     rw (same_len_mid got (length out - got) out part same) (omega (arith, room, within, some))
 
--- once there is no more room all bytes are those of the range
+-- once there is no room left, all bytes are those of the range
 pub filled_all : (got at n : ℕ) (out file : List ℕ) → got ≤ length out → length out ≤ got → length out ≡ n
     → take got out ≡ take got (drop at file) → out ≡ take n (drop at file)
 filled_all got at n out file within most same filled =
@@ -56,7 +56,7 @@ pub turns_none : {R : Type 0} → (one_turn : R → ℕ → ℕ → R → Type 0
     → Turns one_turn old new low high end most
 turns_none one_turn old new low high end most same within = record { turns = []; made = same; rests = within; few = omega arith }
 
--- turns, and one more behind them
+-- turns, and one more after them
 rests_then : (low here high end n : ℕ) (turns : List (ℕ × ℕ)) → AreRests low here end turns → here ≤ high → here + n ≡ end
     → AreRests low high end (turns ++ (here, n) ∷ [])
 rests_then low here high end n [] within less is = (within, is, less)
@@ -86,7 +86,7 @@ turns_more one_turn a b low here high end some most before less more = record {
   few = omega (arith, before.few, more);
 }
 
--- turns, and one more into what is left of a buffer of n bytes
+-- turns, and one more into the rest of a buffer of n bytes
 pub turn_after : {R : Type 0} → (one_turn : R → ℕ → ℕ → R → Type 0) (a b c : R) (at got n most high : ℕ) (out : List ℕ)
     → got ≤ length out → length out ≡ n → at + got ≤ high
     → Turns one_turn a b at (at + got) (at + n) most → one_turn b (at + got) (length (mid_of got (length out - got) out)) c

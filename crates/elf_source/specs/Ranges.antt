@@ -1,12 +1,12 @@
--- What is seen of a range of a source, and of one that was set anew.
+-- The state of a range of a source, and of one that was set anew.
 use Rattle.std.specs.Prelude.{◌≡◌, ℕ, ◌+◌, ◌≤◌, false, List, length, take, drop, Option, Some, option_map}
 use Rattle.elf_source.specs.Source.{CountedState, SourceState, RangeParent}
 
--- the file of so many bytes from an offset of another, where that is known
+-- the part of a file of this size at an offset, if the file is known
 abbrev pub file_within : Option (List ℕ) → ℕ → ℕ → Option (List ℕ)
 file_within file start size = option_map (λ bytes. take size (drop start bytes)) file
 
--- a range: what is seen of the source that it is a range of, where it starts and how many bytes it has
+-- a range: the state of its parent, where it starts and its size in bytes
 pub record RangeOf : Type 0 where
   pub below : SourceState
   pub start : ℕ
@@ -14,7 +14,7 @@ pub record RangeOf : Type 0 where
   pub within : start + size ≤ below.size
   pub sized : (bytes : List ℕ) → file_within below.file start size ≡ Some bytes → length bytes ≡ size
 
--- what is seen of it: its own size, and the slice of the other's file; what fails below is a failure of its own
+-- its state: its own size, and the slice of the parent's file; a failure of the parent is its own
 abbrev pub seen_range : RangeOf → SourceState
 seen_range r = record {
   size = r.size;
@@ -28,11 +28,11 @@ seen_range r = record {
 abbrev pub IsWholeRange : SourceState → Type 0
 IsWholeRange seen = seen.whole ≡ Some (record { size = seen.size; file = seen.file })
 
--- so many bytes from an offset on lie within what a source is a range of
+-- this many bytes at an offset lie within the parent of a source
 abbrev pub LiesWithin : SourceState → ℕ → ℕ → Type 0
 LiesWithin seen start size = (whole : RangeParent) × (seen.whole ≡ Some whole) × (start + size ≤ whole.size)
 
--- a range was set anew, nothing of it is hidden, and of the account nothing changed
+-- a range was set anew, nothing of it is hidden, and the byte count and limit are unchanged
 pub record Narrows (old new : CountedState) (start size : ℕ) : Type 0 where
   pub size_is : new.seen.size ≡ size
   pub file_is : (whole : RangeParent) → old.seen.whole ≡ Some whole → new.seen.file ≡ file_within whole.file start size
@@ -43,7 +43,8 @@ pub record Narrows (old new : CountedState) (start size : ℕ) : Type 0 where
   pub same_stopped : new.stopped ≡ old.stopped
   pub shows : new.hides ≡ false
 
--- a range was set to all bytes of what it is a range of, nothing of it is hidden, and of the account nothing changed
+-- a range was set to all bytes of its parent, nothing of it is hidden, and the byte count and limit
+-- are unchanged
 pub record Widens (old new : CountedState) : Type 0 where
   pub is_whole : IsWholeRange new.seen
   pub same_whole : new.seen.whole ≡ old.seen.whole

@@ -1,4 +1,4 @@
--- What is seen of a source, of one whose reads are counted, and what a read does.
+-- The states of a source and of a counted source, and what a read does.
 use Rattle.std.specs.Prelude.{◌≡◌, ℕ, ◌+◌, ◌-◌, ◌^◌, ◌≤◌, ◌<◌, min, Bool, true, false, List, length, Option, None, Some, Result, Ok, Err, option_map, IfSome, refl}
 use Rattle.std.proofs.Common.{subst, ◌∙◌}
 use Rattle.elf_model.specs.Style.{without_sections}
@@ -8,13 +8,13 @@ use Rattle.elf_source.specs.declared.faults.SourceFault.TheVariants.{Device, End
 use Rattle.elf_source.specs.declared.faults.AskFault.{AskFault}
 use Rattle.elf_source.specs.declared.faults.AskFault.TheVariants.{Source, Budget}
 
--- what a source is a range of: its size in bytes, and its file, where one is known
+-- the parent of a range: its size in bytes, and its file, if one is known
 pub record RangeParent : Type 0 where
   pub size : ℕ
   pub file : Option (List ℕ)
 
--- what is seen of a source: its size in bytes, how many of its reads failed, the file whose slices its reads give, where
--- there is one, and what it is a range of, if it is one
+-- the state of a source: its size in bytes, how many of its reads failed, the file whose slices its
+-- reads return, if one is known, and its parent, if it is a range
 pub record SourceState : Type 0 where
   pub size : ℕ
   pub failures : ℕ
@@ -22,7 +22,8 @@ pub record SourceState : Type 0 where
   pub sized : (bytes : List ℕ) → file ≡ Some bytes → length bytes ≡ size
   pub whole : Option RangeParent
 
--- a source is honest: its reads give the slices of a file, and its count of failures may still rise
+-- a source is honest: its reads return the slices of a file, and its count of failures may still
+-- rise
 pub record IsHonest (seen : SourceState) : Type 0 where
   pub file : List ℕ
   pub gives : seen.file ≡ Some file
@@ -35,25 +36,26 @@ pub record KeepsSource (old new : SourceState) : Type 0 where
   pub same_file : new.file ≡ old.file
   pub same_whole : new.whole ≡ old.whole
 
--- what a fault of the source says: at `Device` its failures rose, at `Ended` it isn't honest
+-- what a fault of the source means: at `Device` its failures rose, at `Ended` it isn't honest
 abbrev pub IsSourceFault : SourceState → SourceState → SourceFault → Type 0
 IsSourceFault old new Device = old.failures < new.failures
 IsSourceFault old new Ended = IsHonest new → ⊥
 
--- no more is asked for than a limit has, and no limit is more than a number of 64 bits above what was asked for
+-- no more is requested than a limit allows, and a limit exceeds what was requested by less than
+-- 2^64
 abbrev pub IsWithin : ℕ → Option ℕ → Type 0
 IsWithin asked most = (n : ℕ) → most ≡ Some n → (asked ≤ n) × (n < asked + 2 ^ 64)
 
--- a fact of every file that a source gives, from one of the option
+-- a fact about every file of a source, from one about the option
 abbrev each_file : (P : List ℕ → Type 0) (file : Option (List ℕ)) → IfSome file P → (bytes : List ℕ) → file ≡ Some bytes → P bytes
 each_file P file holds bytes same = subst (λ (o : Option (List ℕ)). IfSome o P) same holds
 
--- a file, where one is known: all of it, or with zeros where its header locates section headers
+-- a file, if one is known: all of it, or with zeros where its header locates section headers
 abbrev pub file_by : Bool → Option (List ℕ) → Option (List ℕ)
 file_by false file = file
 file_by true file = option_map without_sections file
 
--- which is as long
+-- which has the same length
 abbrev sized_by : (hides : Bool) (file : Option (List ℕ)) (size : ℕ) → ((bytes : List ℕ) → file ≡ Some bytes → length bytes ≡ size)
     → (bytes : List ℕ) → file_by hides file ≡ Some bytes → length bytes ≡ size
 sized_by false file size sized = sized
@@ -61,7 +63,8 @@ sized_by true None size sized = each_file (λ bytes. length bytes ≡ size) None
 sized_by true (Some file) size sized =
     each_file (λ bytes. length bytes ≡ size) (Some (without_sections file)) (view_is_as_long file ∙ sized file refl)
 
--- what is seen of a source of whose file all is shown, or all but the fields of its header that locate section headers
+-- the state of a source whose file is shown whole, or without the header fields that locate section
+-- headers
 abbrev pub seen_by : Bool → SourceState → SourceState
 seen_by hides seen = record {
   size = seen.size;
@@ -71,9 +74,9 @@ seen_by hides seen = record {
   whole = seen.whole;
 }
 
--- a source whose reads are counted: what is seen of it, what was given to be read, whether the fields of its file
--- header that locate section headers are hidden, how many bytes were asked for, the count that this may not pass, where a limit is set, and
--- where the last read was asked for that failed or that the limit had no room for
+-- a source whose reads are counted: its state as shown, the source itself, whether the fields of
+-- its file header that locate section headers are hidden, how many bytes were requested, the limit
+-- on that count, if one is set, and the offset of the last read that failed or exceeded the limit
 pub record CountedState : Type 0 where
   pub seen : SourceState
   pub source : SourceState
@@ -85,7 +88,7 @@ pub record CountedState : Type 0 where
   pub within : IsWithin asked most
   pub fits : asked < 2 ^ 128
 
--- how many bytes may still be asked for, where a limit is set
+-- how many bytes may still be requested, if a limit is set
 abbrev pub left : CountedState → Option ℕ
 left c = option_map (λ n. n - c.asked) c.most
 
@@ -93,7 +96,7 @@ left c = option_map (λ n. n - c.asked) c.most
 abbrev pub counted : ℕ → ℕ → ℕ
 counted asked n = min (asked + n) (2 ^ 128 - 1)
 
--- a limit was set or taken away, and nothing else changed
+-- a limit was set or removed, and nothing else changed
 pub record SetsLimit (old new : CountedState) (bytes : Option ℕ) : Type 0 where
   pub seen : new.seen ≡ old.seen
   pub asked : new.asked ≡ old.asked
@@ -103,16 +106,16 @@ pub record SetsLimit (old new : CountedState) (bytes : Option ℕ) : Type 0 wher
   pub hides : new.hides ≡ old.hides
   pub small : (n : ℕ) → bytes ≡ Some n → n < 2 ^ 64
 
--- so many bytes from an offset on may be asked for in one read
+-- this many bytes at an offset may be requested in one read
 abbrev pub IsReadable : CountedState → ℕ → ℕ → Type 0
 IsReadable c at n = (at + n ≤ c.seen.size) × (n ≤ 4096)
 
--- what is hidden stays so, and the source but for its failures
+-- what is hidden stays so, and the source is unchanged except for its failures
 pub record SameView (old new : CountedState) : Type 0 where
   pub keeps : KeepsSource old.source new.source
   pub hides : new.hides ≡ old.hides
 
--- WHAT READS DO, fault or not: they ask for at most n bytes, and keep the source and the limit
+-- WHAT READS DO, fault or not: they request at most n bytes, and keep the source and the limit
 pub record ReadsUpTo (old new : CountedState) (n : ℕ) : Type 0 where
   pub keeps : KeepsSource old.seen new.seen
   pub grows : old.asked ≤ new.asked
@@ -120,44 +123,46 @@ pub record ReadsUpTo (old new : CountedState) (n : ℕ) : Type 0 where
   pub same_limit : new.most ≡ old.most
   pub view : SameView old new
 
--- what a refusal for want of budget says, of reads that ask for at most n bytes: a limit was set, they could have passed
--- it, and fewer than 4,096 bytes were left of it
+-- what a budget refusal means, of reads that request at most n bytes: a limit was set, they could
+-- have exceeded it, and fewer than 4,096 bytes of it were left
 pub record ExceedsBudget (old new : CountedState) (n : ℕ) : Type 0 where
   pub most : ℕ
   pub is_set : old.most ≡ Some most
   pub above : most < old.asked + n
   pub late : most < new.asked + 4096
 
--- what a fault of a read of n bytes says
+-- what a fault of a read of n bytes means
 abbrev pub IsAskFault : CountedState → CountedState → ℕ → AskFault → Type 0
 IsAskFault old new n (Source fault) = IsSourceFault old.seen new.seen fault
 IsAskFault old new n Budget = ExceedsBudget old new n
 
--- what one read asks for, exactly: the bytes are counted where it was made, and it was made unless the limit had fewer left
+-- what one read requests, exactly: the bytes are counted if it was made, and it was made unless the
+-- limit had fewer left
 abbrev pub CountsRead : {X : Type 0} → CountedState → CountedState → ℕ → Result X AskFault → Type 0
 CountsRead old new n (Ok x) = new.asked ≡ counted old.asked n
 CountsRead old new n (Err (Source fault)) = new.asked ≡ counted old.asked n
 CountsRead old new n (Err Budget) = new.asked ≡ old.asked
 
--- where a read stops it is remembered where it was asked for, and nowhere else
+-- a failed read records its offset, and no other call does
 abbrev pub RecordsStop : {X E : Type 0} → CountedState → CountedState → ℕ → Result X E → Type 0
 RecordsStop old new at (Ok x) = new.stopped ≡ old.stopped
 RecordsStop old new at (Err fault) = new.stopped ≡ at
 
--- the source was read once, or not at all for want of budget
+-- the source was read once, or not at all if the budget was exhausted
 abbrev pub ReadsSourceOnce : {X : Type 0} → (SourceState → ℕ → ℕ → SourceState → Type 0) → CountedState → CountedState → ℕ → ℕ → Result X AskFault → Type 0
 ReadsSourceOnce one_read old new at n (Ok x) = one_read old.source at n new.source
 ReadsSourceOnce one_read old new at n (Err (Source fault)) = one_read old.source at n new.source
 ReadsSourceOnce one_read old new at n (Err Budget) = new.source ≡ old.source
 
--- a read outside the limit: it is counted, and what is left of the limit stays
+-- a read outside the limit: it is counted, and what is left of the limit is unchanged
 pub record FillsUnlimited (old new : CountedState) (n : ℕ) : Type 0 where
   pub keeps : KeepsSource old.seen new.seen
   pub asks : new.asked ≡ counted old.asked n
   pub same_left : left new ≡ option_map (λ bytes. counted new.asked bytes - new.asked) (left old)
   pub view : SameView old new
 
--- the fields of a file header that locate section headers were hidden, or shown, and of the account nothing changed
+-- the fields of a file header that locate section headers were hidden, or shown, and the byte count
+-- and limit are unchanged
 pub record MasksSectionHeaders (old new : CountedState) (hides : Bool) : Type 0 where
   pub is_hidden : new.hides ≡ hides
   pub shows : hides ≡ true → (file : List ℕ) → old.seen.file ≡ Some file → new.seen.file ≡ Some (without_sections file)
@@ -168,10 +173,10 @@ pub record MasksSectionHeaders (old new : CountedState) (hides : Bool) : Type 0 
   pub same_limit : new.most ≡ old.most
   pub same_stopped : new.stopped ≡ old.stopped
 
--- what is seen of a source that gives these bytes and never fails
+-- the state of a source that has these bytes and never fails
 abbrev pub honest : List ℕ → SourceState
 honest bytes = record { size = length bytes; failures = 0; file = Some bytes; sized = each_file (λ b. length b ≡ length bytes) (Some bytes) refl; whole = None }
 
--- what is seen of a source of which no file is known
+-- the state of a source of which no file is known
 abbrev pub unknown : ℕ → ℕ → SourceState
 unknown size failures = record { size = size; failures = failures; file = None; sized = each_file (λ b. length b ≡ size) None tt; whole = None }

@@ -7,11 +7,11 @@ use crate::section_header_mask::hide;
 use crate::source::Source;
 use std::marker::Model;
 
-/// The most bytes that one read within a limit may ask for.
+/// The maximum number of bytes of one read within a limit.
 pub const READ_BYTES: usize = 4096;
 
-/// A source, how many bytes were asked of it, the count that this may not pass, where a limit is set,
-/// and the offset of the last read that failed or that the limit had no room for.
+/// A source, the number of bytes requested of it, the limit on that number, if one is set, and the
+/// offset of the last read that failed or that exceeded the limit.
 #[derive(Drop)]
 pub struct Counted<S: Source> {
     pub(crate) source: S,
@@ -43,7 +43,7 @@ impl<S: Source> Model for Counted<S> {
 }
 
 impl<S: Source> Counted<S> {
-    /// Counts what is asked of `source` from now on, with no limit. Nothing is hidden.
+    /// Creates a counter over `source` with no limit. Nothing is hidden.
     pub fn new(source: S) -> Self
         ensures seen { result.seen ≡ S.seen source }
         ensures source { result.source ≡ S.seen source }
@@ -61,30 +61,32 @@ impl<S: Source> Counted<S> {
         }
     }
 
-    /// Whether the fields of a file header that locate section headers are hidden.
+    /// Returns `true` if the fields of a file header that locate section headers are hidden.
     pub fn hides(&self) -> bool
         ensures { result ≡ self.now.hides }
     {
         self.hides
     }
 
-    /// Hides the fields of the file header that locate section headers, or shows them: where they are
-    /// hidden, reads give zeros for the bytes 40 to 47 (e_shoff) and 60 to 63 (e_shnum, e_shstrndx) of
-    /// the source (gABI 4, ELF Header). Of the account nothing changes.
+    /// Hides or shows the fields of the file header that locate section headers.
+    ///
+    /// While they are hidden, reads return zeros for the bytes 40 to 47 (e_shoff) and 60 to 63
+    /// (e_shnum, e_shstrndx) of the source (gABI 4, ELF Header). The byte count and the limit do
+    /// not change.
     pub fn mask_section_headers(&mut self, hides: bool)
         ensures { MasksSectionHeaders self.old self.new hides }
     {
         self.hides = hides;
     }
 
-    /// How many bytes were asked for, in reads that failed too. It stays at 2^128 - 1.
+    /// Returns the number of bytes requested, failed reads included. It stays at 2^128 - 1.
     pub fn asked(&self) -> u128
         ensures { result ≡ self.now.asked }
     {
         self.asked
     }
 
-    /// The length of the source in bytes.
+    /// Returns the length of the source in bytes.
     pub fn length(&self) -> u64
         ensures value { result ≡ self.now.seen.size }
         ensures fits { self.now.seen.size < 2 ^ 64 }
@@ -92,15 +94,15 @@ impl<S: Source> Counted<S> {
         self.source.length()
     }
 
-    /// The offset, in bytes, of the last read that failed or that a limit had no room for; 0 before the
-    /// first.
+    /// Returns the offset, in bytes, of the last read that failed or that exceeded a limit; 0
+    /// before the first.
     pub fn stopped(&self) -> u64
         ensures { result ≡ self.now.stopped }
     {
         self.stopped
     }
 
-    /// How many bytes [`Counted::ask`] may still ask for, where a limit is set.
+    /// Returns the number of bytes that [`Counted::ask`] may still request, if a limit is set.
     pub fn left(&self) -> Option<u64>
         ensures { result ≡ left self.now }
     {
@@ -110,7 +112,7 @@ impl<S: Source> Counted<S> {
         }
     }
 
-    /// Sets how many bytes [`Counted::ask`] may ask for from now on; with None the limit is taken away.
+    /// Sets how many bytes [`Counted::ask`] may request from now on; None removes the limit.
     pub fn limit(&mut self, bytes: Option<u64>)
         ensures { SetsLimit self.old self.new bytes }
     {
@@ -120,15 +122,18 @@ impl<S: Source> Counted<S> {
         };
     }
 
-    /// Fills `out`, which has at most 4,096 bytes, with the bytes from the offset `at` on, none of them
-    /// past the length. `asked` rises by the length of `out`, and what is left of a limit falls by as
-    /// much, at a fault of the source too.
+    /// Fills `out`, at most 4,096 bytes, with the bytes at offset `at`, all within the length.
+    ///
+    /// `asked` rises by the length of `out`, and what is left of a limit falls by as much, also if
+    /// the source fails.
     ///
     /// # Errors
-    /// `Budget` where a limit has fewer bytes left than `out` has: nothing is asked, and nothing changes
-    /// but what [`Counted::stopped`] answers.
-    /// Else the source's own fault: `Device` only where its count of failures rose, `Ended` only where it
-    /// isn't honest. After a fault `out` holds any bytes, and the source may be asked again.
+    /// - `Budget` if a limit has fewer bytes left than `out` has: nothing is read, and only the
+    ///   result of [`Counted::stopped`] changes.
+    /// - `Source` with the source's fault: `Device` only if its count of failures rose, `Ended`
+    ///   only if it isn't honest.
+    ///
+    /// After a fault the contents of `out` are unspecified, and the source may be read again.
     pub fn ask(&mut self, at: u64, out: &mut [u8]) -> Result<(), AskFault>
         requires { IsReadable self.old at (length out.old) }
         ensures reads { ReadsUpTo self.old self.new (length out.old) }
@@ -153,13 +158,15 @@ impl<S: Source> Counted<S> {
         }
     }
 
-    /// Fills `out` with the bytes from the offset `at` on, none of them past the length, whatever the
-    /// limit. `asked` rises by the length of `out`, at a fault too; what is left of a limit stays as it
-    /// is.
+    /// Fills `out` with the bytes at offset `at`, all within the length, regardless of the limit.
+    ///
+    /// `asked` rises by the length of `out`, also if the source fails; what is left of a limit does
+    /// not change.
     ///
     /// # Errors
-    /// The source's own: `Device` only where its count of failures rose, `Ended` only where it
-    /// isn't honest. After either, `out` holds any bytes, and the source may be asked again.
+    /// Returns the source's fault: `Device` only if its count of failures rose, `Ended` only if it
+    /// isn't honest. After either the contents of `out` are unspecified, and the source may be read
+    /// again.
     pub fn fill(&mut self, at: u64, out: &mut [u8]) -> Result<(), SourceFault>
         requires { at + length out.old ≤ self.old.seen.size }
         ensures fills { FillsUnlimited self.old self.new (length out.old) }
@@ -177,8 +184,7 @@ impl<S: Source> Counted<S> {
         answer
     }
 
-    /// Fills `out` from the source, with zeros for what is hidden; a fault names where it was asked
-    /// for.
+    /// Fills `out` from the source, with zeros for what is hidden; a fault records the offset.
     fn read(&mut self, at: u64, out: &mut [u8]) -> Result<(), SourceFault>
         requires { at + length out.old ≤ self.old.seen.size }
         ensures account { (self.new.asked ≡ self.old.asked) × (self.new.most ≡ self.old.most) }
@@ -201,7 +207,7 @@ impl<S: Source> Counted<S> {
         Ok(())
     }
 
-    /// Gives the source back.
+    /// Returns the source.
     pub fn into_inner(self) -> S
         ensures { S.seen result ≡ self.source }
     {

@@ -1,4 +1,4 @@
-//! A source of which one read fails.
+//! A source with one read that fails.
 ghost use Rattle.std.specs.Prelude.{◌≡◌, ℕ, ◌+◌, ◌≤◌, List, Some, None, length, take, drop, Err, IfErr, OnOk, ⊤};
 ghost use Rattle.elf_source.specs.Source.{KeepsSource, IsSourceFault};
 ghost use Rattle.elf_source.specs.Failing.{Failing, seen_failing};
@@ -7,13 +7,14 @@ use crate::faults::SourceFault;
 use crate::source::Source;
 use std::marker::Model;
 
-/// A source that passes its reads on to another, but for one that fails. It is honest where the other
-/// is, and has its file and its size. With each place of the failing read in turn it shows what a
-/// caller does where a device fails there, once, and goes on.
+/// A source that passes its reads on to another, except for one that fails.
+///
+/// It is honest if the other is, and has its file and its size. With each position of the failing
+/// read in turn it shows what a caller does if a device fails there, once, and then works again.
 #[derive(Drop)]
 pub struct FailSource<S: Source> {
     source: S,
-    // How many reads more are passed on before the one that fails; None behind that.
+    // The number of reads to pass on before the one that fails; None after it.
     due: Option<u64>,
 }
 
@@ -24,7 +25,8 @@ impl<S: Source> Model for FailSource<S> {
 }
 
 impl<S: Source> FailSource<S> {
-    /// Passes `k` reads on to `source`, fails at the next one, and from then on passes all on.
+    /// Creates a source that passes `k` reads on to `source`, fails the next one, and then passes
+    /// all on.
     pub fn new(source: S, k: u64) -> Self
         ensures source { result.source ≡ S.seen source }
         ensures due { result.due ≡ Some k }
@@ -45,12 +47,12 @@ impl<S: Source> Source for FailSource<S> {
         self.source.length()
     }
 
-    /// Fills `out` as the other source does from the offset `at` on, or fails where it is this read's
-    /// turn: then the other source is not asked, and `out` stays.
+    /// Fills `out` as the other source does at offset `at`, or fails if this is the failing read:
+    /// then the other source is not read, and `out` does not change.
     ///
     /// # Errors
-    /// `Device` where it is this read's turn, and the count of failures rises by one; else those of the
-    /// other source.
+    /// - `Device` if this is the failing read; the count of failures rises by one.
+    /// - Otherwise the fault of the other source.
     fn fill(&mut self, at: u64, out: &mut [u8]) -> Result<(), SourceFault>
         requires { at + length out.old ≤ self.old.source.size }
         ensures slice { (file : List ℕ) → self.old.source.file ≡ Some file → OnOk result

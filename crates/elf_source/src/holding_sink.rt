@@ -8,19 +8,21 @@ use crate::output::{Out, give};
 use crate::sink::Sink;
 use std::marker::Model;
 
-/// A sink over another that may hold lines back: they count as taken, and the other gets them together with
-/// the next bytes that are taken. Lines that are still held may be taken back.
+/// A sink over another that may hold lines back.
+///
+/// Held lines count as taken, and the sink below gets them together with the next bytes that are
+/// taken. Lines that are still held may be taken back.
 #[derive(Drop)]
 pub struct DeferredSink<W: Sink> {
     sink: W,
     room: Vec<u8>,
-    // Where in the room the bytes stand that are held.
+    // The position of the held bytes in the buffer.
     from: usize,
     to: usize,
     broken: bool,
 }
 
-/// How many bytes an output had written before a line that it holds, and with it.
+/// The number of bytes an output had written before a line that it holds, and with it.
 #[derive(Clone, Copy)]
 pub struct DeferredLine {
     before: u128,
@@ -46,7 +48,7 @@ impl<W: Sink> Model for DeferredSink<W> {
 }
 
 impl<W: Sink> DeferredSink<W> {
-    /// A sink over `sink` that has room for bytes, and holds none.
+    /// Creates a sink over `sink` with `room` as its buffer, which holds nothing yet.
     pub fn new(sink: W, room: Vec<u8>) -> Self
         ensures below { result.below ≡ W.taken sink }
         ensures held { result.held ≡ [] }
@@ -62,7 +64,7 @@ impl<W: Sink> DeferredSink<W> {
         }
     }
 
-    /// Gives the sink below back. What is held is lost.
+    /// Returns the sink below. What is held is lost.
     pub fn into_inner(self) -> W
         ensures below { W.taken result ≡ self.below }
         ensures none { self.room ≡ 0 → self.held ≡ [] }
@@ -72,7 +74,7 @@ impl<W: Sink> DeferredSink<W> {
         sink
     }
 
-    /// Holds a line behind what is held, where there is room for it and a byte more; else nothing changes.
+    /// Holds a line after what is held, if it and one more byte fit; otherwise changes nothing.
     fn hold(&mut self, line: &[u8]) -> bool
         ensures { HoldsIf result self.old self.new line.now }
     {
@@ -85,8 +87,8 @@ impl<W: Sink> DeferredSink<W> {
         true
     }
 
-    /// Holds as many of `bytes` as there is room for; None exactly where there is none, or some that were
-    /// held went out.
+    /// Holds as many of `bytes` as fit; returns None exactly if none fit, or some held bytes were
+    /// written.
     fn keep(&mut self, bytes: &[u8]) -> Option<usize>
         requires { 0 < length bytes.now }
         ensures failed { self.new.failed ≡ self.old.failed }
@@ -102,8 +104,8 @@ impl<W: Sink> DeferredSink<W> {
         Some(count)
     }
 
-    /// Gives what is held to the sink below, as far as it takes it. All of the room is free again where
-    /// it takes all.
+    /// Passes what is held to the sink below, as far as it takes it. The whole buffer is free again
+    /// if it takes all.
     #[tactic(auto, using(crate::proofs::HoldLaws::Released, crate::proofs::HoldLaws::Released_all))]
     fn release(&mut self)
         ensures keeps { Keeps (append_known self.old.below self.old.held)
@@ -130,11 +132,11 @@ impl<W: Sink> Sink for DeferredSink<W> {
 
     ghost room = { λ s. s.room };
 
-    /// Takes some of `bytes`. Where lines are held, they and the bytes that have room behind them go to the
-    /// sink below in one piece, so that no line goes out before a byte behind it was taken.
+    /// Takes some of `bytes`. If lines are held, they and the bytes that fit after them go to the
+    /// sink below in one piece, so that no line is written before a byte after it was taken.
     ///
     /// # Errors
-    /// `SinkFault` where the sink below has failed, or this one was broken off.
+    /// Returns `SinkFault` if the sink below has failed, or this one was made to fail.
     fn take(&mut self, bytes: &[u8]) -> Result<usize, SinkFault> {
         if self.failed() {
             return Err(SinkFault);
@@ -147,7 +149,7 @@ impl<W: Sink> Sink for DeferredSink<W> {
                 self.release();
                 Ok(count)
             }
-            // Not reached: a line that is held leaves room for a byte.
+            // Not reached: a held line leaves room for a byte.
             None => {
                 self.broken = true;
                 Err(SinkFault)
@@ -161,11 +163,11 @@ impl<W: Sink> Sink for DeferredSink<W> {
 }
 
 impl<W: Sink> Out<DeferredSink<W>> {
-    /// Has a line held back, behind those that are held. It counts as written.
+    /// Holds a line back, after those that are held. It counts as written.
     ///
     /// # Errors
-    /// `OutFault` where the output has failed, or the line and a byte have no room behind the lines that
-    /// are held: then the output fails for good. Nothing of the line was taken.
+    /// Returns `OutFault` if the output has failed, or the line and one byte do not fit after the
+    /// held lines: then the output fails permanently. Nothing of the line was taken.
     pub fn defer_line(&mut self, line: &[u8]) -> Result<DeferredLine, OutFault>
         ensures { HoldsLine self.old self.new result line.now }
     {
@@ -178,7 +180,8 @@ impl<W: Sink> Out<DeferredSink<W>> {
         Ok(DeferredLine { before, start })
     }
 
-    /// Ends a line that was held: it stays where something was written behind it, else it is taken back.
+    /// Ends a line that was held: it stays if something was written after it, otherwise it is taken
+    /// back.
     pub fn end_line(&mut self, line: DeferredLine)
         requires { self.old.written ≡ line.start → line.start - line.before ≤ self.old.held }
         ensures { EndsLine line self.old self.new }
@@ -189,7 +192,7 @@ impl<W: Sink> Out<DeferredSink<W>> {
         }
     }
 
-    /// Has the output fail for good.
+    /// Makes the output fail permanently.
     pub fn fail_output(&mut self) -> OutFault
         ensures { FailsOutput self.old self.new result }
     {

@@ -3,7 +3,7 @@ use crate::faults::SourceFault;
 use crate::source::Source;
 use std::marker::Model;
 
-/// A source over a slice: it is honest, and never fails.
+/// A source over a slice. It is honest, and never fails.
 #[derive(Drop)]
 pub struct MemorySource<'a> {
     bytes: &'a [u8],
@@ -20,7 +20,7 @@ impl<'a> Model for MemorySource<'a> {
 impl<'a> MemorySource<'a> {
     ghost use Rattle.std.specs.Prelude.{◌≡◌};
 
-    /// A source whose file is `bytes`.
+    /// Creates a source whose file is `bytes`.
     pub fn new(bytes: &'a [u8]) -> Self
         ensures { result ≡ bytes.now }
     {

@@ -5,7 +5,7 @@ ghost use Rattle.elf_source.specs.Output.{nothing_held};
 use crate::faults::SinkFault;
 use crate::sink::Sink;
 
-/// A sink that takes all bytes and keeps none: for a call whose answer is wanted without its text. It
+/// A sink that takes all bytes and keeps none, for a call of which only the result is needed. It
 /// never fails.
 #[derive(Clone, Copy)]
 pub struct NullSink;

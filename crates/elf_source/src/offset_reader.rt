@@ -1,4 +1,4 @@
-//! A reader over a file of the system.
+//! A reader over a file of the operating system.
 ghost use Rattle.std.specs.Prelude.{◌≡◌, ◌≤◌, pos, length, IfOk};
 ghost use Rattle.std.specs.Io.Seek.{SeekMoves};
 
@@ -8,15 +8,17 @@ use crate::seek_reader::why;
 use std::io::{Seek, SeekFrom};
 use std::os::unix::fs::FileExt;
 
-/// A reader over a file that is read at offsets: each turn is one call of the system, and only the
-/// length is sought. No file of it is known: that it gives what it holds is its user's premise.
+/// A reader over a file that is read at offsets.
+///
+/// Each turn is one system call, and only the length is found by a seek. No file of it is known:
+/// that it returns what it holds is its user's premise.
 #[derive(Drop)]
 pub struct FileReader<F> {
     inner: F,
 }
 
 impl<F> FileReader<F> {
-    /// A reader over `inner`.
+    /// Creates a reader over `inner`.
     pub fn new(inner: F) -> Self
         ensures { result.inner ≡ inner }
     {
@@ -29,14 +31,13 @@ impl<F: FileExt + Seek> ReadAt for FileReader<F> {
 
     ghost file = { λ _. None };
 
-    /// Nothing is known of which turns the system interrupts.
+    /// Nothing is known about which turns the system interrupts.
     ghost interrupted = { λ _. 0 };
 
-    /// Nothing of it changes at a turn, wherever that reads: what the system's call is handed stands in
-    /// the body alone.
+    /// A turn changes nothing, at any offset: only the body states what the system call is passed.
     ghost one_turn = { λ before _ _ after. after ≡ before };
 
-    /// Seeks to the end, by the position that what is below has.
+    /// Seeks to the end, with the position of the file below.
     fn end(&mut self) -> Result<u64, ReadAtFault>
         ensures moves { let bytes = F.stream_bytes self.old.inner in
             let from = F.stream_position self.old.inner in

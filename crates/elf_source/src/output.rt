@@ -1,4 +1,4 @@
-//! Output that counts what its sink took.
+//! An output that counts what its sink took.
 ghost use Rattle.std.specs.Prelude.{◌≡◌, ◌^◌, ◌<◌, ◌≤◌, false, length, take, IsTrue};
 ghost use Rattle.std.specs.Io.KnownBytes.{Appends};
 ghost use Rattle.elf_source.specs.Output.{OutPuts};
@@ -7,7 +7,7 @@ use crate::faults::{OutFault, SinkFault};
 use crate::sink::Sink;
 use std::marker::Model;
 
-/// A sink, and how many bytes it took.
+/// A sink, and the number of bytes it took.
 #[derive(Drop)]
 pub struct Out<W: Sink> {
     pub(crate) sink: W,
@@ -31,7 +31,7 @@ impl<W: Sink> Model for Out<W> {
 }
 
 impl<W: Sink> Out<W> {
-    /// Counts what `sink` takes from now on.
+    /// Creates a counter over `sink`.
     pub fn new(sink: W) -> Self
         ensures taken { result.taken ≡ W.taken sink }
         ensures held { result.held ≡ W.held sink }
@@ -42,21 +42,21 @@ impl<W: Sink> Out<W> {
         Out { sink, written: 0 }
     }
 
-    /// How many bytes the sink took. It stays at 2^128 - 1.
+    /// Returns the number of bytes the sink took. It stays at 2^128 - 1.
     pub fn written(&self) -> u128
         ensures { result ≡ self.now.written }
     {
         self.written
     }
 
-    /// Whether the sink has failed.
+    /// Returns `true` if the sink has failed.
     pub fn failed(&self) -> bool
         ensures { result ≡ self.now.failed }
     {
         self.sink.failed()
     }
 
-    /// The fault of a sink that has failed.
+    /// Returns the fault of a sink that has failed.
     pub fn fault(&self) -> OutFault
         ensures { result.written ≡ self.now.written }
     {
@@ -65,13 +65,13 @@ impl<W: Sink> Out<W> {
         }
     }
 
-    /// Gives `bytes` to the sink, in as many turns as it needs. `written` rises by the number of
+    /// Passes `bytes` to the sink, in as many turns as it needs. `written` rises by the number of
     /// bytes that it took.
     ///
     /// # Errors
-    /// `OutFault` exactly where the sink has failed when the call ends. It took a front of `bytes`,
-    /// and the fault has `written` as it is then. Each later call, an empty one too, answers the
-    /// same and changes nothing.
+    /// Returns `OutFault` exactly if the sink has failed when the call ends. It took a prefix of
+    /// `bytes`, and the fault has the resulting `written`. Each later call, an empty one too,
+    /// returns the same and changes nothing.
     pub fn put(&mut self, bytes: &[u8]) -> Result<(), OutFault>
         ensures puts { OutPuts self.old self.new result bytes.now }
         ensures for_good { IsTrue self.old.failed → self.new ≡ self.old }
@@ -87,7 +87,7 @@ impl<W: Sink> Out<W> {
         Ok(())
     }
 
-    /// Gives the sink back.
+    /// Returns the sink.
     pub fn into_inner(self) -> W
         ensures taken { W.taken result ≡ self.taken }
         ensures failed { W.failed result ≡ self.failed }
@@ -98,7 +98,7 @@ impl<W: Sink> Out<W> {
     }
 }
 
-/// Gives `bytes` to the sink until it has taken all or fails, and counts those that it took.
+/// Passes `bytes` to the sink until it has taken all or fails, and counts those that it took.
 #[tactic(auto, using(crate::proofs::Known::Appends_turn))]
 pub fn give<W: Sink>(sink: &mut W, bytes: &[u8]) -> usize
     ensures within { result ≤ length bytes.now }

@@ -8,8 +8,10 @@ use crate::faults::SourceFault;
 use crate::source::Source;
 use std::marker::Model;
 
-/// A source over a range of another: its file is that slice of the other's file, and its offset 0
-/// is where the range starts. It is honest where the other is, and its failures are the other's.
+/// A source over a range of another.
+///
+/// Its file is that slice of the other's file, and its offset 0 is the start of the range. It is
+/// honest if the other is, and its failures are the other's.
 #[derive(Drop)]
 pub struct RangeSource<S: Source> {
     source: S,
@@ -36,7 +38,7 @@ impl<S: Source> Model for RangeSource<S> {
 }
 
 impl<S: Source> RangeSource<S> {
-    /// The range of all bytes of `source`.
+    /// Creates the range of all bytes of `source`.
     pub fn new(source: S) -> Self
         ensures below { result.below ≡ S.seen source }
         ensures start { result.start ≡ 0 }
@@ -52,7 +54,7 @@ impl<S: Source> RangeSource<S> {
         }
     }
 
-    /// The length in bytes of what this is a range of.
+    /// Returns the length of the parent source in bytes.
     fn whole(&self) -> u64
         ensures value { result ≡ self.now.below.size }
         ensures fits { self.now.below.size < 2 ^ 64 }
@@ -60,8 +62,7 @@ impl<S: Source> RangeSource<S> {
         self.source.length()
     }
 
-    /// Sets the range to `size` bytes from the offset `start` on, in bytes of what this is a range
-    /// of.
+    /// Sets the range to `size` bytes at offset `start` of the parent source.
     fn set(&mut self, start: u64, size: u64)
         requires within { start + size ≤ self.old.below.size }
         requires fits { start + size < 2 ^ 64 }
@@ -83,10 +84,10 @@ impl<S: Source> Source for RangeSource<S> {
         self.size
     }
 
-    /// Fills `out` as the other source does, from where the range starts and the offset `at` on.
+    /// Fills `out` as the other source does, at offset `at` from the start of the range.
     ///
     /// # Errors
-    /// Those of the other source.
+    /// Returns the faults of the other source.
     fn fill(&mut self, at: u64, out: &mut [u8]) -> Result<(), SourceFault>
         requires { at + length out.old ≤ self.old.size }
         ensures slice { (file : List ℕ) → (seen_range self.old).file ≡ Some file → OnOk result
@@ -101,8 +102,8 @@ impl<S: Source> Source for RangeSource<S> {
 }
 
 impl<S: Source> Counted<RangeSource<S>> {
-    /// Sets the range to `size` bytes from the offset `start` on, in bytes of what it is a range of,
-    /// and hides nothing of it. Of the account nothing changes.
+    /// Sets the range to `size` bytes at offset `start` of the parent source, and hides nothing of
+    /// it. The byte count and the limit do not change.
     pub fn narrow(&mut self, start: u64, size: u64)
         requires { LiesWithin self.old.seen start size }
         ensures { Narrows self.old self.new start size }
@@ -112,8 +113,8 @@ impl<S: Source> Counted<RangeSource<S>> {
         self.hides = false;
     }
 
-    /// Sets the range to all bytes of what it is a range of, and hides nothing of it. Of the account
-    /// nothing changes.
+    /// Sets the range to all bytes of the parent source, and hides nothing of it. The byte count
+    /// and the limit do not change.
     pub fn widen(&mut self)
         ensures { Widens self.old self.new }
     {

@@ -1,39 +1,40 @@
-//! What a reader below a stream promises.
+//! The promises of a reader below a stream.
 ghost use Rattle.std.specs.Prelude.{◌≡◌, ℕ, ◌≤◌, List, Option, Some, length, IfOk};
 ghost use Rattle.elf_source.specs.Reader.{IsTurn, GivesFileBytes};
 
 use crate::faults::ReadAtFault;
 
-/// Bytes that are read at an offset, in turns. A turn may give fewer bytes than there is room for, and
+/// Bytes that are read at an offset, in turns. A turn may return fewer bytes than requested, and
 /// may be interrupted.
 ///
-/// A reader in memory knows its file, and then each turn gives the bytes of that file. One of the
-/// system knows none.
+/// A reader in memory knows its file, and each turn returns the bytes of that file. A reader of the
+/// operating system knows none.
 pub trait ReadAt {
-    /// The file that it gives, where it is known.
+    /// Its file, if known.
     ghost file: { Self → Option (List ℕ) };
 
     /// How many of its turns were interrupted.
     ghost interrupted: { Self → ℕ };
 
-    /// One turn at an offset, with room for so many bytes, leads from how it stood to how it stands.
+    /// One turn at an offset, into a buffer of the given size, leads from its state before to its
+    /// state after.
     ghost one_turn: { Self → ℕ → ℕ → Self → Type 0 };
 
-    /// The length in bytes.
+    /// Returns the length in bytes.
     ///
     /// # Errors
-    /// Where the turn was interrupted, or the device failed.
+    /// Returns an error if the turn was interrupted, or the device failed.
     fn end(&mut self) -> Result<u64, ReadAtFault>
         ensures same { file self.new ≡ file self.old }
         ensures turn { IsTurn (interrupted self.old) (interrupted self.new) result }
         ensures value { (bytes : List ℕ) → file self.old ≡ Some bytes → IfOk result
             (λ size. size ≡ length bytes) };
 
-    /// Reads some bytes from the offset `at` on into the front of `out`, and answers how many. None
-    /// are given at the end, or where `out` has no room.
+    /// Reads some bytes at offset `at` into the start of `out`, and returns their number. It is 0
+    /// at the end, or if `out` is empty.
     ///
     /// # Errors
-    /// Where the turn was interrupted, or the device failed.
+    /// Returns an error if the turn was interrupted, or the device failed.
     fn read_at(&mut self, at: u64, out: &mut [u8]) -> Result<usize, ReadAtFault>
         ensures same { file self.new ≡ file self.old }
         ensures turn { IsTurn (interrupted self.old) (interrupted self.new) result }

@@ -1,4 +1,4 @@
-//! A reader over what reads and seeks.
+//! A reader over a seekable stream.
 ghost use Rattle.std.specs.Prelude.{◌≡◌, ◌≤◌, ◌↔◌, ⊤, pos, length, None, Some, Ok, IfOk, IfErr};
 ghost use Rattle.std.specs.IoError.{error_kind};
 ghost use Rattle.std.specs.Io.Seek.{MovesTo, SeekMoves};
@@ -8,18 +8,19 @@ use crate::faults::ReadAtFault;
 use crate::reader::ReadAt;
 use std::io::{Error, ErrorKind, Read, Seek, SeekFrom};
 
-/// A reader over anything that reads and seeks. It keeps the place where that stands, and seeks only
-/// where it doesn't stand at the offset. No file of it is known: that it gives what it holds is its
-/// user's premise.
+/// A reader over anything that reads and seeks.
+///
+/// It keeps the current position, and seeks only if it differs from the offset. No file of it is
+/// known: that it returns what it holds is its user's premise.
 #[derive(Drop)]
 pub struct SeekReader<R> {
     inner: R,
-    // Where it stands, where that is known.
+    // The current position, if known.
     place: Option<u64>,
 }
 
 impl<R> SeekReader<R> {
-    /// A reader over `inner`, wherever that stands.
+    /// Creates a reader over `inner`, at any position.
     pub fn new(inner: R) -> Self
         ensures inner { result.inner ≡ inner }
         ensures place { result.place ≡ None }
@@ -29,7 +30,7 @@ impl<R> SeekReader<R> {
 }
 
 impl<R: Seek> SeekReader<R> {
-    // Seeks, unless it stands there. Where that fails the place is unknown.
+    // Seeks, unless it is there. If that fails the position is unknown.
     fn go(&mut self, at: u64) -> Result<(), ReadAtFault>
         ensures stays { self.old.place ≡ Some at → (result ≡ Ok tt) × (self.new ≡ self.old) }
         ensures seeks { (self.old.place ≡ Some at → ⊥) →
@@ -51,13 +52,13 @@ impl<R: Seek> SeekReader<R> {
 impl<R: Read + Seek> ReadAt for SeekReader<R> {
     ghost file = { λ _. None };
 
-    /// Nothing is known of which turns of what is below are interrupted.
+    /// Nothing is known about which turns of the stream below are interrupted.
     ghost interrupted = { λ _. 0 };
 
-    /// What a turn leaves is said of `read_at`; here, nothing.
+    /// The contract of `read_at` states what a turn changes; this states nothing.
     ghost one_turn = { λ _ _ _ _. ⊤ };
 
-    /// Seeks to the end, by the position that what is below has.
+    /// Seeks to the end, with the position of the file below.
     fn end(&mut self) -> Result<u64, ReadAtFault>
         ensures moves { let bytes = R.stream_bytes self.old.inner in
             let from = R.stream_position self.old.inner in
@@ -68,8 +69,7 @@ impl<R: Read + Seek> ReadAt for SeekReader<R> {
         self.inner.seek(SeekFrom::End(0)).map_err(why)
     }
 
-    /// Seeks, unless it stands at the offset, and reads, as what is below tells its position and its
-    /// bytes.
+    /// Seeks, unless it is at the offset, and reads, by the position and bytes of the stream below.
     fn read_at(&mut self, at: u64, out: &mut [u8]) -> Result<usize, ReadAtFault>
         ensures within { IfOk result (λ count. count ≤ length out.old) }
         ensures place { StandsAfter at self.new.place result }
@@ -87,7 +87,7 @@ impl<R: Read + Seek> ReadAt for SeekReader<R> {
     }
 }
 
-// What an error of the system is to a reader.
+// Converts a system error to a reader's fault.
 pub(crate) fn why(fault: Error) -> ReadAtFault
     ensures { (result ≡ ReadAtFault.Interrupted) ↔ (error_kind fault ≡ ErrorKind.Interrupted) }
 {

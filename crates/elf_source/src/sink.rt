@@ -1,12 +1,12 @@
-//! What a sink of bytes promises.
+//! The promises of a sink of bytes.
 ghost use Rattle.std.specs.Prelude.{◌≡◌, ℕ, ◌<◌, ◌≤◌, Bool, List, Option, length, IsTrue, IsErr, IfOk};
 ghost use Rattle.std.specs.Io.KnownBytes.{WriteAppends};
 
 use crate::faults::SinkFault;
 
-/// Takes bytes in order, until it fails for good.
+/// Takes bytes in order, until it fails permanently.
 pub trait Sink {
-    /// The bytes taken so far, where the writer below knows them.
+    /// The bytes taken so far, if the writer below knows them.
     ghost taken: { Self → Option (List ℕ) };
 
     /// The sink has failed.
@@ -15,15 +15,16 @@ pub trait Sink {
     /// How many of the bytes taken last are held back.
     ghost held: { Self → ℕ };
 
-    /// How many bytes have room to be held back.
+    /// How many bytes can be held back.
     ghost room: { Self → ℕ };
 
-    /// Takes some of `bytes`, which aren't empty: the first `count` of them at `Ok(count)`; the sink may
-    /// have failed behind them, so that no later call takes any.
+    /// Takes some of `bytes`, which aren't empty: the first `count` of them at `Ok(count)`.
+    ///
+    /// The sink may have failed after them, so that no later call takes any.
     ///
     /// # Errors
-    /// `SinkFault` where the sink fails or failed before. Then nothing is taken, by this call or a
-    /// later one, and as many bytes are held back as before.
+    /// Returns `SinkFault` if the sink fails or failed before. Then nothing is taken, by this call
+    /// or a later one, and as many bytes are held back as before.
     fn take(&mut self, bytes: &[u8]) -> Result<usize, SinkFault>
         requires { 0 < length bytes.now }
         ensures some { IfOk result (λ count. 0 < count) }
@@ -34,7 +35,7 @@ pub trait Sink {
         ensures room { room self.new ≡ room self.old }
         ensures for_good { IsTrue (failed self.old) → IsErr result };
 
-    /// Whether the sink has failed.
+    /// Returns `true` if the sink has failed.
     fn failed(&self) -> bool
         ensures { result ≡ failed self.now };
 }

@@ -7,7 +7,7 @@ use crate::faults::SinkFault;
 use crate::sink::Sink;
 use std::marker::Model;
 
-/// A sink that writes a slice from its front, and knows its bytes.
+/// A sink that writes a slice from its start, and knows its bytes.
 #[derive(Drop)]
 pub struct SliceSink<'a> {
     buffer: &'a mut [u8],
@@ -32,7 +32,7 @@ impl<'a> Model for SliceSink<'a> {
 }
 
 impl<'a> SliceSink<'a> {
-    /// A sink with all of `buffer` free.
+    /// Creates a sink with all of `buffer` free.
     pub fn new(buffer: &'a mut [u8]) -> Self
         ensures written { result.written ≡ [] }
         ensures free { result.free ≡ length buffer.old }
@@ -45,7 +45,7 @@ impl<'a> SliceSink<'a> {
         }
     }
 
-    /// The bytes taken so far.
+    /// Returns the bytes taken so far.
     pub fn written(&self) -> &[u8]
         ensures { result.now ≡ self.now.written }
     {
@@ -62,10 +62,10 @@ impl<'a> Sink for SliceSink<'a> {
 
     ghost room = { λ _. nothing_held };
 
-    /// Takes as many of `bytes` as there are bytes free.
+    /// Takes as many of `bytes` as fit.
     ///
     /// # Errors
-    /// `SinkFault` exactly where none is free.
+    /// Returns `SinkFault` exactly if no byte is free.
     fn take(&mut self, bytes: &[u8]) -> Result<usize, SinkFault>
         requires { 0 < length bytes.now }
         ensures some { IfOk result (λ count. 0 < count) }

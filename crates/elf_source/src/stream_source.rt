@@ -10,8 +10,10 @@ use crate::source::Source;
 use std::io::{Read, Seek};
 use std::marker::Model;
 
-/// A source over a reader. Its file is the reader's: it is honest where its reader's file is known and
-/// its count of failures has not come to 2^64 - 1. Of a reader of the system no file is known.
+/// A source over a reader. Its file is the reader's.
+///
+/// It is honest if its reader's file is known and its count of failures is below 2^64 - 1. For a
+/// reader of the operating system no file is known.
 #[derive(Drop)]
 pub struct StreamSource<R: ReadAt> {
     reader: R,
@@ -42,10 +44,10 @@ impl<R: ReadAt> Model for StreamSource<R> {
 }
 
 impl<R: Read + Seek + Drop> StreamSource<SeekReader<R>> {
-    /// Finds the length, once, by a seek to the end.
+    /// Creates a source over `reader` and finds its length, once, by a seek to the end.
     ///
     /// # Errors
-    /// `Device` where that seek fails, or is interrupted 64 times.
+    /// Returns `Device` if that seek fails, or is interrupted 64 times.
     pub fn new(reader: R) -> Result<Self, SourceFault>
         ensures fresh { IfOk result (λ s. s.seen.failures ≡ 0) }
         ensures device { IfErr result (λ fault. fault ≡ SourceFault.Device) }
@@ -55,10 +57,10 @@ impl<R: Read + Seek + Drop> StreamSource<SeekReader<R>> {
 }
 
 impl<R: ReadAt + Drop> StreamSource<R> {
-    /// Finds the length of a reader, once.
+    /// Creates a source over a reader and finds its length, once.
     ///
     /// # Errors
-    /// `Device` where that fails, or is interrupted 64 times.
+    /// Returns `Device` if that fails, or is interrupted 64 times.
     pub fn over(reader: R) -> Result<Self, SourceFault>
         ensures fresh { IfOk result (λ s. s.seen.failures ≡ 0) }
         ensures file { IfOk result (λ s. s.seen.file ≡ R.file reader) }
@@ -85,12 +87,12 @@ impl<R: ReadAt> Source for StreamSource<R> {
         self.size
     }
 
-    /// Fills `out` from the offset `at` on.
+    /// Fills `out` with the bytes at offset `at`.
     ///
     /// # Errors
-    /// `Ended` where a turn gives no byte. `Device` where a turn fails, or 64 of them are interrupted
-    /// in this call. Once 2^64 - 1 calls have failed so, each answers `Ended` and asks nothing of the
-    /// reader.
+    /// - `Ended` if a turn returns no byte, or once 2^64 - 1 calls have failed with `Device`: then
+    ///   nothing is read.
+    /// - `Device` if a turn fails, or 64 of them are interrupted in this call.
     fn fill(&mut self, at: u64, out: &mut [u8]) -> Result<(), SourceFault>
         requires { at + length out.old ≤ self.old.seen.size }
         ensures slice { (file : List ℕ) → self.old.seen.file ≡ Some file → OnOk result
@@ -98,9 +100,9 @@ impl<R: ReadAt> Source for StreamSource<R> {
         ensures faults { IfErr result (IsSourceFault self.old.seen self.new.seen) }
         ensures keeps { KeepsSource self.old.seen self.new.seen }
         ensures once { self.new.seen.failures ≤ self.old.seen.failures + 1 }
-        // No more than 64 turns are interrupted.
+        // At most 64 turns are interrupted.
         ensures few { self.new.interrupted ≤ self.old.interrupted + 64 }
-        // The reader is asked for no byte outside what is to be filled.
+        // No byte outside the requested range is read.
         ensures turns { TurnsWithin R.one_turn self.old.reader self.new.reader at (length out.old) }
         ensures worn { self.old.seen.failures ≡ 2 ^ 64 - 1 → (result ≡ Err SourceFault.Ended)
             × (self.new ≡ self.old) }
@@ -116,7 +118,7 @@ impl<R: ReadAt> Source for StreamSource<R> {
     }
 }
 
-// The length of a reader.
+// Returns the length of a reader.
 fn find_end<R: ReadAt>(reader: &mut R) -> Result<u64, SourceFault>
     ensures same { R.file reader.new ≡ R.file reader.old }
     ensures few { R.interrupted reader.new ≤ R.interrupted reader.old + 64 }
@@ -134,7 +136,7 @@ fn find_end<R: ReadAt>(reader: &mut R) -> Result<u64, SourceFault>
     Err(SourceFault::Device)
 }
 
-// Fills `out` from the offset `at` on. Each turn gets a byte, ends, or is interrupted.
+// Fills `out` with the bytes at offset `at`. Each turn reads a byte, ends, or is interrupted.
 fn read_all<R: ReadAt>(reader: &mut R, at: u64, out: &mut [u8]) -> Result<(), SourceFault>
     requires { at + length out.old < 2 ^ 64 }
     ensures turns { TurnsWithin R.one_turn reader.old reader.new at (length out.old) }

@@ -1,4 +1,4 @@
-//! A source that answers from two files in turn.
+//! A source that reads from two files in turn.
 ghost use Rattle.std.specs.Prelude.{◌≡◌, ℕ, ◌+◌, ◌≤◌, List, length, take, drop, Ok, Some, None, IfErr, IfSome, OnOk, if◌then◌else◌};
 ghost use Rattle.elf_source.specs.Source.{KeepsSource, IsSourceFault};
 ghost use Rattle.elf_source.specs.Failing.{Turning, seen_turning};
@@ -7,14 +7,15 @@ use crate::faults::SourceFault;
 use crate::source::Source;
 use std::marker::Model;
 
-/// A source over two files of one length, whose reads are answered from the two in turn. It never
-/// fails, and is never honest: of no file it can be said that its reads give it. It shows what a caller
-/// does where a file changes between two reads.
+/// A source over two files of one length, whose reads return bytes of the two in turn.
+///
+/// It never fails, and is never honest: no file can be said to be what its reads return. It shows
+/// what a caller does if a file changes between two reads.
 #[derive(Drop)]
 pub struct TurnSource<'a> {
     first: &'a [u8],
     second: &'a [u8],
-    // Whether the next read is answered from the second.
+    // Whether the next read uses the second.
     turned: bool,
     ghost same: { length first.now ≡ length second.now },
 }
@@ -29,8 +30,8 @@ impl<'a> Model for TurnSource<'a> {
 }
 
 impl<'a> TurnSource<'a> {
-    /// A source whose first read is answered from `first`, the next from `second`, and so on. None
-    /// where their lengths differ.
+    /// Creates a source whose first read uses `first`, the next `second`, and so on. Returns None
+    /// if their lengths differ.
     pub fn new(first: &'a [u8], second: &'a [u8]) -> Option<TurnSource<'a>>
         ensures given { length first.now ≡ length second.now →
             IfSome result (λ s. (s.next ≡ first.now) × (s.other ≡ second.now)) }
@@ -56,8 +57,8 @@ impl<'a> Source for TurnSource<'a> {
         self.first.len() as u64
     }
 
-    /// Fills `out` with the bytes from the offset `at` on of the file whose turn it is. The next read
-    /// is answered from the other.
+    /// Fills `out` with the bytes at offset `at` of the file whose turn it is. The next read uses
+    /// the other.
     fn fill(&mut self, at: u64, out: &mut [u8]) -> Result<(), SourceFault>
         requires { at + length out.old ≤ length self.old.next }
         ensures answers { (result ≡ Ok tt)

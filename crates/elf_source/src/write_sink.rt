@@ -8,7 +8,7 @@ use crate::sink::Sink;
 use std::io::{ErrorKind, Write};
 use std::marker::Model;
 
-/// A sink over a writer. Its bytes are known where the writer's are.
+/// A sink over a writer. Its bytes are known if the writer's are.
 #[derive(Drop)]
 pub struct WriteSink<W> {
     writer: W,
@@ -24,7 +24,7 @@ impl<W> Model for WriteSink<W> {
 }
 
 impl<W: Write> WriteSink<W> {
-    /// A sink that writes to `writer`, and hasn't failed.
+    /// Creates a sink that writes to `writer`, and hasn't failed.
     pub fn new(writer: W) -> Self
         ensures writer { result.writer ≡ writer }
         ensures failed { result.failed ≡ false }
@@ -35,7 +35,7 @@ impl<W: Write> WriteSink<W> {
         }
     }
 
-    /// Gives the writer back.
+    /// Returns the writer.
     pub fn into_inner(self) -> W
         ensures { result ≡ self.writer }
     {
@@ -56,8 +56,8 @@ impl<W: Write> Sink for WriteSink<W> {
     /// Writes some of `bytes`.
     ///
     /// # Errors
-    /// `SinkFault` where the writer takes nothing, fails, or is interrupted 64 times in this call.
-    /// After that it isn't written to again.
+    /// Returns `SinkFault` if the writer takes nothing, fails, or is interrupted 64 times in this
+    /// call. After that it isn't written to again.
     fn take(&mut self, bytes: &[u8]) -> Result<usize, SinkFault> {
         if self.failed {
             return Err(SinkFault);
@@ -76,7 +76,7 @@ impl<W: Write> Sink for WriteSink<W> {
     }
 }
 
-// The number of bytes that one write took, at least one; None where it failed.
+// Returns the number of bytes that one write took, at least one; None if it failed.
 fn write_some<W: Write>(writer: &mut W, bytes: &[u8]) -> Option<usize>
     ensures some { IfSome result (λ count. 0 < count) }
     ensures within { IfSome result (λ count. count ≤ length bytes.now) }

@@ -1,4 +1,4 @@
--- What the checks of a section that is a hash table say, one by one, and what its symbols are.
+-- What the checks of a section that is a hash table imply, one by one, and what its symbols are.
 use Rattle.std.proofs.Common.{◌≡◌, ℕ, ◌+◌, ◌*◌, ◌==◌, ◌||◌, not, Bool, true, false, List, ◌++◌, length, None, Some, Ok, Err, refl, sym, ap, ◌∙◌}
 use Rattle.elf_model.specs.Prelude.{first_refusal, has_64_bit_words, has_symbols, hash_checks_from, linked_at, section_at, sh_link, symbol_table_checks}
 use Rattle.elf_model.specs.declared.causes.Refusal.{Refusal}

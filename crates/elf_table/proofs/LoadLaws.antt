@@ -1,4 +1,4 @@
--- What the file header and a load ask for, and what a load answers.
+-- What the file header and a load read, and the result of a load.
 use Rattle.std.proofs.Common.{◌≡◌, ℕ, ◌+◌, ◌*◌, ◌≤◌, List, [], ◌∷◌, length, Option, None, Some, Result, Ok, Err, inl, inr, refl, sym, ap, subst, ◌∙◌, arith, rules}
 use Rattle.std.specs.Prelude.{is_none}
 use Rattle.std.proofs.lemmas.Bool.{cases_Bool}
@@ -28,14 +28,15 @@ pub early_is : (file : List ℕ) (header : Ehdr) (size headers : ℕ) → IsEhdr
 early_is file header size headers is same =
     rw (same, is.e_phnum, is.e_shstrndx, is.e_shnum, is.e_shoff, is.e_shentsize, is.e_phentsize, is.e_phoff) refl
 
--- one read is onward
+-- one read goes forward
 pub fills_onward : {X : Type 0} (one_read : SourceState → ℕ → ℕ → SourceState → Type 0) (old new : SourceState) (at n low high : ℕ) (result : Result X Fault) → FillsOnce one_read old new at n result
     → low ≤ at → at + n ≤ high → ReadsOnward one_read old new low high
 fills_onward one_read old new at n low high (Ok x) once from to = onward_one one_read old new at n low high once from to
 fills_onward one_read old new at n low high (Err (Refused refusal)) once from to = onward_none one_read old new low high once (omega arith)
 fills_onward one_read old new at n low high (Err (Source fault offset)) once from to = onward_one one_read old new at n low high once from to
 
--- a cost of the file header at least, and of the section headers where the checks before them pass, is that of the load at least
+-- a cost that is at least that of the file header, and of the section headers if the checks before
+-- them pass, is at least that of the load
 pub load-within :
     (file : List ℕ) (header : Ehdr) (size headers cost : ℕ) → IsEhdr file 0 header → size ≡ length file → 64 ≤ cost
     → (first_refusal (early_checks file headers) ≡ None → 64 + 64 * header.e_shnum ≤ cost) → 64 + load_cost header size headers ≤ cost
@@ -45,11 +46,11 @@ load-within file header size headers cost is same least loaded = by_cases (first
     by_cases None none = loaded (sym (none ∙ early_is file header size headers is same))
     by_cases (Some refusal) some = least
 
--- a load asks for no more section headers than there are slots
+-- a load reads no more section headers than there are slots
 pub load_slots : (header : Ehdr) (size slots : ℕ) → load_cost header size slots ≤ 64 * slots
 load_slots header size slots = grind arith
 
--- a load whose early checks pass asks for all section headers
+-- a load whose early checks pass reads all section headers
 load_passed : (header : Ehdr) (size slots : ℕ) → first_refusal (early_of header size slots) ≡ None → load_cost header size slots ≡ 64 * header.e_shnum
 load_passed header size slots passes = ap (λ (r : Option Refusal). cost_where (is_none r) (64 * header.e_shnum)) passes
 
@@ -61,7 +62,7 @@ pub load_says : (a b : CountedState) (fault : Fault) (header : Ehdr) (size slots
     → IsReadFault a b (64 * header.e_shnum) fault → IsReadFault a b (load_cost header size slots) fault
 load_says a b fault header size slots passes says = subst (λ (n : ℕ). IsReadFault a b n fault) (sym (load_passed header size slots passes)) says
 
--- checks none of which refuses for want of budget
+-- checks none of which refuses with `Budget`
 abbrev NoBudget : List Check → Type 0
 NoBudget [] = Unit {0}
 NoBudget (check ∷ checks) = (IsBudgetRefusal check.refusal → ⊥) × NoBudget checks
@@ -82,17 +83,17 @@ early_unbudgeted header size slots refusal = unbudgeted (early_of header size sl
 pub ident_unbudgeted : (bytes : List ℕ) (refusal : Refusal) → first_refusal (ident_checks bytes) ≡ Some refusal → IsBudgetRefusal refusal → ⊥
 ident_unbudgeted bytes refusal = unbudgeted (ident_checks bytes) refusal (search rules)
 
--- a fault of a read is no answer of a check
+-- a fault of a read is no result of a check
 pub read_stops : (file : List ℕ) (fault : Fault) (store : StoreState) → IsOfRead fault → LoadedAs file (Err fault) store
 read_stops file (Refused refusal) store is = λ other. absurd (other is)
 read_stops file (Source fault at) store is = tt
 
--- rows that were read where the file header tells them are the file's section headers
+-- rows that were read at the file header's offset are the file's section headers
 pub rows_loaded : (file : List ℕ) (header : Ehdr) (store : StoreState) → IsEhdr file 0 header → store.loaded ≡ header.e_shnum
     → AreRowSlices file header.e_shoff 64 header.e_shnum store.rows → HoldsSections file store
 rows_loaded file header store is count rows = λ i below. rows i (omega (arith, below, count)) ∙ ap (λ (n : ℕ). slice file (n + 64 * i) 64) is.e_shoff
 
--- where the early checks pass the answer is that of the section names' checks
+-- if the early checks pass the result is that of the section names' checks
 pub late_answer : {answer : Option Refusal} (file : List ℕ) (header : Ehdr) (size old new : ℕ) → first_refusal (early_of header size old) ≡ None → new ≡ old
     → IsEhdr file 0 header → size ≡ length file → answer ≡ first_refusal (section_name_checks file) → first_refusal (load_checks file new) ≡ answer
 late_answer file header size old new passes same is long late =

@@ -1,4 +1,4 @@
--- Where a name's window stands between its pieces.
+-- The position of a name's window between its pieces.
 use Rattle.std.proofs.Common.{◌≡◌, ℕ, ◌+◌, ◌≤◌, ◌<◌, List, [], length, drop, Some, ap, sym, ◌∙◌, refl, arith}
 use Rattle.std.proofs.lemmas.List.{drop_all}
 use Rattle.elf_model.specs.Bytes.{slice}
@@ -6,7 +6,8 @@ use Rattle.elf_source.specs.Source.{CountedState, ReadsUpTo}
 use Rattle.elf_source.proofs.ReadsLaws.{ReadsUpTo-then, ReadsUpTo-to}
 use Rattle.elf_table.specs.Windows.{WindowState, StillHolds, HoldsCount, MovesOn, range_end}
 
--- a window over so many bytes from an offset on, between two pieces: some bytes are done, and it holds none
+-- a window over `want` bytes at an offset, between two pieces: some bytes are done, and it holds
+-- none
 pub record Between (start want done : ℕ) (w : WindowState) : Type 0 where
   pub its_place : w.at ≡ start + done
   pub its_end : range_end w ≡ start + want
@@ -21,7 +22,7 @@ piece-of_file file start want done old new piece s h agrees e =
     let empty : old.held ≡ slice file old.at (length old.held) = rw s.none_held refl in
     e ∙ agrees file refl empty ∙ ap (λ (x : ℕ). slice file x (length new.held)) place ∙ ap (λ (x : List ℕ). slice file (start + done) (length x)) (sym e)
 
--- the piece has a byte, and none behind the end
+-- the piece has a byte, and none after the end
 pub piece-some : (start want done : ℕ) (old new : WindowState) (piece : List ℕ) (before after : ℕ) → Between start want done old → HoldsCount old new 1
     → MovesOn old new before after → piece ≡ new.held → (0 < length piece) × (done + length piece ≤ want)
 piece-some start want done old new piece before after s h m e =
@@ -32,7 +33,7 @@ piece-some start want done old new piece before after s h m e =
     let ends = s.its_end in
     let same = m.same_end in (omega arith, omega arith)
 
--- the window behind the piece
+-- the window after the piece
 pub Between-next : (start want done : ℕ) (old new next : WindowState) (piece : List ℕ) (before after : ℕ) → Between start want done old → HoldsCount old new 1 → MovesOn old new before after
     → piece ≡ new.held → next.at ≡ new.at + length piece → range_end next ≡ range_end new → next.page ≡ new.page → next.held ≡ drop (length piece) new.held
     → Between start want (done + length piece) next
@@ -43,7 +44,7 @@ Between-next start want done old new next piece before after s h m e at end page
   none_held = held ∙ drop_all (length piece) new.held (let long = ap length e in omega arith);
 }
 
--- what was asked for is what is done
+-- the requested bytes are those that are done
 pub ReadsUpTo-next : (first before after : CountedState) (start want done : ℕ) (old new : WindowState) (piece : List ℕ) → Between start want done old → HoldsCount old new 1
     → MovesOn old new before.asked after.asked → piece ≡ new.held → ReadsUpTo first before done → ReadsUpTo before after old.unread → ReadsUpTo first after (done + length piece)
 ReadsUpTo-next first before after start want done old new piece s h m e p q =

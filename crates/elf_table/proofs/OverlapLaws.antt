@@ -1,10 +1,10 @@
--- LOAD segments that lie over each other, from one program header on.
+-- LOAD segments that overlap, starting at one program header.
 use Rattle.std.proofs.Common.{◌≡◌, ℕ, ◌+◌, ◌-◌, suc, ◌<◌, ◌≤◌, ◌&&◌, nat_lt, Bool, true, false, if◌then◌else◌, List, Option, None, Some, refl, add-one, arith}
 use Rattle.elf_model.specs.Prelude.{e_phnum, first_page, first_refusal, loads_from, overlap_checks, overlaps_from, page_behind, segment_at, takes_memory}
 use Rattle.elf_model.specs.declared.causes.Cause.TheVariants.{LoadOverlap}
 use Rattle.elf_model.specs.declared.causes.Refusal.{Refusal}
 
--- what refuses those that are left, behind a page
+-- what refuses those that are left, after a page
 abbrev pub left : List ℕ → (page first count : ℕ) → Option Refusal
 left file page first count = first_refusal (overlaps_from file page (loads_from file first (count - first)))
 

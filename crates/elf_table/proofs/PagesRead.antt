@@ -1,4 +1,4 @@
--- Pages of a file that are read one behind the other.
+-- Pages of a file that are read one after another.
 use Rattle.std.proofs.Common.{◌≡◌, ℕ, ◌+◌, ◌-◌, ◌≤◌, List, ◌++◌, length, take, drop, sym, ap, ◌∙◌, arith, length-drop, length-take-le}
 use Rattle.std.proofs.Math.Seq.{take-add}
 use Rattle.std.proofs.lemmas.List.{drop-drop}
@@ -12,7 +12,7 @@ page-size done count bytes within =
     let width : done + count - done ≡ count = omega arith in
     length-take-le (done + count - done) (drop done bytes) (omega (arith, length-drop done bytes)) ∙ width
 
--- a page put behind those before it
+-- a page appended to those before it
 pub page-added : (file bytes page : List ℕ) (from done count room : ℕ) → done ≤ length bytes → length page ≡ count
     → take done bytes ≡ slice file from done → page ≡ slice file (from + done) count
     → take (done + count) (put_mid done room bytes page) ≡ slice file from (done + count)

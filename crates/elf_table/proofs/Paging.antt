@@ -1,4 +1,4 @@
--- What a window holds after a read, and after bytes were passed over.
+-- What a window holds after a read, and after bytes were skipped.
 use Rattle.std.proofs.Common.{◌≡◌, ℕ, ◌+◌, ◌-◌, ◌≤◌, ◌<◌, List, ◌++◌, length, take, drop, min, ap, sym, ◌∙◌, refl, arith, inl, inr, ◌⊎◌, length-drop, length-append, length-take, take-take}
 use Rattle.std.proofs.lemmas.Bool.{cases_lt}
 use Rattle.std.proofs.lemmas.List.{drop_all}
@@ -7,7 +7,7 @@ use Rattle.elf_model.proofs.Slices.{slice-rest}
 use Rattle.elf_model.proofs.Searches.{slice-two}
 use Rattle.elf_table.specs.Windows.{WindowState, HoldsBytes}
 
--- what was read stands behind what was held
+-- what was read follows what was held
 pub joined : (file window held out : List ℕ) (at n size : ℕ) → window ≡ held ++ out → length held ≡ n → held ≡ slice file at n
     → out ≡ slice file (at + n) size → length out ≡ size → window ≡ slice file at (length window)
 joined file window held out at n size e l h o s =
@@ -25,7 +25,7 @@ drop-slice file at size count = go (cases_lt size count)
         drop_all count (slice file at size) (omega (arith, length-take size (drop at file))) ∙ ap (slice file (at + count)) (sym none)
     go (inr enough) = slice-rest file at size count enough
 
--- what a window holds, in its fields, once bytes were passed over
+-- what a window holds, in its fields, once bytes were skipped
 pub passed-held : (bytes : List ℕ) (from held count passed : ℕ) → passed ≡ min count held → slice bytes (from + passed) (held - passed) ≡ drop count (slice bytes from held)
 passed-held bytes from held count passed m = go (cases_lt held count)
   where
@@ -59,6 +59,6 @@ Agrees-passed file bytes at from held count passed whole m e = go (cases_lt held
         (Agrees-skip file (record { at = at; held = slice bytes from held; unread = 0; page = 0 }) (record { at = at + count; held = slice bytes (from + count) (held - count); unread = 0; page = 0 }) count refl
         (sym (slice-rest bytes from held count inside)) e)
 
--- a front of what is held
+-- a prefix of what is held
 pub held-front : (file : List ℕ) (w : WindowState) (n : ℕ) → n ≤ length w.held → HoldsBytes file w → take n w.held ≡ slice file w.at n
 held-front file w n few e = ap (take n) e ∙ take-take n (length w.held) (drop w.at file) few

@@ -1,4 +1,5 @@
--- What a buffer keeps of some bytes, and what the pieces of a name that is compared say of the file.
+-- What a buffer keeps of some bytes, and what the pieces of a name that is compared imply for the
+-- file.
 use Rattle.std.proofs.Common.{◌≡◌, ◌≢◌, ℕ, ◌+◌, ◌-◌, ◌<◌, ◌≤◌, min, List, ◌++◌, length, get_or, take, drop, refl, ap, sym, ◌∙◌, arith, get_or-take, get_or-drop, ◌⊎◌, inl, inr}
 use Rattle.std.proofs.Math.Seq.{take-append-add}
 use Rattle.std.proofs.lemmas.List.{take_min}
@@ -7,7 +8,7 @@ use Rattle.elf_model.specs.Bytes.{slice}
 use Rattle.elf_model.proofs.Slices.{slice-size}
 use Rattle.elf_table.specs.NamesRead.{DifferBelow}
 
--- as many bytes as there is room for
+-- bytes up to the capacity
 pub take-room : (cap : ℕ) (a b : List ℕ) → length a ≤ cap → take cap (a ++ b) ≡ a ++ take (min (length b) (cap - length a)) b
 take-room cap a b fits =
     ap (λ (n : ℕ). take n (a ++ b)) (omega arith) ∙ take-append-add a b (cap - length a)
@@ -18,7 +19,7 @@ pub byte-of_file : (file piece : List ℕ) (at count k : ℕ) → piece ≡ slic
 byte-of_file file piece at count k e inside =
     ap (λ (x : List ℕ). get_or x k 0) e ∙ get_or-take count (drop at file) k 0 inside ∙ get_or-drop at file k 0
 
--- one piece more that is alike
+-- one more piece that is equal
 pub alike-more : (file piece wanted : List ℕ) (start done count : ℕ) → piece ≡ slice file (start + done) count → length piece ≡ count
     → ((k : ℕ) → k < done → get_or file (start + k) 0 ≡ get_or wanted k 0) → ((k : ℕ) → k < length piece → get_or piece k 0 ≡ get_or wanted (done + k) 0)
     → (k : ℕ) → k < done + count → get_or file (start + k) 0 ≡ get_or wanted k 0

@@ -1,4 +1,4 @@
--- What the checks of symbols leave, and those of relocation entries.
+-- What the checks of symbols imply, and those of relocation entries.
 use Rattle.std.proofs.Common.{◌≡◌, ℕ, ◌/◌, ◌%◌, ◌<◌, ◌==◌, not, Bool, true, false, inl, inr, if◌then◌else◌, List, [], ◌∷◌, ◌++◌, length, Option, None, Some, Result, Ok, Err, refl, sym, ap, ◌∙◌, subst, arith}
 use Rattle.std.proofs.lemmas.Bool.{cases_Bool, eqb-true, lt-ltb}
 use Rattle.elf_model.specs.Prelude.{Check, e_shnum, first_refusal, has_symbols, is_symbol_table, linked_at, linked_table_checks, refuse, section_at, sh_entsize, sh_link, sh_offset, sh_size, strings_checks, symbol_table_checks, table_checks, unless_empty, whole_checks_of}
@@ -9,7 +9,7 @@ use Rattle.elf_table.specs.Prelude.{AreRelocations, AreSymbols, Links, RefersTo,
 use Rattle.elf_table.specs.declared.fault.Fault.{Fault}
 use Rattle.elf_table.specs.declared.fault.Fault.TheVariants.{Refused, Source}
 
--- an answer behind checks: the first refusal, or the value
+-- a result after checks: the first refusal, or the value
 pub passed_first : {A : Type 0} (first : Option Refusal) (value result : A) → answered first value ≡ Ok result → (first ≡ None) × (value ≡ result)
 passed_first None value result h = (refl, cc)
 passed_first (Some other) value result h = cc
@@ -34,9 +34,9 @@ pub table-passes : {A : Type 0} (empty : Bool) (none some result : A) (checks : 
 table-passes true none some result checks h = (refl, cc)
 table-passes false none some result checks h = passed_first (first_refusal checks) some result h
 
--- the rows of a section, whose own checks have others behind them
+-- the rows of a section, whose own checks are followed by others
 module _ (file : List ℕ) (at : ℕ) where
-  -- of whole entries that are none, none has bytes
+  -- if there are no whole entries, there are no bytes
   no_bytes : first_refusal (table_checks file at 24) ≡ None → sh_size file at / 24 ≡ 0 → sh_size file at ≡ 0
   no_bytes passes none =
       let whole = first_refusal-back (refuse (not (sh_entsize file at == 24)) at EntrySize ∷ []) (whole_checks_of (length file) (sh_offset file at) (sh_size file at) at 24) passes in
@@ -59,7 +59,7 @@ module _ (file : List ℕ) (at : ℕ) where
       | inr some ↦ sym (passed_first _ _ _ (rw (some, table_at, table_of) at held)).1
     ]
 
-    -- no rows are no bytes
+    -- no rows have no bytes
     no_rows : table.count ≡ 0 → (sh_size file at == 0) ≡ true
     no_rows none = elim (cases_Bool (sh_size file at == 0)) [
       | inl empty ↦ empty
@@ -71,7 +71,7 @@ module _ (file : List ℕ) (at : ℕ) where
     passes_empty : (back : List Check) → table.count ≡ 0 → first_refusal (unless_empty (sh_size file at) (table_checks file at 24 ++ back)) ≡ None
     passes_empty back none = rw (no_rows none) refl
 
-    -- where there are rows, what stands behind decides
+    -- if there are rows, the later checks decide
     behind : (back : List Check) → (table.count ≡ 0 → ⊥) → first_refusal (unless_empty (sh_size file at) (table_checks file at 24 ++ back)) ≡ first_refusal back
     behind back rows = elim (cases_Bool (sh_size file at == 0)) [
       | inl empty ↦ absurd (rows (ap (λ (t : TableRange). t.count) table_is ∙ rw (eqb-true (sh_size file at) 0 empty) refl))
@@ -86,7 +86,7 @@ module _ (file : List ℕ) (at : ℕ) where
     pub strings_refused : (fault : Fault) → (table.count ≡ 0 → ⊥) → string_table_at file at ≡ Err fault → RefusedBy (symbol_table_checks file at) fault
     strings_refused fault rows h = back_refused (strings_checks file at) fault rows (failed (strings_checks file at) (names_at file (linked_at file at)) fault h)
 
-    -- the symbols, which have no names where there are none
+    -- the symbols, which have no names if there are none
     pub symbols_none : table.count ≡ 0 → (names : StringTableRange) → names ≡ strings table.at 0 → Ok (table, names) ≡ symbols_at file at
     symbols_none none names is =
         let own : table ≡ rows (sh_offset file at) 0 24 = table_is ∙ ap (λ (n : ℕ). rows (sh_offset file at) n 24) (sym (ap (λ (t : TableRange). t.count) table_is) ∙ none) in
@@ -161,7 +161,7 @@ module _ (file : List ℕ) (at link : ℕ) (is : link ≡ sh_link file at) (has 
       let p = symbols-pass file (linked_at file at) symbols (ap (λ k. symbols_at file (section_at file k)) (sym is) ∙ h) in
       (rw has p.0, (has, p.1))
 
--- linked symbols, where they are there
+-- linked symbols, if there are any
 pub refers : (file : List ℕ) (header : ℕ) (linked : Option (TableRange × StringTableRange)) (symbols : TableRange × StringTableRange) → linked ≡ Some symbols → RefersTo file header linked → RefersTo file header (Some symbols)
 refers file header linked symbols is h = subst (RefersTo file header) is h
 

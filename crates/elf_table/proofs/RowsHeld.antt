@@ -15,7 +15,7 @@ row_held bytes at entry (suc count) zero below = ap (λ (x : ℕ). slice bytes x
 row_held bytes at entry (suc count) (suc i) below =
     row_held bytes (at + entry) entry count i (omega arith) ∙ ap (λ (x : ℕ). slice bytes x entry) (omega arith)
 
--- the same of rows that stand at the front
+-- the same for rows at the start
 pub row_front : (bytes : List ℕ) (entry count i : ℕ) → i < count → slice_index_or (rows_from bytes 0 entry count) i [] ≡ slice bytes (entry * i) entry
 row_front bytes entry count i below = row_held bytes 0 entry count i below ∙ ap (λ (x : ℕ). slice bytes x entry) (omega arith)
 
@@ -23,7 +23,7 @@ row_front bytes entry count i below = row_held bytes 0 entry count i below ∙ a
 rows-within : (entry i count : ℕ) → i < count → entry * i + entry ≤ entry * count
 rows-within entry i count below = rw (← mul-suc entry i) (mul-le-mul_left entry (omega arith))
 
--- bytes that were read at the front are a file's rows
+-- bytes that were read to the start are a file's rows
 pub rows_read_ok : (result : Result (Unit {0}) Fault) (entry : ℕ) (file bytes : List ℕ) (from count : ℕ) → OnOk result (take (entry * count) bytes ≡ slice file from (entry * count))
     → OnOk result (AreRowSlices file from entry count (rows_from bytes 0 entry count))
 rows_read_ok (Ok x) entry file bytes from count read = λ i below.

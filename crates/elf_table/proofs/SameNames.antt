@@ -1,4 +1,4 @@
--- What the answers of a comparison say of a name in a file's string table.
+-- What the results of a comparison imply for a name in a file's string table.
 use Rattle.std.proofs.Common.{◌≡◌, ℕ, zero, suc, ◌+◌, ◌-◌, ◌<◌, ◌≤◌, ◌⊎◌, inl, inr, true, false, min, List, [], ◌∷◌, ◌++◌, length, get_or, drop, Ok, Err, refl, ap, sym, ◌∙◌, arith, length-take, length-drop, length-append, get_or-take}
 use Rattle.elf_model.specs.Prelude.{Differ, begins, same, slice}
 use Rattle.elf_model.specs.declared.causes.Cause.TheVariants.{NameOutside, NameUnended}
@@ -16,14 +16,15 @@ pub same-past : (file wanted : List ℕ) (at size off : ℕ) → size ≤ off �
 same-past file wanted at size off past some =
     same-outside (slice file at size) off wanted (omega (arith, length-take size (drop at file)), λ e. some (omega arith) e.1)
 
--- a byte of what is wanted with its NUL
+-- a byte of the wanted name with its NUL
 wanted-byte : (wanted : List ℕ) (k : ℕ) → get_or (wanted ++ 0 ∷ []) k 0 ≡ get_or wanted k 0
 wanted-byte [] zero = refl
 wanted-byte [] (suc k) = refl
 wanted-byte (w ∷ wanted) zero = refl
 wanted-byte (w ∷ wanted) (suc k) = wanted-byte wanted k
 
--- as many bytes were compared as the wanted name has with its NUL, or as are left of the string table
+-- as many bytes were compared as the wanted name has with its NUL, or as are left of the string
+-- table
 module _ (file wanted : List ℕ) (at size off want : ℕ) (inside : at + size ≤ length file) (below : off < size) (all : want ≡ min (length wanted + 1) (size - off)) where
   long : length (drop off (slice file at size)) ≡ size - off
   long = omega (arith, slice-size file at size inside, length-drop off (slice file at size))

@@ -1,4 +1,4 @@
--- Where a cursor's window stands, and the rows that it holds.
+-- The position of a cursor's window, and the rows that it holds.
 use Rattle.std.proofs.Common.{◌≡◌, ℕ, zero, suc, ◌+◌, ◌-◌, ◌*◌, ◌/◌, ◌<◌, ◌≤◌, min, List, length, take, drop, Option, None, Some, inl, inr, ◌⊎◌, ap, sym, ◌∙◌, refl, arith, length-drop, length-take-le}
 use Rattle.std.proofs.Math.Nat.{mul-le-mul_right}
 use Rattle.std.proofs.lemmas.Bool.{cases_lt}
@@ -14,7 +14,7 @@ use Rattle.elf_table.proofs.Paging.{Agrees-skip, held-front}
 mul-split : (d r u entry : ℕ) → d + r ≡ u → d * entry + r * entry ≡ u * entry
 mul-split d r u entry e = omega (arith, ap (λ (x : ℕ). x * entry) e)
 
--- the row that was shown is passed over
+-- the row that was shown is skipped
 pub Stands-skip : (table : TableRange) (index shown : ℕ) (old new : WindowState) → new.at ≡ old.at + shown → new.held ≡ drop shown old.held
     → IsAtRow table index shown old → IsAtRow table index 0 new
 Stands-skip table index shown old new at held s = record {
@@ -28,7 +28,7 @@ no_rows : (rows entry : ℕ) → rows * entry < entry → rows * entry ≡ 0
 no_rows zero entry few = omega arith
 no_rows (suc rows) entry few = absurd (omega arith)
 
--- a window that holds no whole row stands where it reads
+-- a window that holds no whole row is where it reads
 pub fault_at_row : (table : TableRange) (index : ℕ) (w : WindowState) (fault : Fault) → IsAtRow table index 0 w → length w.held < table.entry → IsAt (frontier w) fault
     → IsAt (row_at table index) fault
 fault_at_row table index w fault s few is =
@@ -38,7 +38,7 @@ fault_at_row table index w fault s few is =
     let place : frontier w ≡ row_at table index = omega arith in
     rw place at is
 
--- a row, and those behind it, of some rows
+-- a row, and those after it, of some rows
 one_row : (rows entry n : ℕ) → 0 < rows → n ≡ rows * entry → (more : ℕ) × (n ≡ entry + more * entry)
 one_row rows entry n some is = let split = mul-split 1 (rows - 1) rows entry (omega arith) in (rows - 1, omega arith)
 
@@ -97,7 +97,7 @@ reading table index shown failed w = record {
   failed = failed;
 }
 
--- a window that passed over a row and holds the next gives it
+-- a window that skipped a row and holds the next yields it
 pub Gives-next : (file : Option (List ℕ)) (table : TableRange) (index shown entry : ℕ) (failed : Option Fault) (old passed new : WindowState) → entry ≡ table.entry → failed ≡ None
     → index < table.count → passed.at ≡ old.at + shown → passed.held ≡ drop shown old.held → IsAtRow table index 0 passed → HoldsCount passed new entry
     → StillHolds file passed new → GivesRow file (reading table index shown failed old) (reading table (index + 1) entry failed new)
@@ -120,7 +120,7 @@ Gives-next file table index shown entry failed old passed new e nf below at held
           held-front bytes new entry h.long (ag bytes same a) ∙ ap (λ (x : ℕ). slice bytes x entry) place ∙ ap (slice bytes (row_at table index)) e;
     }
 
--- what a window asks for once bytes were passed over, by where its range ends
+-- what a window requests once bytes were skipped, by the end of its range
 pub onward_asked : (one_read : SourceState → ℕ → ℕ → SourceState → Type 0) (a b : SourceState) (ends unread : ℕ) (passed new : WindowState) → ReadsOnward one_read a b (frontier passed) (frontier new)
     → range_end passed ≡ ends → range_end new ≡ ends → passed.unread ≤ unread → ReadsOnward one_read a b (ends - unread) (ends - new.unread)
 onward_asked one_read a b ends unread passed new onward from to less =

@@ -1,4 +1,4 @@
--- Calls through a window, one behind the other.
+-- Calls through a window, one after another.
 use Rattle.std.proofs.Common.{ℕ, ◌+◌, ◌-◌, ◌≤◌, Some, Result, Ok, Err, IfErr, refl, ◌∙◌, arith}
 use Rattle.elf_source.specs.Source.{SourceState, CountedState, ReadsUpTo}
 use Rattle.elf_source.proofs.ReadsLaws.{ReadsUpTo-none, ReadsUpTo-then, ReadsUpTo-to}
@@ -23,13 +23,13 @@ through_none one_read a w x = record {
   agrees = λ file held before. before;
 }
 
--- a call that answered otherwise
+-- a call that returned otherwise
 pub through_ok :
     {X Y : Type 0} {one_read : SourceState → ℕ → ℕ → SourceState → Type 0} {a b : CountedState} {x y : WindowState} {was : X} (now : Y) → ReadsThroughWindow one_read a b x y (Ok was)
     → ReadsThroughWindow one_read a b x y (Ok now)
 through_ok now p = record { reads = p.reads; says = tt; moves = p.moves; onward = p.onward; agrees = p.agrees }
 
--- a call behind another that answered
+-- a call after another that succeeded
 pub through_then :
     {X Y : Type 0} {one_read : SourceState → ℕ → ℕ → SourceState → Type 0} {a b c : CountedState} {x y z : WindowState} {first : Result X Fault} {result : Result Y Fault}
     → ReadsThroughWindow one_read a b x y first → ReadsThroughWindow one_read b c y z result → ReadsThroughWindow one_read a c x z result
@@ -52,7 +52,7 @@ through_then {one_read = one_read} {a = a} {b = b} {c = c} {x = x} {y = y} {z = 
       agrees = λ file held before. q.agrees file (p.reads.keeps.same_file ∙ held) (p.agrees file held before);
     }
 
--- bytes that are passed over behind a call
+-- bytes that are skipped after a call
 pub through_skip :
     {X : Type 0} {one_read : SourceState → ℕ → ℕ → SourceState → Type 0} {a b : CountedState} {x y z : WindowState} {first : Result X Fault} {count : ℕ}
     → ReadsThroughWindow one_read a b x y first → Skips y z count → ReadsThroughWindow one_read a b x z first

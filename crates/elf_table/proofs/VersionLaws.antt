@@ -1,4 +1,4 @@
--- What the checks of versions of symbols leave.
+-- What the checks of symbol versions imply.
 use Rattle.std.proofs.Common.{◌≡◌, ℕ, ◌<◌, ◌/◌, ◌==◌, ◌&&◌, ◌||◌, not, Bool, true, false, inl, inr, List, [], ◌∷◌, ◌++◌, None, Some, Result, Ok, Err, IfOk, refl, sym, ap, ◌∙◌, arith}
 use Rattle.std.proofs.lemmas.Bool.{cases_Bool, lt-ltb, ne_eqb}
 use Rattle.elf_model.specs.Prelude.{Check, SHT_STRTAB, all_checks, first_refusal, has_strings, has_symbols, held_headers, is_outside, linked_at, links, pass, refuse, sh_link, sh_offset, sh_size, sh_type, symbol_versions, symbols_checks, table_checks, table_checks_of}
@@ -11,7 +11,7 @@ use Rattle.elf_table.specs.declared.fault.Fault.{Fault}
 use Rattle.elf_table.specs.declared.fault.Fault.TheVariants.{Refused, Source}
 use Rattle.elf_table.proofs.RelocationLaws.{passed_first, symbols-fail, symbols-pass, table-fails}
 
--- a section that is answered as a string table is one
+-- a section that is returned as a string table is one
 pub strings-are : (bytes : List ℕ) (at size place : ℕ) (names : StringTableRange) → string_table_of bytes at size place ≡ Ok names
     → (sh_type bytes at == SHT_STRTAB && not (is_outside size (sh_offset bytes at) (sh_size bytes at))) ≡ true
 strings-are bytes at size place names h = by_cases (sh_type bytes at == SHT_STRTAB) (is_outside size (sh_offset bytes at) (sh_size bytes at)) h
@@ -23,7 +23,7 @@ strings-are bytes at size place names h = by_cases (sh_type bytes at == SHT_STRT
     by_cases true false h = refl
     by_cases false outside h = cc
 
--- a section that is not empty, whose own checks have others behind them
+-- a section that is not empty, whose own checks are followed by others
 module _ (file : List ℕ) (at : ℕ) (some : (sh_size file at == 0) ≡ false) where
   own : (table : TableRange) → table_at file at 2 ≡ Ok table → (first_refusal (table_checks file at 2) ≡ None) × (rows (sh_offset file at) (sh_size file at / 2) 2 ≡ table)
   own table held = passed_first _ _ _ (rw (some, table_at, table_of) at held)
@@ -75,7 +75,7 @@ table-refused file at fault h = let p = table-fails (sh_size file at == 0) _ _ (
     front (Refused refusal) k = first_refusal-some (table_checks file at 2) (symbols_checks file at) refusal k
     front (Source fault offset) k = k
 
--- the headers in the store tell of checks that pass
+-- the headers in the store imply that checks pass
 pub symbols-stored : (bytes : List ℕ) (size place : ℕ) (table : TableRange) (named : Bool) → table_of bytes 0 size place 24 ≡ Ok table → (sh_size bytes 0 == 0 || named) ≡ true
     → (sh_size bytes 0 == 0 || (pass (table_checks_of bytes 0 size 0 24) && named)) ≡ true
 symbols-stored bytes size place table named held names = elim (cases_Bool (sh_size bytes 0 == 0)) [

@@ -4,7 +4,7 @@ use Rattle.elf_model.specs.Prelude.{first_refusal, load_checks, slice}
 use Rattle.elf_table.specs.Prelude.{AreRowSlices, HoldsProgramHeaders, HoldsSectionHeaders, LoadedFile, StoreState}
 use Rattle.elf_table.specs.declared.fault.Fault.{Fault}
 
--- a file that was loaded without sections, and then its program headers, where they were read
+-- a file that was loaded without sections, and then its program headers, if they were read
 pub views_read : (result : Result (Unit {0}) Fault) (file : List ℕ) (loaded : LoadedFile) (old new : StoreState) → HoldsSectionHeaders file loaded old → loaded.header.e_shnum ≡ 0
     → new.slots ≡ old.slots → new.loaded ≡ 0 → new.segments ≡ (if is_ok result then loaded.header.e_phnum else 0)
     → OnOk result (AreRowSlices file loaded.header.e_phoff 56 loaded.header.e_phnum new.segment_rows) → OnOk result (HoldsProgramHeaders file loaded new)

@@ -1,4 +1,4 @@
--- What a loaded file with its store tells of its sections.
+-- What a loaded file with its store returns for its sections.
 use Rattle.std.specs.Prelude.{ℕ, ◌≡◌, List, Result}
 use Rattle.elf_model.specs.Records.{sh_size, section_at}
 use Rattle.elf_record.specs.declared.ehdr.Ehdr.{Ehdr}
@@ -9,7 +9,7 @@ use Rattle.elf_table.specs.Tables.{TableRange}
 use Rattle.elf_table.specs.declared.fault.Fault.{Fault}
 use Rattle.elf_table.specs.declared.file.SectionView.{SectionView}
 
--- an answer for a section is what the file that was loaded has at its header
+-- a result for a section is what the file that was loaded has at its header
 abbrev pub AnswersSection : {A : Type 0} → SectionView → ℕ → A → (List ℕ → ℕ → A) → Type 0
 AnswersSection f section answer has = (file : List ℕ) → HoldsSectionHeaders file f.loaded f.store.now → answer ≡ has file (section_at file section)
 

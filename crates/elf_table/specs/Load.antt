@@ -1,4 +1,4 @@
--- The load of a file's section headers.
+-- Loading a file's section headers.
 use Rattle.std.specs.Prelude.{ℕ, ◌≡◌, ◌+◌, ◌*◌, ◌^◌, ◌<◌, ◌≤◌, List, length, is_none, None, Some, Result, Ok, Err}
 use Rattle.elf_model.specs.Prelude.{Check, HeaderCounts, IsBudgetRefusal, cost_where, early_checks_of, first_refusal, length_checks, load_checks}
 use Rattle.elf_record.specs.Prelude.{IsEhdr}
@@ -13,7 +13,7 @@ pub record LoadedFile : Type 0 where
   pub size : ℕ
   pub header : Ehdr
 
--- what a decoded file header tells of its headers
+-- the counts and offsets that a decoded file header has for its headers
 abbrev pub counts_of : Ehdr → HeaderCounts
 counts_of header = record {
   phoff = header.e_phoff;
@@ -29,11 +29,12 @@ counts_of header = record {
 abbrev pub early_of : Ehdr → ℕ → ℕ → List Check
 early_of header size headers = early_checks_of (counts_of header) size headers
 
--- the program headers, where there are any, end within a source of this size
+-- the program headers, if there are any, end within a source of this size
 abbrev pub SegmentsInBounds : ℕ → Ehdr → Type 0
 SegmentsInBounds size header = 0 < header.e_phnum → header.e_phoff + 56 * header.e_phnum ≤ size
 
--- what those checks leave: headers within the file and within the slots, the section names among the sections
+-- what those checks imply: headers within the file and within the slots, the section names among
+-- the sections
 pub record PassesLoadChecks (size headers : ℕ) (header : Ehdr) : Type 0 where
   pub few : header.e_shnum ≤ headers
   pub few_segments : header.e_phnum ≤ headers
@@ -46,11 +47,11 @@ pub record PassesLoadChecks (size headers : ℕ) (header : Ehdr) : Type 0 where
 abbrev pub section_place : Ehdr → ℕ → ℕ
 section_place header i = header.e_shoff + 64 * i
 
--- how many bytes the file header of a file of this size asks for
+-- how many bytes are read for the file header of a file of this size
 abbrev pub file_header_cost : ℕ → ℕ
 file_header_cost size = cost_where (is_none (first_refusal (length_checks size))) 64
 
--- how many bytes a load asks for at most, by the file header
+-- how many bytes a load reads at most, by the file header
 abbrev pub load_cost : Ehdr → ℕ → ℕ → ℕ
 load_cost header size headers = cost_where (is_none (first_refusal (early_of header size headers))) (64 * header.e_shnum)
 
@@ -61,7 +62,7 @@ pub record IsOpened (loaded : LoadedFile) (size : ℕ) (header : Ehdr) (store : 
   pub count : store.loaded ≡ header.e_shnum
   pub passes : PassesLoadChecks size store.slots header
 
--- what a load leaves, for every source: a file that is opened, or nothing loaded
+-- the state after a load, for every source: a file that is opened, or nothing loaded
 abbrev pub LoadOutcome : ℕ → Ehdr → StoreState → Result LoadedFile Fault → Type 0
 LoadOutcome size header store (Ok loaded) = IsOpened loaded size header store
 LoadOutcome size header store (Err fault) = store.loaded ≡ 0
@@ -80,13 +81,13 @@ pub record HoldsProgramHeaders (file : List ℕ) (loaded : LoadedFile) (store : 
   pub count : store.segments ≡ loaded.header.e_phnum
   pub rows : HoldsSegments file store
 
--- the answer of a load: a file that was loaded, or the first check that fails
+-- the result of a load: a file that was loaded, or the first check that fails
 abbrev pub LoadedAs : List ℕ → Result LoadedFile Fault → StoreState → Type 0
 LoadedAs file (Ok loaded) store = HoldsSectionHeaders file loaded store
 LoadedAs file (Err (Refused refusal)) store = (IsBudgetRefusal refusal → ⊥) → first_refusal (load_checks file store.slots) ≡ Some refusal
 LoadedAs file (Err (Source fault at)) store = Unit {0}
 
--- a loaded file is that of a source: its size, and where the source has a file, that file
+-- a loaded file is that of a source: its size, and if the source has a file, that file
 pub record IsOpen (src : CountedState) (loaded : LoadedFile) (store : StoreState) : Type 0 where
   pub size : loaded.size ≡ src.seen.size
   pub belongs : (file : List ℕ) → src.seen.file ≡ Some file → HoldsSectionHeaders file loaded store

@@ -1,4 +1,4 @@
--- What a section of relocation entries answers: its rows, and the symbols that they refer to.
+-- The result for a section of relocation entries: its rows, and the symbols that they refer to.
 use Rattle.std.specs.Prelude.{ℕ, ◌≡◌, ◌<◌, true, false, List, Option, None, Some, Result, Ok, Err}
 use Rattle.elf_model.specs.Prelude.{Check, RELA_SIZE, SYMBOL_SIZE, entry_count, first_refusal, has_symbols, linked_at, linked_table_checks, relocation_table_checks, sh_offset, sh_size}
 use Rattle.elf_table.specs.Tables.{TableRange, StringTableRange}
@@ -11,7 +11,8 @@ abbrev pub RefusedBy : List Check → Fault → Type 0
 RefusedBy checks (Refused refusal) = first_refusal checks ≡ Some refusal
 RefusedBy checks (Source fault at) = ⊥
 
--- the symbols of the section with this header, and the string table of their names; no bytes of an empty one
+-- the symbols of the section with this header, and the string table of their names; no bytes of an
+-- empty one
 pub record AreSymbols (file : List ℕ) (header : ℕ) (symbols : TableRange × StringTableRange) : Type 0 where
   pub counted : symbols.0.count ≡ entry_count file header SYMBOL_SIZE
   pub sized : symbols.0.entry ≡ SYMBOL_SIZE
@@ -19,8 +20,8 @@ pub record AreSymbols (file : List ℕ) (header : ℕ) (symbols : TableRange × 
   pub named : 0 < symbols.0.count → symbols.1 ≡ names_at file (linked_at file header)
   pub unnamed : sh_size file header ≡ 0 → symbols.1 ≡ strings (sh_offset file header) 0
 
--- the symbols that the section with this header refers to: those of the section that its link names, or none where that
--- holds no symbols
+-- the symbols that the section with this header refers to: those of the section that its link
+-- names, or none if that holds no symbols
 abbrev pub RefersTo : List ℕ → ℕ → Option (TableRange × StringTableRange) → Type 0
 RefersTo file header None = has_symbols file header ≡ false
 RefersTo file header (Some symbols) = (has_symbols file header ≡ true) × AreSymbols file (linked_at file header) symbols
@@ -30,8 +31,8 @@ abbrev pub Links : List ℕ → ℕ → Result (Option (TableRange × StringTabl
 Links file header (Ok linked) = (first_refusal (linked_table_checks file header) ≡ None) × RefersTo file header linked
 Links file header (Err fault) = RefusedBy (linked_table_checks file header) fault
 
--- the relocation entries of the section with this header, whose checks pass, and the symbols that they refer to; where
--- there is no entry, none are looked for
+-- the relocation entries of the section with this header, whose checks pass, and the symbols that
+-- they refer to; if there is no entry, none are searched
 pub record AreRelocations (file : List ℕ) (header : ℕ) (table : TableRange) (linked : Option (TableRange × StringTableRange)) : Type 0 where
   pub pass : first_refusal (relocation_table_checks file header) ≡ None
   pub counted : table.count ≡ entry_count file header RELA_SIZE
@@ -39,7 +40,7 @@ pub record AreRelocations (file : List ℕ) (header : ℕ) (table : TableRange) 
   pub refers : 0 < table.count → RefersTo file header linked
   pub none : table.count ≡ 0 → linked ≡ None
 
--- what a section of relocation entries answers: those, or the first of its checks that fails
+-- the result for a section of relocation entries: those, or the first of its checks that fails
 abbrev pub Relocates : List ℕ → ℕ → Result (TableRange × Option (TableRange × StringTableRange)) Fault → Type 0
 Relocates file header (Ok found) = AreRelocations file header found.0 found.1
 Relocates file header (Err fault) = RefusedBy (relocation_table_checks file header) fault

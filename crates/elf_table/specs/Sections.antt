@@ -1,4 +1,4 @@
--- What the sections of a loaded file answer for: tables, string tables, symbols with their names.
+-- The results for the sections of a loaded file: tables, string tables, symbols with their names.
 use Rattle.std.specs.Prelude.{ℕ, ◌/◌, ◌==◌, true, false, not, List, [], ◌∷◌, ◌++◌, length, Option, None, Some, Result, Ok, Err}
 use Rattle.elf_model.specs.Prelude.{Check, SHT_STRTAB, e_shstrndx, first_refusal, has_section_names, is_outside, refuse, section_at, sh_link, sh_offset, sh_size, sh_type, strings_checks, table_checks, table_checks_of, unless_empty, whole_checks_of}
 use Rattle.elf_model.specs.declared.causes.Cause.TheVariants.{NotStrings, TableOutside}
@@ -7,31 +7,31 @@ use Rattle.elf_table.specs.Tables.{TableRange, StringTableRange}
 use Rattle.elf_table.specs.declared.fault.Fault.{Fault}
 use Rattle.elf_table.specs.declared.fault.Fault.TheVariants.{Refused}
 
--- a refusal if there is one, else a value
+-- a refusal if there is one, otherwise a value
 abbrev pub answered : {A : Type 0} → Option Refusal → A → Result A Fault
 answered None value = Ok value
 answered (Some refusal) value = Err (Refused refusal)
 
--- the first check that fails, else a value
+-- the first check that fails, otherwise a value
 abbrev pub checked : {A : Type 0} → List Check → A → Result A Fault
 checked checks value = answered (first_refusal checks) value
 
--- so many rows of one size from an offset on
+-- a number of rows of one size at an offset
 abbrev pub rows : ℕ → ℕ → ℕ → TableRange
 rows at count entry = record { at = at; count = count; entry = entry }
 
--- so many bytes of names from an offset on
+-- a number of bytes of names at an offset
 abbrev pub strings : ℕ → ℕ → StringTableRange
 strings at size = record { at = at; size = size }
 
--- so many bytes from an offset on as rows of one size, in a file of so many bytes; none have no checks, and refusals
--- name a place
+-- bytes at an offset as rows of one size, in a file of a size; an empty range has no checks, and
+-- refusals point to a place
 abbrev pub rows_of : ℕ → ℕ → ℕ → ℕ → ℕ → Result TableRange Fault
 rows_of file_size offset size place entry =
     checked (unless_empty size (whole_checks_of file_size offset size place entry)) (rows offset (size / entry) entry)
 
--- the table of a section whose header stands at an offset of some bytes, in a file of so many bytes;
--- an empty one has no checks
+-- the table of a section whose header is at an offset of some bytes, in a file of a size; an empty
+-- one has no checks
 abbrev pub table_of : List ℕ → ℕ → ℕ → ℕ → ℕ → Result TableRange Fault
 table_of bytes at file_size place entry =
     elim (sh_size bytes at == 0) [
@@ -47,13 +47,13 @@ table_at file at entry = table_of file at (length file) at entry
 abbrev pub names_at : List ℕ → ℕ → StringTableRange
 names_at file at = strings (sh_offset file at) (sh_size file at)
 
--- a section that is to be a string table, as `table_of` is told of it
+-- a section that is to be a string table, with the arguments of `table_of`
 abbrev pub string_table_of : List ℕ → ℕ → ℕ → ℕ → Result StringTableRange Fault
 string_table_of bytes at file_size place =
     checked (refuse (not (sh_type bytes at == SHT_STRTAB)) place NotStrings ∷ refuse (is_outside file_size (sh_offset bytes at) (sh_size bytes at)) place TableOutside ∷ [])
     (strings (sh_offset bytes at) (sh_size bytes at))
 
--- the string table that a section of the file refers to
+-- the string table that a section of the file links to
 abbrev pub string_table_at : List ℕ → ℕ → Result StringTableRange Fault
 string_table_at file at = checked (strings_checks file at) (names_at file (section_at file (sh_link file at)))
 
@@ -61,7 +61,7 @@ string_table_at file at = checked (strings_checks file at) (names_at file (secti
 abbrev pub section_names : List ℕ → Option StringTableRange
 section_names file = elim (has_section_names file) [ true ↦ Some (names_at file (section_at file (e_shstrndx file))) | false ↦ None ]
 
--- so many bytes of the file as rows of one byte; none has no check
+-- a number of bytes of the file as rows of one byte; an empty range has no check
 abbrev pub byte_rows : ℕ → ℕ → ℕ → ℕ → Result TableRange Fault
 byte_rows file_size offset size place =
     elim (size == 0) [
@@ -69,7 +69,7 @@ byte_rows file_size offset size place =
       | false ↦ checked (refuse (is_outside file_size offset size) place TableOutside ∷ []) (rows offset size 1)
     ]
 
--- the symbols of a section of the file with their string table; two empty ones where it is empty
+-- the symbols of a section of the file with their string table; two empty ones if it is empty
 abbrev pub symbols_at : List ℕ → ℕ → Result (TableRange × StringTableRange) Fault
 symbols_at file at =
     elim (sh_size file at == 0) [

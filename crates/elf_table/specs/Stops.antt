@@ -4,7 +4,7 @@ use Rattle.elf_table.specs.declared.fault.Fault.TheVariants.{Refused as Refuses,
 use Rattle.elf_table.specs.declared.run_fault.RunFault.{RunFault}
 use Rattle.elf_table.specs.declared.run_fault.RunFault.TheVariants.{Refused, Source}
 
--- what a fault of a read is to a call that writes too
+-- a fault of a read as that of a call that also writes
 abbrev pub stop_of : Fault → RunFault
 stop_of (Refuses refusal) = Refused refusal
 stop_of (Unread fault at) = Source fault at

@@ -2,8 +2,8 @@
 use Rattle.std.specs.Prelude.{ℕ, zero, suc, ◌≡◌, ◌+◌, ◌*◌, ◌<◌, List, [], ◌∷◌, slice_index_or}
 use Rattle.elf_model.specs.Prelude.{section_at, segment_at, slice}
 
--- how many slots a store has, how many section headers are loaded, and the bytes of each of those; the same of the program
--- headers
+-- the number of slots of a store, the number of loaded section headers, and the bytes of each of
+-- those; the same for the program headers
 pub record StoreState : Type 0 where
   pub slots : ℕ
   pub loaded : ℕ
@@ -11,7 +11,7 @@ pub record StoreState : Type 0 where
   pub segments : ℕ
   pub segment_rows : List (List ℕ)
 
--- a store with so many slots and no header
+-- a store with a number of slots and no header
 abbrev pub empty : ℕ → StoreState
 empty slots = record { slots = slots; loaded = 0; rows = []; segments = 0; segment_rows = [] }
 
@@ -27,12 +27,12 @@ row store i = slice_index_or store.rows i []
 abbrev pub segment_bytes : StoreState → ℕ → List ℕ
 segment_bytes store i = slice_index_or store.segment_rows i []
 
--- the rows of one size from an offset on, so many of them
+-- consecutive rows of one size at an offset, a given number of them
 unfoldable pub rows_from : List ℕ → ℕ → ℕ → ℕ → List (List ℕ)
 rows_from file at entry zero = []
 rows_from file at entry (suc count) = slice file at entry ∷ rows_from file (at + entry) entry count
 
--- the first rows, so many of them, are a file's consecutive slices of one size from an offset on
+-- the first rows, a given number of them, are a file's consecutive slices of one size at an offset
 abbrev pub AreRowSlices : List ℕ → ℕ → ℕ → ℕ → List (List ℕ) → Type 0
 AreRowSlices file from entry count rows =
     (i : ℕ) → i < count → slice_index_or rows i [] ≡ slice file (from + entry * i) entry

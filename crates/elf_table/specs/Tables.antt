@@ -1,8 +1,8 @@
--- Where tables and string tables lie in a file.
+-- The location of tables and string tables in a file.
 use Rattle.std.specs.Prelude.{ℕ, ◌≡◌, ◌+◌, ◌*◌, ◌<◌, ◌≤◌, List}
 use Rattle.elf_model.specs.Bytes.{slice}
 
--- a table: the offset of its first row, how many rows there are, and the size of a row
+-- a table: the offset of its first row, the number of rows, and the size of a row
 pub record TableRange : Type 0 where
   pub at : ℕ
   pub count : ℕ
@@ -16,7 +16,8 @@ size_of table = table.count * table.entry
 abbrev pub TableInBounds : ℕ → TableRange → Type 0
 TableInBounds size table = 0 < table.count → table.at + size_of table ≤ size
 
--- a table of rows of one size, of so many bytes, that ends within a source of this size where it is not empty
+-- a table of rows of one size, of `bytes` bytes, that ends within a source of this size if it is
+-- not empty
 pub record Spans (size width bytes : ℕ) (table : TableRange) : Type 0 where
   pub within : TableInBounds size table
   pub entry : table.entry ≡ width
@@ -27,7 +28,7 @@ pub record BytesWithin (size : ℕ) (table : TableRange) : Type 0 where
   pub within : table.at + table.count ≤ size
   pub single : table.entry ≡ 1
 
--- a string table: the offset of its first byte, and how many bytes there are
+-- a string table: the offset of its first byte, and the number of bytes
 pub record StringTableRange : Type 0 where
   pub at : ℕ
   pub size : ℕ

@@ -1,4 +1,4 @@
--- What the section headers in a store tell of names and of symbol versions.
+-- What the section headers in a store imply for names and for symbol versions.
 use Rattle.std.specs.Prelude.{ℕ, ◌≡◌, ◌<◌, ◌^◌, ◌/◌, ◌==◌, ◌||◌, ◌&&◌, Bool, true, false, List, None, Result, Ok, Err}
 use Rattle.elf_model.specs.Prelude.{HeaderTable, SYMBOL_SIZE, VERSYM_SIZE, all_checks, entry_count, first_refusal, has_strings, has_symbol_table, header_field, held_headers, is_symbol_table, links, sh_link, sh_offset, sh_size, symbol_versions, versioned_symbols}
 use Rattle.elf_table.specs.Store.{row}
@@ -21,7 +21,8 @@ pub record LinksToSymbols (f : SectionView) (section : ℕ) : Type 0 where
   pub small : sh_link (row f.store.now section) 0 < 2 ^ 16
   pub linked : (links (sections_in f) section && is_symbol_table (row f.store.now (sh_link (row f.store.now section) 0)) 0) ≡ true
 
--- THE VERSIONS OF SYMBOLS of a section that is not empty, and the symbols that it links to, by the headers in the store
+-- THE VERSIONS OF SYMBOLS of a section that is not empty, and the symbols that it links to, by the
+-- headers in the store
 pub record CountsVersions (f : SectionView) (section : ℕ) (table : TableRange) (count : ℕ) : Type 0 where
   pub entry : table.entry ≡ VERSYM_SIZE
   pub counted : table.count ≡ header_field (sections_in f) sh_size section / VERSYM_SIZE
@@ -29,14 +30,14 @@ pub record CountsVersions (f : SectionView) (section : ℕ) (table : TableRange)
   pub symbols : (header_field (sections_in f) sh_size section == 0) ≡ false
       → count ≡ header_field (sections_in f) sh_size (header_field (sections_in f) sh_link section) / SYMBOL_SIZE
 
--- the same by a file, whose checks pass
+-- the same for a file, whose checks pass
 pub record AreVersioned (file : List ℕ) (header : ℕ) (table : TableRange) (count : ℕ) : Type 0 where
   pub pass : first_refusal (all_checks symbol_versions.checks file header) ≡ None
   pub counted : table.count ≡ entry_count file header VERSYM_SIZE
   pub placed : table.at ≡ sh_offset file header
   pub symbols : (sh_size file header == 0) ≡ false → count ≡ versioned_symbols file header
 
--- what a section of versions of symbols answers: those, or the first of its checks that fails
+-- the result for a section of symbol versions: those, or the first of its checks that fails
 abbrev pub Versioned : List ℕ → ℕ → Result (TableRange × ℕ) Fault → Type 0
 Versioned file header (Ok found) = AreVersioned file header found.0 found.1
 Versioned file header (Err fault) = RefusedBy (all_checks symbol_versions.checks file header) fault

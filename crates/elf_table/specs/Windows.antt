@@ -4,8 +4,8 @@ use Rattle.elf_model.specs.Bytes.{slice}
 use Rattle.elf_table.specs.declared.fault.Fault.{Fault}
 use Rattle.elf_table.specs.Faults.{IsAt}
 
--- a window: the offset of the next byte, the bytes that it holds from there on, how many bytes of its range behind
--- those are not asked for yet, and how many it holds at most
+-- a window: the offset of the next byte, the bytes that it holds from there, how many bytes of its
+-- range after those are not requested yet, and how many it holds at most
 pub record WindowState : Type 0 where
   pub at : ℕ
   pub held : List ℕ
@@ -16,11 +16,11 @@ pub record WindowState : Type 0 where
 abbrev pub bytes_left : WindowState → ℕ
 bytes_left w = length w.held + w.unread
 
--- the offset of the first byte that was never asked for: no byte below it is asked for again
+-- the offset of the first byte that was never requested: no byte below it is requested again
 abbrev pub frontier : WindowState → ℕ
 frontier w = w.at + length w.held
 
--- where the range ends
+-- the end of the range
 abbrev pub range_end : WindowState → ℕ
 range_end w = frontier w + w.unread
 
@@ -28,7 +28,7 @@ range_end w = frontier w + w.unread
 abbrev pub HoldsBytes : List ℕ → WindowState → Type 0
 HoldsBytes file w = w.held ≡ slice file w.at (length w.held)
 
--- what agreed with the source's file before a call agrees with it afterwards
+-- if the bytes held before a call agree with the source's file, so do those held afterwards
 abbrev pub StillHolds : Option (List ℕ) → WindowState → WindowState → Type 0
 StillHolds file old new = (bytes : List ℕ) → file ≡ Some bytes → HoldsBytes bytes old → HoldsBytes bytes new
 
@@ -36,22 +36,24 @@ StillHolds file old new = (bytes : List ℕ) → file ≡ Some bytes → HoldsBy
 abbrev pub RangeWithin : ℕ → WindowState → Type 0
 RangeWithin size w = 0 < bytes_left w → range_end w ≤ size
 
--- what every call keeps, fault or not: the range ends where it ended, the place goes on, and what was asked for
--- is no longer unread
+-- what every call keeps, fault or not: the end of the range is the same, the position moves
+-- forward, and requested bytes are no longer unread
 pub record MovesOn (old new : WindowState) (before after : ℕ) : Type 0 where
   pub same_page : new.page ≡ old.page
   pub same_end : range_end new ≡ range_end old
   pub onward : old.at ≤ new.at
   pub account : after + new.unread ≤ before + old.unread
 
--- a window that holds so many bytes: it is as it was where it held them, and else it holds a page, or all that are left
+-- a window that holds `count` bytes: it is unchanged if it held them, and otherwise it holds a
+-- page, or all that are left
 pub record HoldsCount (old new : WindowState) (count : ℕ) : Type 0 where
   pub stays : new.at ≡ old.at
   pub long : count ≤ length new.held
   pub unchanged : count ≤ length old.held → new ≡ old
   pub whole : length old.held < count → length new.held ≡ min old.page (bytes_left old)
 
--- a window was to hold so many bytes. A fault is of a read of bytes that it did not hold, at the first of them
+-- a window was to hold `count` bytes; a fault is of a read of bytes that it did not hold, at the
+-- first of them
 abbrev pub Brings : {X : Type 0} → WindowState → WindowState → ℕ → Result X Fault → Type 0
 Brings old new count (Ok x) = HoldsCount old new count
 Brings old new count (Err fault) = (length old.held < count) × IsAt (frontier old) fault

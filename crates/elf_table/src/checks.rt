@@ -13,13 +13,13 @@ use crate::table::Table;
 use elf_record::numbers::{SHT_DYNSYM, SHT_STRTAB, SHT_SYMTAB};
 use elf_record::{Cause, Shdr};
 
-/// The section as a table of rows of `entry` bytes, 1 to 4,096, in a file of `size` bytes. One of size
-/// 0 is not checked. No bytes are read.
+/// Returns the section as a table of rows of `entry` bytes, 1 to 4,096, in a file of `size` bytes.
+/// A section of size 0 is not checked. No bytes are read.
 ///
 /// # Errors
-/// The first check that fails, at the offset `place`: `EntrySize` where sh_entsize is another size,
-/// `SizeNotWhole` where sh_size is no multiple of it, `TableOutside` where the section ends past the
-/// end of the file.
+/// Returns the first check that fails, at the offset `place`: `EntrySize` if sh_entsize is another
+/// size, `SizeNotWhole` if sh_size is no multiple of it, `TableOutside` if the section ends past
+/// the end of the file.
 pub fn checked_table(header: &Shdr, size: u64, place: u64, entry: u64) -> Result<Table, Fault>
     requires { (0 < entry) × (entry ≤ 4096) }
     ensures value { (bytes : List ℕ) (at : ℕ) → IsShdr bytes at header.now →
@@ -32,8 +32,8 @@ pub fn checked_table(header: &Shdr, size: u64, place: u64, entry: u64) -> Result
     checked_rows(header.sh_offset, header.sh_size, entry, size, place)
 }
 
-/// `bytes` bytes from the offset `offset` on as rows of `entry` bytes, in a file of `size` bytes.
-/// None are not checked. Refusals name `place`.
+/// Returns the `bytes` bytes at the offset `offset` as rows of `entry` bytes, in a file of `size`
+/// bytes. An empty range is not checked. Refusals point to `place`.
 pub(crate) fn checked_rows(
     offset: u64,
     bytes: u64,
@@ -57,8 +57,8 @@ pub(crate) fn checked_rows(
     Ok(Table::new(offset, bytes / entry, entry))
 }
 
-/// `bytes` bytes from the offset `offset` on as rows of one byte, in a file of `size` bytes. None are
-/// not checked. A refusal names `place`.
+/// Returns the `bytes` bytes at the offset `offset` as rows of one byte, in a file of `size` bytes.
+/// An empty range is not checked. A refusal points to `place`.
 pub(crate) fn checked_bytes(offset: u64, bytes: u64, size: u64, place: u64) -> Result<Table, Fault>
     ensures value { result ≡ byte_rows size offset bytes place }
     ensures lies { MatchResult result (Spans size 1 bytes) IsOfCheck }
@@ -69,11 +69,12 @@ pub(crate) fn checked_bytes(offset: u64, bytes: u64, size: u64, place: u64) -> R
     Ok(Table::new(offset, bytes, 1))
 }
 
-/// The section as a string table, in a file of `size` bytes. No bytes are read (gABI 4, String Table).
+/// Returns the section as a string table, in a file of `size` bytes. No bytes are read (gABI 4,
+/// String Table).
 ///
 /// # Errors
-/// The first check that fails, at the offset `place`: `NotStrings` where the section is of another
-/// type, `TableOutside` where it ends past the end of the file.
+/// Returns the first check that fails, at the offset `place`: `NotStrings` if the section is of
+/// another type, `TableOutside` if it ends past the end of the file.
 pub fn checked_strings(header: &Shdr, size: u64, place: u64) -> Result<Names, Fault>
     ensures value { (bytes : List ℕ) (at : ℕ) → IsShdr bytes at header.now →
         result ≡ string_table_of bytes at size place }
@@ -89,7 +90,8 @@ pub fn checked_strings(header: &Shdr, size: u64, place: u64) -> Result<Names, Fa
     Ok(Names::new(header.sh_offset, header.sh_size))
 }
 
-/// Whether the section holds symbols, by its type: SYMTAB or DYNSYM (gABI 4, Section Types).
+/// Returns `true` if the section holds symbols, by its type: SYMTAB or DYNSYM (gABI 4, Section
+/// Types).
 pub fn holds_symbols(header: &Shdr) -> bool
     ensures { (file : List ℕ) (at : ℕ) → IsShdr file at header.now →
         result ≡ is_symbol_table file at }

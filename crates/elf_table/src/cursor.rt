@@ -13,8 +13,8 @@ use crate::window::{WINDOW_BYTES, Window};
 use elf_source::{Counted, Source};
 use std::marker::Model;
 
-/// A cursor over the rows of a table. It reads as many whole rows at once as 4,096 bytes hold,
-/// never past the table's end, and lends each row from there.
+/// A cursor over the rows of a table. It reads as many whole rows at once as fit in 4,096 bytes,
+/// never past the table's end, and each row is borrowed from that buffer.
 #[derive(Drop)]
 pub struct Cursor {
     table: Table,
@@ -49,7 +49,7 @@ impl Model for Cursor {
 }
 
 impl Cursor {
-    /// A cursor before the first row of `table`.
+    /// Creates a cursor before the first row of `table`.
     pub fn new(table: Table) -> Cursor
         ensures table { result.table ≡ table }
         ensures index { result.index ≡ 0 }
@@ -69,13 +69,13 @@ impl Cursor {
         }
     }
 
-    /// Goes to the next row, and answers whether there is one. A table with rows ends within the
-    /// source's length. What it asks for is no longer unread: all calls together ask for no more than
-    /// the table's bytes, each byte at most once.
+    /// Advances to the next row and returns whether there is one. A table with rows ends within the
+    /// source's length. All calls together read no more than the table's bytes, each byte at most
+    /// once.
     ///
     /// # Errors
-    /// A fault of a read, or a refusal for want of budget, at the next row's offset. From then on
-    /// each call answers the same and reads nothing.
+    /// Returns a fault of a read, or the refusal `Budget`, at the next row's offset. Each later
+    /// call returns the same and reads nothing.
     pub fn advance<S: Source>(&mut self, src: &mut Counted<S>) -> Result<bool, Fault>
         requires { TableInBounds src.old.seen.size self.old.table }
         ensures reads { ReadsUpTo src.old src.new (unread_bytes self.old) }
@@ -107,8 +107,8 @@ impl Cursor {
         Ok(true)
     }
 
-    /// The row that the last step gave: its index, its file offset and its bytes. After a fault it
-    /// has no bytes.
+    /// Returns the current row: its index, its file offset and its bytes. After a fault it has no
+    /// bytes.
     pub fn row(&self) -> Row<'_>
         requires { 0 < self.now.index }
         ensures { ShowsRow self.now result }
@@ -134,7 +134,8 @@ impl Cursor {
     ghost use Rattle.elf_table.specs.contracts.cursor.Cursor.{the_row};
     ghost use Rattle.elf_table.specs.declared.fault.Fault.{Fault};
 
-    /// The next row, lent from the cursor's window until the next call, or None past the last row.
+    /// Returns the next row, borrowed from the cursor's window until the next call, or `None` after
+    /// the last row.
     ///
     /// # Errors
     /// As for [`Cursor::advance`].

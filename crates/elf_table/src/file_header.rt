@@ -14,15 +14,15 @@ use elf_source::{Counted, Source};
 /// The size of a file header in bytes.
 pub(crate) const FILE_HEADER_BYTES: usize = 64;
 
-/// Reads and checks the file header: one read of 64 bytes at offset 0, or none where the length
-/// alone refuses the file (gABI 4, ELF Header).
+/// Reads and checks the file header: one read of 64 bytes at offset 0, or none if the length alone
+/// refuses the file (gABI 4, ELF Header).
 ///
 /// # Errors
-/// The first check that fails: `TooLong` at the length where it is 2^63 or more, `Short` at the
-/// length where it is below 64, both with nothing read; then those of [`Ehdr::check`]. A fault of
-/// the read, or a refusal for want of budget, names offset 0.
+/// Returns the first check that fails: `TooLong` at the length if it is 2^63 or more, `Short` at
+/// the length if it is below 64, both with nothing read; then those of [`Ehdr::check`]. A fault of
+/// the read, or the refusal `Budget`, points to offset 0.
 pub fn header<S: Source>(src: &mut Counted<S>) -> Result<Ehdr, Fault>
-    // At most one read of 64 bytes, and none where the length refuses the file.
+    // At most one read of 64 bytes, and none if the length refuses the file.
     ensures reads { ReadsUpTo src.old src.new (file_header_cost src.old.seen.size) }
     ensures says { IfErr result (IsReadFault src.old src.new (file_header_cost src.old.seen.size)) }
     ensures unread { (refusal : Refuses) →
@@ -41,7 +41,7 @@ pub fn header<S: Source>(src: &mut Counted<S>) -> Result<Ehdr, Fault>
     }
 }
 
-/// The refusal of a file of this length, before anything is read.
+/// Returns the refusal of a file of this length, before anything is read.
 pub fn refused_length(length: u64) -> Option<Refusal>
     ensures { result ≡ first_refusal (length_checks length) }
 {

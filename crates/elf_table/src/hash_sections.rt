@@ -17,21 +17,21 @@ use crate::table::Table;
 use elf_record::numbers::{EM_ALPHA, SHT_HASH};
 use elf_record::{Cause, Refusal, Shdr};
 
-/// The size of a wide word of a hash table in bytes, in place of 4.
+/// The size in bytes of a wide word of a hash table, instead of 4.
 const WIDE_WORD_BYTES: u64 = 8;
 
 impl SectionView<'_> {
-    /// The index of the section of symbols that a section with a hash table refers to, the symbols,
-    /// rows of 24 bytes, and the string table with their names. The hash table's section has `least`
-    /// bytes at least; that it is of a type with hash tables is the caller's matter. No bytes are read
-    /// (gABI 5, Hash Table).
+    /// Returns the index of the section of symbols that a hash table links to, the symbols, rows of
+    /// 24 bytes, and the string table of their names. The hash table's section has `least` bytes at
+    /// least; the caller makes sure that its type is that of a hash table. No bytes are read (gABI
+    /// 5, Hash Table).
     ///
     /// # Errors
-    /// The first check that fails, at the section's header: `TableOutside` where it ends past the
-    /// end of the file, at every size; `HashShape` where it has fewer bytes, or where it is a HASH
-    /// section of a file of Alpha whose entries have 8 bytes: so have its table's words then;
-    /// `BadLink` where its link is 0 or names no section of symbols. Then those of [`SectionView::symbols`]
-    /// at the linked section.
+    /// Returns the first check that fails, at the section's header: `TableOutside` if it ends past
+    /// the end of the file, at every size; `HashShape` if it has fewer bytes, or if it is a HASH
+    /// section of an Alpha file whose entries have 8 bytes, since then the words of its table do
+    /// too; `BadLink` if its link is 0 or names no section of symbols. Then those of
+    /// [`SectionView::symbols`] at the linked section.
     pub fn hashed(&self, section: u16, least: u64) -> Result<(u16, (Table, Names)), Fault>
         requires { section < self.now.store.now.loaded }
         ensures held { (bytes : List ℕ) →
@@ -57,7 +57,7 @@ impl SectionView<'_> {
     }
 }
 
-// The first check of the section's header that fails, where its words are wide or not.
+// Returns the first check of the section's header that fails, for words of 8 bytes or not.
 fn refused_front(
     header: &Shdr,
     place: u64,
@@ -92,8 +92,8 @@ fn refused_front(
     None
 }
 
-// Whether a section is a hash table whose words have 8 bytes: a HASH section of a file of Alpha, whose
-// entry size says so.
+// Returns `true` if a section is a hash table whose words have 8 bytes: a HASH section of an Alpha
+// file with that entry size.
 fn holds_wide_words(file: &SectionView<'_>, header: &Shdr) -> bool
     ensures { (bytes : List ℕ) (at : ℕ) →
         HoldsSectionHeaders bytes file.now.loaded file.now.store.now →

@@ -1,4 +1,4 @@
-//! Memory for a store of headers: the one thing here that takes memory.
+//! Memory for a store of headers: the only part of this crate that allocates.
 ghost use Rattle.std.specs.Prelude.{◌≡◌, ◌≤◌, IfOk};
 ghost use Rattle.elf_table.specs.Store.{empty};
 
@@ -6,8 +6,8 @@ use crate::store::{HeaderStore, SLOT_BYTES};
 use std::alloc::{AllocError, Global};
 use std::marker::Model;
 
-/// Memory for the headers of one file, 64 bytes for each slot. It is taken once, when the room is
-/// made.
+/// Memory for the headers of one file, 64 bytes for each slot. It is allocated once, by
+/// [`HeaderBuffer::new`].
 #[derive(Drop)]
 pub struct HeaderBuffer {
     bytes: Vec<u8>,
@@ -26,11 +26,11 @@ impl Model for HeaderBuffer {
 }
 
 impl HeaderBuffer {
-    /// Room for `headers` slots, 1 to 65,279. Its 64 bytes for each slot are taken from `alloc` here,
-    /// and no other call takes any.
+    /// Creates a buffer of `headers` slots, 1 to 65,279. Its 64 bytes for each slot are allocated
+    /// from `alloc` here, and no other call allocates.
     ///
     /// # Errors
-    /// Where memory is refused.
+    /// Returns an error if the allocation fails.
     pub fn new(alloc: Global, headers: u16) -> Result<HeaderBuffer, AllocError>
         requires some { 1 ≤ headers }
         requires permitted { headers ≤ 65279 }
@@ -43,7 +43,7 @@ impl HeaderBuffer {
         })
     }
 
-    /// A store over the room, with as many slots and no header loaded.
+    /// Returns a store over the buffer, with as many slots and no header loaded.
     pub fn store(&mut self) -> HeaderStore<'_>
         ensures { result ≡ empty self.old }
     {

@@ -1,10 +1,9 @@
 //! The headers of an ELF64 file: the file header, the store of section headers or program headers,
-//! the checks of a load, and reads that name the offset where they fail. No call takes memory but
+//! the checks of a load, and reads whose errors name their offset. No call allocates except
 //! `HeaderBuffer::new`.
 //!
 //! The tables of an ELF64 file: the checks of its sections and segments, cursors over tables, and
-//! names in string tables. What its users need of the headers, `elf_table` has, and it stands
-//! here too. No call of this crate takes memory.
+//! names in string tables.
 #![tactic(auto)]
 
 mod buffers;

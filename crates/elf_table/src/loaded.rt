@@ -26,7 +26,7 @@ impl Model for Loaded {
 }
 
 impl Loaded {
-    /// A file of `size` bytes with this file header, whose load checks passed.
+    /// Returns the file of `size` bytes with this file header, whose load checks passed.
     pub(crate) fn new(size: u64, header: &Ehdr) -> Loaded
         requires { PassesLoadChecks size 65279 header.now }
         ensures { result ≡ record { size = size; header = header.now } }
@@ -37,14 +37,14 @@ impl Loaded {
         }
     }
 
-    /// The file's length in bytes.
+    /// Returns the file's length in bytes.
     pub fn size(&self) -> u64
         ensures { result ≡ self.now.size }
     {
         self.size
     }
 
-    /// The file header, whose headers lie within the file.
+    /// Returns the file header, whose headers lie within the file.
     pub fn header(&self) -> Ehdr
         ensures value { result ≡ self.now.header }
         ensures passes { PassesLoadChecks self.now.size 65279 self.now.header }

@@ -38,11 +38,11 @@ impl Loaded {
         )
     }
 
-    /// Returns `size` bytes of the file from `offset` on as rows of one byte, unchecked if `size` is
-    /// 0.
+    /// Returns `size` bytes of the file from `offset` on as rows of one byte, unchecked if `size`
+    /// is 0.
     ///
     /// # Errors
-    /// `TableOutside` at `at` if they end past the end of the file.
+    /// Returns `TableOutside` at `at` if they end past the end of the file.
     pub fn bytes(&self, offset: u64, size: u64, at: u64) -> Result<Table, Fault>
         ensures value { result ≡ byte_rows self.now.size offset size at }
         ensures within { IfOk result (TableInBounds self.now.size) }
@@ -73,8 +73,8 @@ impl Loaded {
         .table(section, entry)
     }
 
-    /// Returns the string table that a section refers to by its sh_link, as
-    /// [`SectionView::strings`] does. The store holds the file's section headers.
+    /// Returns the string table that a section links to by its sh_link, as [`SectionView::strings`]
+    /// does. The store holds the file's section headers.
     ///
     /// # Errors
     /// Those of [`SectionView::strings`].
@@ -93,8 +93,8 @@ impl Loaded {
         .strings(section)
     }
 
-    /// Returns the string table of the section names, as [`SectionView::names`] does. The store holds
-    /// the file's section headers.
+    /// Returns the string table of the section names, as [`SectionView::names`] does. The store
+    /// holds the file's section headers.
     pub fn names(&self, store: &HeaderStore<'_>) -> Option<Names>
         requires whole { store.now.loaded ≡ self.now.header.e_shnum }
         ensures held { (file : List ℕ) → HoldsSectionHeaders file self.now store.now →
@@ -108,7 +108,7 @@ impl Loaded {
         .names()
     }
 
-    /// Returns the symbols of a section and the string table with their names, as
+    /// Returns the symbols of a section and the string table of their names, as
     /// [`SectionView::symbols`] does. The store holds the file's section headers.
     ///
     /// # Errors
@@ -128,7 +128,7 @@ impl Loaded {
         .symbols(section)
     }
 
-    /// Returns the symbols that a section of relocations refers to by its sh_link, with their names,
+    /// Returns the symbols that a section of relocations links to by its sh_link, with their names,
     /// as [`SectionView::linked`] does. The store holds the file's section headers.
     ///
     /// # Errors
@@ -153,8 +153,8 @@ impl Loaded {
         .linked(section)
     }
 
-    /// Returns the dynamic entries of a segment, as [`ExecutionView::dynamic`] does. The store holds
-    /// the file's program headers.
+    /// Returns the dynamic entries of a segment, as [`ExecutionView::dynamic`] does. The store
+    /// holds the file's program headers.
     ///
     /// # Errors
     /// Those of [`ExecutionView::dynamic`].

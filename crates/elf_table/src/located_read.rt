@@ -1,4 +1,4 @@
-//! Reads that name the offset where they fail.
+//! Reads whose faults name their offset.
 ghost use Rattle.std.specs.Prelude.{◌≡◌, ℕ, List, length, Some, IfErr, OnOk};
 ghost use Rattle.elf_model.specs.Bytes.{slice};
 ghost use Rattle.elf_source.specs.Source.{IsReadable, ReadsUpTo};
@@ -8,11 +8,12 @@ use crate::fault::Fault;
 use elf_record::{Cause, Refusal};
 use elf_source::{AskFault, Counted, Source};
 
-/// Fills `out`, at most 4,096 bytes, with the bytes from the offset `at` on, none of them past the
-/// source's length: one read.
+/// Fills `out`, at most 4,096 bytes, with the bytes at the offset `at`, all within the source's
+/// length: one read.
 ///
 /// # Errors
-/// A refusal for want of budget, or the source's fault; both name `at`. Then `out` holds any bytes.
+/// Returns the refusal `Budget`, or the source's fault; both point to `at`. Then the contents of
+/// `out` are unspecified.
 pub fn fill<S: Source>(src: &mut Counted<S>, at: u64, out: &mut [u8]) -> Result<(), Fault>
     requires { IsReadable src.old at (length out.old) }
     ensures reads { ReadsUpTo src.old src.new (length out.old) }

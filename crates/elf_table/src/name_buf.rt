@@ -25,7 +25,7 @@ impl Model for NameBuf {
 }
 
 impl NameBuf {
-    /// An empty buffer.
+    /// Creates an empty buffer.
     pub fn new() -> NameBuf
         ensures { result ≡ [] }
     {
@@ -35,7 +35,7 @@ impl NameBuf {
         }
     }
 
-    /// The bytes of the name, without a NUL, at most 4,096.
+    /// Returns the bytes of the name, without a NUL, at most 4,096.
     pub fn bytes(&self) -> &[u8]
         ensures value { result.now ≡ self.now }
         ensures fits { length self.now ≤ 4096 }
@@ -50,8 +50,7 @@ impl NameBuf {
         self.len = 0;
     }
 
-    /// Adds `bytes` at the end, as far as the name then has no more than `cap` bytes. It has no more
-    /// before.
+    /// Appends `bytes`, up to a total length of `cap` bytes. The length is at most that before.
     pub fn add(&mut self, bytes: &[u8], cap: NameLimit)
         requires { length self.old ≤ cap.bytes }
         ensures { self.new ≡ take cap.bytes (self.old ++ bytes.now) }

@@ -13,13 +13,13 @@ use elf_options::NameLimit;
 use elf_source::{Counted, Source};
 use memchr::memchr;
 
-/// Goes over the next `want` bytes of a window, no more than are left, or fewer up to the first NUL,
-/// and adds those before it to `name`, which is empty, as far as `cap`. Answers whether there is a
-/// NUL. The window then stands somewhere in those bytes, or behind them; its page is not empty, and
-/// its range ends within the source's length. After a fault `name` holds any bytes.
+/// Searches the next `want` bytes of a window, no more than are left, or fewer up to the first NUL,
+/// and appends those before it to `name`, which is empty, as far as `cap`. Returns whether there is
+/// a NUL. The window is then somewhere in those bytes, or after them; its page is not empty, and
+/// its range ends within the source's length. After a fault the contents of `name` are unspecified.
 ///
 /// # Errors
-/// A fault of a read, or a refusal for want of budget, at the first byte that was not asked for.
+/// Returns a fault of a read, or the refusal `Budget`, at the first byte that was not read yet.
 pub fn search_name<S: Source, const N: usize>(
     window: &mut Window<N>,
     src: &mut Counted<S>,
@@ -53,7 +53,7 @@ pub fn search_name<S: Source, const N: usize>(
     Ok(false)
 }
 
-/// The place of the first NUL in some bytes, if there is one.
+/// Returns the index of the first NUL in some bytes, if there is one.
 pub fn find_nul(bytes: &[u8]) -> Option<usize>
     ensures first { nul_in bytes.now ≡ result }
     ensures below { IfSome result (λ place. place < length bytes.now) }

@@ -17,7 +17,7 @@ use elf_record::Cause;
 use elf_source::{Counted, Source};
 use std::marker::Model;
 
-/// How many bytes of a name are asked for at once.
+/// The number of bytes of a name that are read at once.
 const PIECE: usize = 64;
 
 /// How a name that was read ends.
@@ -25,7 +25,7 @@ const PIECE: usize = 64;
 pub enum NameEnd {
     /// The name is whole.
     Whole,
-    /// The name is longer than what is shown of it.
+    /// The name is longer than the part that is shown.
     Cut,
 }
 
@@ -50,12 +50,12 @@ impl Model for Names {
 }
 
 impl Names {
-    /// The string table of `size` bytes from the file offset `at` on. Its end `at + size` is an
+    /// Returns the string table of `size` bytes at the file offset `at`. Its end `at + size` is an
     /// offset below 2^64.
     ///
-    /// No file is looked at, and the string table has had no check: it may lie past the end of a
-    /// file. The calls that read through it, [`Names::read`] and [`Names::equals`], have the
-    /// condition that a string table with bytes ends at or below the source's length.
+    /// No file is read, and the string table is not checked: it may lie past the end of a file. The
+    /// calls that read through it, [`Names::read`] and [`Names::equals`], require that a string
+    /// table with bytes ends at or below the source's length.
     pub fn new(at: u64, size: u64) -> Names
         requires { at + size < 2 ^ 64 }
         ensures { result ≡ record { at = at; size = size } }
@@ -64,15 +64,15 @@ impl Names {
     }
 
     /// Reads the name at the index `off` into `name`: the bytes before its NUL, or its first `cap`
-    /// bytes where it has more (gABI 4, String Table). An empty string table has the empty name at
+    /// bytes if it has more (gABI 4, String Table). An empty string table has the empty name at
     /// index 0. It reads in pieces of 64 bytes, up to the first NUL, never past the string table's
-    /// end and at most `cap + 1` bytes. After a fault `name` holds any bytes.
+    /// end and at most `cap + 1` bytes. After a fault the contents of `name` are unspecified.
     ///
     /// # Errors
-    /// Refused at `at`, the offset of the entry that holds the index: `NameOutside` where the index
-    /// is not below the table's size, `NameUnended` where no more than `cap` bytes are left and
-    /// none is a NUL; `Budget`, only where a limit is set, at the offset of the piece that it has
-    /// no room for. Else a fault of the source.
+    /// Returns a refusal at `at`, the offset of the entry that holds the index: `NameOutside` if
+    /// the index is not below the table's size, `NameUnended` if no more than `cap` bytes are left
+    /// and none is a NUL; `Budget`, only if a limit is set, at the offset of the piece that exceeds
+    /// it. Otherwise returns a fault of the source.
     pub fn read<S: Source>(
         &self,
         src: &mut Counted<S>,
@@ -108,7 +108,7 @@ impl Names {
         refused(at, Cause::NameUnended)
     }
 
-    /// The file offset of the first byte.
+    /// Returns the file offset of the first byte.
     pub fn at(&self) -> u64
         ensures value { result ≡ self.now.at }
         ensures ends { self.now.at + self.now.size < 2 ^ 64 }
@@ -116,7 +116,7 @@ impl Names {
         self.at
     }
 
-    /// The number of bytes.
+    /// Returns the number of bytes.
     pub fn size(&self) -> u64
         ensures value { result ≡ self.now.size }
         ensures ends { self.now.at + self.now.size < 2 ^ 64 }
@@ -124,16 +124,16 @@ impl Names {
         self.size
     }
 
-    /// Whether the name at the index `off` is `wanted`, at most 4,096 bytes without a NUL (gABI 4,
-    /// String Table). It asks once for as many bytes as `wanted` has with its NUL, never past the
-    /// string table's end; where those are 4,097, twice at most. In an empty string table the answer
-    /// at index 0 is false.
+    /// Returns `true` if the name at the index `off` is `wanted`, at most 4,096 bytes without a NUL
+    /// (gABI 4, String Table). It reads once, as many bytes as `wanted` has with its NUL, never
+    /// past the string table's end; if those are 4,097, twice at most. In an empty string table the
+    /// result at index 0 is `false`.
     ///
     /// # Errors
-    /// Refused at `at`, the offset of the entry that holds the index: `NameOutside` where the index
-    /// is not below the table's size, `NameUnended` where the table ends before the name and its
-    /// NUL, with all bytes equal so far; `Budget`, only where a limit is set, at the offset of the
-    /// piece that it has no room for. Else a fault of the source.
+    /// Returns a refusal at `at`, the offset of the entry that holds the index: `NameOutside` if
+    /// the index is not below the table's size, `NameUnended` if the table ends before the name and
+    /// its NUL, with all bytes equal so far; `Budget`, only if a limit is set, at the offset of the
+    /// piece that exceeds it. Otherwise returns a fault of the source.
     pub fn equals<S: Source>(
         &self,
         src: &mut Counted<S>,
@@ -168,8 +168,8 @@ impl Names {
     }
 }
 
-// Reads `want` bytes from `start` on, or fewer up to the first that differs, and answers whether
-// they are those of `wanted` and a NUL. It reads as many at once as one read may ask for.
+// Reads `want` bytes at `start`, or fewer up to the first that differs, and returns whether they
+// are those of `wanted` and a NUL. It reads as many at once as one read may take.
 fn matches<S: Source>(
     src: &mut Counted<S>,
     start: u64,
@@ -190,7 +190,7 @@ fn matches<S: Source>(
     }
 }
 
-// The same in pieces of `N` bytes.
+// Does the same in pieces of `N` bytes.
 fn match_pieces<S: Source, const N: usize>(
     src: &mut Counted<S>,
     start: u64,
@@ -220,7 +220,8 @@ fn match_pieces<S: Source, const N: usize>(
     Ok(true)
 }
 
-// Whether a piece has the bytes of `wanted` from a place on, with a NUL where `wanted` ends.
+// Returns `true` if a piece has the bytes of `wanted` from the index `done` on, with a NUL at the
+// end of `wanted`.
 fn agrees(piece: &[u8], wanted: &[u8], done: usize) -> bool
     requires { done + length piece.now < 2 ^ 64 }
     ensures { MatchBool result
@@ -237,7 +238,7 @@ fn agrees(piece: &[u8], wanted: &[u8], done: usize) -> bool
     true
 }
 
-// The byte at a place, or a NUL past the end.
+// Returns the byte at an index, or a NUL past the end.
 fn byte_or_nul(bytes: &[u8], place: usize) -> u8
     ensures { result ≡ slice_index bytes.now place }
 {

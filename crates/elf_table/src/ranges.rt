@@ -1,9 +1,9 @@
-//! Ranges of a file in whole numbers.
+//! Ranges of a file, computed without overflow.
 ghost use Rattle.std.specs.Prelude.{◌≡◌};
 ghost use Rattle.elf_model.specs.Checks.{is_outside};
 
-/// Whether `bytes` bytes from the offset `offset` on end past a file of `size` bytes. The sum is a
-/// whole number, which nothing wraps.
+/// Returns `true` if `bytes` bytes at the offset `offset` end past a file of `size` bytes. The sum
+/// does not wrap.
 pub fn is_out_of_bounds(size: u64, offset: u64, bytes: u64) -> bool
     ensures { result ≡ is_outside size offset bytes }
 {

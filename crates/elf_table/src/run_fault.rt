@@ -7,7 +7,7 @@ use thiserror::Error;
 /// Why a call that reads a file and writes what it finds stopped before its end.
 #[derive(Clone, Copy, Debug, PartialEq, Eq, Error)]
 pub enum RunFault {
-    /// The file or what was asked of it is refused, or a limit has too few bytes left.
+    /// The file or the request is refused, or the read budget has too few bytes left.
     #[error("refused")]
     Refused(Refusal),
     /// The source failed at a read.
@@ -15,7 +15,7 @@ pub enum RunFault {
     Source {
         /// Why it failed.
         fault: SourceFault,
-        /// The offset, in bytes, that was asked for.
+        /// The offset of the read, in bytes.
         at: u64,
     },
     /// The output failed.

@@ -1,4 +1,4 @@
-//! The load of a file's section headers.
+//! Loading a file's section headers.
 ghost use Rattle.std.specs.Prelude.{◌≡◌, ℕ, ◌+◌, ◌*◌, ◌≤◌, List, length};
 ghost use Rattle.std.specs.Prelude.{None, Some, Err, IfErr, IfSome, MatchOption};
 ghost use Rattle.elf_model.specs.Prelude.{IsBudgetRefusal, first_refusal, section_name_checks};
@@ -19,16 +19,16 @@ use elf_record::{Cause, Ehdr, Refusal};
 use elf_source::{Counted, Source};
 
 /// Loads the section headers of a file into the store, each read once, and checks the file header's
-/// counts and places and the section of the section names (gABI 4, ELF Header). `header` is the
-/// file's header. At an error no section header is loaded, and the store may be loaded again. No
+/// counts and offsets and the section of the section names (gABI 4, ELF Header). `header` is the
+/// file's header. On an error no section header is loaded, and the store may be loaded again. No
 /// program header stays loaded.
 ///
 /// # Errors
-/// The first check that fails, of the file header's with nothing read: `ExtendedNumbering` at 0x38,
-/// 0x3e or 0x3c; `TooManyHeaders` at 0x3c or 0x38, more headers than the store has slots;
+/// Returns the first check that fails, of the file header's with nothing read: `ExtendedNumbering`
+/// at 0x38, 0x3e or 0x3c; `TooManyHeaders` at 0x3c or 0x38, more headers than the store has slots;
 /// `EntrySize` at 0x3a or 0x36; `TableOutside` at 0x28 or 0x20; `BadLink` at 0x3e. Then of the
-/// section of the section names, where there is one: `NotStrings` and `TableOutside` at its section
-/// header. A fault of a read, or a refusal for want of budget, names the offset that was asked for.
+/// section of the section names, if there is one: `NotStrings` and `TableOutside` at its section
+/// header. A fault of a read, or the refusal `Budget`, points to the offset of the read.
 pub fn load<S: Source>(
     src: &mut Counted<S>,
     store: &mut HeaderStore,
@@ -36,8 +36,7 @@ pub fn load<S: Source>(
 ) -> Result<Loaded, Fault>
     ensures slots { store.new.slots ≡ store.old.slots }
     ensures segments { store.new.segments ≡ 0 }
-    // At most the section headers are asked for, and nothing where the file header refuses the
-    // file.
+    // At most the section headers are read, and nothing if the file header refuses the file.
     ensures reads { ReadsUpTo src.old src.new
         (load_cost header.now src.old.seen.size store.old.slots) }
     ensures says { IfErr result
@@ -63,8 +62,8 @@ pub fn load<S: Source>(
     Ok(Loaded::new(size, header))
 }
 
-/// The first check that fails before the section headers are read, with as many headers permitted
-/// as the store has slots.
+/// Returns the first check that fails before the section headers are read; the store's slots are
+/// the limit on headers.
 fn refused_unread(store: &HeaderStore, header: &Ehdr, size: u64) -> Option<Refusal>
     ensures refusal { result ≡ first_refusal (early_of header.now size store.now.slots) }
     ensures passes { MatchOption result (PassesLoadChecks size store.now.slots header.now)
@@ -75,8 +74,8 @@ fn refused_unread(store: &HeaderStore, header: &Ehdr, size: u64) -> Option<Refus
     check_before_load(header, size, headers)
 }
 
-/// The first check that fails once the section headers are loaded, as [`refused_names`] answers it;
-/// with a refusal no section header stays loaded.
+/// Returns the first check that fails once the section headers are loaded, as [`refused_names`]
+/// does; with a refusal no section header stays loaded.
 fn check_after_load(store: &mut HeaderStore, header: &Ehdr, size: u64) -> Option<Refusal>
     requires passes { PassesLoadChecks size store.old.slots header.now }
     requires count { store.old.loaded ≡ header.now.e_shnum }
@@ -92,7 +91,7 @@ fn check_after_load(store: &mut HeaderStore, header: &Ehdr, size: u64) -> Option
     refusal
 }
 
-/// The first check of the section of the section names that fails; none where there is no such
+/// Returns the first failing check of the section of the section names; none if there is no such
 /// section (gABI 4, String Table).
 fn refused_names(store: &HeaderStore, header: &Ehdr, size: u64) -> Option<Refusal>
     requires passes { PassesLoadChecks size store.now.slots header.now }
@@ -115,8 +114,8 @@ fn refused_names(store: &HeaderStore, header: &Ehdr, size: u64) -> Option<Refusa
     None
 }
 
-/// The first check before the section headers are read that fails, in a file of `size` bytes and
-/// with so many headers permitted (gABI 4, ELF Header).
+/// Returns the first failing check of those before the section headers are read, in a file of
+/// `size` bytes and with `headers` as the limit on headers (gABI 4, ELF Header).
 pub fn check_before_load(header: &Ehdr, size: u64, headers: u16) -> Option<Refusal>
     ensures refusal { result ≡ first_refusal (early_of header.now size headers) }
     ensures passes { MatchOption result (PassesLoadChecks size headers header.now) (λ _. Unit {0}) }

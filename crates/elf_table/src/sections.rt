@@ -25,14 +25,15 @@ use elf_record::sizes::{
 use elf_record::{Cause, Shdr};
 
 impl SectionView<'_> {
-    /// How many section headers there are.
+    /// Returns the number of section headers.
     pub fn sections(&self) -> u16
         ensures { result ≡ self.now.store.now.loaded }
     {
         self.store.loaded()
     }
 
-    /// The section header of an index below [`SectionView::sections`] (gABI 4, Section Header).
+    /// Returns the section header of an index below [`SectionView::sections`] (gABI 4, Section
+    /// Header).
     pub fn section(&self, section: u16) -> Shdr
         requires { section < self.now.store.now.loaded }
         ensures fields { IsShdr (row self.now.store.now section) 0 result }
@@ -43,8 +44,8 @@ impl SectionView<'_> {
         self.store.section(section)
     }
 
-    /// The program headers, rows of 56 bytes, at most 65,279; none where e_phnum is 0 (gABI 5,
-    /// Program Header).
+    /// Returns the table of program headers, rows of 56 bytes, at most 65,279; none if e_phnum is 0
+    /// (gABI 5, Program Header).
     pub fn segments(&self) -> Table
         ensures value { result ≡ program_headers self.now.loaded.header }
         ensures few { result.count ≤ 65279 }
@@ -53,11 +54,11 @@ impl SectionView<'_> {
         self.loaded.segments()
     }
 
-    /// `size` bytes of the file from `offset` on, as rows of one byte; none are not checked. A
-    /// refusal names `at`.
+    /// Returns `size` bytes of the file at `offset`, as rows of one byte; an empty range is not
+    /// checked. A refusal points to `at`.
     ///
     /// # Errors
-    /// `TableOutside` at `at` where they end past the end of the file.
+    /// Returns `TableOutside` at `at` if they end past the end of the file.
     pub fn bytes(&self, offset: u64, size: u64, at: u64) -> Result<Table, Fault>
         ensures value { result ≡ byte_rows self.now.loaded.size offset size at }
         ensures within { IfOk result (TableInBounds self.now.loaded.size) }
@@ -65,12 +66,12 @@ impl SectionView<'_> {
         self.loaded.bytes(offset, size, at)
     }
 
-    /// The section as a table of rows of `entry` bytes, 1 to 4,096. One of size 0 is not checked. No
-    /// bytes are read.
+    /// Returns the section as a table of rows of `entry` bytes, 1 to 4,096. A section of size 0 is
+    /// not checked. No bytes are read.
     ///
     /// # Errors
-    /// The first check that fails, at the section's header: `EntrySize` where sh_entsize is another
-    /// size, `SizeNotWhole` where sh_size is no multiple of it, `TableOutside` where the section
+    /// Returns the first check that fails, at the section's header: `EntrySize` if sh_entsize is
+    /// another size, `SizeNotWhole` if sh_size is no multiple of it, `TableOutside` if the section
     /// ends past the end of the file.
     pub fn table(&self, section: u16, entry: u64) -> Result<Table, Fault>
         requires below { section < self.now.store.now.loaded }
@@ -88,13 +89,13 @@ impl SectionView<'_> {
         )
     }
 
-    /// The string table that a section refers to by its sh_link. It is checked at every size. No
-    /// bytes are read (gABI 4, String Table).
+    /// Returns the string table that a section links to by its sh_link. It is checked at every
+    /// size. No bytes are read (gABI 4, String Table).
     ///
     /// # Errors
-    /// The first check that fails: `BadLink` at the header of `section` where its link is 0 or
-    /// names no section; `NotStrings` where the linked section is no string table, and
-    /// `TableOutside` where it ends past the end of the file, both at the linked section's header.
+    /// Returns the first check that fails: `BadLink` at the header of `section` if its link is 0 or
+    /// names no section; `NotStrings` if the linked section is no string table, and `TableOutside`
+    /// if it ends past the end of the file, both at the linked section's header.
     pub fn strings(&self, section: u16) -> Result<Names, Fault>
         requires below { section < self.now.store.now.loaded }
         ensures held { AnswersSection self.now section result string_table_at }
@@ -115,11 +116,11 @@ impl SectionView<'_> {
         )
     }
 
-    /// The string table of the section names; None where e_shnum or e_shstrndx is 0 (gABI 4, ELF
-    /// Header). No bytes are read.
+    /// Returns the string table of the section names; `None` if e_shnum or e_shstrndx is 0 (gABI 4,
+    /// ELF Header). No bytes are read.
     ///
     /// It lies within the file, as `load` checked. With the headers of another file in the store it
-    /// may not, and then the answer is None too.
+    /// may not, and then the result is `None` too.
     pub fn names(&self) -> Option<Names>
         ensures held { (file : List ℕ) →
             HoldsSectionHeaders file self.now.loaded self.now.store.now →
@@ -138,12 +139,13 @@ impl SectionView<'_> {
         Some(Names::new(section.sh_offset, section.sh_size))
     }
 
-    /// The symbols of a section, rows of 24 bytes, and the string table with their names; two empty
-    /// ones where the section is empty, with no check. The section's type is not looked at. No
+    /// Returns the symbols of a section, rows of 24 bytes, and the string table of their names; two
+    /// empty tables, without a check, if the section is empty. The section's type is ignored. No
     /// bytes are read (gABI 4, Symbol Table).
     ///
     /// # Errors
-    /// The first check that fails: those of [`SectionView::table`], then those of [`SectionView::strings`].
+    /// Returns the first check that fails: those of [`SectionView::table`], then those of
+    /// [`SectionView::strings`].
     pub fn symbols(&self, section: u16) -> Result<(Table, Names), Fault>
         requires below { section < self.now.store.now.loaded }
         ensures held { AnswersSection self.now section result symbols_at }
@@ -163,8 +165,8 @@ impl SectionView<'_> {
         Ok((table, names))
     }
 
-    /// The symbols that a section of relocations refers to by its sh_link, with their names; None
-    /// where that names no section of symbols (gABI 4, Relocation). No bytes are read.
+    /// Returns the symbols that a section of relocations links to by its sh_link, with their names;
+    /// `None` if that names no section of symbols (gABI 4, Relocation). No bytes are read.
     ///
     /// # Errors
     /// Those of [`SectionView::symbols`] at the linked section.
@@ -189,12 +191,13 @@ impl SectionView<'_> {
         Ok(Some(symbols))
     }
 
-    /// The relocation entries of a section, rows of 24 bytes, and the symbols that they refer to,
-    /// as [`SectionView::linked`] answers; no rows and None where the section is empty, with no check. The
-    /// section's type is not looked at. No bytes are read (gABI 4, Relocation).
+    /// Returns the relocation entries of a section, rows of 24 bytes, and the symbols that they
+    /// refer to, as [`SectionView::linked`] does; no rows and `None`, without a check, if the
+    /// section is empty. The section's type is ignored. No bytes are read (gABI 4, Relocation).
     ///
     /// # Errors
-    /// The first check that fails: those of [`SectionView::table`], then those of [`SectionView::linked`].
+    /// Returns the first check that fails: those of [`SectionView::table`], then those of
+    /// [`SectionView::linked`].
     pub fn relocations(&self, section: u16) -> Result<(Table, Option<(Table, Names)>), Fault>
         requires below { section < self.now.store.now.loaded }
         ensures held { (file : List ℕ) →
@@ -215,7 +218,7 @@ impl SectionView<'_> {
         Ok((table, linked))
     }
 
-    /// The first section of a type, if there is one (gABI 4, Section Header).
+    /// Returns the first section of a type, if there is one (gABI 4, Section Header).
     pub fn first(&self, sh_type: u32) -> Option<u16>
         ensures below { IfSome result (λ section. section < self.now.store.now.loaded) }
         ensures value { result ≡ first_typed (sections_in self.now) sh_type }
@@ -231,8 +234,8 @@ impl SectionView<'_> {
         None
     }
 
-    /// The first section of version numbers that links to a section, if there is one (Linux Standard
-    /// Base Core, Symbol Versioning).
+    /// Returns the first section of symbol versions (SHT_GNU_versym) that links to a section, if
+    /// there is one (Linux Standard Base Core, Symbol Versioning).
     pub fn version_numbers_of(&self, symbols: u32) -> Option<u16>
         ensures below { IfSome result (λ section. section < self.now.store.now.loaded) }
         ensures value { result ≡ first_numbers (sections_in self.now) symbols }
@@ -248,14 +251,14 @@ impl SectionView<'_> {
         None
     }
 
-    /// The versions of symbols of a section, rows of 2 bytes, and how many symbols there are in the
-    /// table that it links to; none of an empty section, with no check. The section's type is not
-    /// looked at. No bytes are read (Linux Standard Base Core, Symbol Versioning).
+    /// Returns the symbol versions of a section, rows of 2 bytes, and the number of symbols in the
+    /// table that it links to; none, without a check, if the section is empty. The section's type
+    /// is ignored. No bytes are read (Linux Standard Base Core, Symbol Versioning).
     ///
     /// # Errors
-    /// The first check that fails: those of [`SectionView::table`]; `BadLink` at the section's header where
-    /// its link is 0 or names no section of symbols; then those of [`SectionView::symbols`] at the linked
-    /// section.
+    /// Returns the first check that fails: those of [`SectionView::table`]; `BadLink` at the
+    /// section's header if its link is 0 or names no section of symbols; then those of
+    /// [`SectionView::symbols`] at the linked section.
     pub fn symbol_versions(&self, section: u16) -> Result<(Table, u64), Fault>
         requires below { section < self.now.store.now.loaded }
         ensures held { (file : List ℕ) →
@@ -278,7 +281,7 @@ impl SectionView<'_> {
         Ok((table, symbols.0.len()))
     }
 
-    /// Whether a section links to a section of symbols, which is not the first.
+    /// Returns `true` if a section links to a section of symbols, which is not the first.
     pub(crate) fn links_to_symbols(&self, section: u16) -> bool
         requires below { section < self.now.store.now.loaded }
         ensures linked { IsTrue result → LinksToSymbols self.now section }
@@ -293,8 +296,8 @@ impl SectionView<'_> {
             && holds_symbols(&self.store.section(link as u16))
     }
 
-    /// The file offset of the section header of an index below e_shnum, in bytes (gABI 4, Section
-    /// Header).
+    /// Returns the file offset of the section header of an index below e_shnum, in bytes (gABI 4,
+    /// Section Header).
     pub fn place(&self, section: u16) -> u64
         requires { section < self.now.loaded.header.e_shnum }
         ensures value { result ≡ section_place self.now.loaded.header section }
@@ -303,7 +306,7 @@ impl SectionView<'_> {
     }
 }
 
-/// Whether a section header is that of version numbers that link to a section.
+/// Returns `true` if a section header is that of symbol versions that link to a section.
 fn numbers(header: &Shdr, symbols: u32) -> bool
     ensures { result ≡ (header.now.sh_type == VERSYM && header.now.sh_link == symbols) }
 {

@@ -13,8 +13,8 @@ use crate::table::Table;
 use elf_record::numbers::PT_LOAD;
 use elf_record::{Cause, Phdr};
 
-/// Whether the segment is a LOAD segment whose bytes in the file hold the `size` bytes from the
-/// address `address` on (gABI 5, Program Loading). The sums are whole numbers.
+/// Returns `true` if the segment is a LOAD segment whose bytes in the file include the `size` bytes
+/// at the address `address` (gABI 5, Program Loading). The sums do not wrap.
 pub(crate) fn maps(header: &Phdr, address: u64, size: u64) -> bool
     ensures value { (bytes : List ℕ) (at : ℕ) → IsPhdr bytes at header.now →
         result ≡ is_mapped_by bytes at address size }
@@ -28,8 +28,8 @@ pub(crate) fn maps(header: &Phdr, address: u64, size: u64) -> bool
         && u128::from(address) + u128::from(size) <= end
 }
 
-/// The string table of `bytes` bytes at an address that the segment holds, in a file of `size`
-/// bytes. A refusal names `place`.
+/// Returns the string table of `bytes` bytes at an address that the segment holds, in a file of
+/// `size` bytes. A refusal points to `place`.
 pub(crate) fn checked_mapped(
     header: &Phdr,
     size: u64,
@@ -51,8 +51,8 @@ pub(crate) fn checked_mapped(
     Ok(Names::new(offset as u64, bytes))
 }
 
-/// The bytes of the segment from one that it holds at an address on, as rows of one byte, in a file
-/// of `size` bytes. A refusal names `place`.
+/// Returns the bytes of the segment from an address that it holds to its end, as rows of one byte,
+/// in a file of `size` bytes. A refusal points to `place`.
 pub(crate) fn checked_rest(
     header: &Phdr,
     size: u64,

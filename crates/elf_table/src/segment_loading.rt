@@ -1,4 +1,4 @@
-//! The load of a file's program headers.
+//! Loading a file's program headers.
 ghost use Rattle.std.specs.Prelude.{◌≡◌, ℕ, ◌*◌, ◌≤◌, if◌then◌else◌, is_ok, List, Some, IfErr};
 ghost use Rattle.std.specs.Prelude.{OnOk};
 ghost use Rattle.elf_source.specs.Source.{ReadsUpTo};
@@ -11,14 +11,14 @@ use crate::store::HeaderStore;
 use elf_source::{Counted, Source};
 
 impl Loaded {
-    /// Loads the program headers of a file that has no sections into the store, each read once: 56
-    /// bytes each are asked for, and nothing where there are none. They are no more than the store has
-    /// slots, and lie within the source. No section header stays loaded. They stay until the next load
+    /// Loads the program headers of a file that has no sections into the store, each read once, 56
+    /// bytes for each, and nothing if there are none. They are no more than the store has slots,
+    /// and lie within the source. No section header stays loaded. They stay until the next load
     /// into the store (gABI 5, Program Header).
     ///
     /// # Errors
-    /// A fault of a read, or a refusal for want of budget, at the offset that was asked for. Then
-    /// no header is loaded, and the store may be loaded again.
+    /// Returns a fault of a read, or the refusal `Budget`, at the offset of the read. Then no
+    /// header is loaded, and the store may be loaded again.
     pub fn load_segments<S: Source>(
         &self,
         src: &mut Counted<S>,

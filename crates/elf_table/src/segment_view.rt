@@ -1,10 +1,10 @@
-//! A loaded file in the segment view.
+//! A loaded file in the segment view (gABI 4, execution view).
 ghost use Rattle.std.specs.Prelude.{◌≡◌};
 
 use crate::loaded::Loaded;
 use crate::store::HeaderStore;
 
-/// A loaded file in the segment view: with the store that holds its program headers.
+/// A loaded file in the segment view, with the store that holds its program headers.
 #[derive(Clone, Copy)]
 pub struct ExecutionView<'a> {
     /// The file.

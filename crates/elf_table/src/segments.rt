@@ -21,14 +21,15 @@ use elf_record::sizes::{DYNAMIC_BYTES, PROGRAM_HEADER_BYTES};
 use elf_record::{Cause, Phdr};
 
 impl ExecutionView<'_> {
-    /// How many program headers there are.
+    /// Returns the number of program headers.
     pub fn segments(&self) -> u16
         ensures { result ≡ self.now.store.now.segments }
     {
         self.store.segments()
     }
 
-    /// The program header of an index below [`ExecutionView::segments`] (gABI 5, Program Header).
+    /// Returns the program header of an index below [`ExecutionView::segments`] (gABI 5, Program
+    /// Header).
     pub fn segment(&self, segment: u16) -> Phdr
         requires { segment < self.now.store.now.segments }
         ensures fields { IsPhdr (segment_bytes self.now.store.now segment) 0 result }
@@ -39,8 +40,8 @@ impl ExecutionView<'_> {
         self.store.segment(segment)
     }
 
-    /// The file offset of the program header of an index below e_phnum, in bytes (gABI 5, Program
-    /// Header).
+    /// Returns the file offset of the program header of an index below e_phnum, in bytes (gABI 5,
+    /// Program Header).
     pub fn place(&self, segment: u16) -> u64
         requires { segment < self.now.loaded.header.e_phnum }
         ensures value { result ≡ segment_place self.now.loaded.header segment }
@@ -48,12 +49,12 @@ impl ExecutionView<'_> {
         self.loaded.header().e_phoff + PROGRAM_HEADER_BYTES * u64::from(segment)
     }
 
-    /// The dynamic entries of a segment, rows of 16 bytes. One of size 0 is not checked. The
-    /// segment's type is not looked at. No bytes are read (gABI 5, Dynamic Section).
+    /// Returns the dynamic entries of a segment, rows of 16 bytes. A segment of size 0 is not
+    /// checked. The segment's type is ignored. No bytes are read (gABI 5, Dynamic Section).
     ///
     /// # Errors
-    /// The first check that fails, at the program header: `SizeNotWhole` where p_filesz is no
-    /// multiple of 16, `TableOutside` where the segment ends past the end of the file.
+    /// Returns the first check that fails, at the program header: `SizeNotWhole` if p_filesz is no
+    /// multiple of 16, `TableOutside` if the segment ends past the end of the file.
     pub fn dynamic(&self, segment: u16) -> Result<Table, Fault>
         requires { segment < self.now.store.now.segments }
         ensures value { result ≡ dynamic_in self.now segment }
@@ -71,11 +72,11 @@ impl ExecutionView<'_> {
         )
     }
 
-    /// The bytes of a segment, as rows of one byte; none are not checked. The segment's type is not
-    /// looked at. No bytes are read (gABI 5, Program Header).
+    /// Returns the bytes of a segment, as rows of one byte; an empty segment is not checked. The
+    /// segment's type is ignored. No bytes are read (gABI 5, Program Header).
     ///
     /// # Errors
-    /// `TableOutside` at the program header where the segment ends past the end of the file.
+    /// Returns `TableOutside` at the program header if the segment ends past the end of the file.
     pub fn bytes(&self, segment: u16) -> Result<Table, Fault>
         requires { segment < self.now.store.now.segments }
         ensures held { ReturnsSegment self.now segment result byte_table_at }
@@ -91,13 +92,13 @@ impl ExecutionView<'_> {
         )
     }
 
-    /// The string table of `size` bytes at an address, which the entry at the file offset `at`
-    /// gives: where the first LOAD program header that holds them all says. It is checked at every
-    /// size. No bytes are read (gABI 5, Program Loading).
+    /// Returns the string table of `size` bytes at an address, which the entry at the file offset
+    /// `at` holds, by the first LOAD program header that holds all these bytes. It is checked at
+    /// every size. No bytes are read (gABI 5, Program Loading).
     ///
     /// # Errors
-    /// `Unmapped` at `at` where no LOAD program header holds them; `TableOutside` at that program
-    /// header where they end past the end of the file.
+    /// Returns `Unmapped` at `at` if no LOAD program header holds them; `TableOutside` at that
+    /// program header if they end past the end of the file.
     pub fn mapped(&self, address: u64, size: u64, at: u64) -> Result<Names, Fault>
         ensures held { (file : List ℕ) →
             HoldsProgramHeaders file self.now.loaded self.now.store.now →
@@ -114,7 +115,8 @@ impl ExecutionView<'_> {
         checked_mapped(&header, self.loaded.size(), place, address, size)
     }
 
-    /// The index of the first program header of a type, if there is one (gABI 5, Program Header).
+    /// Returns the index of the first program header of a type, if there is one (gABI 5, Program
+    /// Header).
     pub fn first_segment(&self, kind: u32) -> Option<u16>
         ensures below { IfSome result (λ segment. segment < self.now.store.now.segments) }
         ensures first { (file : List ℕ) →
@@ -129,13 +131,13 @@ impl ExecutionView<'_> {
         None
     }
 
-    /// The bytes of the first LOAD segment that holds the byte at an address, from that byte on, as
-    /// rows of one byte. The entry at the file offset `at` gives the address. No bytes are read
-    /// (gABI 5, Program Loading).
+    /// Returns the bytes of the first LOAD segment that holds the byte at an address, from that
+    /// byte to the segment's end, as rows of one byte. The entry at the file offset `at` holds the
+    /// address. No bytes are read (gABI 5, Program Loading).
     ///
     /// # Errors
-    /// `Unmapped` at `at` where no LOAD program header holds the byte; `TableOutside` at that program
-    /// header where its bytes end past the end of the file.
+    /// Returns `Unmapped` at `at` if no LOAD program header holds the byte; `TableOutside` at that
+    /// program header if its bytes end past the end of the file.
     pub fn rest(&self, address: u64, at: u64) -> Result<Table, Fault>
         ensures value { (file : List ℕ) →
             HoldsProgramHeaders file self.now.loaded self.now.store.now →
@@ -150,7 +152,7 @@ impl ExecutionView<'_> {
         checked_rest(&header, self.loaded.size(), place, address)
     }
 
-    /// The index of the first LOAD program header that holds `size` bytes from an address on.
+    /// Returns the index of the first LOAD program header that holds `size` bytes at an address.
     fn mapping(&self, address: u64, size: u64) -> Option<u16>
         ensures held { (file : List ℕ) →
             HoldsProgramHeaders file self.now.loaded self.now.store.now →

@@ -1,4 +1,4 @@
-//! The store of headers, over memory that its caller lends.
+//! The store of headers, over memory borrowed from its caller.
 ghost use Rattle.std.specs.Prelude.{◌≡◌, ℕ, ◌+◌, ◌*◌, ◌^◌, if◌then◌else◌, is_ok, ◌<◌, ◌≤◌};
 ghost use Rattle.std.specs.Prelude.{List, Some, length, take, IfOk, IfErr, OnOk};
 ghost use Rattle.elf_model.specs.Prelude.{section_at, segment_at, slice};
@@ -19,8 +19,8 @@ pub(crate) const SLOT_BYTES: usize = 64;
 /// The size of a program header in bytes.
 const SEGMENT_BYTES: usize = 56;
 
-/// The section headers of one file, 64 bytes each, or its program headers, 56 bytes each, one behind
-/// the other, in memory that is lent.
+/// The section headers of one file, 64 bytes each, or its program headers, 56 bytes each,
+/// consecutive in borrowed memory.
 #[derive(Drop)]
 pub struct HeaderStore<'a> {
     bytes: &'a mut [u8],
@@ -49,8 +49,8 @@ impl<'a> Model for HeaderStore<'a> {
 }
 
 impl<'a> HeaderStore<'a> {
-    /// A store of `headers` slots, 1 to 65,279, with no header loaded, over memory of at least 64
-    /// bytes for each slot. What stands in the memory before is not looked at.
+    /// Creates a store of `headers` slots, 1 to 65,279, with no header loaded, over memory of at
+    /// least 64 bytes for each slot. The previous contents of the memory do not matter.
     #[tactic(auto, unfolding(crate::specs::Store::rows_from))]
     pub fn over(bytes: &'a mut [u8], headers: u16) -> HeaderStore<'a>
         requires some { 1 ≤ headers }
@@ -66,7 +66,7 @@ impl<'a> HeaderStore<'a> {
         }
     }
 
-    /// The number of slots, 1 to 65,279. No call changes it.
+    /// Returns the number of slots, 1 to 65,279. No call changes it.
     pub fn slots(&self) -> u16
         ensures value { result ≡ self.now.slots }
         ensures some { 1 ≤ self.now.slots }
@@ -75,15 +75,15 @@ impl<'a> HeaderStore<'a> {
         self.slots
     }
 
-    /// The size of the slots in bytes, 64 each.
+    /// Returns the size of the slots in bytes, 64 each.
     pub fn bytes(&self) -> u64
         ensures { result ≡ 64 * self.now.slots }
     {
         64 * u64::from(self.slots)
     }
 
-    /// The number of section headers that are loaded, at most [`HeaderStore::slots`]; 0 while program
-    /// headers are.
+    /// Returns the number of section headers that are loaded, at most [`HeaderStore::slots`]; 0
+    /// while program headers are.
     pub fn loaded(&self) -> u16
         ensures value { result ≡ self.now.loaded }
         ensures within { self.now.loaded ≤ self.now.slots }
@@ -92,8 +92,8 @@ impl<'a> HeaderStore<'a> {
         self.loaded
     }
 
-    /// The number of program headers that are loaded, at most [`HeaderStore::slots`]; 0 while section
-    /// headers are.
+    /// Returns the number of program headers that are loaded, at most [`HeaderStore::slots`]; 0
+    /// while section headers are.
     pub fn segments(&self) -> u16
         ensures value { result ≡ self.now.segments }
         ensures within { self.now.segments ≤ self.now.slots }
@@ -102,7 +102,8 @@ impl<'a> HeaderStore<'a> {
         self.segments
     }
 
-    /// The section header of an index below [`HeaderStore::loaded`] (gABI 4, Section Header).
+    /// Returns the section header of an index below [`HeaderStore::loaded`] (gABI 4, Section
+    /// Header).
     pub fn section(&self, i: u16) -> Shdr
         requires { i < self.now.loaded }
         ensures fields { IsShdr (row self.now i) 0 result }
@@ -112,7 +113,8 @@ impl<'a> HeaderStore<'a> {
         Shdr::decode(self.row(i))
     }
 
-    /// The program header of an index below [`HeaderStore::segments`] (gABI 5, Program Header).
+    /// Returns the program header of an index below [`HeaderStore::segments`] (gABI 5, Program
+    /// Header).
     pub fn segment(&self, i: u16) -> Phdr
         requires { i < self.now.segments }
         ensures fields { IsPhdr (segment_bytes self.now i) 0 result }
@@ -122,7 +124,7 @@ impl<'a> HeaderStore<'a> {
         Phdr::decode(self.segment_row(i))
     }
 
-    /// The bytes of the section header of an index below [`HeaderStore::loaded`].
+    /// Returns the bytes of the section header of an index below [`HeaderStore::loaded`].
     #[tactic(auto, using(crate::proofs::RowsHeld::row_front))]
     fn row(&self, i: u16) -> &[u8; 64]
         requires { i < self.now.loaded }
@@ -131,7 +133,7 @@ impl<'a> HeaderStore<'a> {
         row_of(self.bytes, i)
     }
 
-    /// The bytes of the program header of an index below [`HeaderStore::segments`].
+    /// Returns the bytes of the program header of an index below [`HeaderStore::segments`].
     #[tactic(auto, using(crate::proofs::RowsHeld::row_front))]
     fn segment_row(&self, i: u16) -> &[u8; 56]
         requires { i < self.now.segments }
@@ -140,8 +142,8 @@ impl<'a> HeaderStore<'a> {
         row_of(self.bytes, i)
     }
 
-    /// Loads the section headers of a file, `count` of them from the offset `from` on; at a fault
-    /// none is loaded. No program header stays loaded.
+    /// Loads the section headers of a file, `count` of them at the offset `from`; on a fault none
+    /// is loaded. No program header stays loaded.
     pub(crate) fn fill<S: Source>(
         &mut self,
         src: &mut Counted<S>,
@@ -166,8 +168,8 @@ impl<'a> HeaderStore<'a> {
         Ok(())
     }
 
-    /// Loads the program headers of a file, `count` of them from the offset `from` on; at a fault
-    /// none is loaded. No section header stays loaded.
+    /// Loads the program headers of a file, `count` of them at the offset `from`; on a fault none
+    /// is loaded. No section header stays loaded.
     pub(crate) fn fill_segments<S: Source>(
         &mut self,
         src: &mut Counted<S>,
@@ -192,7 +194,7 @@ impl<'a> HeaderStore<'a> {
         Ok(())
     }
 
-    /// Lets go of the headers that are loaded.
+    /// Unloads the headers.
     #[tactic(auto, unfolding(crate::specs::Store::rows_from))]
     pub(crate) fn forget(&mut self)
         ensures { self.new ≡ emptied self.old }
@@ -202,7 +204,7 @@ impl<'a> HeaderStore<'a> {
     }
 }
 
-/// Reads `count` rows of `size` bytes from the offset `from` on to the front of `bytes`.
+/// Reads `count` rows of `size` bytes at the offset `from` to the start of `bytes`.
 #[tactic(auto, using(crate::proofs::RowsHeld::rows_read_ok))]
 fn read_rows<S: Source>(
     src: &mut Counted<S>,
@@ -223,7 +225,7 @@ fn read_rows<S: Source>(
     read_front(src, bytes, size * count as usize, from)
 }
 
-/// Reads the bytes from the offset `from` on into the first of `bytes`, so many.
+/// Reads `size` bytes at the offset `from` to the start of `bytes`.
 fn read_front<S: Source>(
     src: &mut Counted<S>,
     bytes: &mut [u8],
@@ -248,7 +250,7 @@ fn read_front<S: Source>(
     Ok(())
 }
 
-/// The row of an index, of rows of `N` bytes one behind the other.
+/// Returns the row of an index, of consecutive rows of `N` bytes.
 fn row_of<const N: usize>(bytes: &[u8], i: u16) -> &[u8; N]
     requires { N * i + N ≤ length bytes.now }
     ensures { result.now ≡ slice bytes.now (N * i) N }

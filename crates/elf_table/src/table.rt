@@ -36,12 +36,12 @@ impl Model for Table {
 }
 
 impl Table {
-    /// A table of `count` rows of `entry` bytes each, 1 to 4,096, from the file offset `at` on. Its
-    /// end `at + count * entry` is an offset below 2^64.
+    /// Returns the table of `count` rows of `entry` bytes each, 1 to 4,096, at the file offset
+    /// `at`. Its end `at + count * entry` is an offset below 2^64.
     ///
-    /// No file is looked at, and the table has had no check: it may lie past the end of a file. The
-    /// calls that read through it, [`Table::symbol`] and those of a `Cursor` over it, have the
-    /// condition that a table with rows ends at or below the source's length.
+    /// No file is read, and the table is not checked: it may lie past the end of a file. The calls
+    /// that read through it, [`Table::symbol`] and those of a `Cursor` over it, require that a
+    /// table with rows ends at or below the source's length.
     pub fn new(at: u64, count: u64, entry: u64) -> Table
         requires some { 0 < entry }
         requires small { entry ≤ 4096 }
@@ -51,28 +51,28 @@ impl Table {
         Table { at, count, entry }
     }
 
-    /// The number of rows.
+    /// Returns the number of rows.
     pub fn len(&self) -> u64
         ensures { result ≡ self.now.count }
     {
         self.count
     }
 
-    /// Whether there is no row.
+    /// Returns `true` if there is no row.
     pub fn is_empty(&self) -> bool
         ensures { IsTrue result ↔ (self.now.count ≡ 0) }
     {
         self.len() == 0
     }
 
-    /// The file offset of the first row, in bytes.
+    /// Returns the file offset of the first row, in bytes.
     pub fn at(&self) -> u64
         ensures { result ≡ self.now.at }
     {
         self.at
     }
 
-    /// The size of a row in bytes, 1 to 4,096.
+    /// Returns the size of a row in bytes, 1 to 4,096.
     pub fn entry(&self) -> u64
         ensures value { result ≡ self.now.entry }
         ensures some { 0 < self.now.entry }
@@ -82,7 +82,7 @@ impl Table {
         self.entry
     }
 
-    /// The file offset of the row of an index below `len()`, in bytes.
+    /// Returns the file offset of the row of an index below `len()`, in bytes.
     pub fn place(&self, index: u64) -> u64
         requires { index < self.now.count }
         ensures { result ≡ row_at self.now index }
@@ -90,11 +90,11 @@ impl Table {
         index * self.entry + self.at
     }
 
-    /// The symbol at the index `index`, which is below `len()`, of a table with rows of 24 bytes that
-    /// ends within the source's length (gABI 4, Symbol Table): one read of 24 bytes.
+    /// Reads the symbol at the index `index`, which is below `len()`, of a table with rows of 24
+    /// bytes that ends within the source's length (gABI 4, Symbol Table): one read of 24 bytes.
     ///
     /// # Errors
-    /// A fault of the read, or a refusal for want of budget, at the symbol's offset.
+    /// Returns a fault of the read, or the refusal `Budget`, at the symbol's offset.
     pub fn symbol<S: Source>(&self, src: &mut Counted<S>, index: u64) -> Result<Sym, Fault>
         requires row { (self.now.entry ≡ 24) × (index < self.now.count) }
         requires within { TableInBounds src.old.seen.size self.now }

@@ -12,12 +12,12 @@ use crate::located_read::fill;
 use elf_source::{Counted, Source};
 use std::marker::Model;
 
-/// How many bytes the window of a cursor holds at most.
+/// The largest number of bytes that the window of a cursor holds.
 pub const WINDOW_BYTES: usize = 4096;
 
-/// A window over a range of a file: a place, and the bytes that were read ahead from there on. Each
-/// byte of the range is asked for at most once, in order, and none past the range's end. Pages are
-/// read, of as many bytes as the window was told, at most `N` and 4,096, or of all that are left.
+/// A window over a range of a file: a position, and the bytes that were read ahead from there. Each
+/// byte of the range is read at most once, in order, and none past the range's end. A read takes a
+/// page, of the window's page size, at most `N` and 4,096, or all bytes that are left.
 #[derive(Drop)]
 pub struct Window<const N: usize> {
     at: u64,
@@ -47,7 +47,7 @@ impl<const N: usize> Model for Window<N> {
 }
 
 impl<const N: usize> Window<N> {
-    /// A window before the first of the `size` bytes from the offset `at` on, which asks for at
+    /// Creates a window before the first of the `size` bytes at the offset `at`, which reads at
     /// most `page` bytes at once, no more than `N` and no more than 4,096.
     pub fn new(at: u64, size: u64, page: u64) -> Window<N>
         requires ends { at + size < 2 ^ 64 }
@@ -65,7 +65,7 @@ impl<const N: usize> Window<N> {
         }
     }
 
-    /// The offset of the next byte.
+    /// Returns the offset of the next byte.
     pub fn at(&self) -> u64
         ensures value { result ≡ self.now.at }
         ensures ends { self.now.at + bytes_left self.now < 2 ^ 64 }
@@ -73,7 +73,7 @@ impl<const N: usize> Window<N> {
         self.at
     }
 
-    /// How many bytes are left.
+    /// Returns the number of bytes that are left.
     pub fn left(&self) -> u64
         ensures value { result ≡ bytes_left self.now }
         ensures ends { self.now.at + bytes_left self.now < 2 ^ 64 }
@@ -81,7 +81,7 @@ impl<const N: usize> Window<N> {
         self.held + self.unread
     }
 
-    /// The bytes that are held.
+    /// Returns the bytes that are held.
     pub fn front(&self) -> &[u8]
         ensures { result.now ≡ self.now.held }
     {
@@ -90,13 +90,13 @@ impl<const N: usize> Window<N> {
         &bytes[self.from as usize..end as usize]
     }
 
-    /// Holds at least `count` bytes, which are no more than a page and than all that are left: those
-    /// that it holds, where they are enough, and else a page, or all bytes that are left. A range with
-    /// bytes left ends within the source's length.
+    /// Fills the window so that it holds at least `count` bytes, which are no more than a page and
+    /// no more than all that are left: those that it holds, if they are enough, otherwise a page,
+    /// or all bytes that are left. A range with bytes left ends within the source's length.
     ///
     /// # Errors
-    /// A fault of a read, or a refusal for want of budget, at the first byte that was not asked for
-    /// yet. Nothing is held then, and the place is behind the bytes that were to be read.
+    /// Returns a fault of a read, or the refusal `Budget`, at the first byte that was not read yet.
+    /// Nothing is held then, and the position is after the bytes that were to be read.
     pub fn fill_buf<S: Source>(&mut self, src: &mut Counted<S>, count: u64) -> Result<(), Fault>
         requires left { HasLeft src.old.seen.size self.old count }
         requires small { count ≤ self.old.page }
@@ -109,7 +109,7 @@ impl<const N: usize> Window<N> {
         self.read_page(src)
     }
 
-    /// Passes over `count` bytes, no more than are left; what isn't held of them is never read.
+    /// Skips `count` bytes, no more than are left; those of them that are not held are never read.
     pub fn skip(&mut self, count: u64)
         requires { count ≤ bytes_left self.old }
         ensures { Skips self.old self.new count }
@@ -121,7 +121,7 @@ impl<const N: usize> Window<N> {
         self.held -= held;
     }
 
-    // Reads as many bytes as fit behind those that are held.
+    // Reads as many bytes as fit after those that are held.
     fn read_page<S: Source>(&mut self, src: &mut Counted<S>) -> Result<(), Fault>
         requires room { (length self.old.held < self.old.page) × (0 < self.old.unread) }
         requires within { RangeWithin src.old.seen.size self.old }
@@ -148,7 +148,7 @@ impl<const N: usize> Window<N> {
     }
 }
 
-// Moves the `held` bytes from the place `from` on to the front.
+// Moves the `held` bytes at the index `from` to the start.
 fn gather<const N: usize>(bytes: &mut [u8; N], from: usize, held: usize)
     requires { from + held ≤ N }
     ensures { take held bytes.new ≡ slice bytes.old from held }

@@ -54,6 +54,8 @@ mod source_tests;
 #[cfg(test)]
 mod streams;
 #[cfg(test)]
+mod surface;
+#[cfg(test)]
 mod tables;
 mod tape;
 #[cfg(test)]

@@ -3,8 +3,8 @@ ghost use Rattle.std.specs.Prelude.{◌≡◌, ◌≤◌, length};
 ghost use Rattle.elf_capi.specs.Applied.{AppliesInMemory, IsApplied};
 
 use elf_capi::{
-    ApplyCall, ApplyInput, CallEnd, CallOutcome, CallStatus, CallerLimits, layout_from, limits_of,
-    report_status, short, write_section,
+    ApplyCall, ApplyInput, CallEnd, CallOutcome, CallStatus, CallerLimits, checked_limits,
+    layout_from, report_status, short, write_section,
 };
 use elf_layout::{Addresses, Layout};
 use elf_table::HeaderStore;
@@ -49,7 +49,7 @@ fn apply_to(
     ensures clear { (end.new.cause ≡ 0) × (end.new.at ≡ 0) × (end.new.none ≡ 0) }
 {
     end.clear();
-    let Some(limits) = limits_of(limits, room.len()) else {
+    let Some(limits) = checked_limits(limits, room.len()) else {
         return CallStatus::BadCall;
     };
     let mut layout = Layout::new();

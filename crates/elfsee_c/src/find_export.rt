@@ -3,7 +3,7 @@ ghost use Rattle.std.specs.Prelude.{◌≡◌, ◌≤◌, IfSome, length};
 ghost use Rattle.elf_model.specs.Find.{find_cost};
 ghost use Rattle.elf_capi.specs.Prelude.{CallLooks, HasLookup, budget_of, headers_of};
 
-use elf_capi::{CallEnd, CallerLimits, LookupFields, limits_of, look_in, report_found};
+use elf_capi::{CallEnd, CallerLimits, LookupFields, checked_limits, look_in, report_found};
 use elf_hash::Lookup;
 use elf_record::Refusal;
 use elf_table::HeaderStore;
@@ -51,7 +51,7 @@ fn look_up(
     ensures cause { (end.new.cause ≡ end.old.cause) × (end.new.at ≡ end.old.at) }
     ensures none { end.new.none ≡ end.old.none }
 {
-    let limits = limits_of(limits, room.len())?;
+    let limits = checked_limits(limits, room.len())?;
     if name.len() > WANTED_NAME_BYTES {
         return None;
     }

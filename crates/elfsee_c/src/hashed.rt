@@ -2,7 +2,7 @@
 ghost use Rattle.std.specs.Prelude.{◌≡◌, ◌≤◌, IfSome, length};
 ghost use Rattle.elf_capi.specs.Prelude.{HasHashed, OpensHashed, budget_of, by_flags, hashed_cost, headers_of};
 
-use elf_capi::{CallEnd, CallerLimits, RowPosition, limits_of, open_hashed, report_opened};
+use elf_capi::{CallEnd, CallerLimits, RowPosition, checked_limits, open_hashed, report_opened};
 use elf_record::Refusal;
 use elf_table::HeaderStore;
 
@@ -50,7 +50,7 @@ fn open_in(
         (headers_of limits.now (length room.old)) }
     ensures budget { IfSome (budget_of limits.now) (λ bytes. asked.new ≤ bytes) }
 {
-    let limits = limits_of(limits, room.len())?;
+    let limits = checked_limits(limits, room.len())?;
     if flags > BY_SEGMENTS {
         return None;
     }

@@ -3,15 +3,16 @@ ghost use Rattle.std.specs.Prelude.{length};
 ghost use Rattle.elf_memory.specs.Names.{FindsName};
 ghost use Rattle.elf_capi.specs.Prelude.{OpensNames, ReturnsOpened, ReturnsRead};
 
-use elf_capi::{CallEnd, CallerLimits, limits_of, names_in, report_opened, report_row};
+use elf_capi::{CallEnd, CallerLimits, checked_limits, names_in, report_opened, report_row};
 use elf_memory::{ByteRange, find_name};
 
 /// Finds where the name at an offset in a string table lies, without its NUL. The string table is
-/// the bytes of `strings`, as far as they lie within the file (gABI 4, String Table).
+/// the bytes of `strings`, as far as they lie within the file (gABI 4, String Table). The name at 0
+/// of an empty table has no bytes, and is at 0.
 ///
-/// Answers 0 where there is a name, and 1 where there is none, with the cause in `end`:
-/// `NameOutside` where the offset is not below the table's size, `NameUnended` where no NUL is
-/// behind it. The offset that `end` names is that where the name was to begin, at most 2^64 - 1.
+/// Returns 0 if there is a name, and 1 if there is none, with the cause in `end`: `NameOutside` if
+/// the offset is not below the table's size, `NameUnended` if no NUL follows it. The offset in `end`
+/// is where the name was to begin, at most 2^64 - 1.
 #[unsafe(no_mangle)]
 pub extern "C" fn elfsee_name(
     file: &[u8],
@@ -43,7 +44,7 @@ pub extern "C" fn elfsee_section_names(
         result strings.old strings.new end.new }
 {
     report_opened(
-        limits_of(limits, room.len()).map(|limits| names_in(file, limits.headers)),
+        checked_limits(limits, room.len()).map(|limits| names_in(file, limits.headers)),
         strings,
         end,
     )

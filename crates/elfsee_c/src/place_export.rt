@@ -3,7 +3,7 @@ ghost use Rattle.std.specs.Prelude.{◌≡◌, ◌≤◌, length};
 ghost use Rattle.elf_capi.specs.LentLayouts.{CountsWritten, IsPlaced, PlacesInMemory};
 
 use elf_capi::{
-    ApplyInput, CallEnd, CallStatus, CallerLayout, CallerLimits, CallerMissing, limits_of,
+    ApplyInput, CallEnd, CallStatus, CallerLayout, CallerLimits, CallerMissing, checked_limits,
     place_section, report_status,
 };
 use elf_layout::Addresses;
@@ -57,7 +57,7 @@ fn place_in(
 {
     end.clear();
     missing.clear();
-    let Some(limits) = limits_of(limits, room.len()) else {
+    let Some(limits) = checked_limits(limits, room.len()) else {
         return CallStatus::BadCall;
     };
     let Some(lent) = layout.lend() else {

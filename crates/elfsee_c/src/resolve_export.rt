@@ -3,7 +3,9 @@ ghost use Rattle.std.specs.Prelude.{◌≡◌, ◌≤◌, IfSome, length};
 ghost use Rattle.elf_model.specs.LoaderFind.{loader_cost};
 ghost use Rattle.elf_capi.specs.Prelude.{IsPermitted, IsResolved, Resolves, ResolvesIn, ReturnsNone, ReturnsResolved, asks_of, budget_of, file_of, headers_of, nothing_resolved, wanted_by};
 
-use elf_capi::{CallEnd, CallerLimits, Query, Resolved, limits_of, report_resolved, resolve_in};
+use elf_capi::{
+    CallEnd, CallerLimits, Query, Resolved, checked_limits, report_resolved, resolve_in,
+};
 use elf_loader::SymbolLookup;
 use elf_record::Refusal;
 use elf_table::{HeaderStore, NameBuf};
@@ -66,7 +68,7 @@ fn resolve(
     ensures cause { (end.new.cause ≡ end.old.cause) × (end.new.at ≡ end.old.at) }
     ensures none { end.new.none ≡ end.old.none }
 {
-    let limits = limits_of(limits, room.len())?;
+    let limits = checked_limits(limits, room.len())?;
     if !query.is_permitted() {
         return None;
     }

@@ -4,8 +4,8 @@ ghost use Rattle.elf_model.specs.Cost.{listing_cost};
 ghost use Rattle.elf_capi.specs.Prelude.{AreCaps, AsksListing, BorrowedTexts, GivesListing, HasAskedListing, HasListing, ShowsInMemory, budget_of, caller_style, headers_of, parts_in, style_in};
 
 use elf_capi::{
-    CallEnd, CallOutcome, CallStatus, CallerLimits, CallerListing, caps_of, list, listing_of,
-    named_listing_of, report_status, short,
+    CallEnd, CallOutcome, CallStatus, CallerLimits, CallerListing, caller_listing_of, caps_of,
+    named_listing_of, report_status, short, write_listing,
 };
 use elf_record::Parts;
 use elf_table::HeaderStore;
@@ -54,7 +54,7 @@ pub extern "C" fn elfsee_list(
     ensures { HasAskedListing file.now limits.now
         (length room.old) asked.now None result out.old out.new end.new }
 {
-    let told = list_to(file, limits, listing_of(asked), room, out, end);
+    let told = list_to(file, limits, caller_listing_of(asked), room, out, end);
     report_status(told, end)
 }
 
@@ -139,7 +139,7 @@ fn show_to(
         told: CallStatus::BadCall,
         asked: 0,
     };
-    end.written = list(file, &mut store, caps, listing.parts, out, &mut outcome) as u64;
+    end.written = write_listing(file, &mut store, caps, listing.parts, out, &mut outcome) as u64;
     end.asked = short(outcome.asked);
     outcome.told
 }

@@ -4,7 +4,9 @@ ghost use Rattle.elf_capi.specs.Prelude.{OpensRows, ReturnsOpened};
 ghost use Rattle.elf_capi.specs.declared.kind.RowKind.TheVariants.{Relocations, Symbols, VersionWords};
 ghost use Rattle.elf_capi.specs.declared.kind.RowKind.TheVariants.{Dynamic};
 
-use elf_capi::{CallEnd, CallerLimits, RowKind, RowPosition, limits_of, report_opened, rows_in};
+use elf_capi::{
+    CallEnd, CallerLimits, RowKind, RowPosition, checked_limits, report_opened, rows_in,
+};
 
 /// Checks the table of symbols that a section of a file is, and sets `rows` before its first. So many
 /// headers are permitted as the limits say, and as the room has 64 bytes for; no byte of it is looked at.
@@ -27,7 +29,7 @@ pub extern "C" fn elfsee_symbols(
         result rows.old rows.new end.new }
 {
     report_opened(
-        limits_of(limits, room.len()).map(|limits| rows_in(
+        checked_limits(limits, room.len()).map(|limits| rows_in(
             file,
             limits.headers,
             section,
@@ -54,7 +56,7 @@ pub extern "C" fn elfsee_relocations(
         result rows.old rows.new end.new }
 {
     report_opened(
-        limits_of(limits, room.len()).map(|limits| rows_in(
+        checked_limits(limits, room.len()).map(|limits| rows_in(
             file,
             limits.headers,
             section,
@@ -81,7 +83,7 @@ pub extern "C" fn elfsee_dynamic(
         result rows.old rows.new end.new }
 {
     report_opened(
-        limits_of(limits, room.len()).map(|limits| rows_in(
+        checked_limits(limits, room.len()).map(|limits| rows_in(
             file,
             limits.headers,
             section,
@@ -108,7 +110,7 @@ pub extern "C" fn elfsee_version_words(
         result rows.old rows.new end.new }
 {
     report_opened(
-        limits_of(limits, room.len()).map(|limits| rows_in(
+        checked_limits(limits, room.len()).map(|limits| rows_in(
             file,
             limits.headers,
             section,

@@ -3,8 +3,8 @@ ghost use Rattle.std.specs.Prelude.{length};
 ghost use Rattle.elf_capi.specs.Prelude.{OpensRecords, ReturnsOpened, ReturnsRead, StepsRecord};
 
 use elf_capi::{
-    CallEnd, CallerLimits, RecordRow, VersionRecordPosition, limits_of, next_record, records_in,
-    report_opened, report_row,
+    CallEnd, CallerLimits, RecordRow, VersionRecordPosition, checked_limits, next_record,
+    records_in, report_opened, report_row,
 };
 
 /// Checks the table of version definitions or needs that a section of a file is, and sets `records`
@@ -28,7 +28,7 @@ pub extern "C" fn elfsee_version_records(
         result records.old records.new end.new }
 {
     report_opened(
-        limits_of(limits, room.len()).map(|limits| records_in(file, limits.headers, section)),
+        checked_limits(limits, room.len()).map(|limits| records_in(file, limits.headers, section)),
         records,
         end,
     )

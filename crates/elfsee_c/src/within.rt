@@ -8,8 +8,9 @@ ghost use Rattle.elf_capi.specs.declared.dynamic.Dynamic.{Dynamic as OneDynamic}
 ghost use Rattle.elf_capi.specs.declared.kind.RowKind.TheVariants.{Dynamic as DynamicRows};
 
 use elf_capi::{
-    CallEnd, CallerLimits, Dynamic, Relocation, RowPosition, Symbol, Versym, count_entries,
-    dynamic_within, entries_left, limits_of, next_within, report_opened, segment_dynamic_within,
+    CallEnd, CallerLimits, Dynamic, Relocation, RowPosition, Symbol, Versym, checked_limits,
+    count_entries, dynamic_within, entries_left, next_within, report_opened,
+    segment_dynamic_within,
 };
 use elf_record::Refusal;
 
@@ -161,6 +162,6 @@ fn open_within(
 ) -> Option<Result<Option<RowPosition>, Refusal>>
     ensures { OpensEntries (OpensRows DynamicRows file.now limits.now room section) most result }
 {
-    let limits = limits_of(limits, room)?;
+    let limits = checked_limits(limits, room)?;
     Some(dynamic_within(file, limits.headers, section, most))
 }

@@ -1,4 +1,4 @@
-"""ELF64 files listed, looked up, relocated and read row by row, by the library elfsee.
+"""Lists ELF64 files, looks up names in them, applies relocations and reads their rows, by the library elfsee.
 
     import elfsee
 
@@ -9,26 +9,26 @@
                 print(elfsee.spelt(symbol.name), hex(symbol.value))
         print(file.text(elfsee.SEGMENTS), end="")
 
-A file may be anyone's: whatever its bytes are, each call comes back with an answer or raises one of
-the exceptions below.
+A file may come from anybody: for any bytes, each call returns an answer or raises one of the exceptions below.
 
-NAMES ARE BYTES, as the file has them: ELF says nothing of an encoding. Where a text is wanted,
-`name.decode("utf-8", "surrogateescape")` never fails, and the same arguments encode it back. Where a
-name is an argument it may be bytes or str; a str is encoded so. A name may hold bytes that act on a
+NAMES ARE BYTES, as they are in the file: ELF does not define an encoding. If you need a str,
+`name.decode("utf-8", "surrogateescape")` never fails, and the same arguments encode it back. A
+name that is an argument may be bytes or str; a str is encoded so. A name may contain bytes that act on a
 terminal: print `spelt(name)`.
 
 MEMORY. A path is read into memory, and bytes are taken as they are; any other buffer (bytearray,
-memoryview, mmap) is copied. So nobody can change a file while a call runs.
+memoryview, mmap) is copied. So nobody can change a file while a call runs. A file that is cut short
+while its mapping is copied raises OSError. Of paths only regular files are opened, and opening never waits.
 
 THREADS. A File may be used by several threads at once: it is not written to. An iterator belongs to
 one thread at a time. The library's calls run without the interpreter's lock.
 
-THE LIBRARY is sought where the environment's ELFSEE_LIBRARY says, else beside this module, where a wheel
-has it, else in library/out where this module is the repository's, else where the system keeps its
-libraries. ImportError tells where it is not.
+THE LIBRARY is loaded from the path in the environment variable ELFSEE_LIBRARY, otherwise from the directory of
+this module, where a wheel has it, otherwise from library/out if this module is the repository's, otherwise from
+where the system keeps its libraries. If it is not found, ImportError says so.
 
-NUMBERS of the standards have names: SymbolType.FUNC, DynamicTag.NEEDED. Rows hold plain numbers, also such
-as have no name: compare them, or make a name of one by SymbolType(number) where that is known.
+NUMBERS of the standards have names: SymbolType.FUNC, DynamicTag.NEEDED. Rows hold plain numbers, including those
+that have no name: compare them, or convert one by SymbolType(number) if it is known.
 """
 
 from __future__ import annotations
@@ -36,9 +36,15 @@ from __future__ import annotations
 import ctypes
 import ctypes.util
 import enum
+import errno
+import operator
 import os
+import pickle
+import stat
 import struct
 import types
+from array import array
+from collections import abc
 from typing import (TYPE_CHECKING, Any, Callable, Dict, Iterable, Iterator, List, Mapping, NamedTuple, Optional,
                     Sequence, Tuple, Union)
 
@@ -47,7 +53,6 @@ from ._numbers import (DynamicFlag, DynamicFlag1, DynamicTag, FileType, Machine,
                        SymbolVisibility)
 
 if TYPE_CHECKING:
-    import array
     import mmap
 
 __all__ = [
@@ -56,7 +61,7 @@ __all__ = [
     "Note", "Refused", "Relocation", "Resolved", "Section", "Segment", "Symbol", "SymbolVersion", "Unapplied",
     "VERSION", "Version", "VersionOfSymbol", "spelt",
 ]
-# The numbers of the standards, and what is told of a cause.
+# The numbers of the standards, and the words of causes.
 __all__ += [
     "DT_NEEDED", "DT_NULL", "DT_RPATH", "DT_RUNPATH", "DT_SONAME", "DT_STRSZ", "DT_STRTAB", "DynamicFlag",
     "DynamicFlag1", "DynamicTag", "FileType", "Machine", "RelocationType", "SectionFlag", "SectionType",
@@ -64,10 +69,10 @@ __all__ += [
     "word_of",
 ]
 
-# The parts of a listing; VERSIONS is one with the names of the GNU system alone.
+# The parts of a listing; VERSIONS is one only with the names defined by GNU.
 HEADER, SECTIONS, SEGMENTS, SYMBOLS, RELOCS, NOTES, DYNAMIC, VERSIONS = (1 << bit for bit in range(8))
 ALL = 127
-# The permitted range of each limit, and what it is where nobody says.
+# The range of each limit, and its default.
 MOST_HEADERS, MOST_NAME, MOST_NUMBER = 65279, 4096, (1 << 64) - 1
 DEFAULT_HEADERS, DEFAULT_NAME = 4096, 256
 # Section types, and the tags of dynamic entries whose value is a string (gABI).
@@ -75,14 +80,14 @@ SHT_SYMTAB, SHT_RELA, SHT_DYNAMIC, SHT_NOBITS, SHT_DYNSYM = 2, 4, 6, 8, 11
 SHT_GNU_VERDEF, SHT_GNU_VERNEED, SHT_GNU_VERSYM = 0x6ffffffd, 0x6ffffffe, 0x6fffffff
 DT_NULL, DT_NEEDED, DT_STRTAB, DT_STRSZ, DT_SONAME, DT_RPATH, DT_RUNPATH = 0, 1, 5, 10, 14, 15, 29
 STRING_TAGS = frozenset((DT_NEEDED, DT_SONAME, DT_RPATH, DT_RUNPATH))
-# So many rows are fetched by one call of the library.
+# The number of rows that one call of the library fetches.
 BATCH = 4096
 
 Name = Union[str, bytes]
-# Addresses by names; a mapping of one kind of name is none of another's.
+# Addresses by names; a mapping of one kind of name is not one of another.
 Named = Union[Mapping[str, int], Mapping[bytes, int], Mapping[Name, int]]
 # A path, or a buffer with the file's bytes.
-Source = Union[str, "os.PathLike[str]", bytes, bytearray, memoryview, "mmap.mmap", "array.array[Any]"]
+Source = Union[str, "os.PathLike[str]", bytes, bytearray, memoryview, "mmap.mmap", "array[Any]"]
 Numbers = Tuple[int, ...]
 # Where a string table begins in the file, and where it ends.
 Places = Tuple[int, int]
@@ -129,7 +134,7 @@ class Cause(enum.IntEnum):
 
 
 # ---------------------------------------------------------------------------
-# What the library's header says, in the terms of ctypes.
+# The declarations of the library's header, in the terms of ctypes.
 
 _U8, _U16, _U32, _U64, _I64 = (ctypes.c_uint8, ctypes.c_uint16, ctypes.c_uint32, ctypes.c_uint64,
                                ctypes.c_int64)
@@ -137,7 +142,7 @@ _OK, _REFUSED, _ABSENT, _FULL, _BAD_CALL = range(5)
 
 
 def _struct(name: str, *fields: Tuple[Any, str]) -> Any:
-    """A struct of C: of each type the names of its fields, one after another."""
+    """A struct of C: for each type the names of its fields, one after another."""
     return type(name, (ctypes.Structure,), {
         "_fields_": [(field, kind) for kind, names in fields for field in names.split()]})
 
@@ -187,10 +192,10 @@ STRUCTS = (_Limits, _End, _Listing, _Text, _Symbol, _Range, _Found, _Resolved, _
            _Layout, _Missing, _Header, _Section, _Segment, _Relocation, _Dynamic, _VersionWord, _VersionRecord,
            _VersionRecords, _Rows, _Notes, _Note, _Members, _Member)
 
-# The same as forms of `struct`, of the rows that are read in batches.
+# The same as formats of `struct`, for the rows that are read in batches.
 _SYMBOL_FORM, _RELOCATION_FORM, _DYNAMIC_FORM, _WORD_FORM = "=QQIHBB", "=QQq", "=qQ", "=HH"
 
-# A c_char_p lends the bytes of a `bytes` object, which never change and are never at NULL.
+# A c_char_p borrows the bytes of a `bytes` object, which never change and are never at NULL.
 _FILE = (ctypes.c_char_p, ctypes.c_size_t)
 _ROOM = _OUT = (ctypes.c_void_p, ctypes.c_size_t)
 
@@ -207,7 +212,7 @@ _CALLS: Mapping[str, Tuple[Any, ...]] = {
     "cause_word": (ctypes.c_size_t, _U32, *_OUT),
     "room": (_U64, *_FILE, _U16),
     "cost": (_U64, _U64, _to(_Limits)),
-    "show": (_U32, *_FILE, _to(_Limits), _U8, *_ROOM, *_OUT, _to(_End)),
+    "show": (_U32, *_FILE, _to(_Limits), _U16, *_ROOM, *_OUT, _to(_End)),
     "list": (_U32, *_FILE, _to(_Limits), *_ASKED, *_ROOM, *_OUT, _to(_End)),
     "list_names": (_U32, *_FILE, _to(_Limits), *_ASKED, _to(_Text), ctypes.c_size_t, *_ROOM, *_OUT, _to(_End)),
     "find": (_U32, *_FILE, _to(_Limits), *_ROOM, *_FILE, _to(_Found), _to(_End)),
@@ -241,7 +246,7 @@ _CALLS: Mapping[str, Tuple[Any, ...]] = {
 
 
 def _places() -> Iterator[str]:
-    """Where the library may be, in the order in which it is sought."""
+    """The paths where the library may be, in the order in which they are tried."""
     if os.environ.get("ELFSEE_LIBRARY"):
         yield os.environ["ELFSEE_LIBRARY"]
         return
@@ -286,12 +291,21 @@ if VERSION[0] != 0:
 
 
 # ---------------------------------------------------------------------------
-# How a name is told.
+# How a name is escaped.
+
+def _encoded(name: Name) -> bytes:
+    """Returns the bytes of a name. bytes() would also accept a number, or a list of numbers: neither is a name."""
+    if isinstance(name, str):
+        return name.encode("utf-8", "surrogateescape")
+    if isinstance(name, (bytes, bytearray, memoryview)):
+        return bytes(name)
+    raise TypeError("a name is a str or bytes, and not %s" % type(name).__name__)
+
 
 def spelt(name: Name) -> str:
-    """A name as a listing spells it: a backslash doubled, and what is no printing ASCII character as \\x
-    and two hexadecimal digits. So nothing of it acts on a terminal."""
-    text = name.encode("utf-8", "surrogateescape") if isinstance(name, str) else bytes(name)
+    """Returns a name escaped as in a listing: a backslash is doubled, and a byte that is not a printable ASCII
+    character is \\x and two hexadecimal digits. So nothing of it acts on a terminal."""
+    text = _encoded(name)
     return "".join("\\\\" if byte == 92 else chr(byte) if 32 <= byte < 127 else "\\x%02x" % byte for byte in text)
 
 
@@ -299,20 +313,20 @@ def spelt(name: Name) -> str:
 # What is raised.
 
 def word_of(cause: int) -> str:
-    """The word of a cause, as a listing's last line has it; empty for a number that is no cause."""
+    """Returns the word of a cause, as in a listing's last line; empty for a number that is not a cause."""
     out = ctypes.create_string_buffer(32)
     length: int = _library.elfsee_cause_word(_within("cause", cause, 0, (1 << 32) - 1), out, len(out))
     return ctypes.string_at(out, length).decode("ascii")
 
 
 class Refused(Exception):
-    """The file is at fault, or the read budget is used up: `cause` says why, `word` the same in
+    """The file is malformed, or the read budget is exhausted: `cause` says why, `word` the same as
     a word ("table-outside"), `offset` where in the file."""
 
     def __init__(self, cause: int, offset: int) -> None:
         super().__init__(cause, offset)
         self.cause: int = Cause(cause) if cause in Cause.__members__.values() else cause
-        self.offset: int = offset
+        self.offset: int = operator.index(offset)
         self.word: str = word_of(cause)
 
     def __str__(self) -> str:
@@ -321,9 +335,9 @@ class Refused(Exception):
 
 class Missing(NamedTuple):
     """What a layout lacks: the relocation type of the entry that was refused, and the name of its symbol, or the
-    first 255 bytes of it where `is_cut` tells that it has more. One of the items in `helpful` would help:
-    "sections", for the section of index `section`, or a field of `Layout` for that name. No item can have a name
-    of no bytes, or one that is cut."""
+    first 255 bytes of it if `is_cut` says that it has more. One of the items in `helpful` would help:
+    "sections", for the section of index `section`, or a field of `Layout` for that name. No item can have an empty
+    name, or one that is cut."""
 
     helpful: Tuple[str, ...]
     section: Optional[int]
@@ -333,7 +347,7 @@ class Missing(NamedTuple):
 
 
 class Unapplied(Refused):
-    """A section is refused, as by `Refused`; `missing` is what its layout lacks, or None where no address would
+    """A section is refused, as for `Refused`; `missing` is what its layout lacks, or None if no address would
     help, or the budget has no room to find that out."""
 
     def __init__(self, cause: int, offset: int, missing: Optional[Missing] = None) -> None:
@@ -342,7 +356,7 @@ class Unapplied(Refused):
 
 
 class Full(Exception):
-    """An answer is longer than was permitted."""
+    """An answer is longer than was allowed."""
 
 
 class Absent(LookupError):
@@ -350,7 +364,7 @@ class Absent(LookupError):
 
 
 # ---------------------------------------------------------------------------
-# What is answered. Fields have the standard's names (gABI, Object Files). `index` is a field where there is one,
+# Results. Fields have the standard's names (gABI, Object Files). `index` is a field if there is one,
 # and not the method of a tuple.
 
 class Header(NamedTuple):
@@ -373,7 +387,7 @@ class Header(NamedTuple):
 
 
 class Section(NamedTuple):
-    """A section header. `offset` and `size` are as the file says, and may lie outside of it."""
+    """A section header. `offset` and `size` are as in the file, and may be outside it."""
 
     index: int  # type: ignore[assignment]
     name: bytes
@@ -389,7 +403,7 @@ class Section(NamedTuple):
 
 
 class Segment(NamedTuple):
-    """A program header. `offset` and `filesz` are as the file says, and may lie outside of it."""
+    """A program header. `offset` and `filesz` are as in the file, and may be outside it."""
 
     index: int  # type: ignore[assignment]
     type: int
@@ -403,8 +417,8 @@ class Segment(NamedTuple):
 
 
 class Symbol(NamedTuple):
-    """A symbol: `section` is where it is defined (st_shndx), `index` its own place in `table`, the
-    section of symbols that it stands in."""
+    """A symbol: `section` is where it is defined (st_shndx), `index` its own place in `table`, its
+    section of symbols."""
 
     name: bytes
     value: int
@@ -417,17 +431,17 @@ class Symbol(NamedTuple):
 
     @property
     def type(self) -> int:
-        """STT_FUNC and the like: the low four bits of st_info."""
+        """Its type, such as STT_FUNC: the low four bits of st_info."""
         return self.info & 15
 
     @property
     def binding(self) -> int:
-        """STB_GLOBAL and the like: the high four bits of st_info."""
+        """Its binding, such as STB_GLOBAL: the high four bits of st_info."""
         return self.info >> 4
 
     @property
     def visibility(self) -> int:
-        """STV_HIDDEN and the like: the low two bits of st_other."""
+        """Its visibility, such as STV_HIDDEN: the low two bits of st_other."""
         return self.other & 3
 
 
@@ -446,8 +460,8 @@ class Relocation(NamedTuple):
 
 class Note(NamedTuple):
     """A note: its name up to the first NUL, and its descriptor. `namesz` and
-    `descsz` are the sizes that the file says, that of the name with its NUL. `table` is its section,
-    or its segment where the file has no sections."""
+    `descsz` are the sizes in the file, that of the name with its NUL. `table` is its section,
+    or its segment if the file has no sections."""
 
     name: bytes
     type: int
@@ -458,8 +472,8 @@ class Note(NamedTuple):
 
 
 class Dynamic(NamedTuple):
-    """A dynamic entry. `string` is what NEEDED, SONAME, RPATH and RUNPATH name, else None. `index`
-    is its place in `table`, a section, or a segment where the file has no sections."""
+    """A dynamic entry. `string` is what NEEDED, SONAME, RPATH and RUNPATH name, otherwise None. `index`
+    is its place in `table`, a section, or a segment if the file has no sections."""
 
     tag: int
     value: int
@@ -469,9 +483,9 @@ class Dynamic(NamedTuple):
 
 
 class Version(NamedTuple):
-    """A version that the file defines, a file of which it needs versions, or a version that it needs of the file
-    before: `kind` is 1, 2 or 3. `number` is below 32,768, and `is_hidden` its highest bit; of a file it is 0,
-    as its flags and its hash. `table` is its section."""
+    """A version that the file defines, a file of which it needs versions, or a version that it needs of the
+    preceding file: `kind` is 1, 2 or 3. `number` is below 32,768, and `is_hidden` its highest bit; for a file the
+    number is 0, as are its flags and its hash. `table` is its section."""
 
     name: bytes
     kind: int
@@ -483,8 +497,8 @@ class Version(NamedTuple):
 
 
 class VersionOfSymbol(NamedTuple):
-    """The version of a symbol: its number, below 32,768, and its name, which is empty for 0 and 1. `is_hidden` tells
-    that a name alone does not take the symbol. `table` is the section of symbols' versions, `symbols` that of the
+    """The version of a symbol: its number, below 32,768, and its name, which is empty for 0 and 1. `is_hidden` says
+    that a name alone does not find the symbol. `table` is the section of symbol versions, `symbols` that of the
     symbols, and `index` the symbol's there."""
 
     name: bytes
@@ -497,8 +511,8 @@ class VersionOfSymbol(NamedTuple):
 
 class Member(NamedTuple):
     """A member of an archive. `at` is the offset of its header, `offset` that of its data, and `content`
-    are these bytes of the archive, not copied: `File(member.content)` is the file that they are. Where the
-    name stands at the front of the data, as BSD's `ar` writes it, they begin behind it. `is_cut` tells that
+    are these bytes of the archive, not copied: `File(member.content)` is the file that they are. If the
+    name is at the beginning of the data, as BSD's `ar` writes it, they begin after it. `is_cut` says that
     its name has more bytes than the 4,096 of `name`."""
 
     name: bytes
@@ -510,16 +524,16 @@ class Member(NamedTuple):
 
 
 class Lookup(NamedTuple):
-    """What a lookup found: the symbol, or None; and how many names were compared."""
+    """The result of a lookup: the symbol, or None; and how many names were compared."""
 
     symbol: Optional[Symbol]
     steps: int
 
 
 class SymbolVersion(NamedTuple):
-    """The version of a symbol: its name, or the first 256 bytes of it where `is_cut` tells that it has
-    more, of no bytes where its number is 0 or 1. `is_hidden` tells that a name alone does not take it.
-    `table` is the section of symbols' versions, or in a lookup by segments a program header."""
+    """The version of a symbol: its name, or the first 256 bytes of it if `is_cut` says that it has
+    more; empty if its number is 0 or 1. `is_hidden` says that a name alone does not find it.
+    `table` is the section of symbol versions, or in a lookup by segments a program header."""
 
     name: bytes
     number: int
@@ -529,7 +543,7 @@ class SymbolVersion(NamedTuple):
 
 
 class Resolved(NamedTuple):
-    """What a loader's lookup found: the symbol, or None; its version, or None where the file has no
+    """The result of a loader's lookup: the symbol, or None; its version, or None if the file has no
     versions of symbols; and how many symbols were tried."""
 
     symbol: Optional[Symbol]
@@ -538,15 +552,15 @@ class Resolved(NamedTuple):
 
 
 class Listing(NamedTuple):
-    """A listing: its lines; the refusal that its last line tells, or None; and how many bytes of the
-    file were asked for."""
+    """A listing: its lines; the refusal in its last line, or None; and how many bytes of the
+    file were read."""
 
     text: str
     refused: Optional[Refused]
     asked: int
 
 
-# How a loader's lookup and a listing are made.
+# Flags of a loader's lookup and of a listing.
 _BY_SEGMENTS, _DEFAULT_ONLY, _GNU, _JSON, _NAME_VERSIONS = 1, 2, 4, 8, 16
 
 _NOTHING: Mapping[Any, int] = types.MappingProxyType({})
@@ -555,8 +569,8 @@ _NOTHING: Mapping[Any, int] = types.MappingProxyType({})
 class Layout(NamedTuple):
     """Addresses for `File.apply`: of sections by their index; by the symbol's name, of symbols that
     the file does not define, and of symbols' entries: in the procedure linkage table, in the global
-    offset table, and there those of their offsets from the thread pointer. As many as there are; names
-    have 1 to 255 bytes."""
+    offset table, and, for their offsets from the thread pointer, in the global offset table. Any number of
+    them; names have 1 to 255 bytes."""
 
     sections: Mapping[int, int] = _NOTHING
     define: Named = _NOTHING
@@ -566,44 +580,102 @@ class Layout(NamedTuple):
 
 
 # ---------------------------------------------------------------------------
-# What is tested here, since C would cut a number or take bytes as they are.
+# Checks that are made here, since C would cut a number or take bytes as they are.
 
 def _within(what: str, number: int, least: int, most: int) -> int:
-    if not least <= number <= most:
-        raise ValueError("%s is %d, and not %d to %d" % (what, number, least, most))
-    return number
+    """Returns a number in its range. What is not an integer, such as a float or a str, raises TypeError."""
+    whole = operator.index(number)
+    if not least <= whole <= most:
+        raise ValueError("%s is %d, and not %d to %d" % (what, whole, least, most))
+    return whole
+
+
+def _flags_of(**flags: Tuple[bool, int]) -> int:
+    """Returns the sum of the flags that are on. On is True, or 1."""
+    return sum(flag * _within(what, on, 0, 1) for what, (on, flag) in flags.items())
 
 
 def _name_bytes(name: Name, most: int) -> bytes:
-    text = name.encode("utf-8", "surrogateescape") if isinstance(name, str) else bytes(name)
+    text = _encoded(name)
     if len(text) > most or b"\0" in text:
         raise ValueError("a name has at most %d bytes, and no NUL" % most)
     return text
 
 
 def _content(source: Source) -> bytes:
-    """The bytes of a path, or of a buffer."""
+    """Returns the bytes of a path, or of a buffer."""
     if isinstance(source, (str, os.PathLike)):
-        with open(source, "rb") as file:
-            return file.read()
-    return source if type(source) is bytes else bytes(memoryview(source))
+        return _read(source)
+    if type(source) is bytes:
+        return source
+    view = memoryview(source)
+    if isinstance(view.obj, (bytes, bytearray, array)):
+        return bytes(view)
+    if not view.c_contiguous:
+        raise BufferError("a buffer that is no bytes, bytearray or array lies in one piece")
+    return _copied(pickle.PickleBuffer(view).raw())
+
+
+def _regular(path: Union[str, "os.PathLike[str]"], mode: int) -> None:
+    """Raises OSError if a mode is not a regular file's."""
+    if stat.S_ISDIR(mode):
+        raise IsADirectoryError(errno.EISDIR, os.strerror(errno.EISDIR), os.fspath(path))
+    if not stat.S_ISREG(mode):
+        raise OSError(errno.EINVAL, "Not a regular file", os.fspath(path))
+
+
+def _read(path: Union[str, "os.PathLike[str]"]) -> bytes:
+    """Returns the bytes of a regular file. Nothing else is opened, as opening a device may do something; if a pipe or a
+    device replaces the file between the two calls, opening it does not wait, and none of it is read."""
+    _regular(path, os.stat(path).st_mode)
+    opened = os.open(path, os.O_RDONLY | os.O_CLOEXEC | os.O_NONBLOCK | os.O_NOCTTY)
+    with open(opened, "rb") as file:
+        _regular(path, os.fstat(opened).st_mode)
+        content: Optional[bytes] = file.read()
+    if content is None:
+        raise BlockingIOError(errno.EAGAIN, os.strerror(errno.EAGAIN), os.fspath(path))
+    return content
+
+
+def _copied(content: memoryview) -> bytes:
+    """Returns the bytes of a buffer that may be a mapped file. The kernel copies them, through a pipe: if the file is
+    truncated meanwhile, the call fails, and the process does not end."""
+    parts, done = [], 0
+    source, sink = os.pipe()
+    try:
+        os.set_blocking(sink, False)
+        while done < len(content):
+            count = os.write(sink, content[done:done + 65536])
+            parts.append(os.read(source, count))
+            done += count
+    except OSError as fault:
+        if fault.errno != errno.EFAULT:
+            raise
+        raise OSError(errno.EFAULT, "The mapped file was cut short") from None
+    finally:
+        os.close(source)
+        os.close(sink)
+    return b"".join(parts)
 
 
 def _limits_of(headers: int, name_cap: int, budget: Optional[int]) -> Any:
-    _within("headers", headers, 1, MOST_HEADERS)
-    _within("name_cap", name_cap, 1, MOST_NAME)
-    _within("budget", budget or 0, 0, MOST_NUMBER)
-    return _Limits(headers, name_cap, budget is not None, budget or 0)
+    most = 0 if budget is None else _within("budget", budget, 0, MOST_NUMBER)
+    return _Limits(_within("headers", headers, 1, MOST_HEADERS), _within("name_cap", name_cap, 1, MOST_NAME),
+                   budget is not None, most)
 
 
 def _texts_of(names: Iterable[Name]) -> Tuple[Any, int]:
-    """Names as they are lent: in the rising order of their bytes."""
+    """Names as the library borrows them: in ascending byte order. One name is not a list of its characters."""
+    if isinstance(names, (str, bytes, bytearray, memoryview)):
+        raise TypeError("names is a list of names, and not one of them")
     texts = [(text, len(text)) for text in sorted({_name_bytes(name, MOST_NAME) for name in names})]
     return (_Text * max(1, len(texts)))(*(texts or [(b"", 0)])), len(texts)
 
 
 def _layout_of(layout: Layout) -> Any:
-    """A layout as it is lent: each list in rising order."""
+    """A layout as the library borrows it: each list in ascending order."""
+    if not isinstance(layout, Layout) or not all(isinstance(each, abc.Mapping) for each in layout):
+        raise TypeError("a layout is a Layout of mappings")
     numbers = sorted((_within("a section", index, 0, 65535), _within("an address", address, 0, MOST_NUMBER))
                      for index, address in layout.sections.items())
     lists: List[Any] = [(_LentSection * max(1, len(numbers)))(*numbers), len(numbers)]
@@ -621,7 +693,7 @@ _SORTS = ("sections", "define", "entries", "table", "thread")
 
 
 def _missing_of(told: Any) -> Optional[Missing]:
-    """What a layout lacks, or None where no address would help."""
+    """Returns what a layout lacks, or None if no address would help."""
     if not told.helpful:
         return None
     helpful = tuple(sort for bit, sort in enumerate(_SORTS) if told.helpful >> bit & 1)
@@ -630,29 +702,29 @@ def _missing_of(told: Any) -> Optional[Missing]:
 
 
 def _always(strings: Places) -> Callable[[int], Places]:
-    """What tells one string table for the entry at any offset."""
+    """Returns a function that gives one string table for the entry at any offset."""
     def told(_: int) -> Places:
         return strings
     return told
 
 
 class _Asked:
-    """How many bytes of the file one call of a File asks for, over all tables that it goes through."""
+    """Counts the bytes of the file that one call of a File reads, over all tables that it reads."""
 
     def __init__(self, budget: Optional[int]) -> None:
         self.count = _U64(0)
         self.most = MOST_NUMBER if budget is None else budget
 
     def left(self) -> int:
-        """How many bytes may still be asked for."""
+        """Returns how many bytes may still be read."""
         return self.most - int(self.count.value)
 
     def leave(self, left: int) -> None:
-        """So many may be still."""
+        """Sets how many bytes may still be read."""
         self.count.value = self.most - left
 
     def take(self, size: int, at: int) -> None:
-        """Counts so many bytes; they are wanted for what stands at an offset of the file."""
+        """Counts bytes that are read for what is at an offset of the file."""
         left = self.left() - size
         if left < 0:
             raise Refused(Cause.BUDGET, at)
@@ -660,30 +732,32 @@ class _Asked:
 
 
 class File:
-    """A file in memory, and what may be asked of it.
+    """A file in memory, and its limits.
 
-    `source` is a path (str or os.PathLike), or the file's bytes. `headers` is how many section
-    headers, and as many program headers, are permitted: 1 to 65,279. `budget` is how many bytes each
-    call may ask for, as a listing, a lookup, an applied section, or all rows of one iterator: any number
-    of them where it is None. Of rows their own bytes count, those of their headers and of their names.
+    `source` is a path (str or os.PathLike), or the file's bytes. `headers` is the maximum number of section
+    headers, and of program headers: 1 to 65,279. `budget` is how many bytes each
+    call may read, such as a listing, a lookup, an applied section, or all rows of one iterator: any number
+    if it is None. For rows their own bytes count, those of their headers and of their names.
     `longest_name` is how long a name of a row may be: names in rows are never cut, and one that is
     longer raises Full.
 
-    Every call but `close` raises Refused where the file is at fault or the budget is used up, and
-    ValueError where an argument is outside its range or the file is closed. Rows come up to the
+    Every call except `close` raises Refused if the file is malformed or the budget is exhausted, and
+    ValueError if an argument is outside its range or the file is closed, and TypeError if one has
+    another type. For a path, OSError is raised if it is not a regular file. Rows are given up to the
     fault, and then it is raised: at the same place and for the same cause as in a listing of that
-    part that shows all names whole. A listing that cuts a name looks no further: where such a name
-    does not end in its string table, it goes on, and here the fault is raised.
+    part that shows all names whole. A listing that cuts a name reads no further: if such a name
+    does not end in its string table, the listing continues, and here the fault is raised.
     """
 
     def __init__(self, source: Source, *,
                  headers: int = DEFAULT_HEADERS, budget: Optional[int] = None,
                  longest_name: int = 65536) -> None:
         self._limits = _limits_of(headers, DEFAULT_NAME, budget)
-        self._headers, self._budget = headers, budget
+        self._headers: int = self._limits.headers
+        self._budget: Optional[int] = None if budget is None else self._limits.budget
         self._longest = _within("longest_name", longest_name, 1, 1 << 62)
         self._content: Optional[bytes] = _content(source)
-        self._room: int = _library.elfsee_room(self._content, len(self._content), headers)
+        self._room: int = _library.elfsee_room(self._content, len(self._content), self._headers)
         self._sections: Optional[Sequence[Numbers]] = None
         self._shared: Any = None
 
@@ -694,7 +768,7 @@ class File:
         self.close()
 
     def close(self) -> None:
-        """Lets the file's bytes go. A second time it does nothing."""
+        """Releases the file's bytes. A second call does nothing."""
         self._content, self._sections, self._shared = None, None, None
 
     # -----------------------------------------------------------------------
@@ -702,23 +776,23 @@ class File:
 
     @property
     def data(self) -> bytes:
-        """The file's bytes."""
+        """Returns the file's bytes."""
         if self._content is None:
             raise ValueError("the file is closed")
         return self._content
 
     def _lent(self) -> Tuple[Any, int]:
-        """Room for one call: threads that share a file share no room."""
+        """Returns room for one call: threads that share a file share no room."""
         return ctypes.create_string_buffer(self._room), self._room
 
     def _unwritten(self) -> Tuple[Any, int]:
-        """Room for the calls that write nothing to it, as those that open rows: it is the same for all."""
+        """Returns room for the calls that write nothing to it, which open rows: it is the same for all."""
         if self._shared is None:
             self._shared = ctypes.create_string_buffer(self._room)
         return self._shared, self._room
 
     def _call(self, name: str, *arguments: Any) -> Tuple[int, Any]:
-        """The status of a call, OK or ABSENT or FULL, and how it ended."""
+        """Returns the status of a call, OK or ABSENT or FULL, and how it ended."""
         data, end = self.data, _End()
         status = getattr(_library, "elfsee_" + name)(data, len(data), *arguments, end)
         if status == _REFUSED:
@@ -731,30 +805,32 @@ class File:
     # Listings, lookups, applied sections.
 
     def cost(self, name_cap: int = DEFAULT_NAME) -> int:
-        """How many bytes a listing of a file of this length asks for at most, whatever its bytes are."""
+        """Returns how many bytes a listing of a file of this length reads at most, for any bytes."""
         cost: int = _library.elfsee_cost(len(self.data), _limits_of(self._headers, name_cap, self._budget))
         return cost
 
     def show(self, parts: Optional[int] = None, name_cap: int = DEFAULT_NAME, most: int = 1 << 30, *,
              gnu: bool = False, by_segments: bool = False, json: bool = False, versions: bool = False,
              names: Optional[Iterable[Name]] = None) -> Listing:
-        """A listing of some parts, or of all, with so many bytes of a name. It is what the program elfsee
-        prints, byte for byte, and a refusal is its last line: this raises no Refused. `gnu`, `by_segments`,
-        `json` and `versions` are the program's options of these names: numbers of the GNU system have names,
+        """Lists some parts, or all, with `name_cap` bytes of a name. The listing is what the program elfsee
+        prints, byte for byte, and a refusal is its last line: this does not raise Refused. `gnu`, `by_segments`,
+        `json` and `versions` are the program's options of these names: numbers defined by GNU have names,
         and the symbol versions are a part; tables are found by the program headers; each line is a JSON
-        object; with `gnu`, behind a symbol's name stands its version. With `names` those rows alone are
+        object; with `gnu`, a symbol's version follows its name. With `names` only those rows are
         listed, of the symbols or of the part that is one of SYMBOLS, RELOCS and VERSIONS, whose name is one
-        of them: as many bytes of a name are looked at as the longest of them has, and with `versions`, where
-        each may be NAME@VERSION or NAME@@VERSION, at least `name_cap`. Full is raised where it has more than
-        `most` bytes. Where the memory is too little, it is made four times as large and the listing begins
+        of them: as many bytes of a name are compared as the longest of them has, and with `versions`, when
+        each may be NAME@VERSION or NAME@@VERSION, at least `name_cap`. Full is raised if the listing has more
+        than `most` bytes. If the memory does not suffice, it is made four times as large and the listing begins
         anew."""
-        flags = _BY_SEGMENTS * by_segments + _GNU * gnu + _JSON * json + _NAME_VERSIONS * versions
+        flags = _flags_of(by_segments=(by_segments, _BY_SEGMENTS), gnu=(gnu, _GNU), json=(json, _JSON),
+                          versions=(versions, _NAME_VERSIONS))
         chosen = None if names is None else _texts_of(names)
         if parts is None:
             parts = SYMBOLS if chosen else ALL + VERSIONS if gnu else ALL
         limits = _limits_of(self._headers, name_cap, self._budget)
         listing, end = _Listing(_within("parts", parts, 0, 65535), flags), _End()
-        length = min(_within("most", most, 0, 1 << 62), (1 << 16) + len(self.data) // 4)
+        most = _within("most", most, 0, 1 << 62)
+        length = min(most, (1 << 16) + len(self.data) // 4)
         while True:
             out = ctypes.create_string_buffer(max(length, 1))
             status = self._listed(limits, listing, chosen, out, length, end)
@@ -770,7 +846,7 @@ class File:
 
     def _listed(self, limits: Any, listing: Any, chosen: Optional[Tuple[Any, int]], out: Any, length: int,
                 end: Any) -> int:
-        """The status of a listing into `out`."""
+        """Writes a listing into `out` and returns the status."""
         data, lent, asked = self.data, (*self._lent(), out, length, end), (listing, ctypes.sizeof(listing))
         status: int
         if chosen:
@@ -784,13 +860,13 @@ class File:
     def text(self, parts: Optional[int] = None, name_cap: int = DEFAULT_NAME, most: int = 1 << 30, *,
              gnu: bool = False, by_segments: bool = False, json: bool = False, versions: bool = False,
              names: Optional[Iterable[Name]] = None) -> str:
-        """The text of `show`."""
+        """Returns the text of `show`."""
         return self.show(parts, name_cap, most, gnu=gnu, by_segments=by_segments, json=json, versions=versions,
                          names=names).text
 
     def find(self, name: Name) -> Lookup:
-        """Looks a name up by the file's own SysV hash table: the first symbol of that name in its
-        chain, whatever its version and place. A name has at most 4,096 bytes and no NUL."""
+        """Looks up a name in the file's own SysV hash table: returns the first symbol of that name in its
+        chain, with any version and place. A name has at most 4,096 bytes and no NUL."""
         text, found = _name_bytes(name, MOST_NAME), _Found()
         status, _ = self._call("find", self._limits, *self._lent(), text, len(text), found)
         if status == _ABSENT:
@@ -801,16 +877,17 @@ class File:
 
     def look_up(self, name: Name, version: Optional[Name] = None, *, default_only: bool = False,
                 by_segments: bool = False) -> Resolved:
-        """Looks a name up as a loader of the GNU system does, alone or with a version: by the file's
-        hash table, of the GNU system or else of the gABI, the first symbol of the name's chain that has
-        the name, is offered to others and whose version fits. Without a version one is taken that is not
-        hidden; with `default_only` the version is to be the symbol's default one. `by_segments` goes by
-        the program headers also where there are section headers. Name and version have at most 4,096
-        bytes and no NUL, and the version has a byte."""
-        text, wanted = _name_bytes(name, MOST_NAME), _name_bytes(version or b"", MOST_NAME)
+        """Looks up a name as glibc's dynamic loader does, alone or with a version: returns the first symbol of
+        the name's chain, in the file's GNU hash table or otherwise in its SysV one, that has the name, is
+        exported and whose version matches. Without a version a symbol is found that is not
+        hidden; with `default_only` the version must be the symbol's default one. `by_segments` uses
+        the program headers even if there are section headers. Name and version have at most 4,096
+        bytes and no NUL, and the version is not empty."""
+        text, wanted = _name_bytes(name, MOST_NAME), _name_bytes(b"" if version is None else version, MOST_NAME)
         if version is not None and not wanted:
             raise ValueError("a version has a byte; None asks for no version")
-        found, flags = _Resolved(), _BY_SEGMENTS * by_segments + _DEFAULT_ONLY * default_only
+        found, flags = _Resolved(), _flags_of(by_segments=(by_segments, _BY_SEGMENTS),
+                                              default_only=(default_only, _DEFAULT_ONLY))
         status, _ = self._call("look_up", self._limits, flags, text, len(text), wanted, len(wanted),
                                *self._lent(), found)
         if status == _ABSENT:
@@ -825,12 +902,12 @@ class File:
                                               found.words), found.tried)
 
     def apply(self, section: int, layout: Layout = Layout()) -> bytes:
-        """The bytes of a section of a relocatable file for x86-64, with its relocations applied for
-        these addresses. Unapplied is raised where it is refused, with what the layout lacks; ValueError
-        where a name or a number of the layout is outside its range, or two names are the same."""
-        lent, missing = _layout_of(layout), _Missing()
-        # A section that is longer than the file is refused, so that this is room enough.
-        length = self._size_in_file(_within("section", section, 0, 65535))
+        """Returns the bytes of a section of a relocatable file for x86-64, with its relocations applied for
+        these addresses. Raises Unapplied if it is refused, with what the layout lacks; ValueError
+        if a name or a number of the layout is outside its range, or two names are the same."""
+        lent, missing, section = _layout_of(layout), _Missing(), _within("section", section, 0, 65535)
+        # A section that is longer than the file is refused, so this is room enough.
+        length = self._size_in_file(section)
         out = ctypes.create_string_buffer(max(1, length))
         try:
             status, end = self._call("apply_lent", self._limits, section, lent, *self._lent(), out, length, missing)
@@ -841,7 +918,7 @@ class File:
         return ctypes.string_at(out, end.written)
 
     def _size_in_file(self, section: int) -> int:
-        """How many bytes of the file a section has; none of one that is refused, for apply to tell."""
+        """Returns how many bytes of the file a section has; none if it is refused, which apply reports."""
         row = _Section()
         try:
             status, _ = self._call("section", section, row)
@@ -855,7 +932,7 @@ class File:
 
     @property
     def header(self) -> Header:
-        """The file header."""
+        """Returns the file header."""
         row = _Header()
         self._call("header", row)
         return Header(row.type, row.machine, row.version, row.entry, row.phoff, row.shoff, row.flags,
@@ -863,14 +940,14 @@ class File:
                       bytes(row.ident))
 
     def _names_of_sections(self) -> Places:
-        """Where the string table of the section names lies; it has no bytes where there is none. This
-        runs the checks that every listing of headers begins with."""
+        """Returns where the string table of the section names is; it has no bytes if there is none. This
+        runs the checks with which every listing of headers begins."""
         names = _Range()
         status, _ = self._call("section_names", self._limits, *self._unwritten(), names)
         return (0, 0) if status == _ABSENT else (names.at, names.at + names.len)
 
     def _section_rows(self, asked: _Asked) -> Sequence[Numbers]:
-        """All section headers, as numbers in the order of `Section` behind its name; the place in the
+        """Returns all section headers, as numbers in the order of `Section` after its name; the place in the
         string table of the names is the first."""
         if self._sections is None:
             self._names_of_sections()
@@ -887,7 +964,7 @@ class File:
         return self._sections
 
     def sections(self) -> Iterator[Section]:
-        """The section headers in their order, section 0 too."""
+        """Returns the section headers in their order, including section 0."""
         strings, header, asked = self._names_of_sections(), self.header, _Asked(self._budget)
         for index, (name, *numbers) in enumerate(self._section_rows(asked)):
             place = header.shoff + 64 * index
@@ -896,10 +973,10 @@ class File:
             yield Section(index, text, *numbers)
 
     def content(self, section: int) -> Optional[bytes]:
-        """The bytes of a section; None of one whose type is NOBITS or NULL, which has no bytes in the
-        file. Absent where the file has no such section."""
-        found = _Range()
-        status, _ = self._call("section_bytes", _within("section", section, 0, 65535), found)
+        """Returns the bytes of a section; None if its type is NOBITS or NULL, which has no bytes in the
+        file. Raises Absent if the file has no such section."""
+        found, section = _Range(), _within("section", section, 0, 65535)
+        status, _ = self._call("section_bytes", section, found)
         if status == _OK:
             _Asked(self._budget).take(found.len, found.at)
             return self.data[found.at:found.at + found.len]
@@ -908,7 +985,7 @@ class File:
         return None
 
     def segments(self) -> Iterator[Segment]:
-        """The program headers in their order."""
+        """Returns the program headers in their order."""
         self._names_of_sections()
         row, header, asked = _Segment(), self.header, _Asked(self._budget)
         for index in range(header.phnum):
@@ -921,13 +998,13 @@ class File:
     # Tables.
 
     def _tables(self, section: Optional[int], kinds: Sequence[int], asked: _Asked) -> Sequence[int]:
-        """The section that is asked for, or all sections of some types."""
+        """Returns the section that is asked for, or all sections of some types."""
         if section is not None:
             return [_within("section", section, 0, 65535)]
         return [index for index, row in enumerate(self._section_rows(asked)) if row[1] in kinds]
 
     def _opened(self, call: str, table: int, *counts: Any) -> Any:
-        """A table's rows, behind its checks."""
+        """Returns a table's rows, after its checks."""
         rows = _Rows()
         status, _ = self._call(call, self._limits, table, *self._unwritten(), *counts, rows)
         if status == _ABSENT:
@@ -935,22 +1012,22 @@ class File:
         return rows
 
     def _batches(self, call: str, rows: Any, form: str, asked: _Asked) -> Iterator[Iterator[Numbers]]:
-        """The rows that are left, in batches. Each is to be gone through before the next is asked for."""
+        """Returns the rows that are left, in batches. Each must be used up before the next is requested."""
         data, end, size = self.data, _End(), struct.calcsize(form)
         step = getattr(_library, "elfsee_" + call + "_within")
         most = max(1, min(BATCH, rows.count))
-        out = bytearray(size * most)
-        lent, view = (ctypes.c_char * len(out)).from_buffer(out), memoryview(out)
+        out = ctypes.create_string_buffer(size * most)
         count = most
         while count == most:
-            count = step(data, len(data), self._limits, asked.count, rows, lent, most, end)
-            yield struct.iter_unpack(form, view[:size * count])
+            count = step(data, len(data), self._limits, asked.count, rows, out, most, end)
+            # Over a memoryview the interpreter could end, if a fault that holds this frame is collected.
+            yield struct.iter_unpack(form, ctypes.string_at(out, size * count))
         if end.cause:
             raise Refused(end.cause, end.at)
 
     def _name(self, strings: Places, offset: int, entry: int) -> bytes:
-        """The name at an offset of the string table from the first of two places to the other, which
-        the library told; a fault is that of the entry at `entry`."""
+        """Returns the name at an offset of the string table from the first of two places to the other, which
+        the library gave; a fault is that of the entry at `entry`."""
         start, (first, last) = strings[0] + offset, strings
         end = self.data.find(0, start, min(last, start + self._longest + 1))
         if end >= 0:
@@ -965,8 +1042,8 @@ class File:
         return self.data[name.at:name.at + name.len]
 
     def symbols(self, section: Optional[int] = None) -> Iterator[Symbol]:
-        """The symbols of a section, or of all symbol tables in the order of the sections, symbol 0
-        too. Absent where that section holds none."""
+        """Returns the symbols of a section, or of all symbol tables in the order of the sections, including symbol
+        0. Raises Absent if that section holds none."""
         asked = _Asked(self._budget)
         for table in self._tables(section, (SHT_SYMTAB, SHT_DYNSYM), asked):
             yield from self._symbols_of(table, asked)
@@ -982,7 +1059,7 @@ class File:
         for batch in self._batches("next_symbols", rows, _SYMBOL_FORM, asked):
             left = asked.left()
             for value, size, name, section, info, other in batch:
-                # `_name`, with no call where all is well.
+                # `_name`, without a call if all is well.
                 start = first + name
                 stop = start + longest
                 end = find(0, start, stop if stop < last else last)
@@ -995,24 +1072,25 @@ class File:
             asked.leave(left)
 
     def hashed_symbols(self, *, by_segments: bool = False) -> Iterator[Symbol]:
-        """The symbols that the file's hash table is of, among which a loader looks names up, symbol 0 too: found
-        as `look_up` finds them, so also in a file without section headers, and counted by the hash table. Their
-        `table` is 0."""
+        """Returns the symbols of the file's hash table, among which a loader looks up names, including symbol 0:
+        found as `look_up` finds them, so also in a file without section headers, and counted by the hash table.
+        Their `table` is 0."""
         rows, asked = _Rows(), _Asked(self._budget)
-        _, end = self._call("hashed_symbols", self._limits, _BY_SEGMENTS * by_segments, *self._lent(), rows)
+        flags = _flags_of(by_segments=(by_segments, _BY_SEGMENTS))
+        _, end = self._call("hashed_symbols", self._limits, flags, *self._lent(), rows)
         asked.take(end.asked, 0)
         yield from self._symbols_from(rows, 0, asked)
 
     def relocations(self, section: Optional[int] = None) -> Iterator[Relocation]:
-        """The relocation entries of a section, or of all RELA sections in their order. Absent where that
-        section holds none; so does one of type REL, whose entries are not read."""
+        """Returns the relocation entries of a section, or of all RELA sections in their order. Raises Absent if that
+        section holds none, also for one of type REL, whose entries are not read."""
         asked = _Asked(self._budget)
         for table in self._tables(section, (SHT_RELA,), asked):
             yield from self._relocations_of(table, asked)
 
     def _relocations_of(self, table: int, asked: _Asked) -> Iterator[Relocation]:
         rows = self._opened("relocations", table)
-        # What an empty table links to is not looked at.
+        # What an empty table links to is not read.
         if not rows.count:
             return
         at, index, name_of = rows.at, 0, self._symbol_names(table, asked)
@@ -1032,7 +1110,7 @@ class File:
             asked.leave(left)
 
     def _symbol_names(self, table: int, asked: _Asked) -> Callable[[int, int], bytes]:
-        """What names the symbol of an index, for an entry at an offset, in a table of entries."""
+        """Returns a function that names the symbol of an index, for an entry at an offset, in a table of entries."""
         sections = self._sections if self._sections is not None else self._section_rows(asked)
         link = sections[table][6]
         symbols: Any = None
@@ -1052,8 +1130,8 @@ class File:
         return name_of
 
     def versions(self, section: Optional[int] = None) -> Iterator[Version]:
-        """The version definitions of a section, or its needs; or the definitions of all sections, and then all
-        needs, as the lines V of a listing. Absent where that section holds neither."""
+        """Returns the version definitions of a section, or its needs; or the definitions of all sections, and then
+        all needs, as the lines V of a listing. Raises Absent if that section holds neither."""
         asked = _Asked(self._budget)
         if section is not None:
             yield from self._versions_of(_within("section", section, 0, 65535), asked)
@@ -1074,9 +1152,9 @@ class File:
             yield Version(name, row.kind, row.number & 32767, row.number > 32767, row.flags, row.hash, table)
 
     def symbol_versions(self, section: Optional[int] = None) -> Iterator[VersionOfSymbol]:
-        """The versions of the symbols of a section, in their order, or of all sections of them, as the lines X of
-        a listing. The name of a version is that of the first definition with its number, else of the first need:
-        of the first section of each. Absent where that section holds none."""
+        """Returns the versions of the symbols of a section, in their order, or of all sections of them, as the lines
+        X of a listing. The name of a version is that of the first definition with its number, or else of the first
+        need: of the first section of each. Raises Absent if that section holds none."""
         asked = _Asked(self._budget)
         tables = self._tables(section, (SHT_GNU_VERSYM,), asked)
         names = self._version_names(asked) if tables else {}
@@ -1092,7 +1170,7 @@ class File:
             self._all_have_words(table, link, index)
 
     def _version_names(self, asked: _Asked) -> Dict[int, bytes]:
-        """The names of the numbers of versions."""
+        """Returns the names of the numbers of versions."""
         names: Dict[int, bytes] = {}
         for kind in (SHT_GNU_VERDEF, SHT_GNU_VERNEED):
             for table in self._tables(None, (kind,), asked)[:1]:
@@ -1102,14 +1180,14 @@ class File:
         return names
 
     def _all_have_words(self, table: int, link: int, count: int) -> None:
-        """Refuses a table of symbols' versions that has fewer than there are symbols; an empty one has none."""
+        """Refuses a table of symbol versions that has fewer than there are symbols; an empty one has none."""
         header = _Section()
         self._call("section", table, header)
         if header.size and self._opened("symbols", link).count > count:
             raise Refused(Cause.VERSION_CUT, self.header.shoff + 64 * table)
 
     def notes(self) -> Iterator[Note]:
-        """The notes of all sections, or in a file without sections of all segments."""
+        """Returns the notes of all sections, or in a file without sections of all segments."""
         asked = _Asked(self._budget)
         sections = self._section_rows(asked)
         call, headers = ("notes", len(sections)) if sections else ("segment_notes", self.header.phnum)
@@ -1123,8 +1201,8 @@ class File:
                     yield Note(name, note.type, desc, note.namesz, note.descsz, table)
 
     def members(self) -> Iterator[Member]:
-        """The members of an archive, as a static library, in their order. The index of symbols, of the
-        name `/`, and the table of names, `//`, are members too."""
+        """Returns the members of an archive, such as a static library, in their order. The index of symbols, with
+        the name `/`, and the table of names, `//`, are members too."""
         members, member, asked = _Members(), _Member(), _Asked(self._budget)
         self._call("members", members)
         content = memoryview(self.data)
@@ -1135,8 +1213,8 @@ class File:
                          content[at:at + size])
 
     def mapped(self, address: int, size: int) -> Optional[int]:
-        """The file offset of so many bytes at an address, by the first LOAD program header that holds
-        them all among the bytes that it has in the file; None where none does."""
+        """Returns the file offset of `size` bytes at an address, by the first LOAD program header that holds
+        them all among the bytes that it has in the file; None if none does."""
         found = _Range()
         status, _ = self._call("mapped", _within("address", address, 0, MOST_NUMBER),
                                _within("size", size, 0, MOST_NUMBER), found)
@@ -1144,8 +1222,8 @@ class File:
         return at if status == _OK else None
 
     def dynamic(self, section: Optional[int] = None) -> Iterator[Dynamic]:
-        """The dynamic entries of a section, or of all of them, up to and with the first of tag NULL. In
-        a file without sections those of its segments. Absent where that section holds none."""
+        """Returns the dynamic entries of a section, or of all of them, up to and including the first with tag NULL.
+        In a file without sections those of its segments. Raises Absent if that section holds none."""
         asked = _Asked(self._budget)
         tables = self._tables(section, (SHT_DYNAMIC,), asked)
         if section is None and not self._sections:
@@ -1161,7 +1239,7 @@ class File:
 
     def _entries(self, rows: Any, table: int, strings: Callable[[int], Places],
                  asked: _Asked) -> Iterator[Dynamic]:
-        """The dynamic entries of a table; `strings` tells the string table for the entry at an offset."""
+        """Returns the dynamic entries of a table; `strings` gives the string table for the entry at an offset."""
         at, index = rows.at, 0
         for batch in self._batches("next_dynamic", rows, _DYNAMIC_FORM, asked):
             for tag, value in batch:
@@ -1173,8 +1251,8 @@ class File:
                 index += 1
 
     def _mapped_strings(self, rows: Any, asked: _Asked) -> Callable[[int], Places]:
-        """What tells the string table of a segment's dynamic entries, which its first entries of two
-        tags place in memory, for the entry at an offset."""
+        """Returns a function that gives the string table of a segment's dynamic entries, which its first entries of
+        two tags place in memory, for the entry at an offset."""
         again = _Rows(rows.at, rows.count, 0, rows.entry, 0, 0)
         first: Dict[int, int] = {}
         for batch in self._batches("next_dynamic", again, _DYNAMIC_FORM, asked):

@@ -1,4 +1,4 @@
--- The digit that is put is the first of those that are left.
+-- The digit that is appended is the first of those that are left.
 use Rattle.std.proofs.Common.{arith, sym, ◌∙◌}
 use Rattle.elf_format.proofs.Digits.{digit_put, none_left}
 use Rattle.elf_format.proofs.columns.put_digits.Goals as goal

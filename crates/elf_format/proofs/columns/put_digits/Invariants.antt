@@ -3,7 +3,7 @@ use Rattle.arrayvec.specs.ArrayVec.{array_vec_len}
 use Rattle.elf_model.specs.Text.{hex}
 use Rattle.elf_format.proofs.columns.put_digits.Given as goal
 
--- what is put, and the digits that are left, are the digits
+-- what is appended, and the digits that are left, are the digits
 abbrev pub invariant-loop-left : goal.invariant-loop-left
 invariant-loop-left l = record {
   digits : l.line.items ++ hex l.left l.number ≡ l.fn.line.items ++ hex l.fn.digits l.number;

@@ -1,4 +1,5 @@
--- The part of the cell from the column's first byte on, or from the number's first digit on, is the column.
+-- The part of the cell from the column's first byte, or from the number's first digit, is the
+-- column.
 use Rattle.std.proofs.Common.{◌≡◌, ◌-◌, ◌≤◌, ◌++◌, ◌∙◌, ap, sym, arith, length, decimal, append_assoc, ◌∷◌, []}
 use Rattle.elf_model.specs.Text.{right_in}
 use Rattle.elf_format.proofs.Decimals.{cell_part}

@@ -1,4 +1,4 @@
--- The number's digits end where the spaces of the cell did, and the byte stands behind them.
+-- The number's digits end where the spaces of the cell did, and the byte follows them.
 use Rattle.std.proofs.Common.{arith}
 use Rattle.elf_format.proofs.Decimals.{cell_text, twenty_digits}
 use Rattle.elf_format.proofs.columns.write_cell.Goals as goal

@@ -1,4 +1,4 @@
--- The item is put piece by piece.
+-- The item is written piece by piece.
 use Rattle.std.proofs.Common.{refl}
 use Rattle.elf_model.specs.ExplainLine.{place_text}
 use Rattle.elf_format.proofs.lack_rows.place_row.Goals as goal

@@ -1,4 +1,4 @@
--- A printing ASCII character that is no quotation mark and no backslash stands as it is.
+-- A printing ASCII character that is no quotation mark and no backslash is unchanged.
 use Rattle.elf_format.proofs.NameText.{plain}
 use Rattle.elf_format.proofs.named.is_plain.Goals as goal
 

@@ -2,7 +2,7 @@ use Rattle.std.proofs.Common.{◌≡◌, ℕ, ◌<◌, ◌≤◌, [], ◌∷◌,
 use Rattle.elf_format.specs.Pieces.{byte_text}
 use Rattle.elf_format.proofs.named.plain_from.Given as goal
 
--- the bytes so far stand as they are
+-- the bytes so far are unchanged
 abbrev pub invariant-loop-count : goal.invariant-loop-count
 invariant-loop-count l = record {
   within : l.count ≤ length l.name;

@@ -1,4 +1,4 @@
--- The sixteen bytes of the piece stand behind those before.
+-- The sixteen bytes of the piece follow those before.
 use Rattle.std.proofs.Common.{◌≡◌, ◌-◌, drop, take, ◌∙◌, ap, length, length-drop, arith}
 use Rattle.std.proofs.lemmas.List.{take_all}
 use Rattle.elf_format.proofs.NameText.{stand_more}

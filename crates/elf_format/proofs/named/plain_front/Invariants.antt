@@ -2,7 +2,7 @@ use Rattle.std.proofs.Common.{◌≡◌, ℕ, ◌<◌, ◌≤◌, [], ◌∷◌,
 use Rattle.elf_format.specs.Pieces.{byte_text}
 use Rattle.elf_format.proofs.named.plain_front.Given as goal
 
--- the bytes so far stand as they are
+-- the bytes so far are unchanged
 abbrev pub invariant-loop-piece : goal.invariant-loop-piece
 invariant-loop-piece l = record {
   within : l.count ≤ length l.name;

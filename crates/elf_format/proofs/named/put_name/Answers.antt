@@ -1,4 +1,4 @@
--- The bytes that are put at once, and the others as they are spelt, are the name.
+-- The bytes that are appended at once, and the others as they are escaped, are the name.
 use Rattle.std.proofs.Common.{◌≡◌, ◌-◌, ◌≤◌, ◌++◌, ◌∙◌, ap, sym, arith, length, take, drop, append_assoc, length-drop}
 use Rattle.std.proofs.lemmas.List.{take_all}
 use Rattle.elf_format.specs.Pieces.{spelt}

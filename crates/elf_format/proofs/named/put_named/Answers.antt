@@ -1,4 +1,5 @@
--- The pieces that are put are the line's front, what stands before the name, the name, and what ends it.
+-- The pieces that are written are the line's prefix, the text before the name, the name, and the
+-- text that ends it.
 use Rattle.std.proofs.lemmas.Result.{err_from_is_err_and}
 use Rattle.elf_source.proofs.PutsLaws.{SinkTakesPrefix-more}
 use Rattle.elf_format.specs.Pieces.{spelt, name_closing}

@@ -1,4 +1,5 @@
--- The pieces are put one behind the other: the line with the first name, what stands between, the next name, and the tail.
+-- The pieces are written one after another: the line with the first name, the text between, the
+-- second name, and the tail.
 use Rattle.std.proofs.lemmas.Result.{err_from_is_err_and}
 use Rattle.elf_source.proofs.PutsLaws.{SinkTakesPrefix-more}
 use Rattle.elf_format.specs.Prelude.{shown_as, spelt}

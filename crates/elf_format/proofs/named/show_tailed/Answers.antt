@@ -1,4 +1,4 @@
--- What stands behind the name is put behind the line with the name.
+-- The text after the name is written after the line with the name.
 use Rattle.std.proofs.lemmas.Result.{err_from_is_err_and}
 use Rattle.elf_source.proofs.PutsLaws.{SinkTakesPrefix-more}
 use Rattle.elf_format.specs.Named.{shown_as}

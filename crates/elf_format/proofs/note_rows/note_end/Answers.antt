@@ -1,4 +1,4 @@
--- The member and the end of the object stand in the order of the puts.
+-- The member and the end of the object are in the order of the calls.
 use Rattle.std.proofs.Common.{append_assoc}
 use Rattle.elf_model.specs.Fields.{with_field}
 use Rattle.elf_format.specs.Notes.{note_end}

@@ -1,4 +1,5 @@
--- The encoder's digits are the bytes of the descriptor in hexadecimal, and the tail is what stands behind the name.
+-- The encoder's digits are the bytes of the descriptor in hexadecimal, and the tail is the text
+-- after the name.
 use Rattle.std.proofs.Common.{◌∙◌, ap, arith}
 use Rattle.elf_model.specs.Lines.{hex_bytes}
 use Rattle.elf_format.specs.Named.{shown_as}

@@ -1,4 +1,4 @@
--- A byte that is put is the first of those that were left.
+-- A byte that is appended is the first of those that were left.
 use Rattle.std.proofs.Common.{arith}
 use Rattle.elf_format.proofs.NameText.{string_put, string_end}
 use Rattle.elf_model.specs.Fields.{quoted}

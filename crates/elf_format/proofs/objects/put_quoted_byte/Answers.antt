@@ -1,4 +1,4 @@
--- Any other byte is spelt in digits, behind two backslashes.
+-- Any other byte is escaped in digits, after two backslashes.
 use Rattle.std.proofs.Common.{◌<◌, ◌≤◌, codes, arith, append_assoc}
 use Rattle.elf_model.specs.Text.{hex}
 use Rattle.elf_format.proofs.NameText.{string_low, string_high}

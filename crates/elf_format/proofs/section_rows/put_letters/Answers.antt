@@ -1,11 +1,11 @@
--- The letter that is put is that of the first flag of those that are left.
+-- The letter that is appended is that of the first flag of those that are left.
 use Rattle.std.proofs.Common.{◌≡◌, ◌==◌, ℕ, ◌-◌, ◌≤◌, if◌then◌else◌, List, [], ◌∷◌, ◌++◌, length, take, drop, get_or, arith, append_assoc, bit_and}
 use Rattle.std.proofs.lemmas.List.{take_all}
 use Rattle.elf_model.specs.NameTables.{letters_of}
 use Rattle.elf_format.specs.Tables.{letters}
 use Rattle.elf_format.proofs.section_rows.put_letters.Goals as goal
 
--- the letter of a flag where it is set
+-- the letter of a flag if it is set
 abbrev letter : ℕ × ℕ → ℕ → List ℕ
 letter flag bits = if bit_and bits flag.0 == flag.0 then flag.1 ∷ [] else []
 

@@ -4,7 +4,7 @@ use Rattle.elf_model.specs.NameTables.{letters_of}
 use Rattle.elf_format.specs.Tables.{letters}
 use Rattle.elf_format.proofs.section_rows.put_letters.Given as goal
 
--- what is put, and the letters of the flags that are left, are the letters
+-- what is appended, and the letters of the flags that are left, are the letters
 abbrev pub invariant-loop-table : goal.invariant-loop-table
 invariant-loop-table l = record {
   items : l.line.items ++ letters_of (letters l.table) l.bits ≡ l.fn.line.items ++ letters_of (letters l.fn.table) l.bits;

@@ -1,4 +1,4 @@
--- The letters stand in the order of the puts, each by its own flag.
+-- The letters are in the order of the calls, each for its own flag.
 use Rattle.std.proofs.Common.{append_assoc}
 use Rattle.elf_model.specs.NameTables.{segment_flags_text, letter_or_dash}
 use Rattle.elf_format.proofs.segment_rows.put_permissions.Goals as goal

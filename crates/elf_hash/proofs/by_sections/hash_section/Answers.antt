@@ -1,4 +1,4 @@
--- The first section of the GNU system's type, else the first of the gABI's.
+-- The first GNU_HASH section, otherwise the first HASH section.
 use Rattle.std.proofs.Common.{sym, ◌∙◌}
 use Rattle.elf_table.proofs.Absent.{none-of}
 use Rattle.elf_hash.proofs.SectionLaws.{gnu_first, none_first, sysv_first}

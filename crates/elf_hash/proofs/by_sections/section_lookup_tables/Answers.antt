@@ -1,4 +1,4 @@
--- The checks of the hash table's section, then those of the tables of versions.
+-- The checks of the hash table's section, then those of the version tables.
 use Rattle.std.proofs.Common.{rules, refl, ap, sym, ◌∙◌}
 use Rattle.std.proofs.lemmas.Result.{err_from_is_err_and}
 use Rattle.elf_model.specs.Prelude.{hash_checks_from, section_at, version_checks}

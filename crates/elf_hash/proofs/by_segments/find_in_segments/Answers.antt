@@ -1,4 +1,4 @@
--- No LOAD segment lies over another, and then what the entries tell.
+-- No two LOAD segments overlap, and then the result by the entries.
 use Rattle.std.proofs.Common.{arith}
 use Rattle.std.proofs.lemmas.Result.{err_from_is_err_and}
 use Rattle.elf_table.proofs.LedgerLaws.{CallDid-as, CallDid-none, CallDid-stop}

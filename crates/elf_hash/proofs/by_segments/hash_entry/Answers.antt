@@ -1,4 +1,4 @@
--- The entry of the GNU system's table, else that of the gABI's.
+-- The entry of the GNU hash table, otherwise that of the SysV one.
 use Rattle.elf_table.proofs.Absent.{none-of}
 use Rattle.elf_hash.proofs.SegmentLaws.{tells_gnu, tells_none, tells_sysv}
 use Rattle.elf_hash.proofs.by_segments.hash_entry.Goals as goal

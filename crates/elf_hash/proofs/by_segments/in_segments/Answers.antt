@@ -1,4 +1,4 @@
--- The first segment of dynamic entries, and what these tell.
+-- The first PT_DYNAMIC segment, and the result by its entries.
 use Rattle.std.proofs.Common.{ap, sym, ◌∙◌, arith}
 use Rattle.std.proofs.lemmas.Result.{err_from_is_err_and}
 use Rattle.elf_table.specs.Tables.{TableRange}

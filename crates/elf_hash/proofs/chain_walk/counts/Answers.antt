@@ -1,4 +1,4 @@
--- The counts of a table of each kind are those of the table that a lookup is made in.
+-- The counts of a table of each style are those of the table that a lookup searches.
 use Rattle.std.proofs.Common.{ap, arith}
 use Rattle.std.proofs.lemmas.Result.{err_from_is_err_and}
 use Rattle.elf_table.proofs.LedgerLaws.{CallDid-as}

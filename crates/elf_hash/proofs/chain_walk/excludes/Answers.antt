@@ -1,4 +1,4 @@
--- Where the chain of the name has no first symbol, the walk tries none.
+-- If the chain of the name has no first symbol, the walk tries none.
 use Rattle.elf_table.proofs.LedgerLaws.{CallDid-as}
 use Rattle.elf_hash.proofs.GnuSteps.{passed_over}
 use Rattle.std.proofs.Common.{arith}

@@ -1,4 +1,4 @@
--- The walk in a table of each kind is that of its kind.
+-- The walk in a table of each style is that of its style.
 use Rattle.std.proofs.Common.{◌/◌, arith}
 use Rattle.elf_table.proofs.LedgerLaws.{CallReads-more, CallDid-as}
 use Rattle.elf_hash.proofs.WalkLaws.{bytes_most}

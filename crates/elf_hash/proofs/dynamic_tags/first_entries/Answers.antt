@@ -1,4 +1,4 @@
--- An entry more is taken in, and no other behind the last.
+-- One more entry is added, and no other after the last.
 use Rattle.std.proofs.Common.{◌≡◌, ℕ, List, Some, ap, ◌∙◌, arith, rules}
 use Rattle.elf_record.specs.Dyn.{IsDyn}
 use Rattle.elf_table.proofs.LedgerLaws.{CallDid-of}

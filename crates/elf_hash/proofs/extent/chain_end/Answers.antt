@@ -1,4 +1,4 @@
--- The chain goes on at a symbol, or ends there.
+-- The chain continues at a symbol, or ends there.
 use Rattle.std.proofs.Common.{◌≡◌, suc, ◌+◌, sym, ap, ◌∙◌, arith}
 use Rattle.std.proofs.lemmas.Result.{err_from_is_err_and}
 use Rattle.elf_model.specs.GnuHash.{is_chain_end}

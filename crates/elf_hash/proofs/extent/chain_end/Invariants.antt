@@ -1,4 +1,4 @@
--- The chain is gone along up to a symbol index, and its end is what is told from there on.
+-- The chain is walked up to a symbol index, and its end is the result from there.
 use Rattle.std.proofs.Common.{◌≡◌, ◌+◌, ◌-◌, ◌*◌, ◌≤◌, None}
 use Rattle.elf_table.specs.Ledger.{CallDid}
 use Rattle.elf_hash.specs.Prelude.{IsGnu, last_in}

@@ -1,4 +1,4 @@
--- The highest of the buckets' words, and the end of the chain that begins there.
+-- The largest bucket value, and the end of the chain that begins there.
 use Rattle.std.proofs.Common.{ℕ, sym, ap, ◌∙◌, arith}
 use Rattle.elf_model.specs.Prelude.{gnu_first, max_bucket, unfound}
 use Rattle.elf_table.proofs.LedgerLaws.{CallReads-then, CallDid-as, CallDid-then}

@@ -1,4 +1,4 @@
--- The word of each bucket is the file's, and the highest of those that are gone by is kept.
+-- The word of each bucket is the file's, and the largest of those that are passed is kept.
 use Rattle.std.proofs.Common.{◌≡◌, ℕ, suc, ◌*◌, max, ap, sym, ◌∙◌, arith}
 use Rattle.elf_model.specs.Prelude.{field, gnu_bucket_at, max_bucket, slice}
 use Rattle.elf_source.proofs.ReadsLaws.{ReadsUpTo-none, ReadsUpTo-then, ReadsUpTo-to}

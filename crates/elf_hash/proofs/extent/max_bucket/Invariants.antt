@@ -1,4 +1,4 @@
--- The words of some buckets are gone by, and the highest of them is known.
+-- The words of some buckets are passed, and the largest of them is known.
 use Rattle.std.proofs.Common.{◌≡◌, ◌+◌, ◌*◌, ◌≤◌, ℕ, List, None, Some}
 use Rattle.elf_model.specs.Prelude.{HashTable as Place, max_bucket}
 use Rattle.elf_source.specs.Source.{ReadsUpTo}

@@ -1,4 +1,4 @@
--- Of a table of the GNU system, or of the gABI.
+-- For a GNU hash table, or a SysV one.
 use Rattle.std.proofs.Common.{ℕ, min, ap, ◌∙◌, arith}
 use Rattle.elf_table.proofs.LedgerLaws.{CallDid-as, CallDid-none}
 use Rattle.elf_hash.specs.Prelude.{place_of_table}

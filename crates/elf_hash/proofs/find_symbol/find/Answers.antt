@@ -1,4 +1,4 @@
--- The file header, the load, and what stands behind, each within the lookup's cost.
+-- The file header, the load, and what follows, each within the lookup's cost.
 use Rattle.std.proofs.Common.{ℕ, ◌/◌, length, sym, ap, ◌∙◌, arith}
 use Rattle.std.proofs.lemmas.Result.{err_from_is_err_and}
 use Rattle.elf_model.specs.Checks.{first_refusal, load_checks}

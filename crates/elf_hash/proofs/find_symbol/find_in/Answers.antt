@@ -1,4 +1,4 @@
--- What each stage finds and asks for is what the lookup does.
+-- What each stage finds and requests is what the lookup does.
 use Rattle.std.proofs.Common.{◌≡◌, ◌/◌, ◌≤◌, None, length, refl, ap, sym, ◌∙◌, arith, mul-le-mul_right}
 use Rattle.std.proofs.lemmas.Result.{err_from_is_err_and}
 use Rattle.elf_model.specs.Find.{first_hash}

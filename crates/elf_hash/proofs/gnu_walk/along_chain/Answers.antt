@@ -1,4 +1,4 @@
--- The walk stands at a symbol index, and what it meets there is what the definition's walk gives.
+-- The walk is at a symbol index, and what it finds there is the result of the definition's walk.
 use Rattle.std.proofs.Common.{ℕ, ◌+◌, ◌/◌, false, sym, ap, ◌∙◌, arith}
 use Rattle.std.proofs.lemmas.Result.{err_from_is_err_and}
 use Rattle.elf_model.specs.Bytes.{field}

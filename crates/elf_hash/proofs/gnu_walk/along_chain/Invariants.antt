@@ -1,4 +1,5 @@
--- The walk has read so many chain words and tried so many symbols, and has asked for those alone.
+-- The walk has read a number of chain words and tried a number of symbols, and has requested those
+-- alone.
 use Rattle.std.proofs.Common.{◌≡◌, ℕ, ◌+◌, ◌-◌, ◌*◌, ◌<◌, ◌≤◌, Bool, Result, None}
 use Rattle.elf_model.specs.Prelude.{HashTable as Place}
 use Rattle.elf_model.specs.declared.causes.Refusal.{Refusal}

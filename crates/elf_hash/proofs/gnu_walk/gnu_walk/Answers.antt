@@ -1,4 +1,4 @@
--- Nothing is tried where the table tells that there is nothing, and else the chain is gone along.
+-- Nothing is tried if the table excludes the hash, and otherwise the chain is walked.
 use Rattle.std.proofs.Common.{◌/◌, None, arith}
 use Rattle.elf_table.proofs.LedgerLaws.{CallDid-as}
 use Rattle.elf_hash.proofs.GnuSteps.{passed_over}

@@ -1,4 +1,4 @@
--- The file header, the load, and what stands behind.
+-- The file header, the load, and what follows.
 use Rattle.std.proofs.Common.{ℕ, sym, ap, ◌∙◌, arith}
 use Rattle.std.proofs.lemmas.Result.{err_from_is_err_and}
 use Rattle.elf_model.specs.Checks.{first_refusal, early_checks, load_checks, section_name_checks}

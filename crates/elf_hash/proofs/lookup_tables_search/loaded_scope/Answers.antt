@@ -1,4 +1,4 @@
--- By the sections, or where there are none by the program headers.
+-- By the sections, or if there are none by the program headers.
 use Rattle.std.proofs.Common.{ap, sym, ◌∙◌, arith}
 use Rattle.std.proofs.lemmas.Result.{err_from_is_err_and}
 use Rattle.elf_record.specs.declared.ehdr.Ehdr.{Ehdr}

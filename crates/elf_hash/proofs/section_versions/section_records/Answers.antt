@@ -1,4 +1,4 @@
--- The records are the section's bytes, and their names those that it links to.
+-- The records are the section's bytes, and their names those of the section that it links to.
 use Rattle.std.proofs.Common.{rules, refl, ◌∙◌}
 use Rattle.std.proofs.lemmas.Result.{err_from_is_err_and}
 use Rattle.elf_model.specs.Records.{section_at}

@@ -1,4 +1,4 @@
--- The words, then the definitions, then the needs.
+-- The versym entries, then the definitions, then the needs.
 use Rattle.std.proofs.Common.{rules, refl}
 use Rattle.std.proofs.lemmas.Result.{err_from_is_err_and}
 use Rattle.elf_table.proofs.Absent.{none-of}

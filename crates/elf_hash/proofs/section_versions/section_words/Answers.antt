@@ -1,4 +1,4 @@
--- The words are those of the first section of such.
+-- The versym entries are those of the first section of that type.
 use Rattle.std.proofs.Common.{rules, sym, refl, ◌∙◌}
 use Rattle.std.proofs.lemmas.Result.{err_from_is_err_and}
 use Rattle.elf_table.proofs.HashSectionLaws.{place_is}

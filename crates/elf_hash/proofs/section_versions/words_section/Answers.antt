@@ -1,4 +1,4 @@
--- The first section of the words, where one of both kinds of records has a byte.
+-- The first section of versym entries, if one of both kinds of records has a byte.
 use Rattle.std.proofs.Common.{sym, ◌∙◌}
 use Rattle.elf_hash.proofs.VersionLaws.{words_defined, words_needed, words_unread}
 use Rattle.elf_hash.proofs.section_versions.words_section.Goals as goal

@@ -1,4 +1,4 @@
--- The entries, the symbols, their strings, then the tables of versions.
+-- The entries, the symbols, their strings, then the version tables.
 use Rattle.std.proofs.Common.{rules, ap, refl}
 use Rattle.std.proofs.lemmas.Result.{err_from_is_err_and}
 use Rattle.elf_table.specs.Tables.{TableRange}

@@ -1,4 +1,4 @@
--- The words, then the definitions, then the needs.
+-- The versym entries, then the definitions, then the needs.
 use Rattle.std.proofs.Common.{rules, ap, refl}
 use Rattle.std.proofs.lemmas.Result.{err_from_is_err_and}
 use Rattle.elf_model.specs.Numbers.{DT_VERDEF, DT_VERNEED}

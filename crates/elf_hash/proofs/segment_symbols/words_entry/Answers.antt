@@ -1,4 +1,4 @@
--- Neither definitions nor needs; or the entry of the words.
+-- Neither definitions nor needs; or the entry of the version symbol table.
 use Rattle.std.proofs.Common.{◌∙◌}
 use Rattle.elf_hash.proofs.SegmentLaws.{none_is, words_defined, words_missing, words_needed}
 use Rattle.elf_hash.proofs.segment_symbols.words_entry.Goals as goal

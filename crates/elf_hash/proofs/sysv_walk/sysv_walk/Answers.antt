@@ -1,4 +1,5 @@
--- The walk stands at the word of so many steps, and what it meets there is what the definition's walk gives.
+-- The walk is at the word of the current step, and what it finds there is the result of the
+-- definition's walk.
 use Rattle.std.proofs.Common.{◌+◌, ◌<◌, sym, ◌∙◌, arith}
 use Rattle.std.proofs.lemmas.Result.{err_from_is_err_and}
 use Rattle.elf_table.proofs.LedgerLaws.{CallDid-as, CallDid-stop, CallDid-then}

@@ -1,4 +1,4 @@
--- The walk has come to the word of so many steps, and has asked for those alone.
+-- The walk has come to the word of the current step, and has requested those alone.
 use Rattle.std.proofs.Common.{ℕ, ◌-◌, ◌≤◌, Bool, Result, None}
 use Rattle.elf_model.specs.Prelude.{HashTable as Place}
 use Rattle.elf_model.specs.declared.causes.Refusal.{Refusal}

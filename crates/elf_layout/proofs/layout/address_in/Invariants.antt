@@ -1,4 +1,4 @@
--- What is left gives the answer.
+-- The remaining items give the result.
 use Rattle.std.proofs.Common.{length, ◌-◌, ◌≡◌, ◌≤◌, drop}
 use Rattle.elf_model.specs.Placing.{address_in}
 use Rattle.elf_layout.proofs.layout.address_in.Given as goal

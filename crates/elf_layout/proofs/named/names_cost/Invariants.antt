@@ -1,4 +1,4 @@
--- What the names before this one cost, and those that are left.
+-- The cost of the names before this one, and of the remaining ones.
 use Rattle.std.proofs.Common.{length, ◌-◌, ◌≡◌, ◌+◌, ◌*◌, ◌≤◌, drop}
 use Rattle.elf_layout.specs.Layouts.{items_cost}
 use Rattle.elf_layout.proofs.named.names_cost.Given as goal

@@ -1,4 +1,4 @@
--- How many bytes the last line has before this one, and that no line before it has too many.
+-- How many bytes the last line has before this one; no line before it has too many.
 use Rattle.std.proofs.Common.{ℕ, ◌+◌, List, ◌++◌, length}
 use Rattle.elf_layout.specs.Texts.{HasShortLines, IsWithinLine}
 use Rattle.elf_layout.proofs.texts.lines_end.Given as goal

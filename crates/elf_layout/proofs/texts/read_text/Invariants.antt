@@ -1,4 +1,4 @@
--- What was read of a file is its text so far, and what is left of it stands behind that.
+-- What was read of a file is its text so far, and the rest of the file follows it.
 use Rattle.std.proofs.Common.{◌≡◌, ℕ, ◌≤◌, ◌<◌, List, ◌++◌, length, Some}
 use Rattle.elf_layout.specs.Texts.{HasShortLines, IsWithinLine}
 use Rattle.std.specs.Prelude.{vec_len}

@@ -1,4 +1,4 @@
--- The wanted name, no name, or the name of its number.
+-- The wanted name, no name, or the name of its version index.
 use Rattle.std.proofs.Common.{◌≡◌, ◌+◌, ◌*◌, None, Some, refl, ap, sym, ◌∙◌, arith, option_map}
 use Rattle.std.proofs.lemmas.Result.{err_from_is_err_and}
 use Rattle.elf_table.proofs.LedgerLaws.{CallReads-none, CallDid-as, CallDid-none}

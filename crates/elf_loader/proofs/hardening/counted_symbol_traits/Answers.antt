@@ -1,4 +1,4 @@
--- No symbols are known, or how many there are, and what they tell.
+-- No symbols are known, or the number of symbols, and their traits.
 use Rattle.std.proofs.Common.{ℕ, ◌-◌, ◌*◌, ◌≤◌, ap, arith}
 use Rattle.std.proofs.lemmas.Result.{err_from_is_err_and}
 use Rattle.elf_table.proofs.LedgerLaws.{CallReads-more, CallReads-then, CallDid-as, CallDid-none, CallDid-then}

@@ -1,4 +1,4 @@
--- What the file header tells of section headers is hidden meanwhile.
+-- The header's fields for section headers are masked meanwhile.
 use Rattle.std.proofs.Common.{sym}
 use Rattle.elf_model.specs.TraitCost.{traits_ceiling}
 use Rattle.elf_source.specs.Source.{MasksSectionHeaders}

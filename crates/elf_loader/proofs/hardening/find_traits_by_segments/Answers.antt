@@ -1,4 +1,4 @@
--- The symbols that are known, the dynamic entries, the word of the features, and what the symbols tell.
+-- The symbols that are known, the dynamic entries, the feature bits, and the traits of the symbols.
 use Rattle.std.proofs.Common.{ℕ, ◌+◌, ◌*◌, Ok, ap, sym, ◌∙◌, arith}
 use Rattle.elf_model.specs.Prelude.{properties_asked, trait_entries_asked}
 use Rattle.elf_model.specs.declared.traits.Hardening.{Hardening}

@@ -1,4 +1,4 @@
--- What a lookup is made in, if there is a hash table, and then its counts.
+-- The tables that a lookup searches, if there is a hash table, and then its counts.
 use Rattle.std.proofs.Common.{arith}
 use Rattle.std.proofs.lemmas.Result.{err_from_is_err_and}
 use Rattle.elf_table.proofs.LedgerLaws.{CallReads-more, CallReads-then, CallDid-as, CallDid-then}

@@ -1,4 +1,5 @@
--- The lookup in the file as it is, or with what its header tells of section headers hidden meanwhile.
+-- The lookup in the file as it is, or with the header's fields for section headers masked
+-- meanwhile.
 use Rattle.std.proofs.Common.{sym}
 use Rattle.elf_model.specs.LoaderFind.{loader_ceiling}
 use Rattle.elf_source.specs.Source.{MasksSectionHeaders}

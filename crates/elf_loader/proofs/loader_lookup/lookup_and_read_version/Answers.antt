@@ -1,4 +1,4 @@
--- What the lookup is made in, and the lookup there.
+-- The tables that the lookup searches, and the lookup in them.
 use Rattle.std.proofs.Common.{ℕ, ap, arith}
 use Rattle.std.proofs.lemmas.Result.{err_from_is_err_and}
 use Rattle.elf_table.proofs.LedgerLaws.{CallDid-as, CallDid-then}

@@ -1,4 +1,4 @@
--- Each record that is given is compared, until none is left.
+-- Each record that is yielded is compared, until none is left.
 use Rattle.std.proofs.Common.{◌≡◌, ◌+◌, ◌-◌, ◌*◌, length, arith}
 use Rattle.std.proofs.lemmas.Result.{err_from_is_err_and}
 use Rattle.elf_table.proofs.Absent.{none-of}

@@ -1,4 +1,4 @@
--- So many records of the table are compared, and the others are left.
+-- Some records of the table are compared, and the others are left.
 use Rattle.std.proofs.Common.{◌+◌, ◌*◌, List, length, None}
 use Rattle.elf_table.specs.Ledger.{CallDid}
 use Rattle.elf_model.specs.Prelude.{VersionRecordRead, VersionRecordTable as IsTableOf, compared_with, pad64, readings_of}

@@ -1,4 +1,4 @@
--- So many bytes of the list are gone through, and what is left of it tells the rest.
+-- Some bytes of the list are read, and what is left of it decides the rest.
 use Rattle.std.proofs.Common.{◌-◌, ◌≤◌, None}
 use Rattle.elf_table.specs.Ledger.{CallDid}
 use Rattle.elf_loader.proofs.PropertyLaws.{LeftOf}

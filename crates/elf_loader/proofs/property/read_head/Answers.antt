@@ -1,4 +1,4 @@
--- The head does not fit, a word of it is read, the data does not fit; or all is there.
+-- The header does not fit, a word of it is read, the data does not fit; or all is there.
 use Rattle.std.proofs.Common.{arith}
 use Rattle.std.proofs.lemmas.Result.{err_from_is_err_and}
 use Rattle.elf_table.proofs.LedgerLaws.{CallDid-as, CallDid-none, CallDid-sized, CallDid-stop, CallDid-then}

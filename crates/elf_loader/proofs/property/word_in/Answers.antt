@@ -1,4 +1,5 @@
--- The word was found, or the property is of another type, or of another size; or it is read.
+-- The feature bits were found, or the property is of another type, or of another size; or they are
+-- read.
 use Rattle.std.proofs.Common.{arith, sym, ◌∙◌}
 use Rattle.std.proofs.lemmas.Result.{err_from_is_err_and}
 use Rattle.elf_table.proofs.LedgerLaws.{CallDid-as, CallDid-none, CallDid-sized}

@@ -1,4 +1,4 @@
--- No note that is gone by lists properties, and those that are left tell.
+-- No note so far lists properties, and those that are left decide.
 use Rattle.std.proofs.Common.{◌≡◌, ◌+◌, ◌≤◌, ℕ, List, None, Some}
 use Rattle.elf_model.specs.Notes.{note_align}
 use Rattle.elf_source.specs.Source.{ReadsUpTo}

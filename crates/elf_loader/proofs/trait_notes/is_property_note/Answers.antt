@@ -1,4 +1,4 @@
--- A name that is shown whole is what stands before the first NUL; one that is cut is longer.
+-- A name that is shown whole is the bytes before the first NUL; one that is truncated is longer.
 use Rattle.std.proofs.Common.{◌∙◌}
 use Rattle.elf_loader.proofs.ListLaws.{gnu_cut, gnu_whole}
 use Rattle.elf_loader.proofs.trait_notes.is_property_note.Goals as goal

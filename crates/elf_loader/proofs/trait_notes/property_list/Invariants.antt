@@ -1,4 +1,4 @@
--- No segment that is gone by has a list of properties.
+-- No segment so far has a list of properties.
 use Rattle.std.proofs.Common.{◌≡◌, ◌-◌, ◌*◌, ◌≤◌, None}
 use Rattle.elf_model.specs.Prelude.{e_phnum, listed_from, property_list, sum_over}
 use Rattle.elf_table.specs.Prelude.{CallDid, CallReads, HoldsProgramHeaders}

@@ -1,4 +1,4 @@
--- The machine, the first list, and the word in it.
+-- The machine, the first list, and the feature bits in it.
 use Rattle.std.proofs.Common.{sym, ap, ◌∙◌, arith}
 use Rattle.std.proofs.lemmas.Bool.{eq-eqb, ne_eqb}
 use Rattle.std.proofs.lemmas.Result.{err_from_is_err_and}

@@ -1,4 +1,4 @@
--- A segment that may be written and run, the next, or no other.
+-- A segment that is writable and executable, the next, or no other.
 use Rattle.std.proofs.Common.{refl, sym, ◌∙◌, arith}
 use Rattle.elf_loader.proofs.SegmentLaws.{writable_here, writable_more, writable_none}
 use Rattle.elf_loader.proofs.trait_segments.first_writable_code.Goals as goal

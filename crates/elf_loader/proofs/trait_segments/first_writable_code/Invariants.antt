@@ -1,4 +1,4 @@
--- No segment that is gone by may be written and run.
+-- No segment so far is writable and executable.
 use Rattle.std.proofs.Common.{◌≡◌, ◌-◌, ℕ, List}
 use Rattle.elf_model.specs.Prelude.{e_phnum, first_that, is_writable_code}
 use Rattle.elf_table.specs.Load.{HoldsProgramHeaders}

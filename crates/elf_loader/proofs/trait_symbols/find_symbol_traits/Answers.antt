@@ -1,4 +1,4 @@
--- No symbol but the first, or the rows of the others.
+-- No symbol except the first, or the rows of the others.
 use Rattle.std.proofs.Common.{◌≡◌, ℕ, ◌+◌, ◌-◌, ◌*◌, ◌<◌, Ok, sym, ap, ◌∙◌, arith}
 use Rattle.elf_table.specs.Tables.{TableRange}
 use Rattle.elf_model.specs.Traits.{SymbolTraitFlags, marks_from, no_symbol_traits}

@@ -1,4 +1,4 @@
--- Each symbol is the file's, and tells with those before it.
+-- Each symbol is the file's, and adds its traits to those before it.
 use Rattle.std.proofs.Common.{◌≡◌, ℕ, ◌*◌, ap, sym, ◌∙◌, arith}
 use Rattle.std.proofs.lemmas.Result.{err_from_is_err_and}
 use Rattle.elf_model.specs.Bytes.{slice}

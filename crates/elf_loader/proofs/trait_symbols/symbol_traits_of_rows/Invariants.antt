@@ -1,4 +1,4 @@
--- The symbols that are gone by are told, and those that are left tell the rest.
+-- The traits of the symbols so far are known, and those that are left decide the rest.
 use Rattle.std.proofs.Common.{◌≡◌, ◌+◌, ◌*◌, ◌≤◌, ℕ, List, None, Some}
 use Rattle.elf_source.specs.Source.{ReadsUpTo}
 use Rattle.elf_note.specs.Ahead.{IsAheadOf}

@@ -1,4 +1,4 @@
--- Some entries are gone by, and what is found or left is what the table has.
+-- Some entries are passed, and what is found or left is what the table has.
 use Rattle.std.proofs.Common.{◌≡◌, ℕ, List, Some}
 use Rattle.elf_note.proofs.EntriesLoop.{GoesOver}
 use Rattle.elf_loader.proofs.ValueLaws.{LeftValues}

@@ -1,4 +1,4 @@
--- The word is read, where there is one.
+-- The versym entry is read, if there is one.
 use Rattle.std.proofs.Common.{ap, sym, Ok, ◌∙◌, arith}
 use Rattle.elf_table.proofs.LedgerLaws.{CallDid-as, CallDid-none, CallDid-stop}
 use Rattle.elf_table.specs.declared.fault.Fault.TheVariants.{Refused}

@@ -1,4 +1,4 @@
--- The symbol, its name and the word of its version are read, as far as they decide.
+-- The symbol, its name and its versym entry are read, as far as they decide.
 use Rattle.std.proofs.Common.{Ok, ap, sym, ◌∙◌, arith}
 use Rattle.std.proofs.lemmas.Result.{err_from_is_err_and}
 use Rattle.elf_table.proofs.LedgerLaws.{CallDid-as, CallDid-of, CallDid-then}

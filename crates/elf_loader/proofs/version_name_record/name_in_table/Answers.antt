@@ -1,4 +1,4 @@
--- Each record that is given is looked at, until one has the number or none is left.
+-- Each record that is yielded is tested, until one has the index or none is left.
 use Rattle.std.proofs.Common.{◌≡◌, ◌-◌, sym, ◌∙◌, arith}
 use Rattle.std.proofs.lemmas.Result.{err_from_is_err_and}
 use Rattle.elf_table.proofs.Absent.{none-of}

@@ -1,4 +1,4 @@
--- So many records of the table have not the number, and the others are left.
+-- Some records of the table do not have the index, and the others are left.
 use Rattle.std.proofs.Common.{◌≡◌, ℕ, ◌*◌, List, Option, None, Some}
 use Rattle.elf_table.specs.Ledger.{CallDid}
 use Rattle.elf_model.specs.Prelude.{VersionRecordRead, VersionRecordTable as IsTableOf, VisitedRecord, file_before, naming_of, readings_of}

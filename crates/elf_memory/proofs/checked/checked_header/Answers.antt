@@ -1,4 +1,4 @@
--- The length passes, so the checks of the identification answer.
+-- The length passes, so the result is that of the identification's checks.
 use Rattle.std.proofs.Common.{sym, ◌∙◌}
 use Rattle.elf_memory.proofs.CheckedLaws.{header_checked}
 use Rattle.elf_memory.proofs.checked.checked_header.Goals as goal

@@ -1,4 +1,4 @@
--- Each program header is looked at in turn.
+-- Each program header is tested in turn.
 use Rattle.std.proofs.Common.{◌≡◌, ◌+◌, ◌*◌, sym, ◌∙◌, refl, arith}
 use Rattle.elf_model.specs.Records.{segment_at}
 use Rattle.elf_table.proofs.MappedLaws.{mapped_found, mapped_passed, mapped_none}

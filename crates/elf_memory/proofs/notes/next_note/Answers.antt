@@ -1,4 +1,4 @@
--- A step is that of the notes that are left.
+-- A step takes the first of the notes that are left.
 use Rattle.std.proofs.Common.{◌≡◌, ℕ, ◌+◌, ◌-◌, ◌<◌, ◌≤◌, min, length, drop, refl, ap, sym, ◌∙◌, arith, length-take}
 use Rattle.elf_model.specs.Prelude.{alignment_gap, bytes_to_alignment, descriptor_start, first_note, note_align, slice}
 use Rattle.elf_record.specs.NoteHead.{IsNoteHead}

@@ -38,7 +38,7 @@ returns-then-left-from-clause-tells g c = λ file h a f.
     let few : bytes_left w < 12 + head.namesz + c.alignment_gap-gap.result + head.descsz = omega arith in
     left-short c.args.align file w head stands ends many (rw gap at few)
 
--- where the parts of a note stand that is read, and the window behind it
+-- the offsets of the parts of a note that is read, and the window after it
 laid : (g : Over) (c : In_ok-read_rest g)
     → let w = c.args.window.now in
     let head = c.decode-head.result in

@@ -1,4 +1,4 @@
--- A definition's name stands behind it; any other record holds the index itself.
+-- The name of a definition follows it; any other record holds the index itself.
 use Rattle.std.proofs.Common.{◌≡◌, ℕ, ◌+◌, ap, ◌∙◌, arith}
 use Rattle.std.proofs.lemmas.Result.{err_from_is_err_and}
 use Rattle.elf_model.specs.Bytes.{field}

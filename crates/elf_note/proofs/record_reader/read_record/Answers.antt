@@ -1,4 +1,4 @@
--- The checks are those of the words, and the name is read where they pass.
+-- The checks are those of the fields, and the name is read if they pass.
 use Rattle.std.proofs.Common.{◌≡◌, ℕ, ◌+◌, ap, sym, ◌∙◌, arith}
 use Rattle.std.proofs.lemmas.Result.{err_from_is_err_and}
 use Rattle.elf_table.specs.Prelude.{TableRange}

@@ -1,4 +1,4 @@
--- The record's bytes are its words.
+-- The record's bytes decode to its fields.
 use Rattle.std.proofs.Common.{◌+◌, arith}
 use Rattle.std.proofs.lemmas.Result.{err_from_is_err_and}
 use Rattle.elf_table.proofs.LedgerLaws.{CallDid-as}

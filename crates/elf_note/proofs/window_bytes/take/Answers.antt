@@ -1,4 +1,4 @@
--- The bytes are taken where the window holds them.
+-- The bytes are copied if the window holds them.
 use Rattle.std.proofs.lemmas.Result.{err_from_is_err_and}
 use Rattle.elf_table.proofs.FaultLaws.{of-read}
 use Rattle.elf_table.proofs.ThroughLaws.{through_err, through_ok, through_skip}

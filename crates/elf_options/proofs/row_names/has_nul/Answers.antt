@@ -5,7 +5,7 @@ use Rattle.elf_model.specs.Names.{nul_in}
 use Rattle.elf_model.proofs.NameLoops.{nul_in-first, nul_in-nowhere}
 use Rattle.elf_options.proofs.row_names.has_nul.Goals as goal
 
--- a search that finds a NUL tells that there is one
+-- a search that finds a NUL shows that there is one
 nul_found : (word : List ℕ) (found : Option ℕ) → IsFirstByte (is_byte 0) word found → is_some found ≡ is_some (nul_in word)
 nul_found word None h = sym (ap is_some (nul_in-nowhere word (λ i l z. h i zero-le l (rw z refl))))
 nul_found word (Some place) h =

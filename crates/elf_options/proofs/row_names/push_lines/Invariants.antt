@@ -1,4 +1,4 @@
--- The names that are there, and behind them those that are left, are the names that there were and those of the list.
+-- The names so far, followed by the remaining ones, are the previous names and those of the list.
 use Rattle.std.proofs.Common.{◌≡◌, ◌++◌, All}
 use Rattle.elf_options.specs.Prelude.{IsNoNames, IsRowName, after_bytes, after_lines, line_names, listed_names, texts_of}
 use Rattle.elf_options.specs.declared.names_fault.NamesFault.{NamesFault}

@@ -1,4 +1,4 @@
--- Of the words so far each stands behind the names that there were.
+-- Each word so far has been appended to the previous names.
 use Rattle.std.proofs.Common.{◌≡◌, ◌++◌, take}
 use Rattle.elf_options.specs.Names.{texts_of}
 use Rattle.elf_options.proofs.row_names.push_words.Given as goal

@@ -1,4 +1,4 @@
--- The first section that has the entry is the first one that is met.
+-- The first section that has the entry is the first one that is found.
 use Rattle.std.proofs.Common.{◌≡◌, ℕ, ap, inl, inr, ◌∙◌, arith}
 use Rattle.std.proofs.lemmas.Bool.{cases_eq}
 use Rattle.elf_model.specs.Prelude.{e_shnum, refused_in, relocates_at, section_at}

@@ -1,4 +1,4 @@
--- The section is looked at test by test.
+-- The section is checked test by test.
 use Rattle.std.proofs.Common.{sym, ◌∙◌}
 use Rattle.elf_model.specs.Records.{section_at}
 use Rattle.elf_reloc.proofs.EntryLaws.{not_applied, not_passed, not_there, row_is, row_some, there}

@@ -1,4 +1,4 @@
--- What was written so far is the front of what is copied.
+-- What was written so far is the prefix of what is copied.
 use Rattle.std.proofs.Common.{◌≡◌, ℕ, ◌+◌, ◌-◌, ◌^◌, ◌≤◌, List, length, take, min, Some}
 use Rattle.elf_model.specs.Bytes.{slice}
 use Rattle.elf_source.specs.Prelude.{OutGrows, ReadsUpTo, SinkTakes}

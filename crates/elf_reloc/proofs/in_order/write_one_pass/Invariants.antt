@@ -1,4 +1,4 @@
--- What was written so far is the front of the section, and what is held the part behind it.
+-- What was written so far is the prefix of the section, and what is held the part after it.
 use Rattle.std.proofs.Common.{◌≡◌, ℕ, ◌+◌, ◌-◌, ◌^◌, ◌≤◌, List, min, Some, Ok}
 use Rattle.elf_model.specs.Prelude.{AllInside, StoredBytes, patched, patches_of, slice}
 use Rattle.elf_source.specs.Prelude.{OutGrows, ReadsUpTo}

@@ -1,4 +1,4 @@
--- What is left gives the answer.
+-- What is left has the same result.
 use Rattle.std.proofs.Common.{length, ◌-◌, ◌≡◌, ℕ, ◌+◌, ◌≤◌, List, Some, drop}
 use Rattle.elf_model.specs.Placing.{address_named}
 use Rattle.elf_source.specs.Source.{ReadsUpTo}

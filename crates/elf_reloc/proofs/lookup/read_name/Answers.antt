@@ -1,4 +1,4 @@
--- What was read is what stands at the name's index.
+-- What was read is what the string table has at the name's index.
 use Rattle.std.proofs.Common.{rules, ◌+◌, length, refl, sym, ap, ◌∙◌, arith}
 use Rattle.elf_model.specs.Prelude.{longest, slice}
 use Rattle.elf_model.proofs.Slices.{slice-size}

@@ -1,4 +1,4 @@
--- What is left gives the answer.
+-- What is left has the same result.
 use Rattle.std.proofs.Common.{Some, ◌≡◌, ℕ, ◌+◌, ◌≤◌, List, true}
 use Rattle.elf_source.specs.Source.{ReadsUpTo}
 use Rattle.elf_reloc.specs.Prelude.{IsWalkAlive, ReadsEntries, changes_all, changes_left, entries_from, folded, rising, steps_left, walk_all, walk_left}

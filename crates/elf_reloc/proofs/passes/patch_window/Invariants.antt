@@ -1,4 +1,4 @@
--- What is left gives the answer.
+-- What is left has the same result.
 use Rattle.std.proofs.Common.{Some, ◌≡◌, ℕ, ◌+◌, ◌≤◌, List, length}
 use Rattle.elf_source.specs.Source.{ReadsUpTo}
 use Rattle.elf_reloc.specs.Prelude.{IsWalkAlive, ReadsEntries, changes_all, changes_left, folded, steps_left, storing, walk_all, walk_left}

@@ -1,4 +1,4 @@
--- The name is read where there is one.
+-- The name is read if there is one.
 use Rattle.std.proofs.Common.{◌∙◌, sym, arith}
 use Rattle.elf_model.specs.Explain.{resolved_symbol_name}
 use Rattle.elf_table.specs.Tables.{strings_in}

@@ -1,4 +1,4 @@
--- What was written so far is the front of the section.
+-- What was written so far is the prefix of the section.
 use Rattle.std.proofs.Common.{◌≡◌, ℕ, ◌+◌, ◌-◌, ◌*◌, ◌^◌, ◌≤◌, List, take, min, Some, Ok}
 use Rattle.elf_model.specs.Prelude.{AllInside, patched, patches_of, slice}
 use Rattle.elf_source.specs.Prelude.{OutGrows, ReadsUpTo, SinkTakes}

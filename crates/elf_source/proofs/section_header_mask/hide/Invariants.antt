@@ -1,4 +1,4 @@
--- The bytes before the index are done, and those from it on are as they were.
+-- The bytes before the index are done, and the rest are unchanged.
 use Rattle.std.proofs.Common.{◌≡◌, ◌+◌, ◌++◌, take, drop}
 use Rattle.elf_model.specs.Style.{without_sections_from}
 use Rattle.elf_source.proofs.section_header_mask.hide.Given as goal

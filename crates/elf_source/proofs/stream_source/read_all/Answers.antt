@@ -1,4 +1,4 @@
--- A turn reads some bytes behind those before it, or is interrupted.
+-- A turn reads some bytes after those before it, or is interrupted.
 use Rattle.std.proofs.Common.{◌+◌, length, ◌∙◌, arith}
 use Rattle.std.proofs.lemmas.Slice.{take-put_mid_below}
 use Rattle.elf_source.proofs.TurnLaws.{filled_then, filled_all, turn_within, turn_after, turned_at, turns_more}

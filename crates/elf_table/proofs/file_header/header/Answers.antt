@@ -6,7 +6,7 @@ use Rattle.elf_model.proofs.CheckSteps.{first_refusal-none, first_refusal-some}
 use Rattle.elf_table.proofs.LoadLaws.{ident_unbudgeted}
 use Rattle.elf_table.proofs.file_header.header.Goals as goal
 
--- behind a length that passes
+-- after a length that passes
 behind_length : (size : ℕ) (file : List ℕ) → length file ≡ size → first_refusal (length_checks size) ≡ None
     → first_refusal (length_checks (length file) ++ ident_checks file) ≡ first_refusal (ident_checks file)
 behind_length size file same passes = rw same (first_refusal-none (length_checks size) (ident_checks file) passes)

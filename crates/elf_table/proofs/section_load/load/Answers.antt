@@ -9,7 +9,7 @@ use Rattle.elf_source.proofs.ReadsLaws.{ReadsUpTo-none}
 use Rattle.elf_table.proofs.LoadLaws.{belongs_loaded, early_is, early_unbudgeted, late_answer, load_reads, load_says, read_stops, rows_loaded}
 use Rattle.elf_table.proofs.section_load.load.Goals as goal
 
--- the answer of the early checks, by the source and the store that were given
+-- the result of the early checks, by the source and the store that were given
 told_early : {answer : Option Refusal} (header : Ehdr) {size length : ℕ} (old new : StoreState) → answer ≡ first_refusal (early_of header size new.slots)
     → size ≡ length → new ≡ emptied old → first_refusal (early_of header length old.slots) ≡ answer
 told_early header {size} {length} old new told same empty =

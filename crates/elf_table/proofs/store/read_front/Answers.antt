@@ -1,4 +1,4 @@
--- Another page is read behind those before it.
+-- Another page is read after those before it.
 use Rattle.std.proofs.Common.{ℕ, ◌+◌, ap, subst, ◌∙◌, arith}
 use Rattle.elf_model.specs.Bytes.{slice}
 use Rattle.elf_source.specs.Source.{ReadsUpTo}

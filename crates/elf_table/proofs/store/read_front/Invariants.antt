@@ -1,4 +1,4 @@
--- The first bytes so far are the file's, and each was asked for once.
+-- The first bytes so far are the file's, and each was requested once.
 use Rattle.std.proofs.Common.{◌-◌, ◌≡◌, ℕ, ◌≤◌, List, Some, length, take}
 use Rattle.elf_model.specs.Bytes.{slice}
 use Rattle.elf_source.specs.Source.{ReadsUpTo}

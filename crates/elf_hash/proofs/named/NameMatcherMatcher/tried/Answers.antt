@@ -1,4 +1,4 @@
--- The symbol stands at its row, and its name is compared in the strings of its table.
+-- The symbol is at its row, and its name is compared in the strings of its table.
 use Rattle.std.proofs.Common.{true, false, Ok, Err, ap, ◌∙◌, arith}
 use Rattle.std.proofs.lemmas.Result.{err_from_is_err_and}
 use Rattle.elf_table.proofs.LedgerLaws.{CallDid-as, CallDid-of, CallDid-then}

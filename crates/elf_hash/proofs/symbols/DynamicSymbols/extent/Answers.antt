@@ -1,4 +1,4 @@
--- Where symbols and strings begin is what the file tells.
+-- The offsets at which symbols and strings begin are those in the file.
 use Rattle.std.proofs.Common.{◌≡◌, ◌∙◌, sym, arith}
 use Rattle.elf_table.proofs.LedgerLaws.{CallDid-as}
 use Rattle.elf_hash.proofs.SymbolCountLaws.{symbols_after}

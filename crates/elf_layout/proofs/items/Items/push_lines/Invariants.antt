@@ -1,4 +1,4 @@
--- The lines so far have given an item each.
+-- Each of the lines so far has given an item.
 use Rattle.std.proofs.Common.{◌≡◌, length, map}
 use Rattle.elf_layout.specs.Listed.{GiveItems}
 use Rattle.elf_layout.proofs.items.Items.push_lines.Given as goal

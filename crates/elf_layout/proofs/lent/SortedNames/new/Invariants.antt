@@ -1,4 +1,4 @@
--- Those before this one are names, which rise, and the longest of them has so many bytes.
+-- Those before this one are names in ascending order, and the longest of them has this many bytes.
 use Rattle.std.proofs.Common.{length, take, ◌-◌, ◌≡◌, ◌≤◌, ◌<◌, ℕ, get_or}
 use Rattle.std.proofs.lemmas.Cmp.{nat_list_cmp_total}
 use Rattle.elf_model.specs.ApplyCost.{longest}

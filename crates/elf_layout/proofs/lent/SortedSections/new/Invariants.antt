@@ -1,4 +1,4 @@
--- The indices before this one rise.
+-- The indices before this one ascend.
 use Rattle.std.proofs.Common.{length, ◌-◌, ◌≤◌}
 use Rattle.std.proofs.lemmas.Cmp.{nat_cmp_total}
 use Rattle.elf_layout.specs.Lent.{borrowed_index}

@@ -1,4 +1,4 @@
--- None of the numbers is in the set.
+-- None of the version indices is in the set.
 use Rattle.std.proofs.Common.{arith}
 use Rattle.elf_loader.proofs.SetLaws.{none-all}
 use Rattle.elf_loader.proofs.version_index_set.VersionIndexSet.is_empty.Goals as goal

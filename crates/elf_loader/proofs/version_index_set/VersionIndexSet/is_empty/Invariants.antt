@@ -1,4 +1,4 @@
--- None of the numbers before this one is in the set.
+-- None of the version indices before this one is in the set.
 use Rattle.std.proofs.Common.{◌≡◌, ℕ, ◌<◌, ◌≤◌, false}
 use Rattle.elf_model.specs.Versions.{VERSION_NUMBERS}
 use Rattle.elf_loader.specs.NumberSets.{has_number}

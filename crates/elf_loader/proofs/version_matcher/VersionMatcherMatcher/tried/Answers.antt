@@ -1,4 +1,4 @@
--- The trial is what tells whether the symbol answers.
+-- The matcher decides whether the symbol matches.
 use Rattle.std.proofs.Common.{arith}
 use Rattle.elf_table.proofs.LedgerLaws.{CallDid-as}
 use Rattle.elf_loader.specs.NumberSets.{has_number}

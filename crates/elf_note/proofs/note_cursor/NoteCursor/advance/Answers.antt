@@ -1,4 +1,4 @@
--- A cursor that had not failed goes over the next note, and keeps what that call did.
+-- A cursor that had not failed reads the next note, and keeps the effect of that call.
 use Rattle.std.proofs.Common.{◌≡◌, ℕ, Option, None, Some, Result, IfErr, refl}
 use Rattle.elf_table.proofs.Absent.{none-of}
 use Rattle.elf_source.specs.Prelude.{CountedState, ReadsOnward, ReadsUpTo, SourceState}

@@ -1,4 +1,4 @@
--- Each piece is looked through behind those before it.
+-- Each piece is searched after those before it.
 use Rattle.std.proofs.Common.{◌≡◌, ℕ, ◌+◌, ◌<◌, List, Some, length, ap, ◌∙◌, arith, length-take}
 use Rattle.elf_model.specs.Bytes.{slice}
 use Rattle.elf_model.proofs.Searches.{search-more, kept-more, found-here}

@@ -1,4 +1,5 @@
--- The bytes so far have no NUL and are kept; what is left to look at is paid for, and no byte behind it was asked for.
+-- The bytes so far have no NUL and are kept; what is left to search is paid for, and no byte after
+-- it was requested.
 use Rattle.std.proofs.Common.{◌≡◌, ℕ, ◌+◌, ◌-◌, ◌<◌, ◌≤◌, List, length, take, None, Some}
 use Rattle.elf_model.specs.Prelude.{nul_in, slice}
 use Rattle.elf_note.specs.Ahead.{IsAheadOf, IsOf, ReadsOnCredit}

@@ -1,4 +1,4 @@
--- The symbol stands where it was brought.
+-- The symbol is where the buffer was filled.
 use Rattle.std.proofs.Common.{◌≡◌, ℕ, ◌-◌, min, ap, ◌∙◌, arith}
 use Rattle.elf_model.specs.Bytes.{slice}
 use Rattle.elf_table.specs.Cursors.{row_at}

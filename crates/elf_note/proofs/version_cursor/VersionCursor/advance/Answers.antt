@@ -1,4 +1,4 @@
--- Behind the last record none is left.
+-- After the last record none is left.
 use Rattle.std.proofs.Common.{arith}
 use Rattle.elf_model.proofs.VersionSteps.{met-ended}
 use Rattle.elf_table.proofs.LedgerLaws.{CallDid-as, CallDid-none}

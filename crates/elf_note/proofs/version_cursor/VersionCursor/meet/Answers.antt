@@ -1,4 +1,4 @@
--- The record is met, or what is left is cut.
+-- The record is visited, or what is left is refused.
 use Rattle.std.proofs.Common.{◌≡◌, ◌⊎◌, ◌+◌, ◌<◌, None, inl, inr, arith, rules}
 use Rattle.std.proofs.lemmas.Result.{err_from_is_err_and}
 use Rattle.elf_model.specs.Prelude.{no_versions, record_size, visited_at}

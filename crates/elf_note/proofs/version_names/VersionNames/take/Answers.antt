@@ -1,4 +1,4 @@
--- The record names its number where none has.
+-- The record names its version index if none has.
 use Rattle.std.proofs.Common.{◌≡◌, length, sym, ap, ◌∙◌, arith, rules}
 use Rattle.std.proofs.lemmas.List.{length-set}
 use Rattle.elf_model.specs.Versions.{number_in, number_word}

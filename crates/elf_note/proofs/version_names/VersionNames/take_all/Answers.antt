@@ -1,4 +1,4 @@
--- Each record that is given is taken in, until none is left.
+-- Each record that is yielded is added, until none is left.
 use Rattle.std.proofs.Common.{◌∷◌, [], ◌++◌, None, Some, Ok, Err, refl, ◌∙◌, arith}
 use Rattle.std.proofs.lemmas.Result.{err_from_is_err_and}
 use Rattle.elf_table.proofs.LedgerLaws.{CallDid-as, CallDid-none, CallDid-then}

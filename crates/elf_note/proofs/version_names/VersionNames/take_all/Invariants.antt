@@ -1,4 +1,4 @@
--- The records that were met are taken in, and the others are left.
+-- The visited records are added, and the others are left.
 use Rattle.std.proofs.Common.{◌≡◌, ◌-◌, ◌≤◌, List, ◌++◌, length, None}
 use Rattle.elf_table.specs.Ledger.{CallDid}
 use Rattle.elf_model.specs.Versions.{VisitedRecord}

@@ -1,4 +1,4 @@
--- What the longest of the texts has that were gone through.
+-- The length of the longest text seen so far.
 use Rattle.std.proofs.Common.{◌≡◌, take}
 use Rattle.elf_model.specs.Choice.{most_bytes}
 use Rattle.elf_options.specs.Names.{texts_of}

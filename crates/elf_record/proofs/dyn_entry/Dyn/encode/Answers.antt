@@ -1,4 +1,4 @@
--- The bytes are those of the parts, which stand in no other bytes.
+-- The bytes are those of the parts, and no other bytes are.
 use Rattle.elf_record.specs.Dyn.{dyn_parts}
 use Rattle.elf_record.proofs.PartLaws.{IsEncoding, encoding}
 use Rattle.elf_record.proofs.SignedLaws.{dyn_of_parts, dyn_to_parts}

@@ -1,4 +1,4 @@
--- The bytes are those of the parts, which stand in no other bytes.
+-- The bytes are those of the parts, and no other bytes are.
 use Rattle.elf_record.specs.Ehdr.{ehdr_parts}
 use Rattle.elf_record.proofs.PartLaws.{IsEncoding, encoding}
 use Rattle.elf_record.proofs.ehdr.Ehdr.encode.Goals as goal

@@ -1,4 +1,4 @@
--- Nothing was given so far.
+-- Nothing was yielded so far.
 use Rattle.std.proofs.Common.{◌≡◌, ℕ, ◌+◌, ◌≤◌, List, Some}
 use Rattle.elf_reloc.specs.Walk.{AsksOf, IsWalkAlive, ReadsEntries, changes_left, entries_from, steps_left}
 use Rattle.elf_reloc.proofs.walk.RelocationWalk.next.Given as goal

@@ -1,4 +1,4 @@
--- Where nothing is held, the sink below takes what is given.
+-- If nothing is held, the sink below takes what is passed.
 use Rattle.std.proofs.Common.{rules, ◌≡◌, sym}
 use Rattle.elf_source.proofs.HoldLaws.{nothing_held, passed_on}
 use Rattle.elf_source.proofs.holding_sink.DeferredSinkSink.take.Goals as goal

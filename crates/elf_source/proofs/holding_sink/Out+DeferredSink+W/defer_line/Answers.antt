@@ -1,4 +1,4 @@
--- A line that is not held has no room.
+-- A line that is not held had no room.
 use Rattle.std.proofs.Common.{rules, ◌≡◌, ◌≤◌, ◌+◌, ◌^◌, ◌-◌, false, length, inl, inr, sym, ap, ◌∙◌, arith}
 use Rattle.elf_source.specs.Output.{FailsOutput, OutState}
 use Rattle.elf_source.proofs.holding_sink.Out+DeferredSink+W.defer_line.Goals.{then-failed-via-then-failed, then-failed-via-else-failed+then-start, then-failed-via-else-failed+else-start+then-not-hold}

@@ -1,4 +1,4 @@
--- A line that is held is taken back where nothing more is written.
+-- A line that is held is taken back if nothing more is written.
 use Rattle.std.proofs.Common.{rules, ◌≡◌, ◌-◌, ◌≤◌, take, drop, refl, sym, ◌∙◌, arith}
 use Rattle.elf_source.proofs.HoldLaws.{held_back, held_size}
 use Rattle.elf_source.proofs.holding_sink.Out+DeferredSink+W.end_line.Goals as goal

@@ -1,4 +1,4 @@
--- The window stands at the row that was shown: it is passed over, and then the next is held.
+-- The window is at the row that was shown: it is skipped, and then the next is held.
 use Rattle.std.proofs.Common.{◌≡◌, ◌<◌, None, rules, refl, ◌∙◌, arith}
 use Rattle.std.proofs.lemmas.Grind.{common_steps}
 use Rattle.elf_table.proofs.Standing.{Stands-skip, Stands-next, fault_at_row, Gives-next, onward_asked}

@@ -1,4 +1,4 @@
--- The section that is linked to holds symbols, and what they answer is the answer.
+-- The section that is linked to holds symbols, and the result is that for them.
 use Rattle.std.proofs.Common.{sym, ◌∙◌, ap, arith}
 use Rattle.std.proofs.lemmas.Result.{err_from_is_err_and}
 use Rattle.elf_model.specs.Records.{section_at}

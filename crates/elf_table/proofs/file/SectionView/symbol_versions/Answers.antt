@@ -1,4 +1,4 @@
--- The checks stand in their order, and the headers in the store tell the same counts.
+-- The checks are in their order, and the headers in the store have the same counts.
 use Rattle.std.proofs.Common.{◌≡◌, ◌==◌, ◌&&◌, ◌||◌, not, true, false, sym, ap, ◌∙◌, arith}
 use Rattle.std.proofs.lemmas.Bool.{ne_eqb}
 use Rattle.std.proofs.lemmas.Result.{err_from_is_err_and}

@@ -1,4 +1,4 @@
--- The first section of version numbers that link there is the first one that is met.
+-- The first section of symbol versions that link there is the first one that is found.
 use Rattle.std.proofs.Common.{◌≡◌, ◌==◌, ◌&&◌, ℕ, Bool, true, false, inl, inr, ap, ap₂, sym, ◌∙◌, arith}
 use Rattle.std.proofs.lemmas.Bool.{cases_eq}
 use Rattle.elf_model.specs.Prelude.{SHT_GNU_VERSYM, e_shnum, file_sections, header_field, sh_link, sh_type}
@@ -6,7 +6,7 @@ use Rattle.elf_model.proofs.LookupSteps.{first_that-none, first_that-some}
 use Rattle.elf_table.specs.Versions.{sections_in}
 use Rattle.elf_table.proofs.file.SectionView.version_numbers_of.Goals as goal
 
--- what tells of a header, by its fields
+-- the test of a header, by its fields
 told : (type link symbols : ℕ) → Bool
 told type link symbols = type == SHT_GNU_VERSYM && link == symbols
 

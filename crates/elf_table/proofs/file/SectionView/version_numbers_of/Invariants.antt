@@ -1,4 +1,4 @@
--- No section so far holds version numbers that link there.
+-- No section so far holds symbol versions that link there.
 use Rattle.std.proofs.Common.{◌≡◌, ◌==◌, ◌&&◌, ℕ, ◌<◌, false, List}
 use Rattle.elf_model.specs.Prelude.{SHT_GNU_VERSYM, file_sections, header_field, sh_link, sh_type}
 use Rattle.elf_table.specs.Prelude.{HoldsSectionHeaders, sections_in}

@@ -43,7 +43,7 @@ returns-clause-read g c = λ file h.
           (rw (c.if-branch.false, place) at (c.in_ok-search_name.ensures.searched file h (rw c.new-window.ensures refl))),
     ))
 
--- what was asked for is no more than the window was to ask for
+-- the requested bytes are no more than the window was to request
 not-past : (after before unread want size all off most : ℕ) → after ≤ before + unread → unread ≡ want → want ≡ min (size - off) most → size ≡ all → after ≤ before + (all - off)
 not-past after before unread want size all off most few is least same = omega arith
 

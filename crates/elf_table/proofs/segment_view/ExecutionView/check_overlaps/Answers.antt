@@ -1,4 +1,4 @@
--- The first LOAD segment that lies over the one before it is the first one that is met.
+-- The first LOAD segment that overlaps the one before it is the first one that is found.
 use Rattle.std.proofs.Common.{◌≡◌, ℕ, ◌+◌, ◌*◌, Some, ap, sym, ◌∙◌, arith}
 use Rattle.elf_model.specs.Prelude.{segment_at}
 use Rattle.elf_model.specs.declared.causes.Cause.TheVariants.{LoadOverlap}

@@ -1,4 +1,5 @@
--- What refuses the file is what refuses the program headers that are left, behind the page of those so far.
+-- What refuses the file is what refuses the program headers that are left, after the page of those
+-- so far.
 use Rattle.std.proofs.Common.{◌-◌, ◌≡◌, ℕ, ◌≤◌, List}
 use Rattle.elf_model.specs.Prelude.{first_refusal, overlap_checks}
 use Rattle.elf_table.specs.Load.{HoldsProgramHeaders}

@@ -1,4 +1,4 @@
--- The first program header of the kind is the first one that is met.
+-- The first program header of the type is the first one that is found.
 use Rattle.std.proofs.Common.{◌≡◌, ◌==◌, ℕ, inl, inr, ap, sym, ◌∙◌, arith, eq-eqb, ne_eqb}
 use Rattle.std.proofs.lemmas.Bool.{cases_eq}
 use Rattle.elf_model.specs.Records.{e_phnum, p_type, segment_at}

@@ -1,4 +1,4 @@
--- No program header so far is of the kind.
+-- No program header so far is of the type.
 use Rattle.std.proofs.Common.{◌≡◌, ◌==◌, ℕ, ◌<◌, false, List}
 use Rattle.elf_model.specs.Records.{p_type, segment_at}
 use Rattle.elf_table.specs.Load.{HoldsProgramHeaders}

@@ -1,4 +1,4 @@
--- The first program header that holds the bytes is the first one that is met.
+-- The first program header that holds the bytes is the first one that is found.
 use Rattle.std.proofs.Common.{sym, ◌∙◌, arith}
 use Rattle.elf_table.proofs.MappedLaws.{mapped_found, mapped_none, mapped_passed}
 use Rattle.elf_table.proofs.segment_view.ExecutionView.mapping.Goals as goal

@@ -1,4 +1,4 @@
--- The store has the program header, and the file that is viewed has it where the index says.
+-- The store has the program header, and the file that is viewed has it at that index.
 use Rattle.elf_table.proofs.segment_view.ExecutionView.segment.Goals as goal
 
 pub returns-clause-fields : goal.returns-clause-fields
