@@ -12,7 +12,8 @@ use std::os::unix::fs::{FileExt, FileTypeExt};
 use std::rt::Files;
 
 /// Tells of the file at a path, or of all files in the folder there; for `-` those on standard input. A link
-/// at the path is followed. Pipes and sockets are not opened, so that opening never waits.
+/// at the path is followed. Pipes and sockets are not opened, so that opening does not block, unless another
+/// process puts a pipe at the path after it was looked at.
 ///
 /// # Errors
 /// A fault of the output.
