@@ -1,8 +1,10 @@
 -- The first fault of an archive: of itself, of a member's listing, or of the walk over its members.
-use Rattle.std.specs.Prelude.{ℕ, ◌≡◌, ◌<◌, ◌⊎◌, List, length, Option, None, Some, Result, Ok, Err}
+use Rattle.std.specs.Prelude.{ℕ, ◌≡◌, ◌<◌, ◌⊎◌, List, length, Option, None, Some, Result, Ok, Err, ◌≤◌, ◌+◌, ◌-◌, option_map}
 use Rattle.elf_model.specs.Prelude.{IsBudgetRefusal, ListingStyle, MemberWalkState, archive_cost, archive_fault, first_fault, members_from}
+use Rattle.elf_model.specs.Archive.{ARCHIVE_MAGIC, MAGIC_SIZE}
+use Rattle.elf_model.specs.Bytes.{field}
 use Rattle.elf_model.specs.declared.causes.Refusal.{Refusal}
-use Rattle.elf_source.specs.Source.{CountedState, IsSourceFault}
+use Rattle.elf_source.specs.Source.{CountedState, IsSourceFault, SourceState}
 use Rattle.elf_options.specs.Prelude.{style_of}
 use Rattle.elf_options.specs.declared.caps.Caps.{Caps}
 use Rattle.elf_table.specs.declared.run_fault.RunFault.TheVariants.{Out}
@@ -44,6 +46,22 @@ FindsFirst caps parts file (Err (Refused refusal)) =
     IsArchiveFault caps.limits.budget file caps.limits.headers (style_of caps.style) parts (Some refusal)
 FindsFirst caps parts file (Err (Source fault at)) = Unit {0}
 FindsFirst caps parts file (Err (Out fault)) = ⊥
+
+-- a source is of a file that begins with the magic string of an archive
+pub record BeginsArchive (seen : SourceState) : Type 0 where
+  pub size : MAGIC_SIZE ≤ seen.size
+  pub magic : (file : List ℕ) → seen.file ≡ Some file → field file 0 MAGIC_SIZE ≡ ARCHIVE_MAGIC
+
+-- caps as they were before the magic string was read, by those that it left
+abbrev pub before_magic : Caps → Caps
+before_magic left = record {
+  limits = record { headers = left.limits.headers; budget = option_map (λ bytes. MAGIC_SIZE + bytes) left.limits.budget };
+  style = left.style;
+}
+
+-- what an archive may ask for besides its magic string
+abbrev pub cost_after_magic : List ℕ → ℕ → ListingStyle → ℕ → ℕ
+cost_after_magic file headers style parts = archive_cost file headers style parts - MAGIC_SIZE
 
 -- what a fault implies for the source if nothing is written
 abbrev pub ReadTells : CountedState → CountedState → RunFault → Type 0
