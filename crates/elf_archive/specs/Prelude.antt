@@ -1,5 +1,4 @@
 -- The words of this crate, for one import elsewhere.
-pub use Rattle.elf_archive.specs.Archives.{MagicRead}
 pub use Rattle.elf_archive.specs.FirstFault.{FindsFault, FindsFirst, IsArchiveFault, ReadTells, fault_from}
 pub use Rattle.elf_archive.specs.Listed.{BudgetSays, IsAll, ListsMember, ReadsAtMostIn, StopTells, member_at, next_cost, next_items}
 pub use Rattle.elf_archive.specs.MemberRows.{extent_in, member_in, walk_at}
