@@ -18,7 +18,7 @@ use Rattle.elf_table.specs.declared.run_fault.RunFault.{RunFault}
 use Rattle.elf_table.specs.declared.fault.Fault.TheVariants.{Refused as Refuses, Source as Unread}
 use Rattle.elf_table.specs.declared.run_fault.RunFault.TheVariants.{Refused, Source}
 use Rattle.elf_listing.specs.Shows.{WroteUntilRefusal}
-use Rattle.elf_archive.specs.Prelude.{BudgetSays, FindsFault, FindsFirst, IsArchiveFault, ListsMember, ReadTells, ReadsAtMostIn, ReturnsMember, StopTells, fault_from, next_cost}
+use Rattle.elf_archive.specs.Prelude.{BudgetSays, FindsFault, FindsAfterMagic, IsArchiveFault, ListsMember, ReadTells, ReadsAtMostIn, ReturnsMember, StopTells, fault_from, next_cost}
 use Rattle.elf_archive.specs.FirstFault.{before_magic, cost_after_magic}
 use Rattle.elf_archive.proofs.MemberLaws.{next-ends}
 use Rattle.elf_archive.proofs.ReportLaws.{over_budget}
@@ -159,10 +159,10 @@ own_fault (Some budget) file headers style parts fault is = inl (sym is)
 pub answered_fault : (file : List ℕ) (caps : Caps) (parts : ℕ) (refusal : Refusal) (before limited after : CountedState) → before.asked ≤ 2 ^ 127 → SetsLimit before limited caps.limits.budget
     → before.seen.size ≡ length file → BudgetSays limited after (cost_after_magic file caps.limits.headers (style_of caps.style) parts) refusal
     → FindsFault {X = Unit {0}} (archive_fault file caps.limits.headers (style_of caps.style) parts) (Err (Refused refusal))
-    → IsArchiveFault (before_magic caps).limits.budget file caps.limits.headers (style_of caps.style) parts (Some refusal)
+    → IsArchiveFault (before_magic caps.limits.budget) file caps.limits.headers (style_of caps.style) parts (Some refusal)
 answered_fault file caps parts refusal before limited after small limits sized says finds = by_cause (is_budget_fault refusal.cause)
   where
-    by_cause : (IsBudgetRefusal refusal) ⊎ (IsBudgetRefusal refusal → ⊥) → IsArchiveFault (before_magic caps).limits.budget file caps.limits.headers (style_of caps.style) parts (Some refusal)
+    by_cause : (IsBudgetRefusal refusal) ⊎ (IsBudgetRefusal refusal → ⊥) → IsArchiveFault (before_magic caps.limits.budget) file caps.limits.headers (style_of caps.style) parts (Some refusal)
     by_cause (inl for_budget) =
         let said = says for_budget in
         let over = over_budget caps.limits.budget (cost_after_magic file caps.limits.headers (style_of caps.style) parts) before limited after small limits said.1 in
@@ -176,13 +176,13 @@ answered_fault file caps parts refusal before limited after small limits sized s
             inside = omega (arith, said.0, size, sized);
           },
         ))
-    by_cause (inr other) = own_fault (before_magic caps).limits.budget file caps.limits.headers (style_of caps.style) parts (Some refusal) (finds other)
+    by_cause (inr other) = own_fault (before_magic caps.limits.budget) file caps.limits.headers (style_of caps.style) parts (Some refusal) (finds other)
 
 -- what is found within the budget
 pub found_first : {X : Type 0} (file : List ℕ) (caps : Caps) (parts : ℕ) (result : Result X RunFault) (out : OutState) (before limited after : CountedState) → before.asked ≤ 2 ^ 127 → SetsLimit before limited caps.limits.budget
     → before.seen.size ≡ length file → out.failed ≡ false → IfErr result (StopTells limited after out (cost_after_magic file caps.limits.headers (style_of caps.style) parts))
-    → FindsFault (archive_fault file caps.limits.headers (style_of caps.style) parts) result → FindsFirst (before_magic caps) parts file result
-found_first file caps parts (Ok x) out before limited after small limits sized well says finds = own_fault (before_magic caps).limits.budget file caps.limits.headers (style_of caps.style) parts None finds
+    → FindsFault (archive_fault file caps.limits.headers (style_of caps.style) parts) result → FindsAfterMagic caps parts file result
+found_first file caps parts (Ok x) out before limited after small limits sized well says finds = own_fault (before_magic caps.limits.budget) file caps.limits.headers (style_of caps.style) parts None finds
 found_first file caps parts (Err (Refused refusal)) out before limited after small limits sized well says finds =
     answered_fault file caps parts refusal before limited after small limits sized says finds
 found_first file caps parts (Err (Source fault at)) out before limited after small limits sized well says finds = tt

@@ -38,26 +38,22 @@ IsArchiveFault (Some budget) file headers style parts fault =
     (fault ≡ archive_fault file headers style parts)
     ⊎ ((budget < archive_cost file headers style parts) × IsOverBudget (length file) fault)
 
--- WHAT IS FOUND of an archive with these caps and parts: its fault within the budget, or that there
--- is none, unless a read failed
-abbrev pub FindsFirst : {X : Type 0} → Caps → ℕ → List ℕ → Result X RunFault → Type 0
-FindsFirst caps parts file (Ok x) = IsArchiveFault caps.limits.budget file caps.limits.headers (style_of caps.style) parts None
-FindsFirst caps parts file (Err (Refused refusal)) =
-    IsArchiveFault caps.limits.budget file caps.limits.headers (style_of caps.style) parts (Some refusal)
-FindsFirst caps parts file (Err (Source fault at)) = Unit {0}
-FindsFirst caps parts file (Err (Out fault)) = ⊥
-
 -- a source is of a file that begins with the magic string of an archive
 pub record BeginsArchive (seen : SourceState) : Type 0 where
   pub size : MAGIC_SIZE ≤ seen.size
   pub magic : (file : List ℕ) → seen.file ≡ Some file → field file 0 MAGIC_SIZE ≡ ARCHIVE_MAGIC
 
--- caps as they were before the magic string was read, by those that it left
-abbrev pub before_magic : Caps → Caps
-before_magic left = record {
-  limits = record { headers = left.limits.headers; budget = option_map (λ bytes. MAGIC_SIZE + bytes) left.limits.budget };
-  style = left.style;
-}
+-- a budget as it was before the magic string was read, by what that left of it
+abbrev pub before_magic : Option ℕ → Option ℕ
+before_magic left = option_map (λ bytes. MAGIC_SIZE + bytes) left
+
+-- WHAT IS FOUND of an archive whose magic string was read, with what that left of the budget
+abbrev pub FindsAfterMagic : {X : Type 0} → Caps → ℕ → List ℕ → Result X RunFault → Type 0
+FindsAfterMagic left parts file (Ok x) = IsArchiveFault (before_magic left.limits.budget) file left.limits.headers (style_of left.style) parts None
+FindsAfterMagic left parts file (Err (Refused refusal)) =
+    IsArchiveFault (before_magic left.limits.budget) file left.limits.headers (style_of left.style) parts (Some refusal)
+FindsAfterMagic left parts file (Err (Source fault at)) = Unit {0}
+FindsAfterMagic left parts file (Err (Out fault)) = ⊥
 
 -- what an archive may ask for besides its magic string
 abbrev pub cost_after_magic : List ℕ → ℕ → ListingStyle → ℕ → ℕ

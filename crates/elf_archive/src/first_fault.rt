@@ -4,8 +4,8 @@ ghost use Rattle.elf_model.specs.Prelude.{allowance, archive_ceiling, archive_fa
 ghost use Rattle.elf_model.specs.declared.causes.Refusal.{Refusal as Refuses};
 ghost use Rattle.elf_options.specs.Permitted.{style_of};
 ghost use Rattle.elf_listing.specs.Reports.{KeepsSourceUnlimited};
-ghost use Rattle.elf_archive.specs.FirstFault.{BeginsArchive, FindsFault, FindsFirst, ReadTells};
-ghost use Rattle.elf_archive.specs.FirstFault.{before_magic, cost_after_magic, fault_from};
+ghost use Rattle.elf_archive.specs.FirstFault.{BeginsArchive, FindsAfterMagic, FindsFault, ReadTells};
+ghost use Rattle.elf_archive.specs.FirstFault.{cost_after_magic, fault_from};
 ghost use Rattle.elf_archive.specs.Listed.{AsksInArchive, GoesThrough, IsAll};
 
 use crate::cursor::MemberCursor;
@@ -36,7 +36,7 @@ pub fn find_fault<S: Source>(
     ensures leaves { KeepsSourceUnlimited src.old src.new }
     ensures says { IfErr result (ReadTells src.old src.new) }
     ensures finds { (file : List ℕ) → src.old.seen.file ≡ Some file →
-        FindsFirst (before_magic caps.entry) parts.0 file result }
+        FindsAfterMagic caps.entry parts.0 file result }
     ensures cost { (file : List ℕ) → src.old.seen.file ≡ Some file →
         src.new.asked ≤ src.old.asked
         + cost_after_magic file caps.entry.limits.headers (style_of caps.entry.style) parts.0 }

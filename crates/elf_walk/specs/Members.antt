@@ -15,12 +15,9 @@ use Rattle.elf_walk.specs.CheckedFile.{FindsElf, elf_cost}
 -- THE STATE that is found of an archive: that of its fault within the budget, of which its magic string left that of the caps,
 -- unless a read failed
 abbrev pub FindsArchive : Caps → ℕ → List ℕ → FileStatus → Type 0
-FindsArchive left parts file state.Ok =
-    let caps = before_magic left in
-    IsArchiveFault caps.limits.budget file caps.limits.headers (style_of caps.style) parts None
+FindsArchive left parts file state.Ok = IsArchiveFault (before_magic left.limits.budget) file left.limits.headers (style_of left.style) parts None
 FindsArchive left parts file (state.Refused refusal) =
-    let caps = before_magic left in
-    IsArchiveFault caps.limits.budget file caps.limits.headers (style_of caps.style) parts (Some refusal)
+    IsArchiveFault (before_magic left.limits.budget) file left.limits.headers (style_of left.style) parts (Some refusal)
 FindsArchive caps parts file state.NoElf = ⊥
 FindsArchive caps parts file state.Unread = ⊤
 FindsArchive caps parts file state.Memory = ⊥
