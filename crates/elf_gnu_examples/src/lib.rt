@@ -12,6 +12,7 @@ mod hash_rows;
 mod library_rows;
 mod link_rows;
 mod listed_versions;
+mod loader_cache_rows;
 mod number_rows;
 mod offered_rows;
 mod overlap_rows;

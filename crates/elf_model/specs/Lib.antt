@@ -83,4 +83,5 @@ pub mod TraitCost
 pub mod Bindings
 pub mod BindingLines
 pub mod BoundSymbols
+pub mod LoaderCache
 pub mod Prelude

@@ -71,6 +71,8 @@ unfoldable pub use Rattle.elf_model.specs.Listing.{each, file_header_items}
 pub use Rattle.elf_model.specs.Loader.{AT_SIGN, CompareResult, DefaultVersion, DynamicSymbols, Meets, Misses, NoVersion, NumberNameSource, Refuses, SymbolQuery, Version, VersionQuery, VersionRecordRead, VersionRecordTable, VersymTable, asked_after, asked_name, compared_until, end_reading, has_record, is_among, is_hidden, one_later, one_more, symbol_offset, versym_at, with_number}
 pub use Rattle.elf_model.specs.LoaderAnswer.{loader_answer, loader_text}
 unfoldable pub use Rattle.elf_model.specs.LoaderAnswer.{found_version_line, loader_answer_for}
+pub use Rattle.elf_model.specs.LoaderCache.{BISECTION_STEPS, CACHE_TEXT_BYTES, FLAGS_X86_64_LIBC6, LoaderCache, NEW_ENTRY_SIZE, NEW_HEADER_SIZE, OLD_ENTRY_SIZE, OLD_HEADER_SIZE, after_run, aligned_to_8, byte_rank, cache_entry, cache_entry_at, cache_entry_flags, cache_entry_hwcap, cache_entry_key, cache_entry_value, if_within, is_above, is_digit, is_same_name, new_cache, number_rank, old_cache, with_digit}
+unfoldable pub use Rattle.elf_model.specs.LoaderCache.{after_old_cache, bisected, cache_name_order, cache_text, cached_path, first_path, first_same, is_new_header, is_old_header, key_order, loader_cache, name_ranks, path_in_cache, path_of_entry, rank_order}
 pub use Rattle.elf_model.specs.LoaderFind.{FoundVersion, LoaderLookup, TOLD_BYTES, found_lookup, record_cost, refused_lookup}
 unfoldable pub use Rattle.elf_model.specs.LoaderFind.{counts_check, found_in, loaded_in, loader_ceiling, loader_cost, loader_looked, looked_by, lookup_asks, named_by_record, segments_asked, version_indices, walk_in}
 pub use Rattle.elf_model.specs.LoaderLaws.{ComparedNumbersAreRecords, ComparingEndsAtTheFirst, EndsReadings, FirstEntriesAreAlike, IsComparable, IsRefusedAt, IsTaken, LoaderCostIsWithinCeiling, LoaderFoundIsTaken, NumbersAreNamedAlike, ReadingsAreRecords, StandsAtItsEnd, WalksStandAtRecords, WalksStandAtTheirEnd, names_wanted, numbers_under, records_in, records_read}
