@@ -17,4 +17,5 @@ pub mod ExamplesViews
 pub mod ExamplesBindings
 pub mod ExamplesBoundSymbols
 pub mod ExamplesLinks
+pub mod ExamplesInterpreters
 pub mod Prelude

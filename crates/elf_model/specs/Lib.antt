@@ -82,5 +82,6 @@ pub mod TraitWords
 pub mod TraitCost
 pub mod Bindings
 pub mod BindingLines
+pub mod Interpreters
 pub mod BoundSymbols
 pub mod Prelude
