@@ -60,11 +60,13 @@ pub use Rattle.elf_model.specs.Hash.{Absent, ChainEnd, Found, IsEndless, IsFirst
 pub use Rattle.elf_model.specs.HashLaws.{ComparedWithinChains, CycleExactly, CycleIsEndless, GoesOn, IsBounded, LongWalkNeverEnds, LongWalkRepeats, LookupAnswers, LookupIsBounded, LookupIsOne, RepeatNeverEnds, Repeats}
 unfoldable pub use Rattle.elf_model.specs.Hash.{bucket_of, end_among, end_at_word, looked_up, lookup_at, lookup_end, same_symbol, sysv_hash, walk_word, word_at}
 pub use Rattle.elf_model.specs.HeaderTables.{HeaderTable, TableKind, file_sections, file_segments, first_typed, header_field, held_headers}
+pub use Rattle.elf_model.specs.Interpreters.{INTERPRETER_BYTES, interpreter_checks, interpreter_fields, interpreter_line}
+unfoldable pub use Rattle.elf_model.specs.Interpreters.{interpreter_at, interpreter_by_segments, interpreter_front, interpreter_of, interpreter_state, is_interpreter, loaded_interpreter}
 unfoldable pub use Rattle.elf_model.specs.LineFronts.{dynamic_prefix, note_prefix, relocation_prefix, section_prefix, symbol_prefix}
 pub use Rattle.elf_model.specs.Lines.{SHOWN_DESCRIPTOR, cut_mark, name_member, named_line, note_line}
 unfoldable pub use Rattle.elf_model.specs.Lines.{descriptor_text, escaped, header_line, hex_bytes, line_described, line_named, name_byte_text, name_text, note_tail, refusal_line, segment_line, steps_line}
 pub use Rattle.elf_model.specs.Links.{LINK_TEXT_BYTES, LinkState, NeededName, TextRoom, first_text, has_room, is_link, no_link_info, room_after}
-unfoldable pub use Rattle.elf_model.specs.Links.{link_text, linked_by, linked_from, linked_in, linked_with, links_by_segments, links_ceiling, links_of, loaded_links, lookup_refusal}
+unfoldable pub use Rattle.elf_model.specs.Links.{link_text, linked_by, linked_from, linked_in, linked_with, links_by_segments, links_ceiling, links_of, loaded_links, lookup_refusal, machine_in}
 pub use Rattle.elf_model.specs.Listing.{ALL, DYNAMIC, Fault, GNU_ALL, HEADER, Line, ListingItem, NOTES, RELOCS, SECTIONS, SEGMENTS, SYMBOLS, VERSIONS, all_parts, end_text, fault_of, guarded, has, has_tables, known_parts, lines_of, report_of, where_asked}
 pub use Rattle.elf_model.specs.ListingLaws.{HeaderAloneIsListed, HeaderFaultIsListedAlone, LastRowIsLast, ListingsAppend, LoadFaultIsListedSecond, NothingAfterTheFault, OtherBitsMeanNothing, RowsSplit}
 unfoldable pub use Rattle.elf_model.specs.Listing.{each, file_header_items}
