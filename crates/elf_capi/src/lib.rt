@@ -1,10 +1,7 @@
-//! The rows of tables of an ELF64 file in memory, in a form that callers can store: symbols,
-//! relocation entries, dynamic entries and symbol versions, field by field, and positions in tables
-//! that are plain numbers. No number that a caller sets is invalid: each step checks them. The
-//! result of a read is returned in C numbers.
-//!
-//! The calls of the library, over memory provided by a caller, in C numbers: limits, items and
-//! listings as a caller passes them, what is written into the caller's memory, and how a call ends.
+//! What the calls of the library do, in caller-provided memory and in the numbers of C: the limits,
+//! items and listings that a caller asks for, the rows of tables of a file in memory, field by
+//! field, positions in tables as plain numbers, and [`CallEnd`], how a call ended. No number that a
+//! caller sets can do harm: each step checks them.
 #![tactic(auto)]
 
 mod applied;

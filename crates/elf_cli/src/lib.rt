@@ -1,9 +1,7 @@
-//! The commands and options of the command line, as described to `clap`.
-//!
-//! The parsed arguments, and the part of them that a program reads that only lists one file.
-//!
-//! What the programs share: reading their arguments, opening files, flushing their output, and
-//! their exit status.
+//! What the programs share: [`command_line`], the commands and options as they are described to
+//! `clap`, and [`parse_arguments`]; the options of a listing; the file that is opened; the output
+//! that is written last; and [`outcome`] and [`exit`], the exit status and the line on standard
+//! error.
 #![tactic(auto)]
 
 mod arg_specs;

@@ -1,13 +1,13 @@
 -- The words of this crate, for one import elsewhere.
 pub use Rattle.elf_needs.specs.Binds.{AreObjectFiles, AskedFirst, AskedOf, BindsAcross, ReturnsBinding, asked_of_all, reached}
-pub use Rattle.elf_needs.specs.Bound.{AsksAll, IsBudgetShort, IsCutText, LeadsItems, OnlyShort, ReturnsFault, ReturnsItem, SameObject, UsesUp, WritesLines, WritesSoFar, WritesSymbol, bound_among, failing_of}
+pub use Rattle.elf_needs.specs.Bound.{AsksAll, IsBudgetShort, ReturnsItem, SameObject, WritesSoFar, bound_among}
 pub use Rattle.elf_needs.specs.Definers.{DefinesAfter, ReturnsDefiner}
 pub use Rattle.elf_needs.specs.Entries.{AreNeeds, IsHeldText, IsNeed, KeepsLinks, KeepsText, ReturnsLinks, ReturnsStrings, ReturnsText, first_index, text_by, with_index}
 pub use Rattle.elf_needs.specs.Held.{LinkInfoState}
 pub use Rattle.elf_needs.specs.Kept.{IsKept, IsReadyIn, LookupObjectState}
 pub use Rattle.elf_needs.specs.Lacking.{definition_if, definitions_of}
 pub use Rattle.elf_needs.specs.Looks.{DefinesIn, FailsIn, FaultLeaves, LooksInObject, OverLeft, Prepares, SpendsAtMost, SpendsBudget, kept_cost}
-pub use Rattle.elf_needs.specs.Opens.{AsksKept, KeepsIndex, KeepsOne, SpendsBudgetAtLeast}
+pub use Rattle.elf_needs.specs.Opens.{AsksKept, KeepsOne, SpendsBudgetAtLeast}
 pub use Rattle.elf_needs.specs.Reading.{ReturnsLookupRefusal, linked_in_segments, lookup_passed}
 pub use Rattle.elf_needs.specs.Ready.{IsReadyIf, ReturnsReady, ready_bytes}
 pub use Rattle.elf_needs.specs.Searching.{DOLLAR, MOST_PATH_BYTES, SearchPathText, Token, dir_paths, given_dirs, if_short, path_in, root_before, rpath_of, search_dirs, unless_runpath}

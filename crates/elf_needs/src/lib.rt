@@ -1,16 +1,7 @@
-//! The libraries of a program, as glibc's dynamic loader sees them: what a file needs, by its
-//! program headers and its first segment of dynamic entries, and the paths that are tried for a
-//! name, one after another. Texts are stored in memory that is allocated once; nothing is opened
-//! here.
-//!
-//! Binding of the symbols that a file references: names looked up in several files in order, as
-//! glibc's dynamic loader does, and the line of each. The lookup tables of each file are found once
-//! and kept. Files that are kept open for that are read by pages, of which some are cached. Memory
-//! is allocated when room for objects is created, and nowhere else.
-//!
-//! What a program needs: its objects in the order of glibc's dynamic loader, each searched in the
-//! directories that the loader would search, and a line for each; and which object each symbol that
-//! they reference is bound to. Nothing is run or loaded. The memory is allocated once.
+//! What a program needs, as GNU's dynamic loader sees it: [`DependencyWalk`] finds its objects in
+//! the order of the loader, along the paths that the loader would try for each library, and writes
+//! a line for each; and which object defines each symbol that they reference. Nothing is run or
+//! loaded. Memory is allocated once, before the first file.
 #![tactic(auto)]
 
 mod bind_name;

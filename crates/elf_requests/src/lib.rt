@@ -1,7 +1,6 @@
-//! The requests of a command line, and the arguments that make them.
-//!
-//! A request is a listing, a lookup of a name by the SysV hash table or as a loader does it, or a
-//! section with its relocations applied. The status of an archive's listing is here too.
+//! What can be asked for on a command line: [`request`] parses arguments to a [`ParsedCommand`],
+//! and [`run`] carries out the [`Request`] for one file: a listing, a lookup of a name, a lookup as
+//! a loader does it, or a section with its relocations applied.
 #![tactic(auto)]
 
 mod apply_request;

@@ -1,10 +1,7 @@
-//! Many files, visited one after another: paths, directories, and lists of paths that end in NUL.
-//!
-//! What is done with each file is one trait: its check, its listing after the line of its path, or
-//! the line of how it is hardened. The store and buffers are reused for the next file.
-//!
-//! The names in a directory are sorted in memory of a fixed size: those of a pass over a directory,
-//! the pending ones, and a path composed of them.
+//! Many files, one after another: [`DirWalk`] goes through the names of a directory in order, in
+//! memory of a fixed size, and calls a [`FileVisitor`] for each file: [`CheckFiles`] checks it,
+//! [`ListFiles`] lists it after the line of its path, and [`TraitReport`] writes the line of its
+//! traits. Store and buffers are used again for the next file.
 #![tactic(auto)]
 
 mod batch;
@@ -38,7 +35,7 @@ mod trait_lines;
 mod walk;
 
 pub use batch::{DirEntryName, Insertion, NameBatch};
-pub use check_file::check;
+pub use check_file::{check, check_elf};
 pub use checks::{CheckFiles, CheckOptions};
 pub use dir_entries::{ends_at, entry_end};
 pub use dir_laws::{all_names, entry_is_found, last_is_found, order_ascends, pass_keeps};
@@ -58,7 +55,7 @@ pub use path::{PATH_BYTES, PathText, join};
 pub use path_lines::{HELD_BYTES, show_path};
 pub use paths::visit_path;
 pub use required::lacking;
-pub use short::{refused_state, short_file_status};
+pub use short::{UNDECIDED, refused_state, short_file_status, short_state};
 pub use sorted::check_sorted;
 pub use sorts::list_by_type;
 pub use stack::{NameStack, STACK_BYTES, count_fitting};
