@@ -9,5 +9,7 @@ pub returns : goal.returns
 returns g c =
     let front = front_of c.args.front.now in
     let puts = rw (c.before_request.ensures.text, c.after_request.ensures.text) at c.show_joined-shown.ensures.puts in
-    subst (λ (line : List ℕ). OutPuts c.args.out.now c.show_joined-shown.new.out c.show_joined-shown.result line)
-    (requested_is front.format front.key front.text c.args.name.now c.args.version.now) puts
+    record {
+      puts = subst (λ (line : List ℕ). OutPuts c.args.out.now c.show_joined-shown.new.out c.show_joined-shown.result line)
+          (requested_is front.format front.key front.text c.args.name.now c.args.version.now) puts;
+    }
