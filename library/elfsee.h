@@ -408,7 +408,9 @@ uint32_t elfsee_section_bytes(const uint8_t *file, size_t file_len, uint16_t ind
                               struct elfsee_range *range, struct elfsee_end *end);
 
 /* A table, and a position in it. Plain numbers on the caller's own stack: any may be passed, and a
- * caller may set them; a step checks them. */
+ * caller may set them; a step checks them. Of a table without rows only the type is checked: then `at` is
+ * the offset in its header, `strings_at` the same or 0, and both may be outside the file;
+ * `strings_len` is 0. */
 struct elfsee_rows {
     uint64_t at, count, index, entry; /* the entries that are left are [index, count) */
     uint64_t strings_at, strings_len; /* of the string table that goes with it; otherwise 0, 0 */
@@ -472,7 +474,7 @@ size_t elfsee_next_version_words(const uint8_t *file, size_t file_len, struct el
                                  struct elfsee_version_word *out, size_t out_len);
 
 /* A position in a walk over the records of version definitions or needs: plain numbers, like those of
- * elfsee_rows. */
+ * elfsee_rows. If `size` is 0, `at` may be outside the file. */
 struct elfsee_version_records {
     uint64_t at, size;    /* of the table */
     uint64_t place;       /* of the next record, in the table */
@@ -542,7 +544,8 @@ size_t elfsee_next_version_words_within(const uint8_t *file, size_t file_len,
                                         struct elfsee_rows *rows, struct elfsee_version_word *out,
                                         size_t out_len, struct elfsee_end *end);
 
-/* A position in a table of notes: plain numbers, like those of elfsee_rows. */
+/* A position in a table of notes: plain numbers, like those of elfsee_rows. If `left` is 0, `at` may be
+ * outside the file. */
 struct elfsee_notes {
     uint64_t at, left; /* the file offset of the next note; bytes of the table starting there */
     uint64_t align;    /* of the notes: 8, and for any other number 4 */
@@ -606,9 +609,9 @@ uint32_t elfsee_next_member(const uint8_t *file, size_t file_len, struct elfsee_
                             struct elfsee_member *member, struct elfsee_end *end);
 
 /* Finds where the name at an offset in a string table is, without its NUL: the table is the `strings`
- * of `rows`, or any range of the file, as far as it is in the file. In a table of no bytes the
- * name at 0 has none, wherever the table begins. OK; REFUSED with ELFSEE_NAME_OUTSIDE or
- * ELFSEE_NAME_UNENDED if there is no name. */
+ * of `rows`, or any range of the file, as far as it is in the file. In a table that has no bytes there
+ * the name at 0 has none, and `name` is 0, 0. OK, and then the name is within the file; REFUSED with
+ * ELFSEE_NAME_OUTSIDE or ELFSEE_NAME_UNENDED if there is no name. */
 uint32_t elfsee_name(const uint8_t *file, size_t file_len, const struct elfsee_range *strings,
                      uint64_t offset, struct elfsee_range *name, struct elfsee_end *end);
 

@@ -941,7 +941,7 @@ static int any_name(void) {
         return end.cause == (offset < left ? ELFSEE_NAME_UNENDED : ELFSEE_NAME_OUTSIDE) && (left || offset) &&
                (offset >= left || !memchr(library.bytes + strings.at + offset, 0, (size_t)(left - offset)));
     }
-    if (left == 0) return status == ELFSEE_OK && offset == 0 && name.at == strings.at && name.len == 0;
+    if (left == 0) return status == ELFSEE_OK && offset == 0 && name.at == 0 && name.len == 0;
     return status == ELFSEE_OK && name.at == strings.at + offset && offset < left && name.len < left - offset &&
            !memchr(library.bytes + name.at, 0, (size_t)name.len) &&
            library.bytes[name.at + name.len] == 0;

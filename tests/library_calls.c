@@ -500,7 +500,7 @@ static void say_bytes(struct walk *walk, uint64_t at, uint64_t len) {
 static int say_name(struct walk *walk, const struct elfsee_range *strings, uint64_t offset) {
     struct elfsee_range name = {7, 7};
     if (elfsee_name(walk->file->bytes, walk->file->len, strings, offset, &name, &walk->end)) return 0;
-    if (strings->len == 0) return name.at == strings->at && name.len == 0;
+    if (strings->len == 0) return name.at == 0 && name.len == 0;
     expect(name.at == strings->at + offset && offset + name.len < strings->len, "a name outside its table");
     expect(name.at + name.len < walk->file->len && walk->file->bytes[name.at + name.len] == 0,
            "a name without its NUL");

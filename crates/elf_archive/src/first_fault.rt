@@ -40,7 +40,7 @@ pub fn find_fault<S: Source>(
     ensures cost { (file : List ℕ) → src.old.seen.file ≡ Some file →
         src.new.asked ≤ src.old.asked
         + cost_after_magic file caps.entry.limits.headers (style_of caps.entry.style) parts.0 }
-    // For every source.
+    // For any source.
     ensures asks { AsksInArchive caps.entry src.old src.new result }
 {
     let mut out = Out::new(NullSink);
@@ -81,10 +81,10 @@ fn find_in_archive<S: Source, W: Sink>(
     find_in_members(src, store, style, parts, out)
 }
 
-/// Goes over the members of an archive whose magic string was read, up to the first fault.
+/// Reads the members of an archive whose magic string was read, up to the first fault.
 ///
 /// # Errors
-/// As [`find_in_archive`].
+/// As for [`find_in_archive`].
 fn find_in_members<S: Source, W: Sink>(
     src: &mut Counted<RangeSource<S>>,
     store: &mut HeaderStore,

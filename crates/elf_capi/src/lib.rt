@@ -1,10 +1,7 @@
-//! The rows of tables of an ELF64 file that lies in memory, as a caller keeps them: symbols, relocation
-//! entries, dynamic entries and symbol versions, field by field, and places in tables that are plain
-//! numbers. No number that a caller sets is a wrong one: each step tests them. What a read answers is told
-//! in the numbers that C has.
-//!
-//! What the calls of the library do, over memory that a caller lends, in the numbers that C has: limits,
-//! items and listings as a caller says them, what is written into lent memory, and how a call ends.
+//! What the calls of the library do, in caller-provided memory and in the numbers of C: the limits,
+//! items and listings that a caller asks for, the rows of tables of a file in memory, field by
+//! field, positions in tables as plain numbers, and [`CallEnd`], how a call ended. No number that a
+//! caller sets can do harm: each step checks them.
 #![tactic(auto)]
 
 mod applied;

@@ -1,13 +1,7 @@
-//! Worked examples of the definitions, on files given byte by byte. Each is the contract of a
-//! function with an empty body, and the prover computes it.
-//!
-//! - Whole listings, their order, their costs and their budgets.
-//! - The contents of tables: fields, names, notes, dynamic entries and hash tables; and the results
-//!   of lookups.
-//! - The traits of a file: its kind, what its segments, dynamic entries, properties and symbols say
-//!   of its hardening, and what is required of it.
-//! - Relocation entries as they are listed, the values that they store, symbols and places in
-//!   layouts, applied sections and their costs.
+//! Worked examples of the definitions: whole listings, their order, costs and budgets; the contents
+//! of tables, that is fields, names, notes, dynamic entries and hash tables; the results of
+//! lookups; the traits of a file; and relocation entries, the values that they store, and applied
+//! sections. Each is the contract of a function with an empty body, and the prover computes it.
 #![tactic(auto)]
 
 mod allowed_rows;

@@ -1,6 +1,7 @@
-//! Files that may be the one that is looked for.
-ghost use Rattle.std.specs.Prelude.{◌≡◌, IfOk, IfSome};
+//! Files that may be the one that is searched for.
+ghost use Rattle.std.specs.Prelude.{◌≡◌, ℕ, List, IfOk, IfSome, Some};
 ghost use Rattle.elf_needs.specs.Budget.{AsksFile, AsksFound};
+ghost use Rattle.elf_needs.specs.Reading.{ReturnsFit};
 
 use crate::object_file::{ObjectFile, ReadAccount};
 use crate::walk::NeedsFault;
@@ -13,9 +14,9 @@ use std::{fs, str};
 /// A file of the system, read at offsets.
 pub(crate) type FileSource<F> = StreamSource<FileReader<F>>;
 
-/// Opens the file at a path, if it is a regular one that can be opened, of 64 bits, little-endian and of
-/// this machine. No more is asked for than what is left of the budget, where there is one; what was asked
-/// for is taken off. A file that is passed over is closed.
+/// Opens the file at a path, if it is a regular one that can be opened, 64-bit, little-endian and
+/// for this machine. Requests at most the bytes left of the budget, if there is one; those
+/// requested are subtracted. A file that is skipped is closed.
 ///
 /// # Errors
 /// A read failed.
@@ -43,8 +44,9 @@ where
     }
 }
 
-/// Whether a file is of 64 bits, little-endian and of this machine. No more is asked for than what is left
-/// of the budget, where there is one; what was asked for is taken off.
+/// Returns whether a file is of 64 bits, little-endian and of this machine, or the budget has no room to
+/// tell. No more is asked for than what is left of the budget, if there is one; what was asked for is taken
+/// off.
 ///
 /// # Errors
 /// A read failed.
@@ -53,12 +55,14 @@ fn fits<S: Source>(
     machine: u16,
     account: &mut ReadAccount,
 ) -> Result<bool, NeedsFault>
-    ensures { AsksFile file.old file.new account.old account.new }
+    ensures asks { AsksFile file.old file.new account.old account.new }
+    ensures known { (bytes : List ℕ) → file.old.seen.file ≡ Some bytes →
+        ReturnsFit machine account.old.left bytes result }
 {
     match file.machine(account) {
         Ok(Some(found)) => Ok(found == machine),
         Ok(None) => Ok(false),
-        // The budget has no room for it: that is told of the file where it is read.
+        // The budget has no room for it: that is reported when the file is read.
         Err(Fault::Refused(_)) => Ok(true),
         Err(Fault::Source { .. }) => Err(NeedsFault::Read),
     }
@@ -67,7 +71,7 @@ fn fits<S: Source>(
 /// Opens the file at a path, if it is a regular one that can be opened.
 ///
 /// # Errors
-/// Its length can't be found.
+/// Its length cannot be determined.
 fn opened<R: Files>(
     rt: &R,
     path: &[u8],

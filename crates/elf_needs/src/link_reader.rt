@@ -1,10 +1,9 @@
 //! What one file needs.
-ghost use Rattle.std.specs.Prelude.{◌≡◌, ◌<◌, ◌^◌, ◌+◌, ◌*◌, ◌/◌, ℕ, List};
+ghost use Rattle.std.specs.Prelude.{◌≡◌, ◌<◌, ◌≤◌, ◌^◌, ◌+◌, ◌*◌, ◌/◌, ℕ, List, length};
 ghost use Rattle.elf_table.specs.Prelude.{CallDid, HoldsProgramHeaders, fault_of_result};
-ghost use Rattle.elf_model.specs.Prelude.{e_shnum, links_by_segments, links_ceiling, links_of, loaded_links, lookup_refusal};
-ghost use Rattle.elf_source.specs.Source.{ReadsUpTo};
+ghost use Rattle.elf_model.specs.Prelude.{e_shnum, field, links_by_segments, links_ceiling, links_of, loaded_links, lookup_refusal};
 ghost use Rattle.elf_needs.specs.Entries.{ReturnsLinks};
-ghost use Rattle.elf_needs.specs.Reading.{ReturnsLookupRefusal, linked_in_segments, lookup_passed};
+ghost use Rattle.elf_needs.specs.Reading.{ReturnsLookupRefusal, ReturnsMachine, linked_in_segments, lookup_passed, machine_by};
 
 use crate::entries::{DynamicTexts, list_link_info, no_link_info};
 use crate::links::{LinkInfo, LinkInfoStore};
@@ -15,47 +14,77 @@ use elf_record::{Cause, Refusal, u16_at, word};
 use elf_source::{Counted, Source};
 use elf_table::{ExecutionView, Fault, HeaderStore, fill};
 
-/// How many bytes of a file tell its class, its encoding and its machine (gABI 4, ELF Header).
+/// How many bytes of a file give its class, its encoding and its machine (gABI 4, ELF Header).
 const FRONT_BYTES: usize = 20;
-/// The number of the magic number's four bytes (gABI 4, ELF Identification).
+/// The value of the four magic bytes (gABI 4, ELF Identification).
 const MAGIC: u32 = 0x464c_457f;
-/// The class of files of 64 bits, at byte 4, and the encoding that is little-endian, at byte 5.
+/// The class of 64-bit files, at byte 4, and the little-endian encoding, at byte 5.
 const CLASS_64: u8 = 2;
 
 const LITTLE_ENDIAN: u8 = 1;
 
-/// The machine of a file of 64 bits that is little-endian; None of any other file.
+/// Returns the machine of a 64-bit little-endian file, or `None` for any other file.
 ///
 /// # Errors
-/// A fault of a read, or a refusal for want of budget.
+/// A read fault, or a refusal for lack of budget.
 pub fn machine_of<S: Source>(src: &mut Counted<S>) -> Result<Option<u16>, Fault>
-    ensures { ReadsUpTo src.old src.new 20 }
+    ensures { CallDid src.old src.new (fault_of_result result) 20
+        (λ file. ReturnsMachine file result) }
 {
     if src.length() < FRONT_BYTES as u64 {
         return Ok(None);
     }
     let mut front = [0; FRONT_BYTES];
     fill(src, 0, &mut front)?;
-    if word(&[front[0], front[1], front[2], front[3]]) != MAGIC
-        || front[4] != CLASS_64
-        || front[5] != LITTLE_ENDIAN
-    {
-        return Ok(None);
-    }
-    Ok(Some(u16_at(&front, 18)))
+    Ok(machine_by(&front))
 }
 
-/// How a file is linked, as a loader sees it: by its program headers, whatever its section headers are. The
-/// texts and the needs are kept in the store of links, behind those that are there; where this fails some
-/// may stand there that nothing tells of.
+/// Returns the machine that the first bytes of a file tell.
+fn machine_by(front: &[u8; FRONT_BYTES]) -> Option<u16>
+    ensures { result ≡ machine_by front.now }
+{
+    if magic_in(front) == MAGIC
+        && byte_at(front, 4) == CLASS_64
+        && byte_at(front, 5) == LITTLE_ENDIAN
+    {
+        return Some(u16_at(front, 18));
+    }
+    None
+}
+
+/// Returns the number of the first four bytes.
+fn magic_in(front: &[u8; FRONT_BYTES]) -> u32
+    ensures { result ≡ field front.now 0 4 }
+{
+    let mut magic = [0; 4];
+    magic.copy_from_slice(&front[..4]);
+    word(&magic)
+}
+
+/// Returns the byte at a place.
+fn byte_at(bytes: &[u8], place: usize) -> u8
+    requires { place + 1 ≤ length bytes.now }
+    ensures { result ≡ field bytes.now place 1 }
+{
+    bytes[place]
+}
+
+/// Reads how a file is linked, as a loader sees it: by its program headers, ignoring its section
+/// headers.
 ///
-/// Where the source's file is known what is told and kept is the file's own, and so is the refusal.
+/// The texts and the needs are added to the store of links; on failure some may be left there that
+/// nothing refers to. If the source's file is known, what is returned and stored is the file's own,
+/// and so is the refusal.
 ///
 /// # Errors
-/// The first that fails: those of [`load_by_segments`]; of [`find_in_segments`], but `NoHash`;
-/// of the first segment of dynamic entries; of each entry with a text, at the entry: its string table, its
-/// text, and `TooLong` where that has more than 4,096 bytes or finds no room. Else a fault of a read, or a
-/// refusal for want of budget.
+/// The first that fails:
+///
+/// - Those of [`load_by_segments`].
+/// - Those of [`find_in_segments`], except `NoHash`.
+/// - Those of the first segment of dynamic entries.
+/// - For each entry with a text, at the entry: those of its string table and of its text, and
+///   `TooLong` if that has more than 4,096 bytes or there is no room for it.
+/// - Otherwise a read fault, or a refusal for lack of budget.
 pub fn read_link_info<S: Source>(
     src: &mut Counted<S>,
     store: &mut HeaderStore,
@@ -74,7 +103,7 @@ pub fn read_link_info<S: Source>(
     found
 }
 
-/// The same of the file that the source shows, whose header locates no section headers.
+/// Reads the same for the file as the source shows it, whose header locates no section headers.
 ///
 /// # Errors
 /// Those of [`read_link_info`].
@@ -94,10 +123,10 @@ fn shown_links<S: Source>(
     link_info_by_segments(src, &ExecutionView { loaded, store }, links)
 }
 
-/// The same of a file whose program headers are loaded.
+/// Reads the same for a file whose program headers are loaded.
 ///
 /// # Errors
-/// Those of [`read_link_info`] behind the load.
+/// Those of [`read_link_info`] after the load.
 fn link_info_by_segments<S: Source>(
     src: &mut Counted<S>,
     view: &ExecutionView<'_>,
@@ -114,7 +143,7 @@ fn link_info_by_segments<S: Source>(
     entry_links(src, view, links)
 }
 
-/// What the first segment of dynamic entries tells; nothing where there is none.
+/// Returns what the first segment of dynamic entries gives; nothing if there is none.
 ///
 /// # Errors
 /// Those of [`ExecutionView::dynamic`], and those of the entries.
@@ -138,10 +167,10 @@ fn entry_links<S: Source>(
     list_link_info(src, &strings, table, links)
 }
 
-/// Checks what a lookup is made in; a file without a hash table has none.
+/// Checks the lookup tables; a file without a hash table has none.
 ///
 /// # Errors
-/// Those of [`find_in_segments`] but `NoHash`.
+/// Those of [`find_in_segments`] except `NoHash`.
 fn check_lookup<S: Source>(src: &mut Counted<S>, view: &ExecutionView<'_>) -> Result<(), Fault>
     requires size { view.now.loaded.size ≡ src.old.seen.size }
     requires small { view.now.loaded.size < 2 ^ 63 }
@@ -155,8 +184,8 @@ fn check_lookup<S: Source>(src: &mut Counted<S>, view: &ExecutionView<'_>) -> Re
     }
 }
 
-/// No fault where there is no hash table, else the fault.
-fn without_hash(fault: Fault) -> Result<(), Fault>
+/// Returns no fault if there is no hash table, otherwise the fault.
+pub(crate) fn without_hash(fault: Fault) -> Result<(), Fault>
     ensures { result ≡ lookup_passed fault }
 {
     match fault {

@@ -1,5 +1,6 @@
 //! The search for a library.
-ghost use Rattle.std.specs.Prelude.{◌≤◌, length};
+ghost use Rattle.std.specs.Prelude.{◌≡◌, ◌≤◌, length};
+ghost use Rattle.elf_needs.specs.Called.{above_of};
 ghost use Rattle.elf_needs.specs.Budget.{AsksFound};
 
 use crate::candidates::{FileSource, candidate};
@@ -13,8 +14,8 @@ use memchr::memchr;
 use std::os::unix::fs::FileExt;
 use std::rt::Files;
 
-/// The folders that a command line tells, each text parted by colons, and what stands before each folder
-/// that is written with a slash at its front.
+/// The directories given on a command line, each a colon-separated list, and the root that precedes
+/// each directory that begins with a slash.
 #[derive(Clone, Copy)]
 pub struct SearchDirs<'a> {
     /// Those that come before an object's DT_RUNPATH.
@@ -25,22 +26,23 @@ pub struct SearchDirs<'a> {
     pub root: &'a [u8],
 }
 
-/// A search for a library of a machine: what it goes by, and what is left of the budget.
+/// A search for a library of a machine: its parameters, and what is left of the budget.
 #[derive(Drop)]
 pub(crate) struct Search<'s> {
-    /// The folders that are told.
+    /// The given directories.
     pub folders: SearchDirs<'s>,
     /// The machine.
     pub machine: u16,
     /// The path that is tried.
     pub path: CandidatePath,
-    /// What is left of the budget, and what was asked for.
+    /// What is left of the budget, and what was requested.
     pub account: ReadAccount,
 }
 
 impl Search<'_> {
-    /// Looks for the library of a name that an object needs. Where it is found its path stands in the
-    /// search's. It is not made part of its caller, whose stack would hold its lists while a file is read.
+    /// Searches for the library with a name that an object needs. If it is found, its path is in
+    /// the search's. It is not inlined: the stack of its caller would hold its lists while a file
+    /// is read.
     ///
     /// # Errors
     /// A read failed.
@@ -87,14 +89,15 @@ impl Search<'_> {
     }
 }
 
-/// No texts of folders. It is not made part of its caller, whose stack would hold them three times.
+/// Returns empty lists of directories. It is not inlined: the stack of its caller would hold them
+/// three times.
 #[inline(never)]
 fn no_lists<'a>() -> SearchPaths<'a> {
     SearchPaths::new()
 }
 
-/// Puts the texts of the folders in which a library is looked for that an object needs. It is not made part
-/// of its caller, whose stack would hold the objects above while paths are tried.
+/// Appends the lists of the directories in which a library is searched that an object needs. It is
+/// not inlined: the stack of its caller would hold the objects above while paths are tried.
 #[inline(never)]
 fn gather<'a>(
     objects: &'a ObjectList,
@@ -107,8 +110,8 @@ fn gather<'a>(
     gather_dirs(&chain[..count], folders.library, folders.default, lists);
 }
 
-/// Puts an object, the one that first needed it, and so on up to the program, as many as there is room for,
-/// at the front of others. Answers how many.
+/// Copies an object, the one that first needed it, and so on up to the program, up to the capacity,
+/// to the start of others. Returns how many.
 fn put_chain<'a>(
     objects: &'a ObjectList,
     known: &KnownObject,
@@ -131,8 +134,10 @@ fn put_chain<'a>(
     chain.len()
 }
 
-/// The object that first needed another, if one did.
-fn above(objects: &ObjectList, known: &KnownObject) -> Option<KnownObject> {
+/// Returns the object that first needed another, if there is one.
+fn above(objects: &ObjectList, known: &KnownObject) -> Option<KnownObject>
+    ensures { result ≡ above_of objects.now known.now }
+{
     match known.needer {
         Some(needer) => objects.get(usize::from(needer)),
         None => None,

@@ -1,11 +1,7 @@
-//! What users ask for: how much of a file is read and shown, what is looked up, which rows are
-//! listed, and which traits a file must have.
-//!
-//! [`Caps`] limits what is read and says how rows are shown. [`SymbolQuery`] is a name, or a name
-//! and a version, that a GNU loader looks up. [`RowFilter`] selects rows of a listing by sorted
-//! texts, and [`RequiredTrait`] is a word that a file must have in a column. [`read_names`] and
-//! [`gather_names`] gather the names that select rows, from the arguments and from a list with one
-//! per line; only these two allocate.
+//! What users ask for: the [`Caps`] of a listing, that is its limits and its [`ListingStyle`]; the
+//! [`SymbolQuery`] of a lookup, a name or a name and a version; the names that select rows, from
+//! arguments or a list, as a [`RowFilter`]; and the [`RequiredTrait`] of a file. Only the calls
+//! that gather names from arguments or a list allocate.
 #![tactic(auto)]
 
 mod caps;

@@ -17,8 +17,8 @@ use Rattle.elf_walk.specs.Checked.{FailsRead, FindsShort, short_refusal}
 pub short_is : (budget : Option ℕ) (file : List ℕ) (at : ℕ) (kind : FileMagic) (found : FileStatus) → length file ≡ at → at < 64 → kind ≡ file_magic false budget file
     → found ≡ short_state at kind → FindsShort budget file found
 short_is budget file at kind found sized short decides is = finds_short budget file found (
-      let few : nat_lt (length file) 64 ≡ true = grind (arith, nat_tests) in
-      rw few (is ∙ (ap (λ n. short_state n kind) (sym sized) ∙ ap (short_state (length file)) decides))
+    let few : nat_lt (length file) 64 ≡ true = grind (arith, nat_tests) in
+    rw few (is ∙ (ap (λ n. short_state n kind) (sym sized) ∙ ap (short_state (length file)) decides))
     )
   where
     finds_short : (budget : Option ℕ) (file : List ℕ) (found : FileStatus) → found ≡ state_of budget file (Some (short_refusal file)) → FindsShort budget file found

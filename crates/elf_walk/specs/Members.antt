@@ -1,4 +1,4 @@
--- What the check of an archive with its members did.
+-- The effect of the check of an archive with its members.
 use Rattle.std.specs.Prelude.{ℕ, ◌≡◌, ◌+◌, ⊤, true, List, length, None, Some}
 use Rattle.elf_model.specs.Prelude.{ListingStyle, archive_ceiling, budget_after, file_magic, front_size}
 use Rattle.elf_model.specs.FileLists.{undecided}
@@ -22,7 +22,7 @@ FindsArchive caps parts file state.NoElf = ⊥
 FindsArchive caps parts file state.Unread = ⊤
 FindsArchive caps parts file state.Memory = ⊥
 
--- the caps behind the bytes that tell what a file of so many bytes is
+-- the caps after the magic bytes of a file of the given size
 pub record IsCapsAfter (caps : Caps) (size : ℕ) (left : Caps) : Type 0 where
   pub headers : left.limits.headers ≡ caps.limits.headers
   pub budget : left.limits.budget ≡ budget_after caps.limits.budget (front_size true size)
@@ -40,8 +40,8 @@ FindsBySort sort.Elf caps parts file found = FindsElf caps parts file found
 FindsBySort sort.Archive caps parts file found = FindsArchive caps parts file found
 FindsBySort kind caps parts file found = found ≡ unlisted_state kind
 
--- THE STATE that is found of a file where archives are gone into: that of its sort, within what is left of the budget behind the
--- bytes that tell it, unless a read of these failed
+-- THE STATE that is found for a file if members are checked: that of its type, within what is left
+-- of the budget after the magic bytes, unless a read of these failed
 pub record FindsSortedState (caps : Caps) (parts : ℕ) (file : List ℕ) (found : FileStatus) : Type 0 where
   pub left : Caps
   pub behind : IsCapsAfter caps (length file) left
@@ -61,6 +61,6 @@ cost_by _ file headers style parts = 0
 abbrev pub sorted_cost : Caps → List ℕ → ℕ → ListingStyle → ℕ → ℕ
 sorted_cost caps file headers style parts = 8 + cost_by (file_magic true caps.limits.budget file) file headers style parts
 
--- the same of every source
+-- the same for any source
 abbrev pub sorted_ceiling : ℕ → ℕ → ListingStyle → ℕ
 sorted_ceiling size headers style = 8 + archive_ceiling size headers style

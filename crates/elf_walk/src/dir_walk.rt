@@ -1,4 +1,4 @@
-//! The names in a folder, read in passes.
+//! The names in a directory, read in passes.
 ghost use Rattle.std.specs.Prelude.{◌≡◌, IfOk, List, ℕ, []};
 ghost use Rattle.elf_walk.specs.Gathered.{GathersDir, GathersNames, PutsNames, unnamed_count};
 ghost use Rattle.elf_walk.specs.Kept.{KeepsFirstNames};
@@ -64,10 +64,10 @@ fn gather_from<D: Read>(
     Err(FileStatus::Unread)
 }
 
-/// Ends a pass, of which so many names can't be named.
+/// Ends a pass, in which `unnamed` names cannot be represented.
 ///
 /// # Errors
-/// The state of a folder for whose names there is no memory.
+/// The state of a directory for whose names there is no memory.
 fn ended(batch: &mut NameBatch, unnamed: u64) -> Result<u64, FileStatus>
     ensures count { IfOk result (λ count. count ≡ unnamed) }
     ensures order { IfOk result (λ count. batch.new.held ≡ batch.new.names) }
@@ -81,10 +81,10 @@ fn ended(batch: &mut NameBatch, unnamed: u64) -> Result<u64, FileStatus>
     }
 }
 
-/// Puts names, each ended by NUL, into a batch, and answers how many can't be named.
+/// Puts names, each ended by NUL, into a batch, and returns how many cannot be represented.
 ///
 /// # Errors
-/// Where memory is refused.
+/// Out of memory.
 fn put_all(names: &[u8], batch: &mut NameBatch) -> Result<u64, AllocError>
     ensures puts { IfOk result (λ unnamed. PutsNames names.now unnamed batch.old batch.new) }
     ensures after { batch.new.after ≡ batch.old.after }
@@ -100,7 +100,7 @@ fn put_all(names: &[u8], batch: &mut NameBatch) -> Result<u64, AllocError>
     Ok(unnamed)
 }
 
-/// How many names can't be named, of one that was put.
+/// Returns how many names cannot be represented, for one that was inserted: 0 or 1.
 fn unnamed_of(put: Insertion) -> u64
     ensures { result ≡ unnamed_count put }
 {

@@ -35,7 +35,7 @@ pub fn check_archive<S: Source>(
         Ok(()) => FileStatus::Ok,
         Err(RunFault::Refused(refusal)) => FileStatus::Refused(refusal),
         Err(RunFault::Source { .. }) => FileStatus::Unread,
-        // Not reached: nothing is put out.
+        // Unreachable: nothing is written.
         Err(RunFault::Out(_)) => FileStatus::Unread,
     }
 }

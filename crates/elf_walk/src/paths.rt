@@ -1,4 +1,4 @@
-//! A path that is asked for.
+//! A path given by the caller.
 use crate::each_file::FileVisitor;
 use crate::many::FileRun;
 use crate::open_failure::unopened;

@@ -50,7 +50,7 @@ pub fn short_state(size: u64, magic: FileMagic) -> FileStatus
     }
 }
 
-/// The state of a file that has room for a file header, by its refusal.
+/// Returns the state of a file large enough for a file header, by its refusal.
 pub fn refused_state(refusal: Refusal) -> FileStatus
     ensures { result ≡ (if is_not_elf refusal.cause then NoElf else Refused refusal) }
 {

@@ -1,4 +1,4 @@
-//! The check of a file by what it is, where archives are gone into.
+//! The check of a file by its type, if members are checked.
 ghost use Rattle.std.specs.Prelude.{◌≡◌, ◌≤◌, ◌^◌};
 ghost use Rattle.elf_archive.specs.FirstFault.{BeginsArchive};
 ghost use Rattle.elf_archive.specs.Listed.{IsAll};
@@ -41,7 +41,7 @@ pub fn check_sorted<S: Source>(
     check_by_type(src, store, left, parts, sort)
 }
 
-/// Checks one file of a sort. Afterwards no limit is set.
+/// Checks one file of a type. On return no limit is set.
 fn check_by_type<S: Source>(
     src: &mut Counted<RangeSource<S>>,
     store: &mut HeaderStore,
@@ -79,8 +79,8 @@ fn unlisted_state(sort: FileMagic) -> FileStatus
     }
 }
 
-/// The caps for what stands behind the bytes that tell what a file of so many bytes is: of the budget is
-/// left what they did not take.
+/// Returns the caps for what follows the magic bytes of a file of `size` bytes: the budget less
+/// those bytes.
 fn behind<'n>(caps: Caps<'n>, size: u64) -> Caps<'n>
     ensures { IsCapsAfter caps.entry size result }
 {

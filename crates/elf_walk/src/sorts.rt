@@ -1,4 +1,4 @@
-//! The listing of a file, by its sort.
+//! The listing of a file, by its type.
 ghost use Rattle.std.specs.Prelude.{◌≡◌, ◌+◌, ◌≤◌, ◌^◌, ℕ, List, Some, IfErr};
 ghost use Rattle.elf_archive.specs.Listed.{ArchiveSays, IsAll};
 ghost use Rattle.elf_options.specs.Permitted.{style_of};
@@ -77,7 +77,7 @@ fn report_undecided<W: Sink>(format: Format, out: &mut Out<W>) -> RunFault
     show_stop(RunFault::Refused(UNDECIDED), format, out)
 }
 
-/// Whether the lines of members stand alone.
+/// Returns `true` if the lines of members are written alone.
 fn are_alone(style: &ListingStyle) -> bool
     ensures { result ≡ members_alone (style_of style.now).choice }
 {

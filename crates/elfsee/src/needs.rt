@@ -1,4 +1,6 @@
 //! What a program needs.
+ghost use Rattle.std.specs.Prelude.{◌≡◌};
+ghost use Rattle.elfsee.specs.Needs.{EndsNeeds};
 
 use elf_cli::{
     CANNOT_OPEN, ExitLine, OUT_OF_MEMORY, OUTPUT_BYTES, READ_FAULT, RunEnd, end_run, open,
@@ -14,10 +16,11 @@ use std::io::{self, BufWriter, ErrorKind, Write};
 use std::os::unix::fs::FileExt;
 use std::rt::Files;
 
-/// Lists the objects that a program needs, and where that is asked for from where their symbols come.
+/// Lists the objects that a program needs and, if requested, which object each of their symbols is
+/// bound to.
 ///
 /// # Errors
-/// There is no memory, or the program can't be opened.
+/// Out of memory, or the program cannot be opened.
 #[inline(never)]
 pub fn report_needs<R: Files + Print + AllocGlobal>(
     rt: &R,
@@ -42,11 +45,12 @@ where
     needs_into(rt, asked, headers.store(), (room, opened), output)
 }
 
-/// Opens the program, and lists the objects that it needs to an output. The folder of the program is told
-/// by its path with all links followed, which takes memory before the program is opened.
+/// Opens the program, and lists the objects that it needs to an output. The directory of the
+/// program is found from its path with all links resolved, which allocates before the program is
+/// opened.
 ///
 /// # Errors
-/// There is no memory, or the program can't be opened.
+/// Out of memory, or the program cannot be opened.
 fn needs_into<R: Files + AllocGlobal, W: Write + Drop>(
     rt: &R,
     asked: &NeedsRequest<'_>,
@@ -86,8 +90,14 @@ where
     Ok(ending)
 }
 
-/// What a walk goes by.
-fn settings<'a>(asked: &NeedsRequest<'a>) -> NeedsOptions<'a> {
+/// Returns the settings of a walk.
+fn settings<'a>(asked: &NeedsRequest<'a>) -> NeedsOptions<'a>
+    ensures library { result.folders.library.now ≡ asked.now.library_path.now }
+    ensures default { result.folders.default.now ≡ asked.now.default.now }
+    ensures root { result.folders.root.now ≡ asked.now.root.now }
+    ensures budget { result.budget ≡ asked.now.limits.budget }
+    ensures format { result.format ≡ asked.now.format }
+{
     NeedsOptions {
         folders: SearchDirs {
             library: asked.library_path.as_bytes(),
@@ -99,8 +109,10 @@ fn settings<'a>(asked: &NeedsRequest<'a>) -> NeedsOptions<'a> {
     }
 }
 
-/// How a run ended, by what a walk answered.
-fn ended(listed: Result<u8, NeedsFault>) -> RunEnd {
+/// Returns how a run ended, by the result of a walk.
+fn ended(listed: Result<u8, NeedsFault>) -> RunEnd
+    ensures { EndsNeeds listed result }
+{
     match listed {
         Ok(status) => RunEnd::Status(status),
         Err(NeedsFault::Read) => RunEnd::Told(READ_FAULT),

@@ -741,10 +741,10 @@ class File:
     `longest_name` is how long a name of a row may be: names in rows are never cut, and one that is
     longer raises Full.
 
-    Every call except `close` raises Refused if the file is malformed or the budget is exhausted, and
-    ValueError if an argument is outside its range or the file is closed, and TypeError if one has
-    another type. For a path, OSError is raised if it is not a regular file. Rows are given up to the
-    fault, and then it is raised: at the same place and for the same cause as in a listing of that
+    Every call except `close` raises Refused if the file is malformed or the budget is exhausted,
+    ValueError if an argument is outside its range or the file is closed, and TypeError if it has another
+    type. A path that is not a regular file raises OSError. Rows are given up to the fault, and then it is
+    raised: at the same place and for the same cause as in a listing of that
     part that shows all names whole. A listing that cuts a name reads no further: if such a name
     does not end in its string table, the listing continues, and here the fault is raised.
     """
@@ -1020,7 +1020,7 @@ class File:
         count = most
         while count == most:
             count = step(data, len(data), self._limits, asked.count, rows, out, most, end)
-            # Over a memoryview the interpreter could end, if a fault that holds this frame is collected.
+            # Over a memoryview the interpreter could crash, when an exception that holds this frame is collected.
             yield struct.iter_unpack(form, ctypes.string_at(out, size * count))
         if end.cause:
             raise Refused(end.cause, end.at)
