@@ -46,7 +46,7 @@ ReturnsMachineWithin left file (Err (Refused refusal)) = left ≡ None → ⊥
 ReturnsMachineWithin left file (Err (Source fault at)) = Unit {0}
 
 -- a file fits that is for a machine, or where the budget has no room to tell
-abbrev pub ReturnsFit : (machine : ℕ) → Option ℕ → List ℕ → Result Bool NeedsFault → Type 0
-ReturnsFit machine left file (Ok true) = left ≡ None → machine_in file ≡ Some machine
-ReturnsFit machine left file (Ok false) = machine_in file ≡ Some machine → ⊥
-ReturnsFit machine left file (Err fault) = Unit {0}
+abbrev pub ReturnsMachineFit : (machine : ℕ) → Option ℕ → List ℕ → Result Bool NeedsFault → Type 0
+ReturnsMachineFit machine left file (Ok true) = left ≡ None → machine_in file ≡ Some machine
+ReturnsMachineFit machine left file (Ok false) = machine_in file ≡ Some machine → ⊥
+ReturnsMachineFit machine left file (Err fault) = Unit {0}

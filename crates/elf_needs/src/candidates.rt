@@ -1,7 +1,7 @@
 //! Files that may be the one that is searched for.
 ghost use Rattle.std.specs.Prelude.{◌≡◌, ℕ, List, IfOk, IfSome, Some};
 ghost use Rattle.elf_needs.specs.Budget.{AsksFile, AsksFound};
-ghost use Rattle.elf_needs.specs.Reading.{ReturnsFit};
+ghost use Rattle.elf_needs.specs.Reading.{ReturnsMachineFit};
 
 use crate::object_file::{ObjectFile, ReadAccount};
 use crate::walk::NeedsFault;
@@ -57,7 +57,7 @@ fn fits<S: Source>(
 ) -> Result<bool, NeedsFault>
     ensures asks { AsksFile file.old file.new account.old account.new }
     ensures known { (bytes : List ℕ) → file.old.seen.file ≡ Some bytes →
-        ReturnsFit machine account.old.left bytes result }
+        ReturnsMachineFit machine account.old.left bytes result }
 {
     match file.machine(account) {
         Ok(Some(found)) => Ok(found == machine),
