@@ -1,5 +1,5 @@
 -- The check of a file by its type, and what that reads.
-use Rattle.std.proofs.Common.{◌≡◌, ℕ, ◌+◌, ◌≤◌, nat_lt, Bool, true, false, if◌then◌else◌, List, Option, None, Some, sym, ◌∙◌, arith}
+use Rattle.std.proofs.Common.{◌≡◌, ℕ, ◌+◌, ◌≤◌, nat_lt, Bool, true, false, if◌then◌else◌, List, Option, None, Some, sym, ◌∙◌, arith, ◌⊎◌, inl, inr}
 use Rattle.std.specs.Prelude.{IfSome}
 use Rattle.elf_model.specs.Prelude.{ListingStyle, archive_ceiling, front_size, style_ceiling}
 use Rattle.elf_model.specs.declared.states.FileMagic.TheVariants as sort
@@ -11,7 +11,7 @@ use Rattle.elf_options.specs.Prelude.{style_of}
 use Rattle.elf_options.specs.declared.caps.Caps.{Caps}
 use Rattle.elf_walk.specs.Prelude.{AsksNoMore, FailsRead, FindsSorted, FindsSortedState, check_ceiling, front_asked}
 use Rattle.elf_archive.specs.FirstFault.{BeginsArchive}
-use Rattle.elf_walk.specs.Members.{unlisted_state}
+use Rattle.elf_walk.specs.Members.{FindsBySort, unlisted_state}
 
 -- what a check reads, by the ceiling of an archive of as many bytes
 check_most : (short : Bool) (size headers : ℕ) (style : ListingStyle) → (if short then 4 else style_ceiling size headers style) ≤ archive_ceiling size headers style
@@ -85,3 +85,22 @@ state_after a b c (state.Refused refusal) fewer fails = tt
 state_after a b c state.NoElf fewer fails = tt
 state_after a b c state.Unread fewer fails = λ honest. let rose = fails honest in omega (arith, fewer, rose)
 state_after a b c state.Memory fewer fails = fails
+
+-- a file of which nothing is listed
+elf_listed : (sort.Elf ≡ sort.Thin) ⊎ ((sort.Elf ≡ sort.Foreign) ⊎ (sort.Elf ≡ sort.Undecided)) → ⊥
+elf_listed (inl p) = cc
+elf_listed (inr (inl p)) = cc
+elf_listed (inr (inr p)) = cc
+
+archive_listed : (sort.Archive ≡ sort.Thin) ⊎ ((sort.Archive ≡ sort.Foreign) ⊎ (sort.Archive ≡ sort.Undecided)) → ⊥
+archive_listed (inl p) = cc
+archive_listed (inr (inl p)) = cc
+archive_listed (inr (inr p)) = cc
+
+pub unlisted_found : (kind : FileMagic) → (kind ≡ sort.Thin) ⊎ ((kind ≡ sort.Foreign) ⊎ (kind ≡ sort.Undecided)) → (caps : Caps) (parts : ℕ) (file : List ℕ) (found : FileStatus)
+    → found ≡ unlisted_state kind → FindsBySort kind caps parts file found
+unlisted_found sort.Elf is caps parts file found at = absurd (elf_listed is)
+unlisted_found sort.Archive is caps parts file found at = absurd (archive_listed is)
+unlisted_found sort.Thin is caps parts file found at = at
+unlisted_found sort.Foreign is caps parts file found at = at
+unlisted_found sort.Undecided is caps parts file found at = at

@@ -40,8 +40,7 @@ check_by_type-requires-clause-whole g c =
 
 pub check_by_type-requires-clause-begins : goal.check_by_type-requires-clause-begins
 check_by_type-requires-clause-begins g c = λ archive.
-    let is : c.find_file_type.result ≡ Ok Archive = search rules in
-    begins_kept _ _ c.in-Ok.ensures.keeps (c.in-Ok.ensures.begins is)
+    begins_kept _ _ c.in-Ok.ensures.keeps (c.in-Ok.ensures.begins (ap (λ s. Ok s) archive))
 
 pub returns : goal.returns
 returns g c =
