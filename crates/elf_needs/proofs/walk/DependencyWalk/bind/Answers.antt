@@ -25,7 +25,7 @@ returns-clause-known g c =
       c.in_ok-came.came,
       subst (λ (objects : List LookupObjectState). WritesLines c.args.self.now.format (bound_items (bound_of headers files c.args.opened.now.indexes.items c.args.self.now.objects)) (IsBudgetShort objects c.bind_all.new.left) c.args.self.now.out c.bind_all.new.out
           (Ok c.in_ok-came.came)) (sym (front_taken c.args.opened.now.objects.len c.bind_all.new.objects _ (c.bind_all.ensures.asks.objects.same_length ∙ c.deref_mut.ensures.len)))
-      (subst (λ (indexes : List ℕ). WritesLines c.args.self.now.format (bound_items (bound_of headers files indexes c.args.self.now.objects)) (IsBudgetShort c.bind_all.new.objects c.bind_all.new.left) c.args.self.now.out c.bind_all.new.out
+          (subst (λ (indexes : List ℕ). WritesLines c.args.self.now.format (bound_items (bound_of headers files indexes c.args.self.now.objects)) (IsBudgetShort c.bind_all.new.objects c.bind_all.new.left) c.args.self.now.out c.bind_all.new.out
           (Ok c.in_ok-came.came)) c.deref.ensures.value (known headers files are)),
       c.status_after-self.ensures,
     )
