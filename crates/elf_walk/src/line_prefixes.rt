@@ -94,6 +94,7 @@ fn sort_alone<S: Source>(src: &mut Counted<S>) -> Result<FileMagic, SourceFault>
     ensures fails { IfErr result (IsSourceFault src.old.seen src.new.seen) }
     ensures finds { (file : List ℕ) → src.old.seen.file ≡ Some file →
         IfOk result (λ sort. sort ≡ (if has_elf_magic file then Elf else Foreign)) }
+    ensures alone { result ≡ Ok Archive → ⊥ }
 {
     let mut bytes = [0; 4];
     src.fill(0, &mut bytes)?;
