@@ -7,7 +7,6 @@ use Rattle.elf_model.specs.Bytes.{field}
 use Rattle.elf_model.specs.FileLists.{file_magic, front_size, may_read_bytes}
 use Rattle.elf_model.specs.Records.{has_elf_magic}
 use Rattle.elf_model.specs.declared.states.FileMagic.TheVariants as sort
-use Rattle.elf_model.specs.declared.states.FileMagic.{FileMagic}
 use Rattle.elf_model.proofs.Slices.{field-slice}
 
 pub front_word : (file bytes : List ℕ) → bytes ≡ take 8 (drop 0 file) → field bytes 0 4 ≡ field file 0 4

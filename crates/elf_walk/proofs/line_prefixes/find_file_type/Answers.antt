@@ -1,5 +1,5 @@
 -- What a file is, by the bytes that decide it.
-use Rattle.std.proofs.Common.{◌≡◌, ℕ, ◌≤◌, true, List, length, Some, sym, ap, subst, ◌∙◌, arith}
+use Rattle.std.proofs.Common.{◌≡◌, ◌≤◌, true, length, sym, ap, subst, ◌∙◌, arith}
 use Rattle.std.specs.Prelude.{IfOk}
 use Rattle.elf_model.specs.FileLists.{front_size, may_read_bytes}
 use Rattle.elf_model.specs.declared.states.FileMagic.{FileMagic}

@@ -1,5 +1,5 @@
 -- The state of a short file is that of what it is.
-use Rattle.std.proofs.Common.{◌≡◌, false, sym, ◌∙◌, arith}
+use Rattle.std.proofs.Common.{false, arith}
 use Rattle.elf_walk.proofs.FileMagicLaws.{front_four}
 use Rattle.elf_walk.proofs.ListingToldLaws.{fault_fails, front_within}
 use Rattle.elf_walk.proofs.StateLaws.{short_is, short_read}
