@@ -1,5 +1,5 @@
 -- What was requested from objects, one call after another.
-use Rattle.std.proofs.Common.{◌≡◌, ℕ, zero, suc, ◌+◌, ◌<◌, ◌≤◌, ◌-◌, ◌^◌, ◌⊎◌, min, List, [], ◌∷◌, length, length-set, get_or, get_or-set_other, get_or-set_same, set, inl, inr, Option, None, Some, Result, Err, refl, sym, ap, subst, ◌∙◌, arith}
+use Rattle.std.proofs.Common.{◌≡◌, ℕ, zero, suc, ◌+◌, ◌<◌, ◌≤◌, ◌-◌, ◌^◌, ◌⊎◌, min, List, [], ◌∷◌, ◌++◌, length, take, length-set, get_or, get_or-set_other, get_or-set_same, set, inl, inr, Option, None, Some, Result, Err, refl, sym, ap, subst, ◌∙◌, arith}
 use Rattle.std.proofs.lemmas.Bool.{cases_eq, cases_lt}
 use Rattle.std.proofs.lemmas.List.Sums.{sum_by-set}
 use Rattle.elf_model.specs.Prelude.{IsBudgetRefusal, SymbolQuery}
@@ -118,6 +118,13 @@ short_bind {wanted} {old} {new} {l0} {l1} blame binds = by_fault blame.fault (λ
           used_up (get_or old blame.object d) (get_or new blame.object d) failed.left l1 _ refusal failed.says budget failed.pays (binds.asked.asked blame.object d (omega arith)).keeps.same_size,
     )
     by_fault (Source fault at) fails = tt
+
+-- what stands before others is what so many of all are
+pub front_taken : (n : ℕ) (objects others : List LookupObjectState) → length objects ≡ n → take n (objects ++ others) ≡ objects
+front_taken zero [] others e = refl
+front_taken (suc n) [] others e = absurd (omega (arith, e))
+front_taken zero (one ∷ objects) others e = absurd (omega (arith, e))
+front_taken (suc n) (one ∷ objects) others e = ap (λ (rest : List LookupObjectState). one ∷ rest) (front_taken n objects others (omega (arith, e)))
 
 -- THE FILES of the objects
 pub file_here : (headers n : ℕ) (objects : List LookupObjectState) (files : List (List ℕ)) (d : LookupObjectState) → AreObjectFiles headers objects files → n < length objects
