@@ -8,7 +8,6 @@ use Rattle.elf_model.specs.FileLists.{file_magic}
 use Rattle.elf_model.specs.declared.states.FileMagic.{FileMagic}
 use Rattle.elf_model.specs.declared.states.FileStatus.{FileStatus}
 use Rattle.elf_model.specs.declared.causes.Refusal.{Refusal}
-use Rattle.elf_model.specs.declared.causes.Cause.TheVariants.{Short}
 use Rattle.elf_model.specs.declared.states.FileStatus.TheVariants as state
 use Rattle.elf_source.specs.Source.{CountedState}
 use Rattle.elf_walk.specs.Checked.{FailsRead, FindsShort, short_refusal}

@@ -24,12 +24,13 @@ pub record IsElfState (budget : Option ℕ) (file : List ℕ) (headers : ℕ) (s
   pub listed : IsBudgeted budget file headers style parts text fault
   pub state_is : found ≡ listed_state fault
 
--- THE STATE that is found of a file that begins with the magic number: that of its listing within the budget, unless a read failed
+-- THE STATE that is found for a file that begins with the magic number: that of its listing within
+-- the budget, unless a read failed
 abbrev pub FindsElf : Caps → ℕ → List ℕ → FileStatus → Type 0
 FindsElf caps parts file state.Unread = ⊤
 FindsElf caps parts file found = IsElfState caps.limits.budget file caps.limits.headers (style_of caps.style) parts found
 
--- what its check may ask for
+-- what its check may request
 abbrev pub elf_cost : List ℕ → ℕ → ListingStyle → ℕ → ℕ
 elf_cost file headers style parts = if nat_lt (length file) FILE_HEADER_SIZE then 0 else listing_cost file headers style parts
 

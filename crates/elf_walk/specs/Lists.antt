@@ -13,8 +13,9 @@ use Rattle.elf_table.specs.declared.run_fault.RunFault.{RunFault}
 use Rattle.elf_table.specs.declared.run_fault.RunFault.TheVariants.{Refused, Source}
 use Rattle.elf_listing.specs.Reports.{WroteText}
 
--- a text with this fault is what is listed of a file of a sort within a budget: its listing, or that of an archive, whose members'
--- lines stand alone where all rows are shown; of one that is not decided within the budget the line of that
+-- a text with this fault is what is listed of a file of a type within a budget: its listing, or
+-- that of an archive, whose members' lines are alone if all rows are shown; of one that is not
+-- decided within the budget the line of this refusal
 abbrev pub IsListedText : FileMagic → Option ℕ → List ℕ → ℕ → ListingStyle → ℕ → List ℕ → Option Refusal → Type 0
 IsListedText sort.Elf = IsBudgeted
 IsListedText sort.Archive = λ budget file headers style. IsArchiveBudgeted (members_alone style.choice) budget file headers style

@@ -12,8 +12,8 @@ use Rattle.elf_options.specs.declared.caps.Caps.{Caps}
 use Rattle.elf_archive.specs.FirstFault.{IsArchiveFault, before_magic, cost_after_magic}
 use Rattle.elf_walk.specs.CheckedFile.{FindsElf, elf_cost}
 
--- THE STATE that is found of an archive: that of its fault within the budget, of which its magic string left that of the caps,
--- unless a read failed
+-- THE STATE that is found for an archive: that of its fault within the budget, of which its magic
+-- string left that of the caps, unless a read failed
 abbrev pub FindsArchive : Caps → ℕ → List ℕ → FileStatus → Type 0
 FindsArchive left parts file state.Ok = IsArchiveFault (before_magic left.limits.budget) file left.limits.headers (style_of left.style) parts None
 FindsArchive left parts file (state.Refused refusal) =
@@ -28,13 +28,13 @@ pub record IsCapsAfter (caps : Caps) (size : ℕ) (left : Caps) : Type 0 where
   pub budget : left.limits.budget ≡ budget_after caps.limits.budget (front_size true size)
   pub style : left.style ≡ caps.style
 
--- the state of a file of which nothing is listed, by what it is
+-- the state of a file of which nothing is listed, by its type
 abbrev pub unlisted_state : FileMagic → FileStatus
 unlisted_state sort.Undecided = state.Refused undecided
 unlisted_state sort.Thin = state.Refused (record { at = 0; cause = Thin })
 unlisted_state _ = state.NoElf
 
--- the state that is found of a file of a sort, behind the bytes that decide it
+-- the state that is found for a file of a type, after the bytes that identify it
 abbrev pub FindsBySort : FileMagic → Caps → ℕ → List ℕ → FileStatus → Type 0
 FindsBySort sort.Elf caps parts file found = FindsElf caps parts file found
 FindsBySort sort.Archive caps parts file found = FindsArchive caps parts file found
@@ -51,8 +51,8 @@ abbrev pub FindsSorted : Caps → ℕ → List ℕ → FileStatus → Type 0
 FindsSorted caps parts file state.Unread = ⊤
 FindsSorted caps parts file found = FindsSortedState caps parts file found
 
--- what such a check may ask for: the bytes that tell what the file is, and what its sort costs besides. So of an archive no more
--- than its listing
+-- what such a check may request: the bytes that identify the type, and what that type costs
+-- besides; so of an archive no more than its listing
 abbrev pub cost_by : FileMagic → List ℕ → ℕ → ListingStyle → ℕ → ℕ
 cost_by sort.Elf file headers style parts = elf_cost file headers style parts
 cost_by sort.Archive file headers style parts = cost_after_magic file headers style parts

@@ -44,8 +44,8 @@ pub fn check<S: Source>(
     }
 }
 
-/// Checks one file that begins with the magic number, as [`check`] does; of one that is too short for a file
-/// header nothing is read.
+/// Checks one file that begins with the magic number, as [`check`] does; of one that is too short
+/// for a file header nothing is read.
 pub fn check_elf<S: Source>(
     src: &mut Counted<S>,
     store: &mut HeaderStore,

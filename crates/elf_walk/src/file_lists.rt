@@ -74,7 +74,7 @@ impl<'a> FileVisitor for ListFiles<'a> {
     }
 }
 
-/// Whether nothing is written of a file: one of another kind, or an archive without its members' bytes.
+/// Returns `true` if nothing is written of a file: one of another type, or a thin archive.
 fn is_unlisted(sort: FileMagic) -> bool
     ensures { result ≡ is_unlisted sort }
 {

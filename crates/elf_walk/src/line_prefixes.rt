@@ -24,9 +24,11 @@ const ARCHIVE_MAGIC_BYTES: u64 = 8;
 /// That of an archive whose members are in other files, `!<thin>` and a newline.
 const THIN_MAGIC: u64 = 0x0a3e_6e69_6874_3c21;
 
-/// Returns what a file is, by its first bytes: four, or if archives are gone into and it has as many, eight.
-/// One read; or none of a file that has fewer, which is of another kind, and none if the budget has fewer, which
-/// decides nothing. Afterwards no limit is set.
+/// Returns the type of a file by its first bytes: four or, if members are read and there are as
+/// many, eight.
+///
+/// One read. None of a file of fewer bytes, which is of another type, and none if the budget has
+/// fewer, so that the type is not decided. On return no limit is set.
 ///
 /// # Errors
 /// A fault of the source.
@@ -94,6 +96,7 @@ fn sort_alone<S: Source>(src: &mut Counted<S>) -> Result<FileMagic, SourceFault>
     ensures fails { IfErr result (IsSourceFault src.old.seen src.new.seen) }
     ensures finds { (file : List ℕ) → src.old.seen.file ≡ Some file →
         IfOk result (λ sort. sort ≡ (if has_elf_magic file then Elf else Foreign)) }
+    ensures alone { result ≡ Ok Archive → ⊥ }
 {
     let mut bytes = [0; 4];
     src.fill(0, &mut bytes)?;

@@ -10,14 +10,14 @@ use crate::line_prefixes::find_file_type;
 use elf_model::{Cause, FileMagic, FileStatus, Refusal};
 use elf_source::{Counted, Source};
 
-/// The refusal of a file for which the budget ends before it is decided what it is.
+/// The refusal of a file whose type is not decided within the budget.
 pub const UNDECIDED: Refusal = Refusal {
     at: 0,
     cause: Cause::Budget,
 };
 
-/// Returns the state of a file with fewer bytes than a file header, by what it is, which is decided within the
-/// budget. Afterwards no limit is set.
+/// Returns the state of a file with fewer bytes than a file header, by its type, which is decided
+/// within the budget. On return no limit is set.
 pub fn short_file_status<S: Source>(src: &mut Counted<S>, budget: Option<u64>) -> FileStatus
     requires short { src.old.seen.size < 64 }
     requires few { src.old.asked ≤ 2 ^ 127 }
@@ -36,7 +36,7 @@ pub fn short_file_status<S: Source>(src: &mut Counted<S>, budget: Option<u64>) -
     }
 }
 
-/// Returns the state of a file of so few bytes that it has no room for a file header, by what it is.
+/// Returns the state of a file of `size` bytes that is too short for a file header, by its type.
 pub fn short_state(size: u64, magic: FileMagic) -> FileStatus
     ensures { result ≡ short_state size magic }
 {

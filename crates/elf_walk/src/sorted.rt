@@ -17,10 +17,13 @@ use elf_record::Parts;
 use elf_source::{Counted, RangeSource, Source};
 use elf_table::{Caps, HeaderStore, Limits};
 
-/// Checks one file, whose first bytes decide what it is: an ELF file as [`check_elf`] does, an archive
-/// with its members as [`check_archive`] does; a file of another kind is no ELF file. These bytes count
-/// towards the budget, and are not read again of an archive. If the budget ends before them the file is refused
-/// for it. Of the source and the store the same holds as for `check_archive`.
+/// Checks one file by the type that its first bytes identify: an ELF file as [`check_elf`] does, an
+/// archive with its members as [`check_archive`] does; a thin archive is refused, and a file of
+/// another type is not an ELF file.
+///
+/// These bytes count towards the budget, and those of an archive are not read again. If the budget
+/// ends before them, the file is refused for lack of budget. The source and the store are as for
+/// `check_archive`.
 pub fn check_sorted<S: Source>(
     src: &mut Counted<RangeSource<S>>,
     store: &mut HeaderStore,
@@ -65,7 +68,7 @@ fn check_by_type<S: Source>(
     }
 }
 
-/// Returns the state of a file of which nothing is listed, by what it is.
+/// Returns the state of a file of which nothing is listed, by its type.
 fn unlisted_state(sort: FileMagic) -> FileStatus
     ensures { result ≡ unlisted_state sort }
 {

@@ -17,14 +17,16 @@ use elf_record::Parts;
 use elf_source::{Counted, DeferredSink, Out, RangeSource, Sink, Source};
 use elf_table::{Caps, HeaderStore, ListingStyle, RunFault};
 
-/// Writes the listing of a file of a sort: of an ELF file its own, of an archive that of its members, whose
-/// lines stand alone where all rows are shown, of one that the budget ends before it is decided the line of that,
-/// of another file nothing. The last line is that of its refusal, if it has one. Answers whether the listing
-/// of a member was refused. The source is a range of all bytes of the file, with nothing hidden; of it and
-/// the store the same holds as for [`show_archive`].
+/// Writes the listing of a file of a type: for an ELF file its own, for an archive that of its
+/// members, whose lines are written alone if all rows are shown, for one that is not decided within
+/// the budget the line of this refusal, for another file nothing.
+///
+/// The last line is that of its refusal, if it has one. Returns whether the listing of a member was
+/// refused. The source is a range of all bytes of the file, with nothing masked; it and the store
+/// are as for [`show_archive`].
 ///
 /// # Errors
-/// As of [`show`] and [`show_archive`].
+/// As for [`show`] and [`show_archive`].
 pub fn list_by_type<S: Source, W: Sink>(
     src: &mut Counted<RangeSource<S>>,
     store: &mut HeaderStore,
@@ -68,8 +70,8 @@ pub fn list_by_type<S: Source, W: Sink>(
     }
 }
 
-/// Writes the line of a file for which the budget ends before it is decided what it is, and returns its refusal;
-/// or the output's fault, with a front of the line written.
+/// Writes the line of a file that is not decided within the budget, and returns its refusal, or the
+/// output's fault, with a prefix of the line written.
 fn report_undecided<W: Sink>(format: Format, out: &mut Out<W>) -> RunFault
     ensures grows { OutGrows out.old out.new }
     ensures tells { ReturnsStop format out.old out.new (Refused undecided) result }

@@ -1,5 +1,5 @@
 -- The state is that of the listing, which begins with the magic number.
-use Rattle.std.proofs.Common.{arith, refl, rules}
+use Rattle.std.proofs.Common.{arith, refl}
 use Rattle.elf_model.specs.declared.states.FileMagic.TheVariants as sort
 use Rattle.elf_options.specs.Permitted.{style_of}
 use Rattle.elf_walk.proofs.FileMagicLaws.{some_within}

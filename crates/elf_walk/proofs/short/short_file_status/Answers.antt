@@ -1,5 +1,5 @@
 -- The state of a short file is that of what it is.
-use Rattle.std.proofs.Common.{◌≡◌, false, sym, ◌∙◌, arith}
+use Rattle.std.proofs.Common.{false, arith}
 use Rattle.elf_walk.proofs.FileMagicLaws.{front_four}
 use Rattle.elf_walk.proofs.ListingToldLaws.{fault_fails, front_within}
 use Rattle.elf_walk.proofs.StateLaws.{short_is, short_read}
@@ -12,7 +12,7 @@ returns-in-Ok-clause-state g c = λ file held.
     (c.in-Ok.ensures.finds file held) c.short_state.ensures
 
 pub returns-in-Ok-clause-read : goal.returns-in-Ok-clause-read
-returns-in-Ok-clause-read g c = short_read _ _ c.length-size.result c.in-Ok.magic c.short_state.result c.short_state.ensures
+returns-in-Ok-clause-read g c = short_read c.args.src.now c.find_file_type.new.src c.length-size.result c.in-Ok.magic c.short_state.result c.short_state.ensures
 
 pub returns-in-Ok-clause-asks : goal.returns-in-Ok-clause-asks
 returns-in-Ok-clause-asks g c = let few = front_four c.args.budget c.args.src.now.seen.size in omega (arith, few, c.in-Ok.ensures.asks)

@@ -1,7 +1,6 @@
 -- The state of a file after the magic bytes that identify its type.
-use Rattle.std.proofs.Common.{ℕ, true, List, Option, Some, Ok, rules, ◌≡◌, refl, sym, ap, subst, ◌∙◌, arith}
+use Rattle.std.proofs.Common.{ℕ, true, List, Option, Some, Ok, refl, sym, ap, subst, ◌∙◌, arith}
 use Rattle.elf_model.specs.declared.states.FileMagic.{FileMagic}
-use Rattle.elf_model.specs.declared.states.FileMagic.TheVariants.{Archive}
 use Rattle.elf_options.specs.Permitted.{style_of}
 use Rattle.elf_walk.proofs.ListingToldLaws.{fault_fails, front_within, sort_within}
 use Rattle.elf_walk.specs.Members.{FindsBySort, IsCapsAfter, cost_by}
