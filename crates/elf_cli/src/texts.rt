@@ -82,7 +82,7 @@ Exit status:
        elfsee: bad trait      a word of --require is not COLUMN=WORD with a word of that column
      of LIST: 'in line N' stands behind bad item and layout-repeat; or
        elfsee: cannot read layout, elfsee: layout too large,
-       elfsee: cannot read names, elfsee: names too large
+       elfsee: cannot read names, elfsee: names too large, elfsee: no names
   3  check, list and traits: some files could not be read or named; else, and for their list and
      their output, a read or write fault, a file that cannot be opened, or no memory: standard
      error has one of these lines:
