@@ -17,6 +17,7 @@ pub mod Pages
 pub mod Bound
 pub mod Requests
 pub mod Budget
+pub mod CacheReads
 pub mod Called
 pub mod ObjectLines
 pub mod Prelude

@@ -5,10 +5,14 @@ ghost use Rattle.elf_needs.specs.Budget.{AsksFound};
 use crate::candidates::{FileSource, candidate};
 use crate::known_object::{KnownObject, MOST_OBJECTS, ObjectList};
 use crate::library_search::LibrarySearch;
+use crate::loader_cache::LoaderCache;
 use crate::needers::{NeedingObject, SearchPaths, gather_dirs};
 use crate::object_file::{ObjectFile, ReadAccount};
 use crate::paths::{CandidatePath, named_path};
 use crate::walk::NeedsFault;
+use elf_record::Refusal;
+use elf_source::Source;
+use elf_table::{Fault, NameBuf};
 use memchr::memchr;
 use std::os::unix::fs::FileExt;
 use std::rt::Files;
@@ -23,6 +27,24 @@ pub struct SearchDirs<'a> {
     pub default: &'a [u8],
     /// The other root.
     pub root: &'a [u8],
+}
+
+/// The files of a system among which libraries are looked for.
+#[derive(Drop)]
+pub struct SystemFiles<'f, R, S: Source + Drop> {
+    /// The system.
+    pub rt: &'f R,
+    /// Its loader's cache, where one is looked in.
+    pub cache: Option<LoaderCache<S>>,
+}
+
+/// Why a search for a library came to no end.
+#[derive(Clone, Copy)]
+pub(crate) enum SearchFault {
+    /// The walk ends.
+    Ends(NeedsFault),
+    /// The budget has no room for what is read of the cache.
+    Refused(Refusal),
 }
 
 /// A search for a library of a machine: what it goes by, and what is left of the budget.
@@ -43,28 +65,98 @@ impl Search<'_> {
     /// search's. It is not made part of its caller, whose stack would hold its lists while a file is read.
     ///
     /// # Errors
-    /// A read failed.
+    /// A read failed, or the budget has no room for what is read of the cache.
     #[inline(never)]
     pub(crate) fn find<R: Files>(
         &mut self,
-        rt: &R,
+        system: &mut SystemFiles<'_, R, FileSource<R::File>>,
         objects: &ObjectList,
         needer: &KnownObject,
         name: &[u8],
-    ) -> Result<Option<ObjectFile<FileSource<R::File>>>, NeedsFault>
+    ) -> Result<Option<ObjectFile<FileSource<R::File>>>, SearchFault>
     where
         R::File: FileExt,
         ensures { AsksFound self.old.account self.new.account result }
     {
         if memchr(b'/', name).is_some() {
-            if !named_path(&mut self.path, self.folders.root, name) {
-                return Ok(None);
-            }
-            return candidate(rt, &self.path, self.machine, &mut self.account);
+            return self.try_path(system.rt, name);
         }
         let mut lists = no_lists();
         gather(objects, needer, &self.folders, &mut lists);
-        self.try_all(rt, LibrarySearch::new(self.folders.root, name, &lists))
+        // The default folders are the last.
+        let last = lists.len().saturating_sub(1);
+        let root = self.folders.root;
+        let first = self.try_all(system.rt, LibrarySearch::new(root, name, &lists[..last]))?;
+        if let Some(found) = first {
+            return Ok(Some(found));
+        }
+        let cached = self.try_cache(system, name)?;
+        if let Some(found) = cached {
+            return Ok(Some(found));
+        }
+        self.try_all(system.rt, LibrarySearch::new(root, name, &lists[last..]))
+    }
+
+    /// Tries the path that the loader's cache has for a name, if there is a cache.
+    ///
+    /// # Errors
+    /// A read failed, or the budget has no room for what is read of the cache.
+    fn try_cache<R: Files>(
+        &mut self,
+        system: &mut SystemFiles<'_, R, FileSource<R::File>>,
+        name: &[u8],
+    ) -> Result<Option<ObjectFile<FileSource<R::File>>>, SearchFault>
+    where
+        R::File: FileExt,
+        ensures { AsksFound self.old.account self.new.account result }
+    {
+        let Some(cache) = &mut system.cache else {
+            return Ok(None);
+        };
+        let mut path = NameBuf::new();
+        match cache.path(&mut self.account, name, &mut path) {
+            Ok(true) => self.try_path(system.rt, path.bytes()),
+            Ok(false) => Ok(None),
+            Err(Fault::Refused(refusal)) => Err(SearchFault::Refused(refusal)),
+            Err(Fault::Source { .. }) => Err(SearchFault::Ends(NeedsFault::Read)),
+        }
+    }
+
+    /// Tries a path, below the other root.
+    ///
+    /// # Errors
+    /// A read failed.
+    fn try_path<R: Files>(
+        &mut self,
+        rt: &R,
+        path: &[u8],
+    ) -> Result<Option<ObjectFile<FileSource<R::File>>>, SearchFault>
+    where
+        R::File: FileExt,
+        ensures { AsksFound self.old.account self.new.account result }
+    {
+        if !named_path(&mut self.path, self.folders.root, path) {
+            return Ok(None);
+        }
+        self.try_candidate(rt)
+    }
+
+    /// Tries the path that is made.
+    ///
+    /// # Errors
+    /// A read failed.
+    fn try_candidate<R: Files>(
+        &mut self,
+        rt: &R,
+    ) -> Result<Option<ObjectFile<FileSource<R::File>>>, SearchFault>
+    where
+        R::File: FileExt,
+        ensures { AsksFound self.old.account self.new.account result }
+    {
+        match candidate(rt, &self.path, self.machine, &mut self.account) {
+            Ok(found) => Ok(found),
+            Err(fault) => Err(SearchFault::Ends(fault)),
+        }
     }
 
     /// Tries paths, one after another.
@@ -72,14 +164,14 @@ impl Search<'_> {
         &mut self,
         rt: &R,
         search: LibrarySearch<'_>,
-    ) -> Result<Option<ObjectFile<FileSource<R::File>>>, NeedsFault>
+    ) -> Result<Option<ObjectFile<FileSource<R::File>>>, SearchFault>
     where
         R::File: FileExt,
         ensures { AsksFound self.old.account self.new.account result }
     {
         let mut search = search;
         while search.next(&mut self.path) {
-            if let Some(found) = candidate(rt, &self.path, self.machine, &mut self.account)? {
+            if let Some(found) = self.try_candidate(rt)? {
                 return Ok(Some(found));
             }
         }

@@ -11,7 +11,7 @@ use crate::object_file::{ObjectFile, ReadAccount};
 use crate::object_rows::{show_object, show_too_many};
 use crate::open_objects::OpenObjects;
 use crate::paths::CandidatePath;
-use crate::search_dirs::{Search, SearchDirs};
+use crate::search_dirs::{Search, SearchDirs, SearchFault, SystemFiles};
 use crate::states::ObjectState;
 use elf_model::Format;
 use elf_source::{Out, OutFault, Sink, Source};
@@ -136,7 +136,7 @@ impl<W: Sink> DependencyWalk<'_, '_, W> {
     /// A read or the output failed.
     pub fn list<R: Files>(
         &mut self,
-        rt: &R,
+        system: &mut SystemFiles<'_, R, FileSource<R::File>>,
         source: FileSource<R::File>,
         path: &[u8],
         real: &[u8],
@@ -152,7 +152,7 @@ impl<W: Sink> DependencyWalk<'_, '_, W> {
             let Some(known) = self.objects.get(index) else {
                 return Ok(self.listed(true));
             };
-            if self.needs_of(rt, index, &known, opened)? == ControlFlow::TooMany {
+            if self.needs_of(system, index, &known, opened)? == ControlFlow::TooMany {
                 return Ok(self.listed(false));
             }
         }
@@ -207,7 +207,7 @@ impl<W: Sink> DependencyWalk<'_, '_, W> {
     /// Goes over what an object needs.
     fn needs_of<R: Files>(
         &mut self,
-        rt: &R,
+        system: &mut SystemFiles<'_, R, FileSource<R::File>>,
         index: usize,
         known: &KnownObject,
         opened: &mut OpenFiles<R::File>,
@@ -230,7 +230,7 @@ impl<W: Sink> DependencyWalk<'_, '_, W> {
                 show_too_many(need.at, self.format, &mut self.out).map_err(NeedsFault::Out)?;
                 return Ok(ControlFlow::TooMany);
             }
-            self.take(rt, index, known, need, opened)?;
+            self.take(system, index, known, need, opened)?;
         }
         Ok(ControlFlow::Yes)
     }
@@ -238,7 +238,7 @@ impl<W: Sink> DependencyWalk<'_, '_, W> {
     /// Looks for a library that an object needs, reads it, and writes its line.
     fn take<R: Files>(
         &mut self,
-        rt: &R,
+        system: &mut SystemFiles<'_, R, FileSource<R::File>>,
         index: usize,
         needer: &KnownObject,
         need: NeededLibrary,
@@ -251,19 +251,28 @@ impl<W: Sink> DependencyWalk<'_, '_, W> {
     {
         let objects = &self.objects;
         let name = objects.links.text(need.name);
-        let found = self.search.find(rt, objects, needer, name)?;
+        let found = self.search.find(system, objects, needer, name);
         let by = u16::try_from(index).ok();
         match found {
-            None => self.add_missing(by, need.name),
-            Some(file) => self.add_found(by, need.name, file, opened),
+            Ok(Some(file)) => self.add_found(by, need.name, file, opened),
+            Ok(None) => self.add_unread(by, need.name, ObjectState::Missing),
+            Err(SearchFault::Refused(refusal)) => {
+                self.add_unread(by, need.name, ObjectState::Refused(refusal))
+            }
+            Err(SearchFault::Ends(fault)) => Err(fault),
         }
     }
 
-    /// Adds a library that is not found, and writes its line.
-    fn add_missing(&mut self, by: Option<u16>, name: u32) -> Result<(), NeedsFault>
+    /// Adds a library that is not found, or for which the cache can't be read, and writes its line.
+    fn add_unread(
+        &mut self,
+        by: Option<u16>,
+        name: u32,
+        state: ObjectState,
+    ) -> Result<(), NeedsFault>
         ensures account { self.new.search.account ≡ self.old.search.account }
     {
-        let told = told_alone(ObjectState::Missing);
+        let told = told_alone(state);
         let index = self.add(by, Some(name), None, &told);
         let shown = self.objects.links.text(name);
         show_object(index, by, told.state, shown, self.format, &mut self.out).map_err(

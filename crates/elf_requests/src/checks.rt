@@ -131,6 +131,15 @@ pub struct ArchiveRequest<'a> {
     pub names: Option<NameArgs<'a>>,
 }
 
+/// Which loader's cache libraries are looked for in, before the folders that are looked in last.
+#[derive(Clone, Copy, Drop)]
+pub struct CacheArgs<'a> {
+    /// The path of its file, where one is given; else it is that of the system.
+    pub file: Option<&'a str>,
+    /// Whether none is looked in, since it is left out or the folders are given.
+    pub none: bool,
+}
+
 /// What a program needs: which program, where its libraries are looked for, how much of each file may be
 /// read, and how a line is written. Folders are separated by colons.
 #[derive(Clone, Copy, Drop)]
@@ -143,6 +152,8 @@ pub struct NeedsRequest<'a> {
     pub default: &'a str,
     /// The folder below which paths that begin with a slash are looked for; empty where none is given.
     pub root: &'a str,
+    /// The loader's cache that libraries are looked for in.
+    pub cache: CacheArgs<'a>,
     /// How many headers are permitted, of each file, and how many bytes may be read, of all together.
     pub limits: Limits,
     /// How a line is written.

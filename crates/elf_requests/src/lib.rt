@@ -25,7 +25,7 @@ mod words;
 
 pub use archive_request::archive_status;
 pub use checks::{
-    ApplyWithLayout, ArchiveRequest, CheckRequest, FilteredRequest, ListRequest, NameArgs,
+    ApplyWithLayout, ArchiveRequest, CacheArgs, CheckRequest, FilteredRequest, ListRequest, NameArgs,
     NeedsRequest, ParsedCommand, PathArgs, TraitsRequest,
 };
 pub use elf_cli::{RequestFault, outcome};

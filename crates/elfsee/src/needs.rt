@@ -4,11 +4,11 @@ use elf_cli::{
     CANNOT_OPEN, ExitLine, OUT_OF_MEMORY, OUTPUT_BYTES, READ_FAULT, RunEnd, end_run, open,
 };
 use elf_needs::{
-    DependencyWalk, MOST_OBJECTS, NeedsBuffers, NeedsFault, NeedsOptions, OpenFiles, OpenObjects,
-    SearchDirs,
+    DependencyWalk, LoaderCache, MOST_OBJECTS, NeedsBuffers, NeedsFault, NeedsOptions, OpenFiles,
+    OpenObjects, SearchDirs, SystemFiles, system_cache,
 };
 use elf_requests::NeedsRequest;
-use elf_source::{Out, OutFault, WriteSink, opened_path};
+use elf_source::{FileReader, Out, OutFault, StreamSource, WriteSink, opened_path};
 use elf_table::{HeaderBuffer, HeaderStore};
 use std::io::{self, BufWriter, ErrorKind, Write};
 use std::os::unix::fs::FileExt;
@@ -68,10 +68,15 @@ where
         Ok(source) => source,
         Err(ending) => return Err(ending),
     };
+    let cache = match loader_cache(rt, asked) {
+        Ok(cache) => cache,
+        Err(ending) => return Err(ending),
+    };
+    let mut system = SystemFiles { rt, cache };
     let out = Out::new(WriteSink::new(output));
     let mut walk = DependencyWalk::new(&settings(asked), store, room, out);
     let listed = walk.list(
-        rt,
+        &mut system,
         source,
         asked.file.as_bytes(),
         real.as_str().as_bytes(),
@@ -84,6 +89,29 @@ where
     };
     let (ending, _output) = end_run(ended(listed), walk.into_out().into_inner().into_inner());
     Ok(ending)
+}
+
+/// Opens the loader's cache that is looked in, if there is one.
+///
+/// # Errors
+/// A cache is given, and it can't be opened.
+fn loader_cache<R: Files>(
+    rt: &R,
+    asked: &NeedsRequest<'_>,
+) -> Result<Option<LoaderCache<StreamSource<FileReader<R::File>>>>, ExitLine>
+where
+    R::File: FileExt,
+{
+    if asked.cache.none {
+        return Ok(None);
+    }
+    match asked.cache.file {
+        None => Ok(system_cache(rt, asked.root.as_bytes())),
+        Some(path) => match open(rt, path) {
+            Ok(source) => Ok(Some(LoaderCache::new(source))),
+            Err(ending) => Err(ending),
+        },
+    }
 }
 
 /// What a walk goes by.
