@@ -1,16 +1,16 @@
-# Builds, tests and installs elfsee. It calls what is there: ./build, library/build, ./check, install and rm.
+# Builds, tests and installs elfsee. It calls ./build, library/build, ./check, install and rm.
 #
-#   make                  proves and builds the program, where it is not built
+#   make                  proves and builds the program, if it is not built
 #   make library          the same for the library
 #   make check            proves and tests everything
-#   make install          installs the program, its man page and its completions; and where the library
+#   make install          installs the program, its man page and its completions; and if the library
 #                         was built, that too
-#   make install-program  installs the program alone
-#   make install-library  builds the library where it is not built, and installs it with its header, its
+#   make install-program  installs only the program
+#   make install-library  builds the library if it is not built, and installs it with its header, its
 #                         man page, a file for pkg-config and the module for Python
-#   make uninstall        takes all of them away
+#   make uninstall        removes all of them
 #
-# PREFIX (/usr/local) is where they go, DESTDIR what stands before that for packages. The other
+# PREFIX (/usr/local) is where they are installed, DESTDIR what is before that for packages. The other
 # variables are those of the GNU coding standards.
 
 SHELL = /bin/sh
@@ -29,7 +29,7 @@ man3dir = $(mandir)/man3
 bashcompdir = $(datadir)/bash-completion/completions
 zshcompdir = $(datadir)/zsh/site-functions
 fishcompdir = $(datadir)/fish/vendor_completions.d
-# Where Python has modules below the prefix, as it tells itself; without it, or where this is empty, the module is
+# Where Python has modules below the prefix, as Python itself says; without it, or if this is empty, the module is
 # not installed.
 PYTHON = python3
 pythondir = $(shell $(PYTHON) -c 'import site; print(site.getsitepackages(["$(exec_prefix)"])[-1])' 2>/dev/null)
@@ -38,12 +38,12 @@ INSTALL = install
 INSTALL_PROGRAM = $(INSTALL) -m 755
 INSTALL_DATA = $(INSTALL) -m 644
 
-# The loader finds the shared library by a list of its own. Root has that made anew, where the library goes into
+# The loader finds the shared library by a list of its own. Root rebuilds it if the library goes into
 # the system itself; others and packages have to see to it.
 LDCONFIG = ldconfig
 LOADER_LEARNS = if [ -z '$(DESTDIR)' ] && [ "$$(id -u)" = 0 ]; then $(LDCONFIG) || true; fi
 
-# What pkg-config tells; elfsee_version and `elfsee version` tell the same. tests/one_truth compares them.
+# What pkg-config gives; elfsee_version and `elfsee version` give the same. tests/one_truth compares them.
 library_version = 0.1.0
 
 .PHONY: all library check install install-program install-library install-strip uninstall

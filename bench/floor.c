@@ -1,6 +1,6 @@
 /* The floor of a listing: the symbols or the relocation entries of a file's section, as `elfsee show` writes
    them, from the mapped file, through one buffer of 64 KiB. Nothing is checked: over another file than a
-   good one it reads and writes anywhere. bench/instructions measures it beside elfsee.
+   good one it reads and writes anywhere. bench/instructions compares elfsee with it.
 
        floor symbols|relocs FILE */
 #include <elf.h>
@@ -13,7 +13,7 @@
 
 static char buffer[65536], pairs[256][2], plain[256];
 
-/* A number in so many hexadecimal digits, two at a time, and a space. */
+/* A number in some hexadecimal digits, two at a time, and a space. */
 static inline char *hex(char *put, unsigned long number, int digits) {
     for (int left = digits - 2; left >= 0; left -= 2, number >>= 8) memcpy(put + left, pairs[number & 255], 2);
     put[digits] = ' ';
@@ -38,7 +38,7 @@ static inline char *word(char *put, const char *name, int width) {
     return put + width + 1;
 }
 
-/* A name as it is spelt, and the line's end. */
+/* A name as it is escaped, and the line's end. */
 static inline char *name_of(char *put, const char *name) {
     for (; *name; name++)
         if (plain[(unsigned char)*name]) *put++ = *name;

@@ -2,8 +2,8 @@
  *
  *     library_calls FILE RUNS PARTS
  *
- * Printed are lines `WHAT SECONDS COUNT SUM`, with the least seconds of processor of so many runs: `rows` goes over
- * all symbols with their names, `libelf` does the same by libelf where it is built with -DWITH_LIBELF, `listing` lists
+ * It prints lines `WHAT SECONDS COUNT SUM`, with the least processor seconds of RUNS runs: `rows` iterates over
+ * all symbols with their names, `libelf` does the same by libelf if it is built with -DWITH_LIBELF, `listing` lists
  * those parts of the file into memory that was written before. COUNT and SUM are of symbols and of bytes of names, or of bytes. */
 #define _GNU_SOURCE
 #include "elfsee.h"

@@ -3,7 +3,7 @@
 
     bench/made_files.py FOLDER [ROWS [SECTIONS]]
 
-makes them in a folder and prints the path of each. Each is a relocatable for x86-64, in ELF64,
+It makes them in a directory and prints the path of each. Each is a relocatable file for x86-64, in ELF64,
 little-endian; the same numbers give the same bytes.
 """
 
@@ -27,7 +27,7 @@ GLOBAL_FUNCTION = 0x12
 RELOCATION_TYPES = (1, 2, 4)
 # Eight names lie in each of these, each the tail of the one before.
 EIGHT_NAMES = "read_the_very_next_symbol_of_group_%06d"
-# Among so many symbols that follow one another such names are mixed.
+# Among the symbols in order, every so often a name like these are mixed.
 NEIGHBOURS = 64
 
 Section = collections.namedtuple("Section", "name kind content link info entry_size")
@@ -47,13 +47,13 @@ def string_table(names):
 
 
 def own_names(count):
-    """A string table of so many names, 13 to 35 bytes long, and the index of each."""
+    """A string table of a given number of names, 13 to 35 bytes long, and the index of each."""
     return string_table(["%06d" % number + "_named_and_by_itself_alone_always"[:7 + number % 23]
                          for number in range(count)])
 
 
 def shared_names(count):
-    """A string table of so many names of which eight lie in one another, and the indices, mixed
+    """A string table of a given number of names of which eight lie in one another, and the indexes, mixed
     among neighbours: so do linkers leave names that they merged at their ends."""
     wholes = [EIGHT_NAMES % group for group in range(-(-count // 8))]
     content, starts = string_table(wholes)
@@ -70,7 +70,7 @@ def shared_names(count):
 
 
 def object_file(sections):
-    """A relocatable with these sections behind section 0, and their names last."""
+    """A relocatable with these sections after section 0, and their names last."""
     names, indices = string_table([each.name for each in sections] + [".shstrtab"])
     sections = [section("", NULL), *sections, section(".shstrtab", STRTAB, names)]
     headers, contents, at = [], [], FILE_HEADER.size
@@ -87,7 +87,7 @@ def object_file(sections):
 
 
 def object_of_symbols(names, targets=()):
-    """A relocatable whose symbols behind symbol 0 have these names, a string table and an index
+    """A relocatable whose symbols after symbol 0 have these names, a string table and an index
     for each, and with a relocation entry for each symbol that targets names."""
     strings, indices = names
     symbols = [SYMBOL.pack(0, 0, 0, 0, 0, 0)] + [
@@ -118,7 +118,7 @@ def contents(rows, sections):
 
 
 def make_files(folder, rows=ROWS, sections=SECTIONS):
-    """Makes the files in a folder, and gives the path of each."""
+    """Makes the files in a directory, and gives the path of each."""
     paths = []
     for name, content in contents(rows, sections):
         paths.append(os.path.join(folder, name))

@@ -3,9 +3,9 @@
 
     bench/made_hostile.py FOLDER
 
-makes them in a folder and prints the name and the description of each. All are ELF64,
-little-endian; the same bytes come each time. Together they take some 80 MB of disk; one has a
-length of 64 GB and takes no room, where the file system can. Those of the last two sorts are made for
+It makes them in a directory and prints the name and the description of each. All are ELF64,
+little-endian; the bytes are the same each time. Together they take some 80 MB of disk; one has a
+length of 64 GB and takes no room, if the file system can do that. Those of the last two kinds are made for
 a lookup, and for a section that is written with its relocations applied.
 """
 
@@ -28,14 +28,14 @@ PT_LOAD, PT_DYNAMIC = 1, 2
 DT_NULL, DT_NEEDED, DT_STRTAB, DT_STRSZ = 0, 1, 5, 10
 GLOBAL_FUNCTION = 0x12
 ABSOLUTE = 0xFFF1
-# What is behind the file header begins here.
+# What is after the file header begins here.
 FIRST = FILE_HEADER.size
 MANY = 65000
 MORE_HEADERS = ("--headers", "65279")
 
-# A file: its name, what is in it, the options that elfsee gets beside its usual ones, its pieces by
-# their offsets, and its length where it is longer than they are; and what elfsee is to do with it,
-# with the words that come behind the file.
+# A file: its name, what is in it, the options that elfsee gets besides its usual ones, its pieces by
+# their offsets, and its length if it is longer than they are; and what elfsee is to do with it,
+# with the words that come after the file.
 Hostile = collections.namedtuple("Hostile", "name says options pieces length command words",
                                  defaults=("show", ()))
 
@@ -58,7 +58,7 @@ def symbol(name=1, value=0, index=ABSOLUTE):
 
 
 def named(rows):
-    """Symbol 0, and rows - 1 symbols behind it that share a name."""
+    """Symbol 0, and rows - 1 symbols after it that share a name."""
     return bytes(SYMBOL.size) + symbol() * (rows - 1)
 
 
@@ -67,8 +67,8 @@ def padded(content):
 
 
 def file(name, says, contents, sections, options=(), length=0, **fields):
-    """A file with contents behind the file header, and section headers behind those. `sections`
-    gives the section headers behind section 0, by the offsets of the contents."""
+    """A file with contents after the file header, and section headers after those. `sections`
+    gives the section headers after section 0, by the offsets of the contents."""
     places, at = [], FIRST
     for content in contents:
         places.append(at)
@@ -80,7 +80,7 @@ def file(name, says, contents, sections, options=(), length=0, **fields):
 
 
 def of_symbols(name, says, symbols, strings, count=1, **more):
-    """A file whose one symbol table has so many section headers."""
+    """A file whose one symbol table has a given number of section headers."""
     def sections(symbols_at, strings_at):
         table = symbols_section(symbols_at, len(symbols), count + 1)
         return [table] * count + [section(STRTAB, strings_at, len(strings))]
@@ -88,7 +88,7 @@ def of_symbols(name, says, symbols, strings, count=1, **more):
 
 
 def with_relocations(name, says, entries, count=1, **more):
-    """A file whose one table of relocation entries has so many section headers. They refer to
+    """A file whose one table of relocation entries has a given number of section headers. They refer to
     two symbols."""
     symbols, strings = named(2), b"\0main\0"
 
@@ -249,7 +249,7 @@ def of_hash(name, says, table, wanted, symbols=named(2), strings=b"\0a\0"):
 def lookups():
     """Hash tables that are made for one lookup in them."""
     count, length = 1_000_003, 4000
-    # Each symbol's chain goes on far from it, and each name differs from the wanted one at its end.
+    # Each symbol's chain continues far from it, and each name differs from the requested one at its end.
     around = words_of(*((row + 380_011) % count for row in range(count)))
     far = b"".join(symbol(1 + row * 7919 % 60_000) for row in range(1, count))
     yield of_hash(

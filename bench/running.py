@@ -1,4 +1,4 @@
-"""Runs a program quietly, and tells its time, its peak memory and its system calls."""
+"""Runs a program quietly, and returns its time, its peak memory and its system calls."""
 
 import collections
 import ctypes
@@ -40,7 +40,7 @@ def run_once(words):
 
 
 def best_runs(words_of, count):
-    """The best of so many runs of each program, the programs taking turns."""
+    """The best of a given number of runs of each program, the programs taking turns."""
     runs = {name: [] for name in words_of}
     for _ in range(count):
         for name, words in words_of.items():

@@ -25,7 +25,7 @@ static uint8_t *read_whole(const char *path, size_t *len) {
     return file;
 }
 
-/* Prints a name as a listing spells it: nothing of it acts on a terminal. */
+/* Prints a name as a listing escapes it: nothing of it acts on a terminal. */
 static void print_name(FILE *to, const uint8_t *name, size_t len) {
     for (size_t i = 0; i < len; i++)
         if (name[i] == '\\') fputs("\\\\", to);

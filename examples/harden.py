@@ -1,16 +1,16 @@
 #!/usr/bin/env python3
-"""Tells of each program and library in a folder how it is hardened, a line each.
+"""Prints how each program and library in a directory is hardened, one line each.
 
     examples/harden.py FOLDER
 
     /usr/bin/ls: relro full, bind now, stack plain, paths none, text fixed, missing none
 
-`relro` is full where the loader makes the whole of the linkage table read-only; `stack executable`
-and `text written` (relocations in code) are what one does not want; `missing` names the libraries that
-are needed and that stand in no folder where the loader looks. Paths and names are spelt as elfsee spells
-names, so that none of them acts on a terminal. A file that is at fault, that cannot be read, or that has a name
-of more than 4,096 bytes is told with the cause, and the others go on; so is one that has more dynamic entries than
-a program has, or names more places than are worth a look. The exit status is 1 where there is such a file, or one
+`relro` is full if the loader makes the whole linkage table read-only; `stack executable`
+and `text written` (relocations in code) are undesirable; `missing` names the libraries that
+are needed and that are in no directory where the loader looks. Paths and names are escaped as elfsee escapes
+names, so that none of them acts on a terminal. For a file that is malformed, that cannot be read, or that has a name
+of more than 4,096 bytes, the cause is printed, and the others follow; the same for one that has more dynamic entries
+than a program has, or names more places than are worth a look. The exit status is 1 if there is such a file, or one
 that misses a library.
 """
 
@@ -37,7 +37,7 @@ class TooMany(Exception):
 
 @functools.lru_cache(maxsize=None)
 def library_folders() -> List[str]:
-    """Where the loader looks for libraries: its usual folders, and those that its configuration names."""
+    """Where the loader looks for libraries: its usual directories, and those that its configuration names."""
     folders, more = list(FOLDERS), "/etc/ld.so.conf.d"
     for name in sorted(os.listdir(more)) if os.path.isdir(more) else []:
         with open(os.path.join(more, name), encoding="utf-8", errors="surrogateescape") as lines:
@@ -54,7 +54,7 @@ def texts_of(entries: Sequence[elfsee.Dynamic], *tags: int) -> List[str]:
 
 
 def missing_libraries(path: str, entries: Sequence[elfsee.Dynamic], paths: Sequence[str]) -> List[str]:
-    """The needed libraries that stand neither in the paths of the file nor where the loader looks."""
+    """The needed libraries that are neither in the paths of the file nor where the loader looks."""
     origin = os.path.dirname(os.path.abspath(path))
     folders = [folder.replace("${ORIGIN}", origin).replace("$ORIGIN", origin) for folder in paths] + library_folders()
     names = texts_of(entries, DynamicTag.NEEDED)
@@ -62,7 +62,7 @@ def missing_libraries(path: str, entries: Sequence[elfsee.Dynamic], paths: Seque
 
 
 def told_of(path: str, file: elfsee.File) -> Tuple[str, List[str]]:
-    """What is told of a file, and whether it misses a library."""
+    """The line for a file, and whether it misses a library."""
     segments = {segment.type: segment for segment in file.segments()}
     entries = list(itertools.islice(file.dynamic(), MOST_ENTRIES + 1))
     if len(entries) > MOST_ENTRIES:
@@ -86,7 +86,7 @@ def told_of(path: str, file: elfsee.File) -> Tuple[str, List[str]]:
 
 
 def checked(path: str) -> Tuple[Optional[str], bool]:
-    """What is told of a path, if it is a program or a library, and whether that is a fault."""
+    """The line for a path, if it is a program or a library, and whether that is a fault."""
     try:
         if os.path.islink(path) or not os.path.isfile(path):
             return None, False

@@ -1,14 +1,14 @@
-/* Looks a name up in a shared library as a loader does, and prints the address of the definition where the
+/* Looks up a name in a shared library as a loader does, and prints the address of the definition if the
  * library's first page is at BASE, and its version:
  *
  *     lookup LIBRARY NAME[@VERSION] [BASE]
  *
  *     cc lookup.c $(pkg-config --cflags --libs elfsee) -o lookup
  *
- * A name alone takes a version that is not hidden, NAME@VERSION that version, and NAME@@VERSION that one where
+ * A name alone finds a version that is not hidden, NAME@VERSION that version, and NAME@@VERSION that one if
  * it is the default.
  *
- * Status 0: found; 1: there is no such definition; 2: the library cannot be used, or the words are wrong. */
+ * Status 0: found; 1: there is no such definition; 2: the library cannot be used, or the arguments are invalid. */
 #include <elfsee.h>
 
 #include <inttypes.h>
@@ -41,7 +41,7 @@ static uint8_t *read_file(const char *path, size_t *len) {
     return NULL;
 }
 
-/* Says why a library is refused: the cause and the offset in the file that is at fault. */
+/* Says why a library is refused: the cause and the offset in the file that is malformed. */
 static int refuse(const char *path, const struct elfsee_end *end) {
     uint8_t word[32];
     int len = (int)elfsee_cause_word(end->cause, word, sizeof word);
@@ -49,7 +49,7 @@ static int refuse(const char *path, const struct elfsee_end *end) {
     return 2;
 }
 
-/* Prints a name as a listing spells it: nothing of it acts on a terminal. */
+/* Prints a name as a listing escapes it: nothing of it acts on a terminal. */
 static void print_name(const uint8_t *name, size_t len) {
     for (size_t i = 0; i < len; i++)
         if (name[i] == '\\') printf("\\\\");
@@ -78,7 +78,7 @@ static void tell(const char *name, const struct elfsee_resolved *found, uint64_t
     }
 }
 
-/* How many bytes of a text stand before its first @. */
+/* Returns how many bytes of a text come before its first @. */
 static size_t name_len(const char *text) {
     const char *sign = strchr(text, '@');
     return sign ? (size_t)(sign - text) : strlen(text);

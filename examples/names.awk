@@ -1,10 +1,10 @@
-# Prints the names of a listing's lines of one kind, one a line, as the bytes that the file has: of symbols, or of
-# what `kind` says, which is A, D, R, S, V, X or Y.
+# Prints the names of a listing's lines of one kind, one per line, as the bytes in the file: of symbols, or of
+# the lines that `kind` names, which is A, D, R, S, V, X or Y.
 #
 #     elfsee show FILE | LC_ALL=C awk -f examples/names.awk
 #     elfsee show --gnu FILE | LC_ALL=C awk -v kind=V -f examples/names.awk
 #
-# It runs in any POSIX awk. docs/FORMAT.md has the columns; tests/format runs this.
+# It runs in any POSIX awk. docs/FORMAT.md describes the columns; tests/format runs this.
 # How much wider than its usual width a field is.
 function grown(field, width) {
     return length(field) > width ? length(field) - width : 0
@@ -14,7 +14,7 @@ function value(digits) {
     return 16 * (index("0123456789abcdef", substr(digits, 1, 1)) - 1) \
         + index("0123456789abcdef", substr(digits, 2, 1)) - 1
 }
-# The bytes that a name of a listing stands for; sets CUT where they are not all of the name.
+# The bytes that a name of a listing stands for; sets CUT if they are not all of the name.
 function bytes_of(text,    bytes, at, kind) {
     bytes = ""
     cut = 0

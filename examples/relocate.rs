@@ -2,9 +2,9 @@
 //!
 //!     relocate OBJECT SECTION ADDRESS OUT [NAME=ADDRESS]..
 //!
-//! SECTION is a name, as `.text`. The sections that a program keeps in memory are laid one behind another
-//! from ADDRESS on, each as it wants to be aligned, and NAME=ADDRESS says where an undefined symbol is.
-//! It prints where each section lies. With the library in library/out:
+//! SECTION is a name, such as `.text`. The sections that a program keeps in memory are laid out consecutively
+//! from ADDRESS, each with its alignment, and NAME=ADDRESS says where an undefined symbol is.
+//! It prints where each section is. With the library in library/out:
 //!
 //!     rustc --edition 2021 --crate-type rlib --crate-name elfsee -L library/out -l static=elfsee \
 //!         library/rust/src/lib.rs
@@ -20,7 +20,7 @@ fn text(error: impl Display) -> String {
     error.to_string()
 }
 
-/// A name as elfsee spells it: nothing of it acts on a terminal.
+/// A name as elfsee escapes it: nothing of it acts on a terminal.
 fn spelt(name: &[u8]) -> String {
     let spell = |&byte: &u8| match byte {
         b'\\' => "\\\\".into(),
@@ -30,7 +30,7 @@ fn spelt(name: &[u8]) -> String {
     name.iter().map(spell).collect()
 }
 
-/// The number that a word spells, hexadecimal behind `0x`.
+/// Parses a number, hexadecimal after `0x`.
 fn number(word: &str) -> Result<u64, String> {
     match word.strip_prefix("0x") {
         Some(digits) => u64::from_str_radix(digits, 16),
@@ -39,13 +39,13 @@ fn number(word: &str) -> Result<u64, String> {
     .map_err(|_| format!("{word} is no number"))
 }
 
-/// The address from `address` on at which a section may lie.
+/// The lowest address not below `address` at which a section may be.
 fn aligned(address: u64, section: &Section) -> Option<u64> {
     let align = section.addralign.max(1);
     address.checked_add(align - 1).map(|end| end / align * align)
 }
 
-/// The section of a name, and the addresses of all that a program keeps in memory.
+/// The section with a name, and the addresses of all that a program keeps in memory.
 fn placed(file: &File, wanted: &[u8], mut address: u64) -> Result<(u16, Vec<Item<'static>>), String> {
     let mut room = vec![0; file.room()];
     let names = file.section_names(&mut room).map_err(text)?.ok_or("the sections have no names")?;
@@ -79,7 +79,7 @@ fn run(words: &[String]) -> Result<(), String> {
         layout.push(Item::define(name.as_bytes(), number(address)?));
     }
     let section = file.section(index).map_err(text)?.ok_or("a section is missing")?;
-    // A section that is longer than the file is refused: no more room is needed than it has.
+    // A section that is longer than the file is refused: it needs no more room than the file has.
     let size = if section.kind == NO_BYTES { 0 } else { section.size.min(bytes.len() as u64) };
     let (mut room, mut applied) = (vec![0; file.room()], vec![0; size as usize]);
     let applied = file.apply(index, &layout, &mut room, &mut applied).map_err(text)?;

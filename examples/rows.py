@@ -1,12 +1,12 @@
 """Reads a listing, as bytes, into rows: a letter and fields, numbers as numbers, texts as texts, names as
-bytes with whether they are whole. A line of `check` is its state, its place and its cause, which are None where
-the file is not refused, and its path; the last one may be the word `unnamed` and a number. docs/FORMAT.md has
+bytes with whether they are whole. A line of `check` is its state, its place and its cause, which are None if
+the file is not refused, and its path; the last one may be the word `unnamed` and a number. docs/FORMAT.md describes
 the columns; tests/format runs this module."""
 
 import re
 
 # Fields by their kinds and widths: d decimal, x hexadecimal, a addend, t text, n name,
-# c descriptor. A comma behind a width: the field grows.
+# c descriptor. A comma after a width: the field grows.
 FORMS = {"H": "t4 d5 x16 x16 x16 x8 d5 d5 d5",
          "S": "d5 t13 t12 x16 x16 x16 x8 x8 n",
          "P": "d5 t8 t3 x16 x16 x16 x16 x16 x16",
@@ -75,7 +75,7 @@ def checked_of(line):
 
 def rows(lines):
     """The rows of a listing, or of `check`: of each line its letter and its fields. Lines of an unknown
-    letter are passed over, as a later version may have them."""
+    letter are skipped, as a later version may have them."""
     for line in lines:
         letter, line = line[:1].decode(), line.removesuffix(b"\n")
         if letter == "C":

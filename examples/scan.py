@@ -1,24 +1,24 @@
 #!/usr/bin/env python3
-"""Draws what a check of many files found: how many of them are at fault, and why.
+"""Draws the result of a check of many files: how many of them are malformed, and why.
 
     elfsee check FOLDER.. | examples/scan.py PICTURE.svg
 
 It reads the lines of `elfsee check`, prints a row with a number for each state and for each cause, and draws the
-same as bars. The length of a bar is by the logarithm of its number, so that one file is seen beside thousands.
-What is no such line is passed over. It wants Python 3 and nothing else; docs/SCANNED.md has what it drew."""
+same as bars. The length of a bar is the logarithm of its number, so that one file is visible next to thousands.
+Other lines are skipped. It needs only Python 3; docs/SCANNED.md has a picture that it drew."""
 
 import math
 import re
 import sys
 
-# A file's state, its cause where it is refused; of the last line the number of files without a name.
+# A file's state, its cause if it is refused; of the last line the number of files without a name.
 LINE = re.compile(rb"C ([a-z-]+) +(?:- |[0-9a-f]{16} ([a-z-]+) |(\d+)$)")
 WIDTH, LEFT, RIGHT, ROW = 640, 190, 80, 22
 FINE, AT_FAULT = "#3a6ea5", "#b03030"
 
 
 def counted(lines):
-    """How many files there are of each state and, where they are refused, of each cause: those that are fine first,
+    """How many files there are of each state and, if they are refused, of each cause: those that are fine first,
     and the most first."""
     numbers = {}
     for line in lines:

@@ -1,37 +1,36 @@
-/* elfsee: lists ELF64 files, looks names up in them, applies relocations and reads their rows, and the
- * members of archives, over memory that the caller lends.
+/* elfsee: lists ELF64 files, looks up names in them, applies relocations and reads their rows, and the
+ * members of archives, in buffers that the caller provides.
  *
- * WHAT IS PROMISED is proved: the contract of each function stands in the crate elfsee_c, and the
- * comment at a function here says it in words. Whatever bytes a file has and whatever numbers the
- * structs hold, each call returns, reads nothing outside the bytes it was given, and writes nothing
- * outside the bytes it was lent.
+ * WHAT IS PROMISED is proved: the contract of each function is in the crate elfsee_c, and the
+ * comment on a function here says it in prose. For any bytes of a file and any numbers in the
+ * structs, each call returns, reads nothing outside the bytes it was given, and writes nothing
+ * outside the caller's buffers.
  *
  * WHAT A CALLER GUARANTEES, which nothing checks. For each call:
  *  - `file` points to `file_len` readable bytes, at most PTRDIFF_MAX, which nobody changes while the
- *    call runs: no other thread, and for a mapped file no other process. A mapped file that is cut
- *    short while the call runs ends the process (SIGBUS): read a file that may change into memory
- *    first.
- *  - `room` and `out` point to as many writable bytes as is said; these overlap neither each other,
+ *    call runs: no other thread, and for a mapped file no other process. If a mapped file is
+ *    truncated while the call runs, the process is ended (SIGBUS): read a file that may change into
+ *    memory first.
+ *  - `room` and `out` point to the stated number of writable bytes; these overlap neither each other,
  *    nor the file, nor a struct or a name that is passed. They need not be initialised.
  *  - Each pointer is not NULL and is aligned for its type. Only the arguments `file`, `room`, `out`, `name`
- *    and `names`, and the lists of an elfsee_layout, may be NULL, where their lengths are 0 (tested, not
- *    proved); another pointer in a struct is not.
- *  - Each struct that is passed is initialised, with any values, also one that is only written.
+ *    and `names`, and the lists of an elfsee_layout, may be NULL, if their lengths are 0 (tested, not
+ *    proved); another pointer in a struct may not.
+ *  - Each struct that is passed is initialised, with any values, even one that is only written.
  *  - No call is made from a signal handler.
  *
  * Calls share nothing: any number of threads may call at once, each with its own room, out and
  * structs; the file's bytes may be shared. A call takes no lock, starts no thread, makes no system
- * call, takes no memory but the stack, of which it needs less than 64 KiB, and with versions behind
- * names less than 128 (measured by a test, not proved), and keeps no pointer behind its end.
+ * call, allocates no memory and uses only the stack, less than 64 KiB of it, and with versions after
+ * names less than 128 (measured by a test, not proved), and keeps no pointer after it returns.
  *
- * IN C++ each struct is a type of the namespace elfsee too, as elfsee::header: some share their names with
- * a call, which hides them.
+ * IN C++ each struct is also a type of the namespace elfsee, such as elfsee::header: some share their names
+ * with a call, which hides them.
  *
- * ROOM is where the headers of a file lie while a call runs, 64 bytes each; the calls that open rows write
- * nothing to it. A call permits as many
- * headers as `limits` says, or as many as the room holds, whichever is less; a file with more is
- * refused with ELFSEE_TOO_MANY_HEADERS. elfsee_room says how much is wanted so that the room is not
- * what a file is refused for.
+ * ROOM has the headers of a file while a call runs, 64 bytes each; the calls that open rows write
+ * nothing to it. A call allows as many headers as `limits` says, or as many as the room holds, whichever
+ * is less; a file with more is refused with ELFSEE_TOO_MANY_HEADERS. elfsee_room returns how much is
+ * needed so that no file is refused for lack of room.
  */
 #ifndef ELFSEE_H
 #define ELFSEE_H
@@ -47,11 +46,11 @@
 extern "C" {
 #endif
 
-/* What a call answers. */
+/* The result of a call. */
 enum {
     ELFSEE_OK = 0,      /* listed, found, applied or read */
-    ELFSEE_REFUSED = 1, /* the file is refused, or the read budget is used up */
-    ELFSEE_ABSENT = 2,  /* there is no such name, or no row any more */
+    ELFSEE_REFUSED = 1, /* the file is refused, or the read budget is exhausted */
+    ELFSEE_ABSENT = 2,  /* there is no such name, or there are no more rows */
     ELFSEE_FULL = 3,    /* `out` has no room for all of it */
     ELFSEE_BAD_CALL = 4 /* a number is outside its range; nothing was read and nothing written */
 };
@@ -60,7 +59,7 @@ enum {
 enum {
     ELFSEE_HEADER = 1, ELFSEE_SECTIONS = 2, ELFSEE_SEGMENTS = 4, ELFSEE_SYMBOLS = 8,
     ELFSEE_RELOCS = 16, ELFSEE_NOTES = 32, ELFSEE_DYNAMIC = 64, ELFSEE_ALL = 127,
-    ELFSEE_VERSIONS = 128 /* of elfsee_list with ELFSEE_GNU alone */
+    ELFSEE_VERSIONS = 128 /* only for elfsee_list with ELFSEE_GNU */
 };
 
 /* Why a file is refused; 0 is no cause. elfsee_cause_word has the words. */
@@ -77,67 +76,67 @@ enum {
 
 /* How much may be read and shown. */
 struct elfsee_limits {
-    uint16_t headers;    /* permitted section headers, and program headers: 1 to 65,279 */
-    uint16_t name;       /* bytes of a name that a listing shows: 1 to 4,096; else not looked at */
+    uint16_t headers;    /* allowed section headers, and program headers: 1 to 65,279 */
+    uint16_t name;       /* bytes of a name that a listing shows: 1 to 4,096; otherwise not used */
     uint32_t has_budget; /* 0: no read budget */
-    uint64_t budget;     /* bytes that may be read, where there is a budget */
+    uint64_t budget;     /* bytes that may be read, if there is a budget */
 };
 
 /* How a call ended. */
 struct elfsee_end {
-    uint64_t at;      /* the file offset that the refusal names, else 0 */
+    uint64_t at;      /* the file offset that the refusal names, otherwise 0 */
     uint64_t written; /* bytes of `out` */
-    uint64_t asked;   /* bytes of the file that were asked for, at most 2^64 - 1 */
-    uint32_t cause;   /* of the refusal, else 0 */
+    uint64_t asked;   /* bytes of the file that were read, at most 2^64 - 1 */
+    uint32_t cause;   /* of the refusal, otherwise 0 */
     uint32_t none;    /* 0 */
 };
 
-/* The library's version, 0x00MMmmpp. */
+/* Returns the library's version, 0x00MMmmpp. */
 uint32_t elfsee_version(void);
 
-/* Writes the word of a cause, as a listing's last line has it ("table-outside"), and answers how
- * many bytes it has, at most 32; 0 for a number that is no cause, and where `out` has not so many.
+/* Writes the word of a cause, as in a listing's last line ("table-outside"), and returns how
+ * many bytes it has, at most 32; 0 for a number that is not a cause, and if `out` has fewer.
  * No NUL is written. */
 size_t elfsee_cause_word(uint32_t cause, uint8_t *out, size_t out_len);
 
-/* How many bytes of room a file wants where `headers` are permitted: 64 for each section header, or
- * for each program header, that its file header tells of, whichever are more; at least 64 and at
- * most 64 * headers. 64 for bytes that have no file header. With so much room, or more, each call
+/* Returns how many bytes of room a file needs if `headers` are allowed: 64 for each section header, or
+ * for each program header, that its file header counts, whichever are more; at least 64 and at
+ * most 64 * headers. 64 for bytes that have no file header. With that room, or more, each call
  * answers as with 64 * headers. */
 uint64_t elfsee_room(const uint8_t *file, size_t file_len, uint16_t headers);
 
-/* How many bytes of a file of `file_len` bytes a listing with `limits->name` bytes of a name asks for at
- * most, whatever the bytes are, but for one with ELFSEE_NAME_VERSIONS; 2^64 - 1 where that is more, and where
+/* Returns how many bytes of a file of `file_len` bytes a listing with `limits->name` bytes of a name reads at
+ * most, for any bytes, except for one with ELFSEE_NAME_VERSIONS; 2^64 - 1 if that is more, and if
  * a limit is outside its range. */
 uint64_t elfsee_cost(uint64_t file_len, const struct elfsee_limits *limits);
 
-/* Lists a file, as far as `parts` has it.
- *  OK, REFUSED: out[0..end->written) is the listing of these bytes under these limits, whole and
+/* Lists the parts of a file that `parts` selects.
+ *  OK, REFUSED: out[0..end->written) is the whole listing of these bytes under these limits,
  *    byte for byte as defined; a refusal is its last line, and `cause` and `at` are the listing's
- *    first fault. Where there is a budget that the listing costs more than, the text may be a front
- *    of whole lines with the line of the budget behind it.
- *  FULL: end->written == out_len, and `out` is a front of such a listing.
+ *    first fault. If the listing costs more than the budget, the text may be a prefix
+ *    of whole lines followed by the line of the budget.
+ *  FULL: end->written == out_len, and `out` is a prefix of such a listing.
  *  BAD_CALL: exactly for limits outside their ranges, or room of less than 64 bytes.
  * Always: written <= out_len; `asked` is at most the listing's cost, and the budget. */
 uint32_t elfsee_show(const uint8_t *file, size_t file_len, const struct elfsee_limits *limits,
                      uint16_t parts, uint8_t *room, size_t room_len, uint8_t *out, size_t out_len,
                      struct elfsee_end *end);
 
-/* Which listing elfsee_list makes. A later version may have more fields behind these. */
+/* Which listing elfsee_list makes. A later version may have more fields after these. */
 struct elfsee_listing {
     uint16_t parts; /* the sum of some parts */
     uint16_t flags; /* the sum of some of ELFSEE_BY_SEGMENTS, ELFSEE_GNU, ELFSEE_JSON and ELFSEE_NAME_VERSIONS */
 };
 
-/* Lists a file as elfsee_show does, in the style that `listing` asks for, of which `listing_len` bytes
- * are there: sizeof(struct elfsee_listing) of the header that the caller was compiled with. So a caller
+/* Lists a file as elfsee_show does, in the style that `listing` selects. `listing_len` is its size:
+ * sizeof(struct elfsee_listing) of the header with which the caller was compiled. So a caller
  * of a later header may use this library as long as the fields that it does not know are 0, and one of
  * this header a later library.
- *  OK, REFUSED, FULL: as of elfsee_show. With ELFSEE_BY_SEGMENTS tables are found by the program headers,
- *    with ELFSEE_GNU numbers of the GNU system have names too, with ELFSEE_JSON each line is an object, and
- *    with ELFSEE_NAME_VERSIONS the version of a symbol stands behind its name.
- *  BAD_CALL: exactly where it is of elfsee_show, and for a `listing_len` of less than 4, a byte of
- *    `listing` behind the fourth that is not 0, flags that are none of these, ELFSEE_NAME_VERSIONS without
+ *  OK, REFUSED, FULL: as for elfsee_show. With ELFSEE_BY_SEGMENTS tables are found by the program headers,
+ *    with ELFSEE_GNU numbers defined by GNU have names too, with ELFSEE_JSON each line is an object, and
+ *    with ELFSEE_NAME_VERSIONS the version of a symbol follows its name.
+ *  BAD_CALL: exactly if elfsee_show would return it, and for a `listing_len` of less than 4, a byte of
+ *    `listing` after the fourth that is not 0, flags that are none of these, ELFSEE_NAME_VERSIONS without
  *    ELFSEE_GNU, and parts of more than ELFSEE_ALL, or with ELFSEE_GNU of more than ELFSEE_ALL +
  *    ELFSEE_VERSIONS.
  * Always: written <= out_len; `asked` is at most the listing's cost, and the budget. */
@@ -145,21 +144,21 @@ uint32_t elfsee_list(const uint8_t *file, size_t file_len, const struct elfsee_l
                      const struct elfsee_listing *listing, size_t listing_len, uint8_t *room,
                      size_t room_len, uint8_t *out, size_t out_len, struct elfsee_end *end);
 
-/* A name: 1 to 4,096 bytes, no NUL among them and none behind them. */
+/* A name: 1 to 4,096 bytes, without a NUL in it; none is needed after it. */
 struct elfsee_text {
     const uint8_t *bytes;
     size_t len;
 };
 
-/* Lists a file as elfsee_list does, of its rows those alone whose name is one of `names`, as the file has
- * it. `parts` is ELFSEE_SYMBOLS, ELFSEE_RELOCS or, with ELFSEE_GNU, ELFSEE_VERSIONS. The names rise by their
- * bytes, as memcmp has it, a front before what is longer; one may stand there more than once. Without a name
- * no row is listed. With ELFSEE_NAME_VERSIONS a name is parted at its first `@`: NAME fits each version of
- * the name, NAME@VERSION that version, and NAME@@VERSION that version where it is the default one.
- *  Of a name as many bytes are looked at as the longest of `names` has, at least 1; with
+/* Lists a file as elfsee_list does, but only those rows whose name is one of `names`, as it is in the
+ * file. `parts` is ELFSEE_SYMBOLS, ELFSEE_RELOCS or, with ELFSEE_GNU, ELFSEE_VERSIONS. The names are in
+ * ascending byte order, as by memcmp, a prefix before what is longer; one may appear more than once. Without
+ * a name no row is listed. With ELFSEE_NAME_VERSIONS a name is split at its first `@`: NAME matches each
+ * version of the name, NAME@VERSION that version, and NAME@@VERSION that version if it is the default one.
+ *  As many bytes of a name are compared as the longest of `names` has, at least 1; with
  *    ELFSEE_NAME_VERSIONS at least `limits->name`. A name of a row that has more is none of them.
- *  BAD_CALL: exactly where it is of elfsee_list, for other parts, a name of no bytes, of more than 4,096 or
- *    with a NUL, one below the one before it, and with ELFSEE_NAME_VERSIONS for an empty name or version. */
+ *  BAD_CALL: exactly if elfsee_list would return it, for other parts, a name of no bytes, of more than 4,096
+ *    or with a NUL, one below the one before it, and with ELFSEE_NAME_VERSIONS for an empty name or version. */
 uint32_t elfsee_list_names(const uint8_t *file, size_t file_len, const struct elfsee_limits *limits,
                            const struct elfsee_listing *listing, size_t listing_len,
                            const struct elfsee_text *names, size_t names_len, uint8_t *room,
@@ -188,8 +187,8 @@ struct elfsee_found {
     uint32_t none_behind; /* 0 */
 };
 
-/* Looks a name up by the file's own hash table. The name has `name_len` bytes, at most 4,096, no NUL
- * among them and none behind them.
+/* Looks up a name in the file's own hash table. The name has `name_len` bytes, at most 4,096, no NUL
+ * in it and needs none after it.
  *  OK: the definition's symbol, its place, and the number of steps. ABSENT: there is none;
  *    `found->steps` names were compared. REFUSED: for `end->cause` at `end->at`.
  *  BAD_CALL: limits outside their ranges, room of less than 64 bytes, a name of more than 4,096.
@@ -200,23 +199,23 @@ uint32_t elfsee_find(const uint8_t *file, size_t file_len, const struct elfsee_l
 
 /* How a loader's lookup, its symbols or a listing are found; the numbers add up. */
 enum {
-    ELFSEE_BY_SEGMENTS = 1, /* by the program headers, also where there are section headers */
-    ELFSEE_DEFAULT_ONLY = 2, /* a lookup: the version that is asked for is to be the symbol's default one */
-    ELFSEE_GNU = 4, /* a listing: with the names of the GNU system, and its symbol versions */
+    ELFSEE_BY_SEGMENTS = 1, /* by the program headers, even if there are section headers */
+    ELFSEE_DEFAULT_ONLY = 2, /* a lookup: the requested version must be the symbol's default one */
+    ELFSEE_GNU = 4, /* a listing: with the names defined by GNU, and symbol versions */
     ELFSEE_JSON = 8, /* a listing: each line is a JSON object */
-    ELFSEE_NAME_VERSIONS = 16 /* a listing with ELFSEE_GNU: behind a symbol's name stands its version */
+    ELFSEE_NAME_VERSIONS = 16 /* a listing with ELFSEE_GNU: a symbol's version follows its name */
 };
 
-/* What a loader's lookup found; all 0 where it found nothing, but for `tried`. */
+/* What a loader's lookup found; if it found nothing, all 0 except `tried`. */
 struct elfsee_resolved {
     struct elfsee_symbol symbol;
     uint64_t index; /* of the symbol, among the symbols */
     uint64_t tried; /* symbols that were tried: those of the name's hash in its chain */
-    struct elfsee_range version; /* the name of its version; 0, 0 where it has none, and where a
-                                    version was asked for, which it then has */
-    uint32_t has_version; /* 1: the file has versions of symbols; else 0, and so is what tells of one */
-    uint32_t is_hidden;   /* 1: a name alone does not take the version; else 0 */
-    uint32_t is_cut;      /* 1: the version's name has more bytes than the 256 that are told; else 0 */
+    struct elfsee_range version; /* the name of its version; 0, 0 if it has none, and if a
+                                    version was requested, which it then has */
+    uint32_t has_version; /* 1: the file has versions of symbols; otherwise 0, as are the fields for one */
+    uint32_t is_hidden;   /* 1: a name alone does not find the version; otherwise 0 */
+    uint32_t is_cut;      /* 1: the version's name has more bytes than the 256 that are given; otherwise 0 */
     uint16_t section; /* of symbols; or the program header of the dynamic entries */
     uint16_t words;   /* the section of the symbols' versions; or that program header */
     uint16_t number;  /* of the version, below 32,768; 0 and 1 have no name */
@@ -224,17 +223,17 @@ struct elfsee_resolved {
     uint32_t none_behind; /* 0 */
 };
 
-/* Looks a name up as a loader of the GNU system does, alone or with a version: by the file's hash
- * table, of the GNU system or else of the gABI, the first symbol of the name's chain that has the name,
- * is offered to others and whose version fits. `flags` adds up ELFSEE_BY_SEGMENTS and
- * ELFSEE_DEFAULT_ONLY. The name and the version have at most 4,096 bytes each, no NUL among them and
- * none behind them; a version of no bytes is none, and then a version is taken that is not hidden.
- *  OK: the definition's symbol, with its version. ABSENT: no symbol answers; `resolved->tried` were
+/* Looks up a name as glibc's dynamic loader does, alone or with a version: the first symbol of the name's
+ * chain, in the file's GNU hash table or otherwise in its SysV one, that has the name, is exported and whose
+ * version matches. `flags` is the sum of some of ELFSEE_BY_SEGMENTS and ELFSEE_DEFAULT_ONLY. The name and
+ * the version have at most 4,096 bytes each, no NUL in them and need none after them; a version of no bytes
+ * is none, and then a symbol is found whose version is not hidden.
+ *  OK: the definition's symbol, with its version. ABSENT: no symbol matches; `resolved->tried` were
  *    tried. REFUSED: for `end->cause` at `end->at`.
  *  BAD_CALL: limits outside their ranges, room of less than 64 bytes, flags of more than 3, a name or
  *    a version of more than 4,096.
- * The bytes of `version` are the name in the file, as it is looked at: with ELFSEE_BY_SEGMENTS the
- * bytes 40 to 47 and 60 to 63, where a file header tells of section headers, count as 0.
+ * The bytes of `version` are the name in the file as it is read: with ELFSEE_BY_SEGMENTS the
+ * bytes 40 to 47 and 60 to 63, where a file header has the section headers, count as 0.
  * `asked` is at most the lookup's cost, and the budget. */
 uint32_t elfsee_look_up(const uint8_t *file, size_t file_len, const struct elfsee_limits *limits,
                         uint32_t flags, const uint8_t *name, size_t name_len, const uint8_t *version,
@@ -252,7 +251,7 @@ enum {
 
 /* An address: of a section (by `index`); or, by the symbol's name of 1 to 255 bytes without NUL, of
  * a symbol that the file does not define, or of a symbol's entry: in the procedure linkage table, in
- * the global offset table, or there that of its offset from the thread pointer. */
+ * the global offset table, or, for its offset from the thread pointer, in the global offset table. */
 struct elfsee_item {
     uint64_t address;
     const uint8_t *name;
@@ -261,18 +260,18 @@ struct elfsee_item {
     uint32_t index; /* of the section, up to 65,535 */
 };
 
-/* A section, and at which addresses it and what it refers to are to lie: at most 64 sections, 32
- * definitions and 32 entries of each kind, none twice. */
+/* A section, and the addresses of it and of what it refers to: at most 64 sections, 32
+ * definitions and 32 entries of each kind, without duplicates. */
 struct elfsee_job {
     const struct elfsee_item *items;
     size_t items_len;
     uint32_t section; /* its index, up to 65,535 */
-    uint32_t none;    /* not looked at */
+    uint32_t none;    /* not used */
 };
 
 /* Writes a section's bytes with its relocations applied.
- *  OK: out[0..end->written) is the section as defined, whole. REFUSED: for `end->cause` at
- *    `end->at`; nothing is promised of what stands in `out`, and `written` is 0.
+ *  OK: out[0..end->written) is the whole section as defined. REFUSED: for `end->cause` at
+ *    `end->at`; nothing is promised about the contents of `out`, and `written` is 0.
  *  FULL: `out` has fewer bytes than the section.
  *  BAD_CALL: limits, the section or items outside their ranges, an item twice, room of less than 64
  *    bytes.
@@ -281,7 +280,7 @@ uint32_t elfsee_apply(const uint8_t *file, size_t file_len, const struct elfsee_
                       const struct elfsee_job *job, uint8_t *room, size_t room_len, uint8_t *out,
                       size_t out_len, struct elfsee_end *end);
 
-/* A LAYOUT OF ANY SIZE, which the caller lends: a section, and a name of 1 to 255 bytes without NUL,
+/* A LAYOUT OF ANY SIZE, in the caller's memory: a section, and a name of 1 to 255 bytes without NUL,
  * each with its address. */
 struct elfsee_lent_section {
     uint16_t index;
@@ -294,10 +293,10 @@ struct elfsee_lent_name {
     uint64_t address;
 };
 
-/* Addresses: of sections, by rising index; of symbols that the file does not define; and of symbols'
- * entries, in the procedure linkage table, in the global offset table, and there those of their offsets
- * from the thread pointer. Names rise by their bytes, as memcmp has it, a front before what is longer.
- * Nothing stands twice in a list, and a list of length 0 may be NULL. */
+/* Addresses: of sections, in ascending order of their indexes; of symbols that the file does not define;
+ * and of symbols' entries, in the procedure linkage table, in the global offset table, and, for their
+ * offsets from the thread pointer, in the global offset table. Names are in ascending byte order, as by
+ * memcmp, a prefix before what is longer. A list has no duplicates, and a list of length 0 may be NULL. */
 struct elfsee_layout {
     const struct elfsee_lent_section *sections;
     size_t sections_len;
@@ -311,18 +310,18 @@ struct elfsee_layout {
     size_t thread_len;
 };
 
-/* What a layout lacks where a section is refused in it; all 0 where no address would help. */
+/* What a layout lacks if a section is refused in it; all 0 if no address would help. */
 struct elfsee_missing {
     uint32_t helpful;    /* the sum of 1 << kind, ELFSEE_SECTION to ELFSEE_THREAD, of which one would help */
-    uint32_t section;    /* the index of the section that wants an address, else 0 */
+    uint32_t section;    /* the index of the section that needs an address, otherwise 0 */
     uint32_t relocation; /* the type of the relocation entry that is refused */
     uint32_t name_len;   /* bytes of its symbol's name: all, or the first 255 */
-    uint32_t is_cut;     /* 1: the name has more; else 0 */
+    uint32_t is_cut;     /* 1: the name has more; otherwise 0 */
     uint8_t name[256];
 };
 
-/* Writes a section's bytes with its relocations applied, as elfsee_apply does, in a layout that is lent.
- *  OK, FULL: as of elfsee_apply. REFUSED: too; and `missing` tells what would help, where an address
+/* Writes a section's bytes with its relocations applied, as elfsee_apply does, in the caller's layout.
+ *  OK, FULL: as for elfsee_apply. REFUSED: too; and `missing` says what would help, if an address
  *    would, and the budget has room to find that out: the headers, the entry, its symbol and the name.
  *  BAD_CALL: limits outside their ranges, room of less than 64 bytes, an index or a name that is not
  *    above the one before it in its list, a name of none or more than 255 bytes or with a NUL.
@@ -368,14 +367,14 @@ struct elfsee_dynamic {
 /* The version of a symbol (LSB, Symbol Versioning). */
 struct elfsee_version_word {
     uint16_t number;    /* below 32,768; 0 and 1 have no name */
-    uint16_t is_hidden; /* 1: a name alone does not take the symbol; else 0 */
+    uint16_t is_hidden; /* 1: a name alone does not find the symbol; otherwise 0 */
 };
 
-/* What a record of symbol versions is. */
+/* The type of a record of symbol versions. */
 enum {
     ELFSEE_DEFINITION = 1, /* a version that the file defines */
     ELFSEE_FILE = 2,       /* a file of which it needs versions */
-    ELFSEE_NEED = 3        /* a version that it needs of the file before */
+    ELFSEE_NEED = 3        /* a version that it needs of the preceding file */
 };
 
 /* A record of version definitions or needs, field by field (LSB, Symbol Versioning). A needed file has no
@@ -385,41 +384,43 @@ struct elfsee_version_record {
     uint64_t named_at; /* that of what holds the index of its name */
     uint32_t name;     /* its offset in the string table */
     uint32_t hash;
-    uint16_t number;   /* with 32,768 added where the version is hidden */
+    uint16_t number;   /* with 32,768 added if the version is hidden */
     uint16_t flags;
     uint32_t kind;     /* ELFSEE_DEFINITION to ELFSEE_NEED */
 };
 
-/* The file header. OK, or REFUSED where its checks fail. */
+/* Reads the file header. OK, or REFUSED if its checks fail. */
 uint32_t elfsee_header(const uint8_t *file, size_t file_len, struct elfsee_header *header,
                        struct elfsee_end *end);
 
-/* A section header or a program header, by its index. OK; ABSENT where there is none of that index;
- * REFUSED where the checks of the file header, or the range of the headers, fail. */
+/* Reads a section header or a program header, by its index. OK; ABSENT if there is none of that index;
+ * REFUSED if the checks of the file header, or of the range of the headers, fail. */
 uint32_t elfsee_section(const uint8_t *file, size_t file_len, uint16_t index,
                         struct elfsee_section *section, struct elfsee_end *end);
 uint32_t elfsee_segment(const uint8_t *file, size_t file_len, uint16_t index,
                         struct elfsee_segment *segment, struct elfsee_end *end);
 
-/* Where the bytes of a section lie in the file, by its index: within it. OK; ABSENT where there is none
- * of that index or its type is NOBITS or NULL, which has no bytes in the file; REFUSED where
- * elfsee_section is, and with ELFSEE_TABLE_OUTSIDE at the section header where they end past the file.
- * Where it is not OK `range` is as it was. `asked` is 0. */
+/* Finds where the bytes of a section are in the file, by its index: within it. OK; ABSENT if there is none
+ * of that index or its type is NOBITS or NULL, which has no bytes in the file; REFUSED if
+ * elfsee_section is, and with ELFSEE_TABLE_OUTSIDE at the section header if they extend past the end of
+ * the file. If it is not OK, `range` is unchanged. `asked` is 0. */
 uint32_t elfsee_section_bytes(const uint8_t *file, size_t file_len, uint16_t index,
                               struct elfsee_range *range, struct elfsee_end *end);
 
-/* A table, and a place in it. Plain numbers on the caller's own stack: any may be passed, and a
- * caller may set them; a step tests them. */
+/* A table, and a position in it. Plain numbers on the caller's own stack: any may be passed, and a
+ * caller may set them; a step checks them. Of a table without rows only the type is checked: then `at` is
+ * the offset in its header, `strings_at` the same or 0, and both may be outside the file;
+ * `strings_len` is 0. */
 struct elfsee_rows {
     uint64_t at, count, index, entry; /* the entries that are left are [index, count) */
-    uint64_t strings_at, strings_len; /* of the string table that goes with it; else 0, 0 */
+    uint64_t strings_at, strings_len; /* of the string table that goes with it; otherwise 0, 0 */
 };
 
-/* The symbols of a section, its relocation entries with addends, or its dynamic entries up to and
- * with the first of tag 0. Each runs the checks that a listing runs before the table's first row,
- * and sets `rows` before that row; of the limits it looks at `headers` alone. OK, REFUSED,
- * BAD_CALL; ABSENT where there is no such section or it holds no such rows. `asked` is 0. The headers
- * are read where they stand, no more than five, however many there are: nothing is written to `room`,
+/* Open the symbols of a section, its relocation entries with addends, or its dynamic entries up to and
+ * including the first with tag 0. Each runs the checks that a listing runs before the table's first row,
+ * and sets `rows` before that row; of the limits it uses only `headers`. OK, REFUSED,
+ * BAD_CALL; ABSENT if there is no such section or it holds no such rows. `asked` is 0. The headers
+ * are read in place, no more than five, however many there are: nothing is written to `room`,
  * which any number of these calls may share, also at once. */
 uint32_t elfsee_symbols(const uint8_t *file, size_t file_len, const struct elfsee_limits *limits,
                         uint16_t section, uint8_t *room, size_t room_len, struct elfsee_rows *rows,
@@ -431,36 +432,36 @@ uint32_t elfsee_dynamic(const uint8_t *file, size_t file_len, const struct elfse
                         uint16_t section, uint8_t *room, size_t room_len, struct elfsee_rows *rows,
                         struct elfsee_end *end);
 
-/* The symbols that the file's hash table is of, among which a loader looks names up, also where there are
- * no section headers: found as elfsee_look_up finds them, with ELFSEE_BY_SEGMENTS or 0 as `flags`, and
- * counted by the hash table; where one of the GNU system finds none and its first is 1, which says nothing,
- * they are those before their strings. `rows` is set before symbol 0, and elfsee_next_symbols reads them. `room`
- * is where the headers lie meanwhile.
+/* Opens the symbols of the file's hash table, among which a loader looks up names, even if there are no
+ * section headers: found as elfsee_look_up finds them, with ELFSEE_BY_SEGMENTS or 0 as `flags`, and
+ * counted by the hash table; if a GNU one contains no symbol and its first is 1, which says nothing, they
+ * are those before their strings. `rows` is set before symbol 0, and elfsee_next_symbols reads them. `room`
+ * has the headers meanwhile.
  *  OK, REFUSED; BAD_CALL for limits outside their ranges, room of less than 64 bytes, and other flags.
  * `asked` is at most what finding and counting them cost, and the budget. */
 uint32_t elfsee_hashed_symbols(const uint8_t *file, size_t file_len, const struct elfsee_limits *limits,
                                uint32_t flags, uint8_t *room, size_t room_len, struct elfsee_rows *rows,
                                struct elfsee_end *end);
 
-/* The words of symbols' versions of a section, as those calls open their rows: one for each symbol of
- * the table that it links to, as far as it has words, in the same order. `rows` has no string table: the
- * name of a version is that of the first definition, else of the first needed version, that has its
+/* Opens the version words of the symbols of a section, as those calls open their rows: one for each symbol
+ * of the table that it links to, as far as it has words, in the same order. `rows` has no string table: the
+ * name of a version is that of the first definition, or else of the first needed version, that has its
  * number (elfsee_version_records). A definition with the flag 1 names the file and no version. */
 uint32_t elfsee_version_words(const uint8_t *file, size_t file_len,
                               const struct elfsee_limits *limits, uint16_t section, uint8_t *room,
                               size_t room_len, struct elfsee_rows *rows, struct elfsee_end *end);
 
-/* The dynamic entries of a segment, up to and with the first of tag 0: checks that they are whole
- * entries within the file, and sets `rows` before the first. OK; ABSENT where there is none of that
- * index or its type is not DYNAMIC; REFUSED where elfsee_segment is, and with ELFSEE_SIZE_NOT_WHOLE or
- * ELFSEE_TABLE_OUTSIDE at the program header. `rows` has no string table: elfsee_mapped tells where
- * that lies whose address and size the entries of the tags STRTAB (5) and STRSZ (10) tell. `asked`
+/* Opens the dynamic entries of a segment, up to and including the first with tag 0: checks that they are
+ * whole entries within the file, and sets `rows` before the first. OK; ABSENT if there is none of that
+ * index or its type is not DYNAMIC; REFUSED if elfsee_segment is, and with ELFSEE_SIZE_NOT_WHOLE or
+ * ELFSEE_TABLE_OUTSIDE at the program header. `rows` has no string table: elfsee_mapped finds the one
+ * whose address and size the entries with the tags STRTAB (5) and STRSZ (10) have. `asked`
  * is 0. */
 uint32_t elfsee_segment_dynamic(const uint8_t *file, size_t file_len, uint16_t segment,
                                 struct elfsee_rows *rows, struct elfsee_end *end);
 
-/* Read up to `out_len` next rows, step over them, and answer how many there are in `out`: fewer
- * than `out_len` at the table's end, and 0 behind it or where the numbers of `rows` name no rows of
+/* Read up to `out_len` next rows, step over them, and return how many there are in `out`: fewer
+ * than `out_len` at the end of the table, and 0 after it or if the numbers of `rows` name no rows of
  * the file. */
 size_t elfsee_next_symbols(const uint8_t *file, size_t file_len, struct elfsee_rows *rows,
                            struct elfsee_symbol *out, size_t out_len);
@@ -472,22 +473,22 @@ size_t elfsee_next_dynamic(const uint8_t *file, size_t file_len, struct elfsee_r
 size_t elfsee_next_version_words(const uint8_t *file, size_t file_len, struct elfsee_rows *rows,
                                  struct elfsee_version_word *out, size_t out_len);
 
-/* A place in a walk over the records of version definitions or needs: plain numbers, as those of
- * elfsee_rows. */
+/* A position in a walk over the records of version definitions or needs: plain numbers, like those of
+ * elfsee_rows. If `size` is 0, `at` may be outside the file. */
 struct elfsee_version_records {
     uint64_t at, size;    /* of the table */
     uint64_t place;       /* of the next record, in the table */
     uint64_t from;        /* the file offset of what led there, which a refusal names */
-    uint64_t owner;       /* the place of the needed file, where a version of it is next */
-    uint64_t left;        /* records that may still be met */
+    uint64_t owner;       /* the place of the needed file, if a version of it is next */
+    uint64_t left;        /* records that may still be read */
     uint64_t strings_at, strings_len; /* of the string table of their names */
     uint32_t kind;        /* of the next record; any other number: there is none */
     uint32_t none;        /* 0 */
 };
 
-/* The version definitions of a section, or its needs: runs the checks that a listing runs before the
- * first record, and sets `records` before it. Of the limits it looks at `headers` alone. OK, REFUSED,
- * BAD_CALL; ABSENT where there is no such section or its type is neither GNU_verdef nor GNU_verneed.
+/* Opens the version definitions of a section, or its needs: runs the checks that a listing runs before the
+ * first record, and sets `records` before it. Of the limits it uses only `headers`. OK, REFUSED,
+ * BAD_CALL; ABSENT if there is no such section or its type is neither GNU_verdef nor GNU_verneed.
  * `asked` is 0, and nothing is written to `room`. */
 uint32_t elfsee_version_records(const uint8_t *file, size_t file_len,
                                 const struct elfsee_limits *limits, uint16_t section,
@@ -495,23 +496,23 @@ uint32_t elfsee_version_records(const uint8_t *file, size_t file_len,
                                 struct elfsee_version_records *records, struct elfsee_end *end);
 
 /* Reads the next record and steps over it, in the order in which they lead to one another: of the needs
- * each file, and then its versions. OK; ABSENT behind the last; REFUSED with ELFSEE_VERSION_CUT,
- * ELFSEE_BAD_VERSION or ELFSEE_VERSION_INDEX where no record stands where one should. Where it is not OK
- * `records` is as it was. Each OK makes `left` less by one, so that a walk ends. `asked` is 0. */
+ * each file, and then its versions. OK; ABSENT after the last; REFUSED with ELFSEE_VERSION_CUT,
+ * ELFSEE_BAD_VERSION or ELFSEE_VERSION_INDEX if there is no record where one should be. If it is not OK,
+ * `records` is unchanged. Each OK decreases `left` by one, so a walk ends. `asked` is 0. */
 uint32_t elfsee_next_version_record(const uint8_t *file, size_t file_len,
                                     struct elfsee_version_records *records,
                                     struct elfsee_version_record *record, struct elfsee_end *end);
 
-/* ROWS WITHIN A BUDGET. Many tables may lie at the same bytes, so that the rows of a file are far more than the
- * file has bytes. `asked` is a number of the caller's, which adds up how many bytes all calls that are lent it
- * asked for: begin with 0. Where `limits` has a budget it never passes that, if it does not before: a call
- * that would make it is refused with ELFSEE_BUDGET. Without a budget it is counted alone, up to 2^64 - 1. Of
- * names nothing is counted.
+/* ROWS WITHIN A BUDGET. Many tables may be at the same bytes, so the rows of a file may be far more than its
+ * bytes. `asked` is a number of the caller's, which adds up how many bytes all calls that are passed it
+ * read: begin with 0. If `limits` has a budget, `asked` never exceeds it, unless it did before: a call
+ * that would make it do so is refused with ELFSEE_BUDGET. Without a budget it is only counted, up to
+ * 2^64 - 1. Names are not counted.
  *
- * The dynamic entries of a section or of a segment, as elfsee_dynamic and elfsee_segment_dynamic open them:
- * each entry up to and with the first of tag 0 counts 16 bytes. Where they are more than the budget has left,
- * so many as it has count, and the refusal is at the first behind these. The second looks at the budget
- * of the limits alone. */
+ * Open the dynamic entries of a section or of a segment, as elfsee_dynamic and elfsee_segment_dynamic do:
+ * each entry up to and including the first with tag 0 counts 16 bytes. If they are more than the budget has
+ * left, as many as it has room for are counted, and the refusal is at the next one. The second call uses
+ * only the budget of the limits. */
 uint32_t elfsee_dynamic_within(const uint8_t *file, size_t file_len,
                                const struct elfsee_limits *limits, uint16_t section,
                                const uint8_t *room, size_t room_len, uint64_t *asked,
@@ -521,10 +522,10 @@ uint32_t elfsee_segment_dynamic_within(const uint8_t *file, size_t file_len,
                                        uint64_t *asked, struct elfsee_rows *rows,
                                        struct elfsee_end *end);
 
-/* The next rows, as elfsee_next_symbols and its kin read them, and no more than the budget has left: a
- * symbol or a relocation entry counts 24 bytes, a dynamic entry 16, a word of versions 2. Where the budget
- * ended it, `end` has ELFSEE_BUDGET and the offset of the next row; else its cause is 0. Of the limits the
- * budget is looked at alone. */
+/* Read the next rows, as elfsee_next_symbols and the like do, and no more than the budget has left: a
+ * symbol or a relocation entry counts 24 bytes, a dynamic entry 16, a version word 2. If the budget
+ * ended it, `end` has ELFSEE_BUDGET and the offset of the next row; otherwise its cause is 0. Of the limits
+ * only the budget is used. */
 size_t elfsee_next_symbols_within(const uint8_t *file, size_t file_len,
                                   const struct elfsee_limits *limits, uint64_t *asked,
                                   struct elfsee_rows *rows, struct elfsee_symbol *out,
@@ -543,84 +544,85 @@ size_t elfsee_next_version_words_within(const uint8_t *file, size_t file_len,
                                         struct elfsee_rows *rows, struct elfsee_version_word *out,
                                         size_t out_len, struct elfsee_end *end);
 
-/* A place in a table of notes: plain numbers, as those of elfsee_rows. */
+/* A position in a table of notes: plain numbers, like those of elfsee_rows. If `left` is 0, `at` may be
+ * outside the file. */
 struct elfsee_notes {
-    uint64_t at, left; /* the file offset of the next note; bytes of the table from there on */
-    uint64_t align;    /* of the notes: 8, and by any other number 4 */
-    uint32_t header;   /* the index of the header that tells of the table */
+    uint64_t at, left; /* the file offset of the next note; bytes of the table starting there */
+    uint64_t align;    /* of the notes: 8, and for any other number 4 */
+    uint32_t header;   /* the index of the header that describes the table */
     uint32_t none;     /* 0 */
 };
 
-/* A note (gABI, Note Section). Its bytes lie in the file: `namesz` of its name from `name_at` on,
- * with any NUL, and `descsz` of its descriptor from `desc_at` on. */
+/* A note (gABI, Note Section). Its bytes are in the file: `namesz` of its name at `name_at`,
+ * with any NUL, and `descsz` of its descriptor at `desc_at`. */
 struct elfsee_note {
     uint64_t at, name_at, desc_at;
     uint32_t namesz, descsz, type;
-    uint32_t header; /* the index of the header that tells of its table */
+    uint32_t header; /* the index of the header that describes its table */
 };
 
-/* The notes of a section, or of a segment: sets `notes` before the first. OK; ABSENT where there is
- * none of that index or its type is not NOTE; REFUSED where elfsee_section or elfsee_segment is, and
- * with ELFSEE_TABLE_OUTSIDE where the notes end past the file. `asked` is 0. */
+/* Open the notes of a section, or of a segment: set `notes` before the first. OK; ABSENT if there is
+ * none of that index or its type is not NOTE; REFUSED if elfsee_section or elfsee_segment is, and
+ * with ELFSEE_TABLE_OUTSIDE if the notes extend past the end of the file. `asked` is 0. */
 uint32_t elfsee_notes(const uint8_t *file, size_t file_len, uint16_t section,
                       struct elfsee_notes *notes, struct elfsee_end *end);
 uint32_t elfsee_segment_notes(const uint8_t *file, size_t file_len, uint16_t segment,
                               struct elfsee_notes *notes, struct elfsee_end *end);
 
-/* Reads the next note and steps over it, by at least 12 bytes. OK; ABSENT behind the last; REFUSED
- * with ELFSEE_NOTE_CUT at `notes->at` where no note stands there. Where it is not OK `notes` is as it
- * was. A name and a descriptor of an OK lie within the file, whatever the numbers of `notes` were. */
+/* Reads the next note and steps over it, by at least 12 bytes. OK; ABSENT after the last; REFUSED
+ * with ELFSEE_NOTE_CUT at `notes->at` if there is no note there. If it is not OK, `notes` is unchanged.
+ * The name and the descriptor of an OK are within the file, for any numbers of `notes`. */
 uint32_t elfsee_next_note(const uint8_t *file, size_t file_len, struct elfsee_notes *notes,
                           struct elfsee_note *note, struct elfsee_end *end);
 
-/* A place in a walk over the members of an archive, as a static library: plain numbers, as those of
- * elfsee_rows. */
+/* A position in a walk over the members of an archive, such as a static library: plain numbers, like those
+ * of elfsee_rows. */
 struct elfsee_members {
     uint64_t at;               /* the file offset of the next member's header */
-    struct elfsee_range names; /* the data of the table of names, where it was passed */
+    struct elfsee_range names; /* the data of the table of names, if it was passed */
     uint32_t has_names;        /* 0: it was not */
     uint32_t none;             /* 0 */
 };
 
-/* A member of an archive. Its bytes lie in the file: `content` is its data, which may be passed to
- * each call as a file of its own; and `name` its name, or the first 4,096 bytes of it. Where the name
- * stands at the front of the data, as BSD's `ar` writes it, `content` begins behind it. */
+/* A member of an archive. Its bytes are in the file: `content` is its data, which may be passed to
+ * each call as a file of its own; and `name` its name, or the first 4,096 bytes of it. If the name
+ * is at the beginning of the data, as BSD's `ar` writes it, `content` begins after it. */
 struct elfsee_member {
     uint64_t at; /* the file offset of its header */
     struct elfsee_range content, name;
-    uint32_t is_cut; /* 1: its name has more bytes; else 0 */
+    uint32_t is_cut; /* 1: its name has more bytes; otherwise 0 */
     uint32_t none;   /* 0 */
 };
 
-/* The members of an archive: sets `members` before the first. OK; REFUSED with ELFSEE_SHORT,
- * ELFSEE_THIN or ELFSEE_NOT_ARCHIVE at 0 where the file is no archive. `asked` is 0. */
+/* Opens the members of an archive: sets `members` before the first. OK; REFUSED with ELFSEE_SHORT,
+ * ELFSEE_THIN or ELFSEE_NOT_ARCHIVE at 0 if the file is no archive. `asked` is 0. */
 uint32_t elfsee_members(const uint8_t *file, size_t file_len, struct elfsee_members *members,
                         struct elfsee_end *end);
 
-/* Reads the next member and steps over it, by at least 60 bytes. The index of symbols, of the name
- * `/`, and the table of names, `//`, are members too. OK; ABSENT at the file's end; REFUSED with
- * ELFSEE_MEMBER_CUT, ELFSEE_NAME_OUTSIDE or ELFSEE_NAME_UNENDED at `members->at` where no member
- * stands there, or its name does not. Where it is not OK `members` is as it was. The data and the name
- * of an OK lie within the file, whatever the numbers of `members` were. At most 4,098 bytes of a name
- * are looked at. `asked` is 0. */
+/* Reads the next member and steps over it, by at least 60 bytes. The index of symbols, with the name
+ * `/`, and the table of names, `//`, are members too. OK; ABSENT at the end of the file; REFUSED with
+ * ELFSEE_MEMBER_CUT, ELFSEE_NAME_OUTSIDE or ELFSEE_NAME_UNENDED at `members->at` if there is no member
+ * there, or its name is malformed. If it is not OK, `members` is unchanged. The data and the name
+ * of an OK are within the file, for any numbers of `members`. At most 4,098 bytes of a name
+ * are read. `asked` is 0. */
 uint32_t elfsee_next_member(const uint8_t *file, size_t file_len, struct elfsee_members *members,
                             struct elfsee_member *member, struct elfsee_end *end);
 
-/* Where the name at an offset in a string table lies, without its NUL: the table is the `strings`
- * of `rows`, or any range of the file, as far as it lies in the file. In a table of no bytes the
- * name at 0 has none, wherever the table begins. OK; REFUSED with ELFSEE_NAME_OUTSIDE or
- * ELFSEE_NAME_UNENDED where there is no name. */
+/* Finds where the name at an offset in a string table is, without its NUL: the table is the `strings`
+ * of `rows`, or any range of the file, as far as it is in the file. In a table that has no bytes there
+ * the name at 0 has none, and `name` is 0, 0. OK, and then the name is within the file; REFUSED with
+ * ELFSEE_NAME_OUTSIDE or ELFSEE_NAME_UNENDED if there is no name. */
 uint32_t elfsee_name(const uint8_t *file, size_t file_len, const struct elfsee_range *strings,
                      uint64_t offset, struct elfsee_range *name, struct elfsee_end *end);
 
-/* Where `size` bytes from an address on lie in the file, by the first LOAD program header that holds
- * them all among the bytes that it has in the file. OK; ABSENT where none does; REFUSED where
- * elfsee_segment is, and with ELFSEE_TABLE_OUTSIDE at that program header where they end past the
- * file. `asked` is 0. */
+/* Finds where `size` bytes at an address are in the file, by the first LOAD program header that holds
+ * them all among the bytes that it has in the file. OK; ABSENT if none does; REFUSED if
+ * elfsee_segment is, and with ELFSEE_TABLE_OUTSIDE at that program header if they extend past the end of
+ * the file. `asked` is 0. */
 uint32_t elfsee_mapped(const uint8_t *file, size_t file_len, uint64_t address, uint64_t size,
                        struct elfsee_range *range, struct elfsee_end *end);
 
-/* Where the string table of section headers' names lies. OK, ABSENT, REFUSED, BAD_CALL. Nothing is
+/* Finds where the string table of section headers' names is. OK, ABSENT, REFUSED, BAD_CALL. Nothing is
  * written to `room`. */
 uint32_t elfsee_section_names(const uint8_t *file, size_t file_len,
                               const struct elfsee_limits *limits, uint8_t *room, size_t room_len,
@@ -632,7 +634,7 @@ uint32_t elfsee_section_names(const uint8_t *file, size_t file_len,
 #pragma GCC diagnostic pop
 #endif
 
-/* The structs' names for C++, where `elfsee_header` is the call and not the struct. */
+/* The structs' names for C++, in which `elfsee_header` is the call and not the struct. */
 namespace elfsee {
 typedef struct ::elfsee_limits limits;
 typedef struct ::elfsee_end end;

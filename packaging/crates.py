@@ -1,4 +1,4 @@
-"""The crates of a tree, as crates.txt has them, and whether the library of one is newer than its sources."""
+"""The crates of a tree, from crates.txt, and whether the library of one is newer than its sources."""
 
 import collections
 import os
@@ -7,7 +7,7 @@ import re
 PARTS = ("src", "specs", "proofs")
 FUNCTION = re.compile(r"^\s*(?:pub(?:\(crate\))? )?(?:const )?fn ", re.M)
 
-# How many bytes of source are proved in a second, where nothing was measured.
+# How many bytes of source are proved in a second, if nothing was measured.
 BYTES_A_SECOND = 1000
 
 # A crate: its name, what it uses, which of that are crates of the tree, the seconds that its proof takes, and
@@ -29,7 +29,7 @@ def seconds_of(top):
 
 
 def crates_of(top, last):
-    """The crates that one stands on, all of them, the lowest first, and itself."""
+    """The crates on which one depends, all of them, the lowest first, and itself."""
     lines, seconds = {}, seconds_of(top)
     with open(os.path.join(top, "crates.txt"), encoding="utf-8") as file:
         for line in file:

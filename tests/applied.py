@@ -1,12 +1,12 @@
-"""What `elfsee apply` has to answer, computed a second time from the rules: for the scripts beside this
-module. It is written for plainness alone, and reads whole files. looked_up.py has the same for a lookup."""
+"""A second implementation of what `elfsee apply` must answer, from the rules: for the scripts in this
+directory. It is written for clarity alone, and reads whole files. looked_up.py has the same for a lookup."""
 
 import struct
 
 SYMBOL_TABLES, STRTAB, RELA, NO_BYTES, COMPRESSED = (2, 11), 3, 4, (0, 8), 0x800
 # The types of symbols from the first on that is specific to a system, and the one of those that names an indirect function.
 OF_SYSTEM, INDIRECT = 10, 10
-# Of each type that is applied: its bytes, what stands in its formula, and between what bounds a value fits. G is the
+# Of each type that is applied: its bytes, what is in its formula, and between what bounds a value fits. G is the
 # address of the symbol's entry in the global offset table, T that of the entry of its offset from the thread pointer.
 SIGNED = (-2 ** 31, 2 ** 31)
 TYPES = {
@@ -55,7 +55,7 @@ class Header:
 
 
 def load(content, most):
-    """The section headers of a file, in which so many are permitted."""
+    """The section headers of a file, in which a given number of are allowed."""
     length = len(content)
     refuse_where(length < 64, length, "short")
     for at, wanted, cause in IDENT:
@@ -79,7 +79,7 @@ def load(content, most):
 
 
 def symbols_of(headers, table):
-    """The symbol table of a section of entries with its strings, or None where it has none."""
+    """The symbol table of a section of entries with its strings, or None if it has none."""
     if table.link >= len(headers) or headers[table.link].type not in SYMBOL_TABLES:
         return None
     symbols = headers[table.link]
@@ -99,7 +99,7 @@ def strings_of(headers, table):
 
 
 def is_named(content, strings, index, at, wanted):
-    """Whether the name at an index of a string table is the wanted one; `at` is its symbol."""
+    """Whether the name at an index of a string table is the requested one; `at` is its symbol."""
     if strings.size == 0 and index == 0:
         return False
     refuse_where(index >= strings.size, at, "name-outside")
@@ -188,7 +188,7 @@ class Section:
 
 
 def answer(content, words, most=65279):
-    """The status and the bytes for a section and items: `words` are those behind FILE."""
+    """The status and the bytes for a section and items: `words` are those after FILE."""
     try:
         return 0, applied(bytes(content), int(words[0]), Layout(words[1:]), most)
     except Refused as refusal:

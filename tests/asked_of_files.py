@@ -1,6 +1,6 @@
-"""What can be asked of an ELF64 little-endian file, for the scripts beside this module: names to look up
+"""Queries for an ELF64 little-endian file, for the scripts in this directory: names to look up
 and sections to write, with the items that give each entry an address. It reads the headers with
-nothing of the program's, and only of files that are well made."""
+code of its own, and only of well-formed files."""
 
 import os
 import shutil
@@ -55,7 +55,7 @@ def string_of(data, at):
 
 def names_to_find(data):
     """The names of the symbols that the first hash table of a file is for, those that a command line can
-    have; none where it has no such table."""
+    have; none if it has no such table."""
     headers = headers_of(data)
     table = next((header for header in headers if header[1] == SHT_HASH), None)
     if table is None:
@@ -77,7 +77,7 @@ def entries_for(data, headers, section):
 
 
 def sections_to_apply(data):
-    """Of a relocatable file each section that has relocation entries, with the words behind FILE that
+    """Of a relocatable file each section that has relocation entries, with the words after FILE that
     write it: its index, and an address for what its entries name, as far as a layout goes."""
     if struct.unpack_from("<H", data, 16)[0] != 1:
         return []
@@ -102,7 +102,7 @@ def sections_to_apply(data):
 
 def compiled_objects(folder):
     """Objects of one source, compiled in some ways, and libraries of them with a hash table of the System V
-    form; none where there is no gcc."""
+    form; none if there is no gcc."""
     if not shutil.which("gcc"):
         return []
     source, paths = os.path.join(folder, "compiled.c"), []
@@ -123,7 +123,7 @@ def compiled_objects(folder):
 
 
 def versioned_libraries(folder):
-    """Libraries with versions and without, with hash tables of either kind and of both, that can be loaded; none where
+    """Libraries with versions and without, with hash tables of either kind and of both, that can be loaded; none if
     there is no gcc."""
     if not shutil.which("gcc"):
         return []
@@ -165,7 +165,7 @@ def static_libraries():
 
 
 def members_of_libraries(folder, most):
-    """At most so many members of the machine's static libraries, spread over them, taken out with ar."""
+    """At most a given number of members of the machine's static libraries, spread over them, taken out with ar."""
     paths = []
     if not shutil.which("ar"):
         return paths

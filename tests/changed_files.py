@@ -1,4 +1,4 @@
-"""Changed copies of ELF files, for the scripts beside this module: bytes, fields, headers, tables or the
+"""Changed copies of ELF files, for the scripts in this directory: bytes, fields, headers, tables or the
 length are changed by a generator, so that the same generator over the same files gives the same copies."""
 
 import struct
@@ -19,7 +19,7 @@ def put(content, at, width, number):
 
 
 def without_sections(content):
-    """A file without section headers: its program headers tell its tables."""
+    """A file without section headers: its program headers give its tables."""
     content = bytearray(content)
     put(content, 40, 8, 0)
     put(content, 60, 4, 0)
@@ -95,7 +95,7 @@ def change(rng, content, types):
 
 
 def changed(rng, content, types=TABLE_TYPES):
-    """A copy with one change or some, tables of some types more often than others. Where it gets shorter than a file
+    """A copy with one change or some, tables of some types more often than others. If it gets shorter than a file
     header, that is the last."""
     copy = bytearray(content)
     for _ in range(rng.choice((1, 1, 1, 2, 3, 5))):

@@ -1,5 +1,5 @@
-"""Compares what a command of the program writes of many files with what the rules say of each: for the scripts beside this
-module."""
+"""Compares what a command of the program prints for many files with what the rules say of each: for the scripts in this
+directory."""
 
 import os
 import shutil
@@ -33,7 +33,7 @@ def program_of(valued):
 
 
 def elf_files(most, largest):
-    """At most so many programs and libraries of the machine that are no larger, spread over them."""
+    """At most a given number of programs and libraries of the machine that are no larger, spread over them."""
     found = []
     for folder in filter(Path.is_dir, map(Path, FOLDERS)):
         paths = [path for path in sorted(folder.iterdir()) if path.is_file() and not path.is_symlink()]
@@ -44,7 +44,7 @@ def elf_files(most, largest):
 
 
 class Comparison:
-    """Counts the files of which the program says what the rules do; a file of which it does not is kept in a folder, where one
+    """Counts the files of which the program says what the rules do; a file of which it does not is kept in a directory, where one
     is given."""
 
     def __init__(self, program, kept=None):
@@ -63,7 +63,7 @@ class Comparison:
             print(f"FAILED  {what}: {told}")
 
     def compare(self, what, words, wanted, count=1, **more):
-        """Whether a command writes the wanted text with the wanted status; it counts as so many cases."""
+        """Whether a command writes the requested text with the requested status; it counts as the given number of cases."""
         out, status, errors = self.run(words, **more)
         if (out, status, errors) == (*wanted, b""):
             self.passed += count
@@ -73,8 +73,8 @@ class Comparison:
         return False
 
     def compare_batch(self, what, words, contents, told):
-        """Compares what a command says of a folder of files; `told` says of a path and its bytes the text and the status.
-        Where they differ each file is compared alone."""
+        """Compares what a command says of a directory of files; `told` says of a path and its bytes the text and the status.
+        If they differ each file is compared alone."""
         with tempfile.TemporaryDirectory() as folder:
             paths = [os.fsencode(os.path.join(folder, "%05d" % number)) for number in range(len(contents))]
             for path, content in zip(paths, contents):

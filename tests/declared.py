@@ -1,7 +1,7 @@
-"""What library/elfsee.h declares, and what the callers in Python and Rust declare of the same.
+"""The declarations of library/elfsee.h, and those of the callers in Python and Rust for the same.
 
-The header is parsed here, and no compiler is asked: each call with the types of its arguments and of its answer, each
-struct with its fields, their types, offsets and sizes, and each number with a name. Types are told in C's words, as
+The header is parsed here, without a compiler: each call with the types of its arguments and of its result, each
+struct with its fields, their types, offsets and sizes, and each number with a name. Types are written as in C, such as
 `uint16_t`, `const uint8_t *` or `struct elfsee_rows *`.
 """
 

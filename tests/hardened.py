@@ -1,5 +1,5 @@
-"""What `elfsee traits` has to answer without a budget, computed a second time from the rules: for the scripts beside this
-module. It is written for plainness alone, and holds whole files."""
+"""A second implementation of what `elfsee traits` must answer without a budget, from the rules: for the scripts in this
+directory. It is written for clarity alone, and holds whole files."""
 
 import struct
 
@@ -13,7 +13,7 @@ GNU_HASH, FLAGS_1, VERSYM, VERDEF, VERNEED = 0x6ffffef5, 0x6ffffffb, 0x6ffffff0,
 OF_FLAGS_TEXTREL, OF_FLAGS_BIND_NOW, OF_FLAGS_1_NOW, OF_FLAGS_1_PIE = 4, 8, 1, 0x8000000
 EXECUTES, WRITES, X86_64, PROPERTIES, X86_FEATURES = 1, 2, 62, 5, 0xc0000002
 COLUMNS = ("kind", "relro", "stack", "pages", "text", "cet", "canary", "fortify", "path")
-# The bytes of a symbol's name that are looked at.
+# The bytes of a symbol's name that are read.
 NAME_BYTES = 63
 HARDENED_KINDS = ("exec", "pie", "static", "lib")
 
@@ -61,7 +61,7 @@ class Traits:
     def value(self, tag):
         return self.rows[tag][1] if tag in self.rows else 0
 
-    # The columns that headers and entries tell.
+    # The columns that headers and entries give.
 
     def kind(self):
         has_interp = self.first_segment(INTERP) is not None
@@ -117,7 +117,7 @@ class Traits:
     # Symbols.
 
     def of_symbols(self, symbols, count, strings):
-        """What the names of the symbols behind the first tell."""
+        """What the names of the symbols after the first say."""
         canary, fortify = "-", "-"
         for index in range(1, count):
             at = symbols.offset + 24 * index
@@ -132,7 +132,7 @@ class Traits:
         return canary, fortify
 
     def symbols(self):
-        """The dynamic symbols, how many of them the hash table tells of, and their strings."""
+        """The dynamic symbols, how many of them the hash table describes, and their strings."""
         tag = next((tag for tag in (GNU_HASH, HASH) if tag in self.rows), None)
         if tag is None:
             return None, 0, None
@@ -179,7 +179,7 @@ class Traits:
 
     def gnu_count(self, at, table, room, before):
         """The symbols before the first that the table knows, and those up to the end of the highest chain. A table with
-        no symbol says nothing where that first is 1: then there are those before their strings."""
+        no symbol says nothing if that first is 1: then there are those before their strings."""
         nbucket, first, nbloom, shift = struct.unpack_from("<4I", self.content, table.offset)
         self.buckets = nbucket
         chains = 16 + 8 * nbloom + 4 * nbucket
@@ -216,7 +216,7 @@ def feature_of(at, properties):
 
 
 def cost(content, most=4096):
-    """What the traits of a file may ask for: its header, its program headers, its dynamic entries twice, its notes and the
+    """How many bytes the traits of a file may read: its header, its program headers, its dynamic entries twice, its notes and the
     list of properties, the words of its hash table, and its symbols with 64 bytes of each name."""
     content, asked = without_section_headers(content), 64
     try:
@@ -235,7 +235,7 @@ def cost(content, most=4096):
 
 
 def symbols_cost(content, most):
-    """What the hash table and the symbols that it tells of may ask for."""
+    """How many bytes the hash table and the symbols that it describes may read."""
     traits = Traits.__new__(Traits)
     try:
         traits.begin(content, most)

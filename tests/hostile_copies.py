@@ -1,5 +1,5 @@
-"""Copies of ELF files and archives with hostile numbers in them, for the scripts beside this module, and the files that they
-are made of. The same generator of chance over the same files gives the same copy."""
+"""Copies of ELF files and archives with hostile numbers in them, for the scripts in this directory, and the files from
+which they are made. The same random generator over the same files gives the same copy."""
 
 import os
 import random
@@ -69,7 +69,7 @@ class Copy:
         return range(0)
 
     def tables(self):
-        """The kind, the offset and the size of each table that headers and dynamic entries tell of."""
+        """The kind, the offset and the size of each table that headers and dynamic entries describe."""
         found = [(self.there(at + 4, 4), self.there(at + 24, 8), self.there(at + 32, 8)) for at in self.sections()]
         found += [(7, self.there(at + 8, 8), self.there(at + 32, 8)) for at in self.segments() if self.there(at, 4) == 4]
         for at in self.entries():
@@ -119,7 +119,7 @@ class Copy:
             self.swap, self.flip))()
 
     def swap(self):
-        """One header or entry stands in the place of another too."""
+        """One header or entry replaces another too."""
         size, places = self.chance.choice(((64, self.sections()), (56, self.segments()), (16, list(self.entries()))))
         if places:
             first, second = self.chance.choice(places), self.chance.choice(places)
@@ -182,7 +182,7 @@ WAYS = {
 
 
 def made_files(folder):
-    """Small files by their names: libraries, programs and objects, where there is gcc, and such as are written here."""
+    """Small files by their names: libraries, programs and objects, if there is gcc, and such as are written here."""
     files = {"small.o": made_archives.small_elf(), "properties": with_properties(), "properties.core": with_properties(4, 4)}
     if shutil.which("gcc"):
         files.update(compiled(folder))

@@ -1,4 +1,4 @@
-/* Memory to lend to a call: it ends at a page that cannot be touched, or begins behind one, and what is left
+/* Memory for a call to borrow: it ends at a page that cannot be touched, or begins after one, and what is left
  * of its first or last page is marked. */
 #ifndef LENT_H
 #define LENT_H
@@ -11,13 +11,13 @@
 enum { PAGE = 4096, MARK = 0xa5 };
 
 struct lent {
-    uint8_t *bytes; /* what is lent */
+    uint8_t *bytes; /* what is passed to a call */
     size_t len;
     uint8_t *inner; /* the pages in which it lies, between the two that cannot be touched */
     size_t inner_len;
 };
 
-/* So many bytes, which begin right behind a page that cannot be touched, or end right before one. */
+/* A given number of bytes, which begin right after a page that cannot be touched, or end right before one. */
 static inline struct lent lend(size_t len, int at_front) {
     size_t inner_len = len ? (len + PAGE - 1) / PAGE * PAGE : PAGE;
     uint8_t *pages = (uint8_t *)mmap(0, inner_len + 2 * PAGE, PROT_NONE,
@@ -28,7 +28,7 @@ static inline struct lent lend(size_t len, int at_front) {
     return lent;
 }
 
-/* Whether all bytes of the pages that were not lent are still marked. */
+/* Whether all bytes of the pages that were not passed are still marked. */
 static inline int is_whole(const struct lent *lent) {
     size_t before = (size_t)(lent->bytes - lent->inner), at;
     for (at = 0; at < lent->inner_len - lent->len; at += 1) {
@@ -45,14 +45,14 @@ static inline struct lent lend_copy(const void *bytes, size_t len, int at_front)
     return lent;
 }
 
-/* Takes it back, and says whether all that was not lent is as it was. */
+/* Releases it, and says whether all that was not passed is unchanged. */
 static inline int take_back(struct lent *lent) {
     int whole = is_whole(lent);
     if (munmap(lent->inner - PAGE, lent->inner_len + 2 * PAGE)) abort();
     return whole;
 }
 
-/* How many bytes at the front of a member's data are its name, by the 16 bytes of its header that tell the name: `#1/`, one
+/* How many bytes at the beginning of a member's data are its name, by the 16 bytes of its header that give the name: `#1/`, one
  * digit or more, and spaces. */
 static inline uint64_t name_in_data(const uint8_t *bytes, size_t len, uint64_t at) {
     uint64_t size = 0, place = 3;

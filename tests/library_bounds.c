@@ -3,9 +3,9 @@
  *
  *     library_bounds OBJECT LIBRARY TRIES
  *
- * OBJECT is a relocatable for x86-64 with relocation entries for section 1, LIBRARY has a hash table with
- * the name `call`. All that is lent lies at pages that cannot be touched, file and names cannot be
- * written. It is to be built with -fsanitize=address,undefined. A line for each case, and as the last one
+ * OBJECT is a relocatable file for x86-64 with relocation entries for section 1, LIBRARY has a hash table with
+ * the name `call`. All caller's buffers are next to pages that cannot be touched, file and names cannot be
+ * written. It must be built with -fsanitize=address,undefined. It prints a line for each case, and as the last one
  * `N passed, N failed`. */
 #define _GNU_SOURCE
 #include "elfsee.h"
@@ -47,7 +47,7 @@ static struct elfsee_limits limits_of(unsigned headers, unsigned name) {
 
 static const struct elfsee_end ODD = {77, 77, 77, 77, 77};
 
-/* Whether all of out and room is as it was lent. */
+/* Whether all of out and room is unchanged. */
 static int is_untouched(void) {
     size_t at;
     for (at = 0; at < out.len; at += 1) {
@@ -80,7 +80,7 @@ static int is_zero(const void *bytes, size_t len) {
 }
 
 /* ------------------------------------------------------------------------- */
-/* The calls, over the object or the library where nothing else is said. */
+/* The calls, over the object or the library unless something else is said. */
 
 static uint32_t show(struct elfsee_limits limits, size_t room_len, size_t out_len, struct elfsee_end *end) {
     *end = ODD;
@@ -132,7 +132,7 @@ static uint32_t place(struct elfsee_limits limits, size_t room_len, uint16_t sec
 
 static const struct elfsee_layout NO_LAYOUT;
 
-/* Names that are lent: the list and the bytes of each lie at pages that cannot be touched. */
+/* Names that are passed: the list and the bytes of each lie at pages that cannot be touched. */
 enum { MOST_NAMES = 6 };
 
 struct names {
@@ -237,7 +237,7 @@ static void bad_limits(void) {
     check(costs, "a cost with limits outside their ranges");
 }
 
-/* What a name may not be, and where names may not stand. */
+/* What a name may not be, and where names may not be. */
 static void bad_names(void) {
 #define TEXT(text) {(const uint8_t *)(text), sizeof(text) - 1}
     static const struct elfsee_text bad[][2] = {{TEXT(""), TEXT("a")}, {TEXT("b"), TEXT("a")}, {TEXT("ab"), TEXT("a")},
@@ -511,7 +511,7 @@ static void loader_names(void) {
 static struct elfsee_item items[ITEMS];
 static uint8_t item_names[ITEMS][4];
 
-/* So many items of one kind, all different, behind others. */
+/* A given number of items of one kind, all different, after others. */
 static size_t add(size_t at, uint32_t kind, unsigned count) {
     unsigned i;
     for (i = 0; i < count; i += 1, at += 1) {
@@ -619,12 +619,12 @@ static void item_lengths(void) {
 }
 
 /* ------------------------------------------------------------------------- */
-/* Layouts that are lent. */
+/* Borrowed layouts. */
 
 static struct elfsee_lent_section lent_sections[ITEMS];
 static struct elfsee_lent_name lent_names[5][ITEMS];
 
-/* A layout with so many items of each sort, which rise. */
+/* A layout with a given number of items of each sort, which rise. */
 static struct elfsee_layout risen(size_t count) {
     static uint8_t bytes[ITEMS][2];
     struct elfsee_layout layout = {lent_sections, count, lent_names[1], count, lent_names[2], count,
@@ -796,7 +796,7 @@ static struct elfsee_rows any_rows(size_t len) {
     return rows;
 }
 
-/* Whether rows that were read lie in the file, right behind one another. */
+/* Whether rows that were read lie in the file, right after one another. */
 static int lie_inside(const struct elfsee_rows *old, const struct elfsee_rows *now, size_t count,
                       unsigned size, size_t len) {
     if (count == 0) return 1;
@@ -834,7 +834,7 @@ static int any_steps(void) {
     return take_back(&lent) && count <= want && all;
 }
 
-/* The same within any budget, and with any number of bytes that were asked for before. */
+/* The same within any budget, and with any number of bytes that were read before. */
 static int any_steps_within(void) {
     size_t want = next() % 20, count;
     struct elfsee_rows rows = any_rows(library.len), old = rows;
@@ -911,7 +911,7 @@ static int any_records(void) {
                                                                    end.cause == ELFSEE_BAD_VERSION));
 }
 
-/* Notes from any place on: each lies in the file behind the one before, until they end or are cut. */
+/* Notes from any place on: each lies in the file after the one before, until they end or are cut. */
 static int any_notes(void) {
     struct elfsee_notes notes = {any(library.len), any(library.len), next() % 10, 7, 7}, old = notes;
     struct elfsee_note note;
@@ -941,7 +941,7 @@ static int any_name(void) {
         return end.cause == (offset < left ? ELFSEE_NAME_UNENDED : ELFSEE_NAME_OUTSIDE) && (left || offset) &&
                (offset >= left || !memchr(library.bytes + strings.at + offset, 0, (size_t)(left - offset)));
     }
-    if (left == 0) return status == ELFSEE_OK && offset == 0 && name.at == strings.at && name.len == 0;
+    if (left == 0) return status == ELFSEE_OK && offset == 0 && name.at == 0 && name.len == 0;
     return status == ELFSEE_OK && name.at == strings.at + offset && offset < left && name.len < left - offset &&
            !memchr(library.bytes + name.at, 0, (size_t)name.len) &&
            library.bytes[name.at + name.len] == 0;
@@ -949,7 +949,7 @@ static int any_name(void) {
 
 static struct lent archive; /* made of the two files */
 
-/* A member behind those so far: its header, its data and the byte behind them where it is due. */
+/* A member after those so far: its header, its data and the byte after them if it is due. */
 static size_t add_member(uint8_t *bytes, size_t at, const char *name, const uint8_t *content, size_t len) {
     char header[61];
     snprintf(header, sizeof header, "%-48s%-10zu`\n", name, len);
@@ -1449,7 +1449,7 @@ static void over_no_file(const uint8_t *file, uint32_t *told, struct elfsee_end 
 
 enum { TOLD = 24 };
 
-/* Where a file, a room, an output or a name has no bytes, NULL is as good an address as another. */
+/* If a file, a room, an output or a name has no bytes, NULL is as good an address as another. */
 static void no_memory(void) {
     struct elfsee_limits limits = limits_of(4096, 256);
     static const struct elfsee_item item;

@@ -1,24 +1,24 @@
 /* Calls the library as the lines of standard input say, for tests/library. A line is one of
  *
  *     show HEADERS NAME BUDGET PARTS PATH
- *     list HEADERS NAME BUDGET PARTS FLAGS PATH        as elfsee_list does it
- *     names HEADERS NAME BUDGET PARTS FLAGS NAMES PATH as elfsee_list_names does it: names in hexadecimal digits,
+ *     list HEADERS NAME BUDGET PARTS FLAGS PATH        by elfsee_list
+ *     names HEADERS NAME BUDGET PARTS FLAGS NAMES PATH by elfsee_list_names: names in hexadecimal digits,
  *                                            joined by commas, or -
  *     hashed HEADERS BUDGET FLAGS PATH       the symbols of the hash table, a line for each
  *     find HEADERS BUDGET NAME PATH          NAME in hexadecimal digits, or -
  *     resolve HEADERS BUDGET FLAGS NAME VERSION PATH   both in hexadecimal digits, or -
  *     apply HEADERS BUDGET SECTION ITEMS PATH
- *     place HEADERS BUDGET SECTION ITEMS PATH          the same in a layout that is lent; where it is refused
- *                                            the bytes tell what that lacks
+ *     place HEADERS BUDGET SECTION ITEMS PATH          the same in a borrowed layout; if it is refused
+ *                                            the bytes say what that lacks
  *     rows PATH
  *     versions PATH                          the lines of symbol versions
  *     members PATH                           the lines of the members of an archive
  *     words                                  the words of the causes
  *
  * BUDGET is a number, or - for none; ITEMS are KIND:INDEX:NAME:ADDRESS joined by commas, with the name in
- * hexadecimal digits, or -. The answer is a line STATUS CAUSE AT WRITTEN ASKED COST LENGTH, and so many bytes; where
- * a call does what it may not do the line is WRONG and what it did. All that is lent lies at pages that
- * cannot be touched, and the file cannot be written. */
+ * hexadecimal digits, or -. The answer is a line STATUS CAUSE AT WRITTEN ASKED COST LENGTH, and LENGTH bytes; if
+ * a call does something that it must not do the line is WRONG and what it did. All caller's buffers are next to
+ * pages that cannot be touched, and the file cannot be written. */
 #define _GNU_SOURCE
 #include "elfsee.h"
 #include "lent.h"
@@ -32,7 +32,7 @@
 
 enum { MOST_ITEMS = 2000, HEADER_BYTES = 64 };
 
-static unsigned turn; /* lent memory lies at the page behind it and at that before it by turns */
+static unsigned turn; /* memory that is passed is next to the page after it and to that before it by turns */
 
 static void wrong(const char *what) {
     printf("WRONG %s\n", what);
@@ -124,7 +124,7 @@ static void show_again(const struct lent *file, const struct elfsee_limits *limi
     take_back(&again.out);
 }
 
-/* The listing in a style. Behind the struct there are zeros, as many as the turn says, as of a later version's
+/* The listing in a style. After the struct there are zeros, as many as the turn says, as of a later version's
  * fields: they must not matter. */
 static struct shown list_into(const struct lent *file, const struct elfsee_limits *limits,
                               const struct elfsee_listing *asked, size_t room_len, size_t out_len) {
@@ -145,7 +145,7 @@ static struct shown list_into(const struct lent *file, const struct elfsee_limit
     return shown;
 }
 
-/* Names that are lent, and their texts. */
+/* Names that are passed, and their texts. */
 struct names {
     struct lent list, texts[MOST_ITEMS];
     size_t count;
@@ -266,7 +266,7 @@ static void find(const struct lent *file, char **words) {
     answer(status, &end, UINT64_MAX, text, (size_t)len);
 }
 
-/* Where a range of a lookup lies: within the file. */
+/* Where a range of a lookup is: within the file. */
 static void expect_name(const struct lent *file, const struct elfsee_resolved *resolved) {
     expect(resolved->version.len <= 256 && resolved->is_cut <= 1 && resolved->is_hidden <= 1 &&
                resolved->has_version <= 1 && resolved->number < 32768,
@@ -315,7 +315,7 @@ static void resolve(const struct lent *file, char **words) {
     take_back(&version);
 }
 
-/* Items of their words; the names stand in `names`, one behind the other. */
+/* Items from their text; the names are in `names`, one after another. */
 static size_t items_of(char *words, struct elfsee_item *items, uint8_t *names) {
     size_t count = 0;
     char *rest, *word = *words == '-' ? 0 : strtok_r(words, ",", &rest);
@@ -377,7 +377,7 @@ static int by_index(const void *one, const void *other) {
     return a->index < b->index ? -1 : a->index > b->index;
 }
 
-/* A layout of items, each list where no byte beside it can be touched; one without items is at NULL by turns. */
+/* A layout of items, each list where no byte next to it can be touched; one without items is at NULL by turns. */
 static struct elfsee_layout layout_of(const struct elfsee_item *items, size_t count, struct lent *lists) {
     static struct elfsee_lent_section sections[MOST_ITEMS];
     static struct elfsee_lent_name names[5][MOST_ITEMS];
@@ -486,7 +486,7 @@ static void say(struct walk *walk, const char *form, ...) {
     va_end(words);
 }
 
-/* The bytes of a name, spelt as in a listing. */
+/* The bytes of a name, escaped as in a listing. */
 static void say_bytes(struct walk *walk, uint64_t at, uint64_t len) {
     uint64_t i, shown = len < walk->limits.name ? len : walk->limits.name;
     for (i = 0; i < shown; i += 1) {
@@ -500,7 +500,7 @@ static void say_bytes(struct walk *walk, uint64_t at, uint64_t len) {
 static int say_name(struct walk *walk, const struct elfsee_range *strings, uint64_t offset) {
     struct elfsee_range name = {7, 7};
     if (elfsee_name(walk->file->bytes, walk->file->len, strings, offset, &name, &walk->end)) return 0;
-    if (strings->len == 0) return name.at == strings->at && name.len == 0;
+    if (strings->len == 0) return name.at == 0 && name.len == 0;
     expect(name.at == strings->at + offset && offset + name.len < strings->len, "a name outside its table");
     expect(name.at + name.len < walk->file->len && walk->file->bytes[name.at + name.len] == 0,
            "a name without its NUL");
@@ -642,7 +642,7 @@ static int say_dynamic(struct walk *walk, uint16_t section) {
 }
 
 /* Where the strings of a segment's dynamic entries are in memory: the values of the first entry of the tag
- * STRTAB, and of that of the tag STRSZ. Whether both are told. */
+ * STRTAB, and of that of the tag STRSZ. Whether both are there. */
 static int strings_told(const struct walk *walk, struct elfsee_rows rows, uint64_t *address, uint64_t *size) {
     struct elfsee_dynamic some[5];
     size_t i, count = 5;
@@ -812,7 +812,7 @@ static int say_words(struct walk *walk, uint16_t section) {
     return 1;
 }
 
-/* The bytes of a section are those that its header tells, where they lie in the file and it has any there. */
+/* The bytes of a section are those that its header gives, where they lie in the file and it has any there. */
 static void expect_bytes(const struct walk *walk, uint16_t index, const struct elfsee_section *header,
                          uint64_t place) {
     struct elfsee_range range = {7, 7};
@@ -912,7 +912,7 @@ static void rows(const struct lent *file) {
     expect(take_back(&walk.room), "room was written outside");
 }
 
-/* The symbols of the hash table: of each its numbers and its name, or ! where it has none. */
+/* The symbols of the hash table: of each its numbers and its name, or ! if it has none. */
 static void hashed(const struct lent *file, char **words) {
     struct elfsee_limits limits = limits_of(words[0], "256", words[1]);
     struct elfsee_rows rows = {7, 7, 7, 7, 7, 7}, again = {8, 8, 8, 8, 8, 8};
@@ -1020,7 +1020,7 @@ static void words_of_causes(void) {
     answer(ELFSEE_OK, &none, elfsee_version(), text, len);
 }
 
-/* Splits a line into so many words and what is behind them. */
+/* Splits a line into a given number of words and what is after them. */
 static void split(char *line, char **words, size_t count) {
     while (count--) {
         *words++ = line;

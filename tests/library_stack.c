@@ -2,8 +2,8 @@
  *
  *     library_stack FILE..
  *
- * Each call runs over each file on a stack of its own that is painted first. Printed are lines `CALL BYTES`,
- * the most over all files. Names and sections that are asked for are those of the files themselves. */
+ * Each call runs over each file on a stack of its own that is painted first. It prints lines `CALL BYTES`,
+ * the maximum over all files. Names and sections in the calls are those of the files themselves. */
 #define _GNU_SOURCE
 #include "elfsee.h"
 #include "lent.h"
@@ -89,7 +89,7 @@ static void call_apply(void) {
     elfsee_apply(file, file_len, &LIMITS, &job, room, ROOM, out, OUT, &end);
 }
 
-/* In a layout that is lent, of which most is missing: so that it is told what would help. */
+/* In a borrowed layout, of which most is missing, so that the call says what would help. */
 static void call_place(void) {
     static struct elfsee_lent_section sections[300];
     static struct elfsee_lent_name names[300];
@@ -168,7 +168,7 @@ static void call_notes(void) {
     elfsee_next_note(file, file_len, &notes, &note, &end);
 }
 
-/* The first members; of a file that is no archive the bytes at its front, by a place in them. */
+/* The first members; of a file that is no archive the bytes at its beginning, by a place in them. */
 static void call_members(void) {
     struct elfsee_members members;
     struct elfsee_member member;

@@ -1,9 +1,9 @@
-/* Goes over all rows of all tables of a file in memory, by the library and by libelf, for tests/library:
+/* Iterates over all rows of all tables of a file in memory, by the library and by libelf, for tests/library:
  *
  *     library_tables FILE RUNS
  *
- * Printed is a line `TABLES ROWS SECONDS LIBELF`: how many tables and rows there are, and the least seconds of
- * processor that each took, of so many runs by turns. Where the rows of the two differ its status is 1. */
+ * It prints a line `TABLES ROWS SECONDS LIBELF`: how many tables and rows there are, and the least processor
+ * seconds that each took, of RUNS runs in turn. If the rows of the two differ its status is 1. */
 #define _POSIX_C_SOURCE 199309L
 #include "elfsee.h"
 
@@ -17,7 +17,7 @@
 
 enum { SOME = 64 };
 
-/* What was gone over; `sum` adds up all fields of all rows. */
+/* What was iterated over; `sum` adds up all fields of all rows. */
 struct gone {
     uint64_t tables, rows, sum;
 };

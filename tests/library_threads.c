@@ -1,4 +1,4 @@
-/* Four threads list the same files at once, over the same bytes and each with its own room and out, and have to
+/* Four threads list the same files at once, over the same bytes and each with its own room and out, and must
  * write the same, for tests/library:
  *
  *     library_threads FILE.. */

@@ -1,6 +1,6 @@
-"""What `elfsee archive`, `list` and `check` have to answer without a budget, and in which order commands over many files go
-through folders, computed a second time from the rules: for the scripts beside this module. Of an archive the members are
-those of made_archives.py, and their listings those of reported.py."""
+"""A second implementation of what `elfsee archive`, `list` and `check` must answer without a budget, and of the order in
+which commands over many files read directories, from the rules: for the scripts in this directory. The members of an
+archive are those of made_archives.py, and their listings those of reported.py."""
 
 import os
 import stat
@@ -13,7 +13,7 @@ ARCHIVE = made_archives.MAGIC
 
 def archived(content, wish, is_held):
     """The lines of an archive, the first fault in it or None, as place and cause; where names are given and lines are
-    held the line of a member stands only before one of its own."""
+    held the line of a member comes only before one of its own."""
     members, fault = made_archives.walked(content, wish.cap)
     lines, first = [], None
     for line, data in members:
@@ -73,7 +73,7 @@ def told_by(command, path, content, wish, has_members):
 # Many paths.
 
 def looked_at(path, is_given=True):
-    """The files that a path stands for, in order: each with whether it can be read, or None for a name that is no text."""
+    """The files of a path, in order: each with whether it can be read, or None for a name that is no text."""
     try:
         mode = os.stat(path).st_mode if is_given else os.lstat(path).st_mode
     except OSError:
@@ -91,7 +91,7 @@ def looked_at(path, is_given=True):
 
 
 def told_of_paths(paths, folder, told):
-    """What a command writes of some paths in a folder, and its status; `told` says of a path and its bytes the text and the
+    """What a command writes of some paths in a directory, and its status; `told` says of a path and its bytes the text and the
     status."""
     texts, statuses, unnamed = [], [0], 0
     here = os.getcwd()
@@ -116,7 +116,7 @@ def told_of_paths(paths, folder, told):
 
 
 def made_folders(top, files):
-    """Makes folders with files, links and what is neither, and answers lists of paths in them."""
+    """Makes directories with files, links and what is neither, and answers lists of paths in them."""
     chosen = [content for name, content in sorted(files.items()) if len(content) < 20000]
     names = [b"a/b/c", b"a/b.c", b"a/b-c", b"a/bc", b"a-b", b"a.b", b"ab", b"A", b"_", b"z \\ z", b"z\nz", b"\xc3\xa4", b"n/0",
              b"n/00", b"n/1", b"n/10", b"n/2", b"e.a", b"f.a", b"text", b"short", b"nothing"]

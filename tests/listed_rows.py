@@ -1,6 +1,6 @@
-"""The lines of a listing, written a second time from the rows that the library's module for Python
-answers: for the scripts beside this module. The columns are those of docs/FORMAT.md, and of that page
-it takes the names of numbers."""
+"""The lines of a listing, made from the rows that the library's module for Python
+returns: for the scripts in this directory. The columns and the names of numbers are those of
+docs/FORMAT.md."""
 
 import os
 import re

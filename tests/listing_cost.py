@@ -1,5 +1,5 @@
-"""What the account of a listing permits it to ask of a file, in bytes, computed a second time from the rules: for the
-scripts beside this module."""
+"""A second implementation of how many bytes of a file a listing may read, from the rules: for the
+scripts in this directory."""
 
 import struct
 
@@ -9,7 +9,7 @@ from listed_files import sort_of
 from reported import (DYNAMIC, DYNSYM, MAGIC, NOTE, P_DYNAMIC, P_NOTE, RELA, SYMTAB, VERDEF, VERNEED, VERSYM, Listing,
                       check_header, without_section_headers)
 
-# Of each type of section with rows the bytes of a row, and what a row asks for beside its name.
+# Of each type of section with rows the bytes of a row, and what a row reads besides its name.
 ROWS = {SYMTAB: (24, 24), DYNSYM: (24, 24), RELA: (24, 48), DYNAMIC: (16, 16)}
 
 
@@ -26,7 +26,7 @@ def is_inside(table, content):
 
 
 def cost(content, wish):
-    """The most that a listing asks for."""
+    """The most that a listing reads."""
     if not passes(lambda: check_header(content)) or wish.parts == ("header",):
         return 64 if len(content) >= 64 else 0
     content = without_section_headers(content) if wish.by_segments else content
@@ -38,7 +38,7 @@ def cost(content, wish):
         listing.content, listing.headers = content, load(content, wish.headers)
         headers = listing.headers
     except Refused:
-        # Checks behind the reading of section headers point at one of them.
+        # Checks after the reading of section headers point at one of them.
         return 64 + 64 * shnum * (shnum <= wish.headers and shoff + 64 * shnum <= len(content))
     asked = 64 + 64 * shnum
     if "sections" in wish.parts and names:
@@ -82,7 +82,7 @@ def section_cost(content, wish, headers, index, header, name, walks):
 
 
 def words_rows(headers, header):
-    """How many rows a table of symbol versions has; None where its checks do not pass."""
+    """How many rows a table of symbol versions has; None if its checks do not pass."""
     try:
         header.check_rows(2)
         linked = symbols_of(headers, header) if header.link else None
@@ -93,7 +93,7 @@ def words_rows(headers, header):
 
 
 def walk_cost(headers, content, of_definition, of_need):
-    """What the walks over the first definitions and the first needs ask for."""
+    """What the walks over the first definitions and the first needs read."""
     asked = 0
     for kind, size, of_record in ((VERDEF, 20, of_definition), (VERNEED, 16, of_need)):
         header = next((header for header in headers if header.type == kind), None)
@@ -111,8 +111,8 @@ def segment_cost(content, wish, segment, name):
 
 
 def archive_cost(content, wish):
-    """The most that an archive asks for: its magic string, and of each member the header, a long name, the first bytes of its
-    data, and what the listing of an ELF file asks for."""
+    """The most that an archive reads: its magic string, and of each member the header, a long name, the first bytes of its
+    data, and what the listing of an ELF file reads."""
     asked, long_name = 8 + 64, 64 * -(-(wish.cap + 2) // 64)
     for _, data in made_archives.walked(content, wish.cap)[0]:
         asked += 60 + long_name + 4 + (cost(data, wish) if data[:4] == MAGIC else 0)
@@ -120,7 +120,7 @@ def archive_cost(content, wish):
 
 
 def asked_by(command, content, wish, has_members):
-    """The most that a command asks of a file; `list` and `check` first of the bytes that tell what it is."""
+    """The most that a command reads from a file; `list` and `check` first of the bytes that say what it is."""
     if command in ("show", "archive"):
         return cost(content, wish) if command == "show" else archive_cost(content, wish)
     sort = sort_of(content, has_members)

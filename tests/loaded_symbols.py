@@ -1,5 +1,5 @@
-"""What a C program gets from dlsym and dlvsym for the names of a library, beside what `elfsee find --gnu` and
-looked_up.py answer: the second part of the script against_hash."""
+"""Compares the results of dlsym and dlvsym in a C program for the names of a library with those of `elfsee find --gnu` and
+looked_up.py: the second part of the script against_hash."""
 
 import collections
 import mmap
@@ -69,7 +69,7 @@ int main(int count, char **words)
 }
 """
 SECONDS = 60
-# The most headers that `elfsee find` permits where none are given.
+# The most headers that `elfsee find` allows if none are given.
 HEADERS = 4096
 # Copies without section headers are made of libraries that are no larger.
 COPIED_BYTES = 16 << 20
@@ -168,7 +168,7 @@ class Library:
         return False
 
     def wrong_address(self, lookup, found, offset):
-        """What is wrong with an answer of the rules, beside that of dlsym or dlvsym."""
+        """What is wrong with an answer of the rules, compared with that of dlsym or dlvsym."""
         if found is None:
             if offset is None or not self.has_address(offset):
                 self.counted["absent here, found in another library" if offset is not None else "absent"] += 1
@@ -195,7 +195,7 @@ def answer_of(program, path, text, cost, by_segments=False):
 
 
 def compared_library(task):
-    """Compares so many lookups in one library; answers what was counted, and what is wrong."""
+    """Compares a given number of lookups in one library; answers what was counted, and what is wrong."""
     path, program, loader, most, folder = task
     library = Library(path)
     if library.scope.refusal is not None:
@@ -242,7 +242,7 @@ def copied(library, folder):
 
 
 def wrong_answer(program, library, copy, text, is_limited):
-    """What is wrong with an answer of the program, beside the rules."""
+    """What is wrong with an answer of the program, compared with the rules."""
     path, scope = copy or (library.path, library.scope)
     status, lines, cost = looked_up.answer(scope.content, text, scope=scope)
     is_viewed = copy is not None and path == library.path

@@ -1,5 +1,5 @@
-"""What `elfsee find --gnu` has to answer, computed a second time from the rules, and how many bytes of the
-file it may ask for: for the scripts beside this module. It is written for plainness alone, and holds whole
+"""A second implementation of what `elfsee find --gnu` must answer, from the rules, and of how many bytes of the
+file it may read: for the scripts in this directory. It is written for clarity alone, and holds whole
 files: bytes, or a map of a file."""
 
 import struct
@@ -19,7 +19,7 @@ OFFERED_TYPES, OFFERED_BINDINGS, OFFERED_VISIBILITIES = (0, 1, 2, 5, 6, 10), (1,
 TYPES = {**listed_rows.NAMES["type of a Y line"], 10: "IFUNC"}
 BINDINGS = {**listed_rows.NAMES["binding"], 10: "UNIQUE"}
 VISIBILITIES, PLACES = listed_rows.NAMES["visibility"], listed_rows.NAMES["place"]
-# Numbers of versions are smaller; the one that is shown without having been wanted is cut to so many bytes.
+# Numbers of versions are smaller; the one that is shown without having been requested is cut to a given number of bytes.
 NUMBERS, SHOWN = 1024, 256
 BASE = 1
 
@@ -55,7 +55,7 @@ def parted(text):
 
 
 class Table:
-    """A range of the file, and the file offset of what tells it."""
+    """A range of the file, and the file offset of what describes it."""
 
     def __init__(self, offset, size, at):
         self.offset, self.size, self.at = offset, size, at
@@ -78,7 +78,7 @@ class Segment:
 
 
 def check_overlaps(segments):
-    """A LOAD segment that takes up memory begins behind the pages of the one before it."""
+    """A LOAD segment that takes up memory begins after the pages of the one before it."""
     taken = [segment for segment in segments if segment.type == LOAD and segment.memsz]
     for before, segment in zip(taken, taken[1:]):
         past = -(-(before.vaddr + before.memsz) // PAGE_BYTES)
@@ -87,8 +87,8 @@ def check_overlaps(segments):
 
 class Scope:
     """What lookups in a file are made in: the hash table and its kind, the symbols, their number, their strings
-    and the index that lines tell, and of a file with versions their words with how many there are, the index
-    that lines tell, the definitions and the needs."""
+    and the index that lines have, and for a file with versions their words with how many there are, the index
+    that lines have, the definitions and the needs."""
 
     def __init__(self, content, most):
         self.content, self.cost = content, 64
@@ -119,7 +119,7 @@ class Scope:
         refuse_where(table is None, 0x28, "no-hash")
         self.table, self.is_gnu = table, table.type == GNU_HASH
         table.check_inside()
-        # In files of Alpha the words of a hash table of the gABI have the size that its header tells, 8 bytes.
+        # In files of Alpha the words of a hash table of the gABI have the size that its header gives, 8 bytes.
         is_wide = self.machine == ALPHA and not self.is_gnu and table.entry == 8
         refuse_where(table.size < (16 if self.is_gnu else 8) or is_wide, table.at, "hash-shape")
         linked = symbols_of(headers, table) if table.link else None
@@ -190,7 +190,7 @@ class Scope:
         return self.part_of(row, lambda load: load.vaddr <= row[1] < load.vaddr + load.filesz, None)
 
     def exact(self, row, size):
-        """So many bytes at the address of a dynamic entry."""
+        """A given number of bytes at the address of a dynamic entry."""
         return self.part_of(row, lambda load: load.vaddr <= row[1] and row[1] + size <= load.vaddr + load.filesz, size)
 
     def part_of(self, row, holds, size):
@@ -406,7 +406,7 @@ class Lookup:
 
 
 def symbols_in(scope):
-    """Of a well-made file the name of each symbol behind the first that has one, with its index."""
+    """Of a well-made file the name of each symbol after the first that has one, with its index."""
     for index in range(1, scope.count):
         name, = struct.unpack_from("<I", scope.content, scope.symbols.offset + 24 * index)
         if name:
@@ -421,7 +421,7 @@ def before_strings(scope):
 
 
 def hashed_count(scope):
-    """How many symbols the hash table tells of, no more than there is room for."""
+    """How many symbols the hash table describes, no more than there is room for."""
     if not scope.is_gnu:
         return min(scope.nchain, scope.count)
     at = scope.table.offset
@@ -436,7 +436,7 @@ def hashed_count(scope):
 
 
 def hashed_symbols(scope):
-    """Each symbol of the hash table: its name, or None where its string table has none at its index, and its numbers,
+    """Each symbol of the hash table: its name, or None if its string table has none at its index, and its numbers,
     st_name first."""
     first, last = scope.strings.offset, scope.strings.offset + scope.strings.size
     for index in range(hashed_count(scope)):
@@ -477,7 +477,7 @@ def answer(content, text, most=4096, scope=None):
 
 
 def ceiling(length, slots, text):
-    """What no lookup asks for more than, whatever a file of this length holds and whatever its reads give."""
+    """The most that a lookup reads, for any file of this length and any results of its reads."""
     name, version, _ = parted(text)
     of_version = pad64(len(version) + 1) if version is not None else 0
     return (92 + 64 * slots + length + length // 4 * (30 + pad64(len(name) + 1))

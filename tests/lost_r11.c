@@ -1,7 +1,7 @@
-/* What the kit's compiler makes a wrong program of, at -O2 with -fstack-clash-protection, as it compiles each function
- * of a program (tests/toolchain). The test for f comes first, and then the loop that touches the pages of `pages`, which
- * counts with register r11; with six arguments and two values in the other registers `last` is in r11 meanwhile, and is
- * lost. The right answer is a ^ b ^ c ^ d, or 0 where that is f. */
+/* The kit's compiler makes a wrong program of this, at -O2 with -fstack-clash-protection, with which it compiles each
+ * function of a program (tests/toolchain). The test for f comes first, and then the loop that touches the pages of `pages`,
+ * which counts with register r11; with six arguments and two values in the other registers `last` is in r11 meanwhile, and
+ * is lost. The right answer is a ^ b ^ c ^ d, or 0 if that is f. */
 void touch(volatile char *);
 
 long lost(long a, long b, long c, long d, long e, long f) {

@@ -1,4 +1,4 @@
-"""Archives that are made up, for tests: what an archive is made of, odd ones, and what each lists."""
+"""Generated archives, for tests: what an archive consists of, odd ones, and what each lists."""
 
 import re
 import struct
@@ -16,7 +16,7 @@ def member(name, content):
 
 
 def bsd_member(name, content, nuls=0):
-    """A member with its name at the front of its data, and so many NULs behind it."""
+    """A member with its name at the beginning of its data, and a given number of NULs after it."""
     front = name + bytes(nuls)
     return member(b"#1/%d" % len(front), front + content)
 
@@ -65,7 +65,7 @@ def odd_archives():
 
 
 def bsd_archives():
-    """Archives with names at the front of the data, by what is odd in each."""
+    """Archives with names at the beginning of the data, by what is odd in each."""
     behind = member(b"b/", b"")
     archives = {
         "BSD name": MAGIC + member(b"#1/20", b"a_long_name_as_of_BSD" + b"content"),
@@ -92,7 +92,7 @@ def bsd_archives():
 
 
 def spelt(name):
-    """A name as the lines spell it."""
+    """A name as the lines escape it."""
     return b"".join(b"\\\\" if byte == 0x5c else bytes([byte]) if 0x20 <= byte <= 0x7e else b"\\x%02x" % byte
                     for byte in name)
 
@@ -102,11 +102,11 @@ def shown(name, cap):
 
 
 class Fault(Exception):
-    """No member stands at an offset, or its name does not."""
+    """There is no member at an offset, or its name is malformed."""
 
 
 def name_of(field, content, table, cap):
-    """What is shown of a member's name, and the data behind it where it stands at their front."""
+    """What is shown of a member's name, and the data after it if it is at their beginning."""
     bsd, long = re.fullmatch(rb"#1/([0-9]{1,13}) *", field), re.fullmatch(rb"/([0-9]{1,15}) *", field)
     if bsd:
         size = int(bsd[1])

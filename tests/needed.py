@@ -1,5 +1,5 @@
-"""What `elfsee needs --symbols` has to answer without a budget, computed a second time from the rules: for the scripts
-beside this module. It is written for plainness alone, and holds whole files. What a lookup in one file gives it takes from
+"""A second implementation of what `elfsee needs --symbols` must answer without a budget, from the rules: for the scripts
+in this directory. It is written for clarity alone, and holds whole files. It takes lookups in one file from
 looked_up.py."""
 
 import os
@@ -16,7 +16,7 @@ WEAK, ASKED_BINDINGS = 2, (1, 2, 10)
 MOST_OBJECTS, TEXT_BYTES = 512, 4096
 # Texts of all objects together, and how many of them and of needs there are.
 ALL_TEXT_BYTES, ALL_TEXTS = MOST_OBJECTS * 8192, MOST_OBJECTS * 64
-# A token of RPATH and RUNPATH: its name in braces, or such that no further byte of a name stands behind it.
+# A token of RPATH and RUNPATH: its name in braces, or such that no further byte of a name follows.
 TOKEN = re.compile(rb"\$(?:\{(ORIGIN|LIB|PLATFORM)\}|(ORIGIN|LIB|PLATFORM)(?![0-9A-Za-z_]))")
 DEFAULT = "/lib/x86_64-linux-gnu:/usr/lib/x86_64-linux-gnu:/lib64:/usr/lib64:/lib:/usr/lib"
 
@@ -29,7 +29,7 @@ class OpenScope(Scope):
 
 
 class BySegments:
-    """A file as a loader sees it: what stands of section headers in its header counts as zeros."""
+    """A file as a loader sees it: what is of section headers in its header counts as zeros."""
 
     def __init__(self, content, most):
         hidden = bytearray(content)
@@ -64,7 +64,7 @@ class Texts:
 
 
 def whole_text(content, start, size, index, at):
-    """The whole name at an index of strings, or the refusal at what tells of it."""
+    """The whole name at an index of strings, or the refusal at what describes it."""
     if size == 0 and index == 0:
         return b""
     refuse_where(index >= size, at, "name-outside")
@@ -76,7 +76,7 @@ def whole_text(content, start, size, index, at):
 
 
 class Links:
-    """What the dynamic entries of a file tell of how it is linked."""
+    """What the dynamic entries of a file say about how it is linked."""
 
     def __init__(self, content, texts):
         self.needs, self.soname, self.rpath, self.runpath = [], None, None, None
@@ -114,7 +114,7 @@ class Links:
                 self.runpath = text if self.runpath is None else self.runpath
 
     def text(self, at, index):
-        """The text at an index of the strings that the entries tell of."""
+        """The text at an index of the strings that the entries locate."""
         refuse_where(self.address is None or self.size is None, at, "unmapped")
         for place, (_, _, offset, vaddr, _, filesz, _) in self.loads:
             if vaddr <= self.address and self.address + self.size <= vaddr + filesz:
@@ -143,7 +143,7 @@ class Known:
 
 
 class Program:
-    """A program with its objects, found in these folders."""
+    """A program with its objects, found in these directories."""
 
     def __init__(self, path, library=b"", default=DEFAULT.encode(), most=4096):
         self.library, self.default, self.most, self.texts = library, default, most, Texts()
@@ -179,7 +179,7 @@ class Program:
         self.lines.append("L %5d %-5s %-8s %s %s\n" % (index, needer, state, refusal, spelt(path, len(path))))
         self.status = self.status if state == "found" else 1
 
-    # Where a library is looked for.
+    # Where a library is searched for.
 
     def find(self, needer, name):
         """The path of the first file that fits, and what it holds; or None."""
@@ -246,7 +246,7 @@ class Program:
         return "nover" if self.lacks(sought) else "unbound", None, None
 
     def lacks(self, sought):
-        """Whether the object of which a version is asked for defines versions, and not that one."""
+        """Whether the object of which a version is needed defines versions, and not that one."""
         if sought.needed is None:
             return False
         name = sought.needed()
@@ -280,7 +280,7 @@ class Definer(Lookup):
 
 
 class Sought:
-    """What a symbol asks others for."""
+    """What a symbol imports."""
 
     def __init__(self, file, index):
         scope = file.scope
@@ -324,7 +324,7 @@ def parts(text):
 
 
 def expanded(text, path):
-    """The folders of an RPATH or RUNPATH; one with an unknown `$` is passed over."""
+    """The directories of an RPATH or RUNPATH; one with an unknown `$` is skipped."""
     origin = os.path.dirname(os.fsencode(path)) or (b"/" if os.fsencode(path).startswith(b"/") else b".")
     values = {b"ORIGIN": origin, b"LIB": b"lib/x86_64-linux-gnu", b"PLATFORM": b"x86_64"}
     for folder in parts(text):

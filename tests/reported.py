@@ -1,5 +1,5 @@
-"""What `elfsee show` has to list without a budget, computed a second time from the rules: for the scripts beside this
-module. It is written for plainness alone, and holds whole files. Names of numbers are those of docs/FORMAT.md;
+"""A second implementation of what `elfsee show` must list without a budget, from the rules: for the scripts in this
+directory. It is written for clarity alone, and holds whole files. Names of numbers are those of docs/FORMAT.md;
 listed_files.py has archives and many files."""
 
 import os
@@ -23,7 +23,7 @@ PAGE = os.path.join(os.path.dirname(os.path.dirname(os.path.abspath(__file__))),
 
 
 def names_on_page():
-    """Of each field the names of its numbers: those of every listing, those of the GNU system, and those of it for x86-64."""
+    """Of each field the names of its numbers: those of every listing, those defined by GNU, and those of it for x86-64."""
     with open(PAGE, encoding="utf-8") as file:
         part = file.read().split("## Names of numbers")[1].split("\n## ")[0]
     fields = {}
@@ -40,7 +40,7 @@ NAMES = names_on_page()
 
 
 class Wish:
-    """What is asked of a listing. `given` are the names by which rows are chosen, or None for all rows."""
+    """The options of a listing. `given` are the names by which rows are selected, or None for all rows."""
 
     def __init__(self, parts=PARTS[:7], headers=4096, cap=256, gnu=False, versions=False, by_segments=False, texts=None):
         self.parts, self.headers, self.cap, self.gnu, self.versions = parts, headers, cap, gnu, versions
@@ -50,7 +50,7 @@ class Wish:
             self.texts = set(texts) if not versions else {parted(text) for text in texts}
 
     def has(self, row):
-        """Whether a row is one of those that are asked for."""
+        """Whether a row is one of those that are selected."""
         return self.texts is None or row.is_one_of(self.texts, self.versions)
 
     def words(self):
@@ -63,7 +63,7 @@ class Wish:
                                                  ("--by-segments", self.by_segments)) if is_so]
 
     def is_for_all_rows(self):
-        """Whether `check` can be asked so too."""
+        """Whether `check` has these options too."""
         return self.texts is None and not self.versions
 
 
@@ -97,13 +97,13 @@ class Row:
 
 
 def shown(name):
-    """A name as it stands in a line."""
+    """A name as it is in a line."""
     content, is_whole = name
     return made_archives.spelt(content).decode() + ("" if is_whole else "\\+")
 
 
 def name_at(content, strings, index, at, cap):
-    """The name at an index of strings, at most so many bytes of it, and whether that is all; `at` is what holds the index."""
+    """The name at an index of strings, at most a given number of bytes of it, and whether that is all; `at` is what holds the index."""
     if strings.size == 0 and index == 0:
         return b"", True
     refuse_where(index >= strings.size, at, "name-outside")
@@ -132,7 +132,7 @@ class Strings:
 
 
 def without_section_headers(content):
-    """A file with zeros for what its header tells of section headers."""
+    """A file with zeros for what its header says about section headers."""
     content = bytearray(content)
     if len(content) >= 64:
         content[40:48], content[60:64] = bytes(8), bytes(4)
@@ -276,7 +276,7 @@ class Listing:
                 yield Row("D %5d %-16s %016x " % (index, self.named("tag", tag, "%016x"), value), name)
 
     def strings_by_segments(self, rows, at):
-        """The strings that dynamic entries tell of, which are asked for at one of them."""
+        """The strings that dynamic entries locate, requested at one of them."""
         first = {tag: value for _, tag, value in reversed(rows)}
         refuse_where(T_STRTAB not in first or T_STRSZ not in first, at, "unmapped")
         address, size = first[T_STRTAB], first[T_STRSZ]
@@ -345,7 +345,7 @@ class Listing:
 
 
 class Versions:
-    """What stands behind the names of a symbol table."""
+    """What follows the names of a symbol table."""
 
     def __init__(self, listing, header):
         self.listing, self.header = listing, header
@@ -454,7 +454,7 @@ def check_header(content):
 
 
 def report(content, wish):
-    """The lines of a file that are asked for, and the refusal that ends them, or None."""
+    """The lines of a file that are selected, and the refusal that ends them, or None."""
     lines = []
     try:
         for row in Listing(content, wish).rows():

@@ -1,7 +1,7 @@
-"""Small ELF files of tables that are mostly in order, but point to one another by chance, for the scripts beside this
-module: two version tables of one symbol table, tables over one another, tables of no bytes, links to section 0,
+"""Small ELF files of tables that are mostly in order, but point to one another at random, for the scripts in this
+directory: two version tables of one symbol table, tables over one another, tables of no bytes, links to section 0,
 addresses in two segments. Some have names, notes and tables that are longer than what is read at once. The same
-generator of chance gives the same file."""
+random generator gives the same file."""
 
 import struct
 
@@ -15,14 +15,14 @@ STARTS = [STRINGS.index(b"\0" + name + b"\0") + 1 for name in NAMES[1:-3]] + [0,
 LENGTHS = (0, 3, 3, 3, 62, 63, 64, 65, 127, 128, 129, 255, 256, 257, 1000, 4095, 4096, 4097, 4160, 5000)
 LONG = {"symbols": (169, 170, 171, 340, 341, 680), "entries": (169, 170, 171, 341), "words": (170, 341, 680, 2048, 2049),
         "dynamic": (250, 256, 300), "buckets": (1000, 1023, 1024, 1025), "chain": (60, 300, 1024)}
-# Numbers of types of sections, the bytes of a row where a table has rows, and to what the section links.
+# Numbers of types of sections, the bytes of a row if a table has rows, and to what the section links.
 TYPES = {"symbols": (2, 11), "entries": (4,), "words": (0x6fffffff,), "definitions": (0x6ffffffd,), "needs": (0x6ffffffe,),
          "strings": (3,), "notes": (7,), "dynamic": (6,), "sysv": (5,), "gnu": (0x6ffffff6,)}
 ROWS = {"symbols": 24, "entries": 24, "words": 2, "dynamic": 16}
 OF_STRINGS = ("symbols", "definitions", "needs", "dynamic")
 TAGS = {"sysv": 4, "strings": 5, "symbols": 6, "gnu": 0x6ffffef5, "words": 0x6ffffff0, "definitions": 0x6ffffffc,
         "needs": 0x6ffffffe}
-# Tags of entries that tell how a file is linked and hardened, and values for them.
+# Tags of entries that say how a file is linked and hardened, and values for them.
 TRAITS, VALUES = (1, 14, 15, 22, 24, 29, 30, 0x6ffffffb), (0, 1, 4, 5, 8, 16, 1 << 27, 1 << 27 | 1, len(STRINGS))
 FLAGS = (0, 2, 0x7f7, 0xff7, 0x2007f7, 0x200ff7, 0x1200ff7, 0x4000ff7, 0x4200ff7, 0x10000ff7, 1 << 31, (1 << 64) - 1)
 SEGMENTS = (2, 3, 4, 0x6474e551, 0x6474e551, 0x6474e552, 6)
@@ -133,7 +133,7 @@ class SmallFile:
         return text + b"".join(struct.pack("<I", self.below(1 << 32) & even) for _ in range(self.count("chain", self.below(6))))
 
     def dynamic(self, end=0):
-        """Entries with the addresses of tables, and some that tell traits."""
+        """Entries with the addresses of tables, and some that set traits."""
         rows = [(tag, self.places[name][0] + self.base) for name, tag in TAGS.items()
                 if name in self.places and self.chance.random() < 0.92]
         if rows and self.chance.random() < 0.2:
@@ -207,7 +207,7 @@ class SmallFile:
             size = min(size, self.one((size,) * 8 + (0, row, 2 * row))) if kind in ("words", "symbols") else size
             entry = self.mostly(ROWS.get(kind, 0), 0, 1, 2, 16, 24)
             if size == 0 and self.chance.random() < 0.3:
-                # Nothing of a table of no bytes is looked at.
+                # Nothing of a table of no bytes is read.
                 place, entry = self.one((place, 1 << 63, (1 << 64) - 1)), self.one((entry, 1))
             text += struct.pack("<2I", self.start(), self.one(TYPES[kind]) if kind else 0)
             text += struct.pack("<4Q", self.one(FLAGS), 0, place, size)

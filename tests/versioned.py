@@ -1,4 +1,4 @@
-"""Makes objects of some hundred bytes with symbol versions, for what no file of a usual machine has: names of more bytes
+"""Makes objects of some hundred bytes with symbol versions, for what no usual file of a machine has: names of more bytes
 than a lookup gives, numbers without a name, and fewer versions than symbols.
 """
 

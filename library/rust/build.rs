@@ -1,5 +1,5 @@
-//! Tells where the library is: where ELFSEE_LIBRARY_DIR says; else in ../out from here, where the repository builds it;
-//! else where pkg-config says, as it was installed. It is linked statically, where the folder has libelfsee.a.
+//! Finds the library: in ELFSEE_LIBRARY_DIR; otherwise in ../out, where the repository builds it; otherwise where
+//! pkg-config says that it is installed. It is linked statically if the directory has libelfsee.a.
 
 use std::env;
 use std::path::{Path, PathBuf};
@@ -9,7 +9,7 @@ const HELP: &str =
     "the library elfsee is not found: ELFSEE_LIBRARY_DIR may name its folder; library/build in elfsee's \
                     repository builds it, and `make install-library` installs it, for pkg-config to find";
 
-/// The folder that pkg-config tells, if there is one.
+/// The directory that pkg-config prints, if there is one.
 fn installed() -> Option<PathBuf> {
     let tool = env::var("PKG_CONFIG").unwrap_or_else(|_| "pkg-config".to_string());
     let told = Command::new(tool).args(["--variable=libdir", "elfsee"]).output().ok()?;

@@ -1,4 +1,4 @@
--- What reads one after another ask for.
+-- What consecutive reads request.
 use Rattle.std.proofs.Common.{ℕ, ◌+◌, ◌≤◌, ◌≡◌, nat_le, Bool, true, false, Result, Ok, Err, List, take, length, refl, sym, ap, arith}
 use Rattle.std.proofs.lemmas.Bool.Decides.{nat_tests}
 use Rattle.elf_model.specs.Prelude.{MemberWalkState, cost_where, header_cost, is_elsewhere, long_name_bytes, name_field, slice}
@@ -10,7 +10,7 @@ use Rattle.elf_table.specs.declared.fault.Fault.TheVariants.{Refused, Source}
 use Rattle.elf_archive.specs.Members.{AsksAtMost, member_name_cost}
 use Rattle.elf_archive.proofs.MemberLaws.{name-of}
 
--- reads behind others, in a bound on all
+-- reads after others, in a bound on all
 pub IsReadFault-then : (a b c : CountedState) (fault : Fault) (n m k : ℕ) → n + m ≤ k → ReadsUpTo a b n → IsReadFault b c m fault → IsReadFault a c k fault
 IsReadFault-then a b c (Refused refusal) n m k within p q = λ is.
     let over = q is in (rw (sym p.keeps.same_size) over.0, ExceedsBudget-then n k (omega (arith, p.at_most)) p over.1, over.2)
@@ -23,7 +23,7 @@ CountsRead-then a b c (Err fault) n m k within p q = (ReadsUpTo-to (ReadsUpTo-th
 pub CountsRead-to : {X : Type 0} (a b : CountedState) (result : Result X Fault) (n k : ℕ) → n ≤ k → AsksAtMost a b result n → AsksAtMost a b result k
 CountsRead-to a b result n k within p = CountsRead-then a a b result 0 n k (omega (arith, within)) (ReadsUpTo-none a 0) p
 
--- a cost where there is room
+-- a cost if there is room
 pub where_room : (at size n : ℕ) → at + 60 ≤ size → cost_where (nat_le (at + 60) size) n ≡ n
 where_room at size n room = let yes : nat_le (at + 60) size ≡ true = grind (arith, nat_tests) in rw yes refl
 

@@ -1,4 +1,4 @@
--- What the calls that list members take of the source, one after another.
+-- What the calls that list members read of the source, one after another.
 use Rattle.std.proofs.Common.{ℕ, ◌+◌, ◌≤◌, Result, Ok, Err, Option, Some, List, sym, ap, ◌∙◌, arith}
 use Rattle.elf_source.specs.Prelude.{CountedState, LiesWithin, OutState, ReadsUpTo}
 use Rattle.elf_source.proofs.ReadsLaws.{ReadsUpTo-none, ReadsUpTo-then, ReadsUpTo-to, IsSourceFault-then, ExceedsBudget-then, ExceedsBudget-more}
@@ -10,7 +10,7 @@ use Rattle.elf_table.specs.declared.fault.Fault.TheVariants.{Refused as Refuses,
 use Rattle.elf_table.specs.declared.run_fault.RunFault.TheVariants.{Refused, Source}
 use Rattle.elf_archive.specs.Listed.{ReadsAtMostIn, StopTells, IsAll}
 
--- reads behind others, in a bound on all
+-- reads after others, in a bound on all
 pub Explains-then : (a b c : CountedState) (out : OutState) (stop : RunFault) (n m k : ℕ) → n + m ≤ k → ReadsUpTo a b n → StopTells b c out m stop → StopTells a c out k stop
 Explains-then a b c out (Refused refusal) n m k within p q = λ is.
     let over = q is in (rw (sym p.keeps.same_size) over.0, ExceedsBudget-then n k (omega (arith, p.at_most)) p over.1)
@@ -24,12 +24,12 @@ ReadsAtMostIn-then a b c out (Err stop) n m k within p q = (ReadsUpTo-to (ReadsU
 pub ReadsAtMostIn-to : {X : Type 0} (a b : CountedState) (out : OutState) (result : Result X RunFault) (n k : ℕ) → n ≤ k → ReadsAtMostIn a b out result n → ReadsAtMostIn a b out result k
 ReadsAtMostIn-to a b out result n k within p = ReadsAtMostIn-then a a b out result 0 n k (omega (arith, within)) (ReadsUpTo-none a 0) p
 
--- a fault of a read, in a bound
+-- a read fault, in a bound
 pub ReadsAtMostIn-fault : (a b : CountedState) (out : OutState) (fault : Fault) (n k : ℕ) → n ≤ k → ReadsUpTo a b n → IsReadFault a b n fault → ReadsAtMostIn {X = Unit {0}} a b out (Err (stop_of fault)) k
 ReadsAtMostIn-fault a b out (Refuses refusal) n k within p q = (ReadsUpTo-to p (omega (arith, p.at_most)), λ is. let over = q is in (over.0, ExceedsBudget-more within over.1))
 ReadsAtMostIn-fault a b out (Unread fault at) n k within p q = (ReadsUpTo-to p (omega (arith, p.at_most)), q.0)
 
--- a range of all bytes is one behind reads
+-- a range of all bytes is one after reads
 pub still_whole : (a b : CountedState) (n : ℕ) → IsAll a → ReadsUpTo a b n → IsAll b
 still_whole a b n all p = record {
   whole = p.keeps.same_whole ∙ (all.whole ∙ (ap (λ (size : ℕ). Some (record { size = size; file = a.seen.file })) (sym p.keeps.same_size)

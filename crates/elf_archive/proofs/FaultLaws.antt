@@ -22,7 +22,7 @@ use Rattle.elf_archive.proofs.ReportLaws.{over_budget}
 use Rattle.elf_archive.proofs.ToldLaws.{part_fault}
 use Rattle.elf_archive.proofs.WalkLaws.{cost_next, fewer, fewer_is}
 
--- the first fault from the next place of a walk on
+-- the first fault starting at the next position of a walk
 abbrev after_fault : List ℕ → ℕ → ListingStyle → ℕ → ℕ → MemberWalkState → NextMember → Option Refusal
 after_fault file headers style parts most p Ends = None
 after_fault file headers style parts most p (Broken refusal) = Some refusal
@@ -41,7 +41,7 @@ fault_next file headers style parts (suc most) p Ends enough is = rw (is, member
 fault_next file headers style parts (suc most) p (Broken refusal) enough is = rw (is, members_from) refl
 fault_next file headers style parts (suc most) p (OneMember m) enough is = rw (is, members_from) refl
 
--- what a check has gone over so far without a fault, what is left, and what that costs
+-- what a check has visited so far without a fault, what is left, and what that costs
 pub record CheckedSoFar (file : List ℕ) (headers : ℕ) (style : ListingStyle) (parts first : ℕ) (start p : MemberWalkState) (a b : CountedState) : Type 0 where
   pub most : ℕ
   pub enough : length file < p.at + most
@@ -61,7 +61,7 @@ check_begins file headers style parts first start a enough = record {
   cost = omega arith;
 }
 
--- a member more, which has no fault
+-- one more member, which has no fault
 pub check_more : (file : List ℕ) (headers : ℕ) (style : ListingStyle) (parts first : ℕ) (start p q : MemberWalkState) (a b c d : CountedState) (m : Member) → p.at < q.at
     → CheckedSoFar file headers style parts first start p a b → next_member file style.cap p ≡ OneMember m → q ≡ behind file p m
     → ReadsUpTo b c (header_cost file style.cap p) → ReadsUpTo c d (member_cost file headers style parts m) → member_fault file headers style parts m ≡ None
@@ -97,14 +97,14 @@ step_cost_left file headers style parts first start p a b known =
     let sum = cost_next file headers style parts known.most p (next_member file style.cap p) known.enough refl in
     omega (arith, known.cost, sum)
 
--- a place where no member stands
+-- an offset without a valid member
 pub walk_fault : (file : List ℕ) (headers : ℕ) (style : ListingStyle) (parts first : ℕ) (start p q : MemberWalkState) (a b : CountedState) (name : List ℕ) (fault : Fault) → CheckedSoFar file headers style parts first start p a b
     → ReturnsMember file style.cap p q name (Err fault) → FindsFault {X = Unit {0}} (fault_from file headers style parts first start) (Err (stop_of fault))
 walk_fault file headers style parts first start p q a b name (Refuses refusal) known tells =
     λ other. known.left ∙ fault_next file headers style parts known.most p (Broken refusal) known.enough (tells other)
 walk_fault file headers style parts first start p q a b name (Unread fault at) known tells = tt
 
--- a member whose listing was gone through without a fault
+-- a member whose listing has no fault
 pub sound_member : {v w : OutState} (file : List ℕ) (headers : ℕ) (style : ListingStyle) (parts : ℕ) (m : Member) → ListsMember v w (Ok None) (member_listing file headers style parts m)
     → member_fault file headers style parts m ≡ None
 sound_member file headers style parts m p = ap (option_map (placed_after m.extent.at)) p.no_fault
@@ -118,11 +118,11 @@ fault_of_member file headers style parts first start p a b m refusal placed know
     λ other. known.left ∙ (fault_next file headers style parts known.most p (OneMember m) known.enough is
     ∙ ap (λ (fault : Option Refusal). elim fault [ Some refusal ↦ Some refusal | None ↦ fault_from file headers style parts (fewer known.most) (behind file p m) ]) found)
 
--- what that takes of the source
+-- what that reads of the source
 pub fault_takes : (a b : CountedState) (w : OutState) (n start : ℕ) (refusal placed : Refusal) → (IsBudgetRefusal refusal → ⊥) → placed ≡ placed_after start refusal → ReadsUpTo a b n → ReadsAtMostIn {X = Unit {0}} a b w (Err (Refused placed)) n
 fault_takes a b w n start refusal placed own place reads = (reads, λ budget. absurd (own (sym (ap (λ (r : Refusal). r.cause) place) ∙ budget)))
 
--- a member that stopped the check sooner
+-- a member that stopped the check early
 pub stop_of_member : (v w : OutState) (file : List ℕ) (headers : ℕ) (style : ListingStyle) (parts : ℕ) (m : Member) (stop : RunFault) (fault : Option Refusal) → ListsMember v w (Err stop) (member_listing file headers style parts m)
     → FindsFault {X = Unit {0}} fault (Err stop)
 stop_of_member v w file headers style parts m (Refused refusal) fault p = λ other. absurd (other p.0)
@@ -147,7 +147,7 @@ pub own_fault : (budget : Option ℕ) (file : List ℕ) (headers : ℕ) (style :
 own_fault None file headers style parts fault is = sym is
 own_fault (Some budget) file headers style parts fault is = inl (sym is)
 
--- a refusal that a check answers is a fault within the budget
+-- a refusal that a check returns is a fault within the budget
 pub answered_fault : (file : List ℕ) (caps : Caps) (parts : ℕ) (refusal : Refusal) (before limited after : CountedState) → before.asked ≤ 2 ^ 127 → SetsLimit before limited caps.limits.budget
     → before.seen.size ≡ length file → BudgetSays limited after (archive_cost file caps.limits.headers (style_of caps.style) parts) refusal
     → FindsFault {X = Unit {0}} (archive_fault file caps.limits.headers (style_of caps.style) parts) (Err (Refused refusal))
@@ -188,7 +188,7 @@ found_tells s0 s1 s2 s3 out n budget (Err (Refused refusal)) set unset well says
 found_tells s0 s1 s2 s3 out n budget (Err (Source fault at)) set unset well says = rw (unset.seen, sym set.seen) says
 found_tells s0 s1 s2 s3 out n budget (Err (Out fault)) set unset well says = let failed = says.failed in cc
 
--- a refusal that it answers
+-- a refusal that it returns
 pub found_late : {X : Type 0} (s1 s2 : CountedState) (out : OutState) (n : ℕ) (result : Result X RunFault) → IfErr result (StopTells s1 s2 out n) → (refusal : Refusal) → result ≡ Err (Refused refusal)
     → BudgetSays s1 s2 n refusal
 found_late s1 s2 out n (Ok x) says refusal is = cc

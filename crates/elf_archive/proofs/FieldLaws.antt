@@ -14,7 +14,7 @@ and-false : (t : Bool) → (t && false) ≡ false
 and-false true = refl
 and-false false = refl
 
--- a byte more at the end changes nothing of bytes that are all this one
+-- one more byte at the end changes nothing of bytes that are all this one
 all-more : (byte : ℕ) (xs : List ℕ) → are_all byte (xs ++ byte ∷ []) ≡ are_all byte xs
 all-more byte [] = let same : (byte == byte) ≡ true = grind (arith, nat_tests) in ap (λ (t : Bool). t && true) same
 all-more byte (x ∷ xs) = ap (λ (b : Bool). (x == byte) && b) (all-more byte xs)
@@ -30,13 +30,13 @@ unfolding trimmed
 trimmed-more byte [] = rw (all-more byte []) refl
 trimmed-more byte (x ∷ xs) = rw (all-more byte (x ∷ xs), trimmed-more byte xs) refl
 
--- bytes that end in another byte stay
+-- bytes that end in another byte are unchanged
 pub trimmed-ends : (byte : ℕ) (xs : List ℕ) (b : ℕ) → (b == byte) ≡ false → trimmed byte (xs ++ b ∷ []) ≡ xs ++ b ∷ []
 unfolding trimmed
 trimmed-ends byte [] b other = rw other refl
 trimmed-ends byte (x ∷ xs) b other = rw (all-end byte (x ∷ xs) b other, trimmed-ends byte xs b other) refl
 
--- a digit more keeps a number of so many digits small
+-- one more digit keeps a number of a given count of digits small
 pub digit_more : (number digit place : ℕ) → number < 10 ^ place → digit ≤ 9 → 10 * number + digit < 10 ^ (place + 1)
 digit_more number digit place small nine =
     let e : 10 ^ (place + 1) ≡ 10 * 10 ^ place = ap (λ n. 10 ^ n) (add-one place) ∙ pow-succ' 10 place in
@@ -45,14 +45,14 @@ digit_more number digit place small nine =
 pub digits_small : (number place : ℕ) → place ≤ 15 → number < 10 ^ place → number < 1000000000000000
 digits_small number place few small = let most : 10 ^ place ≤ 10 ^ 15 = pow-le-pow_right (omega arith) few in omega (arith, most)
 
--- a digit, and what stands behind it
+-- a digit, and what follows it
 pub digits-more : (number : ℕ) (field : List ℕ) (place : ℕ) → place < length field → is_decimal (get_or field place 0) ≡ true
     → parse_padded_decimal number (drop place field) ≡ parse_padded_decimal (10 * number + (get_or field place 0 - 48)) (drop (place + 1) field)
 unfolding parse_padded_decimal
 digits-more number field place within is =
     rw (drop-cons field place 0 within, is, add-one place) refl
 
--- another byte, and what stands behind it
+-- another byte, and what follows it
 pub digits-stop : (number : ℕ) (field : List ℕ) (place : ℕ) → place < length field → is_decimal (get_or field place 0) ≡ false
     → parse_padded_decimal number (drop place field) ≡ (if are_all 32 (drop place field) then Some number else None)
 unfolding parse_padded_decimal
@@ -68,7 +68,7 @@ not_true : (t : Bool) → (t ≡ true → ⊥) → t ≡ false
 not_true true other = absurd (other refl)
 not_true false other = refl
 
--- the first place of a byte, by places
+-- the first index of a byte, index by index
 found : (byte : ℕ) (bytes : List ℕ) (place : ℕ) → place < length bytes → ((i : ℕ) → i < place → (get_or bytes i 0 == byte) ≡ false) → (get_or bytes place 0 == byte) ≡ true
     → position (λ b. b == byte) bytes ≡ Some place
 found byte bytes place within before here =
@@ -80,12 +80,12 @@ nowhere byte bytes before =
     let e : position_or_len (λ b. b == byte) bytes ≡ length bytes = position_or_len_is (λ b. b == byte) bytes (length bytes) 0 (omega arith) before (λ l. absurd (omega arith)) in
     grind (arith, nat_tests)
 
--- the first place of a byte
+-- the first index of a byte
 pub first_at : (byte : ℕ) (bytes : List ℕ) (place : Option ℕ) → IsFirstByte (is_byte byte) bytes place → position (λ b. b == byte) bytes ≡ place
 first_at byte bytes (Some place) h = found byte bytes place h.0.high (λ i l. not_true (get_or bytes i 0 == byte) (h.0.before i zero-le l)) h.1
 first_at byte bytes None h = nowhere byte bytes (λ i l. not_true (get_or bytes i 0 == byte) (h i zero-le l))
 
--- the first bytes end in one that stands at a place
+-- the first bytes end in one that is at an index
 front_more : (bytes : List ℕ) (end : ℕ) → 0 < end → end ≤ length bytes → take end bytes ≡ take (end - 1) bytes ++ get_or bytes (end - 1) 0 ∷ []
 front_more bytes end some within =
     let e : end ≡ suc (end - 1) = omega arith in

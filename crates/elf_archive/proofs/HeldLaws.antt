@@ -1,4 +1,4 @@
--- The line of a member that was held, and what was listed behind it.
+-- The line of a member that was deferred, and what was listed after it.
 use Rattle.std.proofs.Common.{◌≡◌, ℕ, Bool, false, List, [], ◌∷◌, ◌++◌, None, Some, Result, Ok, Err, refl, ap, ◌∙◌}
 use Rattle.std.specs.Prelude.{IfOk}
 use Rattle.elf_model.specs.Prelude.{Fault, Line, ListingItem, before_some, fault_of, line_before, lines_of, told}
@@ -18,7 +18,7 @@ use Rattle.elf_listing.proofs.RowLaws.{Whole-line}
 use Rattle.elf_listing.proofs.ShowLaws.{WroteUntilStop-then, Whole-then}
 use Rattle.elf_archive.specs.Listed.{ReadsAtMostIn, AnswersAfter}
 
--- items that are told have no fault
+-- items that are reported have no fault
 pub told_clean : (format : Format) (items : List ListingItem) → fault_of (told format items) ≡ None
 told_clean format [] = refl
 told_clean format (Line text ∷ items) = told_clean format items
@@ -36,25 +36,25 @@ some_clean : (text line : List ℕ) (items : List ListingItem) → fault_of item
 some_clean [] line items none = refl
 some_clean (byte ∷ text) line items none = none
 
--- where items begin with lines of which there is a byte, the line stands
+-- if items begin with lines of at least one byte, the line is kept
 stands : (text line : List ℕ) (items : List ListingItem) (byte : ℕ) (bytes : List ℕ) → text ≡ byte ∷ bytes → before_some text (Line line ∷ items) ≡ Line line ∷ items
 stands text line items byte bytes is = rw is refl
 
--- a line that stands alone
+-- a line that is written alone
 pub line_writes : (began mid new : OutState) (line : List ℕ) (items : List ListingItem) (result : Result Bool RunFault) → SinkTakes began mid line → WroteSome mid new result items → WroteSome began new result (Line line ∷ items)
 line_writes began mid new line items (Ok refused) p q = Whole-then (Whole-line line p) q
 line_writes began mid new line items (Err stop) p q = WroteUntilStop-then began mid new stop (Line line ∷ []) items (Whole-line line p) q
 
--- a line that stands alone, of which a front was put
+-- a line that is written alone, of which a prefix was written
 pub line_fails_first : (old new : OutState) (line : List ℕ) (items : List ListingItem) (fault : OutFault) → SinkTakesPrefix old new line → WroteUntilStop old new (Out fault) (Line line ∷ items)
 line_fails_first old new line items fault p = SinkTakesPrefix-more line (lines_of items) p
 
--- nothing was written of an output that was broken off
+-- nothing was written of an output that failed permanently
 pub broken_stops : (old new : OutState) (fault : OutFault) (items : List ListingItem) → FailsOutput old new fault → WroteUntilStop old new (Out fault) items
 broken_stops old new fault items p = record { front = []; rest = lines_of items; split = refl; takes = broken_takes old new fault p }
 
 module _ (began mid old new : OutState) (line : List ℕ) (held : DeferredLine) (p : KeepsDeferred began mid line held) (ends : EndsLine held old new) where
-  -- a front of a listing behind the line
+  -- a prefix of a listing after the line
   held_front : (items : List ListingItem) → WrotePrefix mid old items → WrotePrefix began new (line_before false line items)
   held_front items q = by_text (lines_of q.front) refl
     where
@@ -82,7 +82,7 @@ module _ (began mid old new : OutState) (line : List ℕ) (held : DeferredLine) 
       let some : fault_of items ≡ Some refusal = ap fault_of split ∙ (ap (λ r. fault_of (front ++ r)) is ∙ (listings_append front (Fault refusal ∷ behind) clean).1) in
       cc
 
-  -- WHAT WAS WRITTEN behind the line, and the line
+  -- WHAT WAS WRITTEN after the line, and the line
   pub held_writes : (listed result : Result Bool RunFault) (items : List ListingItem) → fault_of items ≡ None → AnswersAfter listed new result → WroteSome mid old listed items
       → WroteSome began new result (line_before false line items)
   held_writes (Ok refused) result items clean is q =
@@ -99,7 +99,7 @@ module _ (began mid old new : OutState) (line : List ℕ) (held : DeferredLine) 
   held_writes (Err (Out fault)) result items clean is q =
       rw (is.1, lines_before line items) (line_front began mid old line held p new (lines_of items) q ends)
 
-  -- what it took of the source
+  -- what it read of the source
   pub held_consumes : (a b : CountedState) (n : ℕ) (listed result : Result Bool RunFault) → OutGrows mid old → AnswersAfter listed new result → ReadsAtMostIn a b old listed n → ReadsAtMostIn a b new result n
   held_consumes a b n (Ok refused) result grows is q = rw is q
   held_consumes a b n (Err (Refused refusal)) result grows is q = rw is q
@@ -113,11 +113,11 @@ module _ (began mid old new : OutState) (line : List ℕ) (held : DeferredLine) 
         },
       )
 
-  -- what was written, for every source
+  -- what was written, for any source
   pub held_grows : OutGrows mid old → OutGrows began new
   held_grows q = record { bytes = before_text line q.bytes; takes = line_ends began mid old line held p new q.bytes q.takes ends }
 
--- whether a listing was refused is the same behind its line
+-- whether a listing was refused is the same after its line
 pub held_refused : (listed result : Result Bool RunFault) (new : OutState) (any : Bool) → AnswersAfter listed new result → IfOk listed (λ refused. refused ≡ any) → IfOk result (λ refused. refused ≡ any)
 held_refused (Ok refused) result new any is p = rw is p
 held_refused (Err (Refused refusal)) result new any is p = rw is tt

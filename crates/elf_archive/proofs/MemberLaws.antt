@@ -1,4 +1,4 @@
--- What a member's header tells, and what the walk does by it.
+-- What a member's header gives, and what the walk does by it.
 use Rattle.std.proofs.Common.{◌≡◌, ℕ, ◌+◌, ◌-◌, ◌<◌, ◌≤◌, ◌==◌, ◌&&◌, nat_lt, add-zero, true, false, List, length, take, Option, None, Some, Ok, Err, refl, sym, ap, ◌∙◌, arith}
 use Rattle.std.proofs.lemmas.Bool.Decides.{nat_tests}
 use Rattle.elf_model.specs.Prelude.{DisplayedName, FileRange, Member, MemberWalkState, OneMember, behind, data_after, field, is_name_table, member_data, member_name, member_size, name_field, name_in_data, names_behind, next_member, padded_end, parsed_member_size, slice}
@@ -11,7 +11,7 @@ use Rattle.elf_table.specs.declared.fault.Fault.TheVariants.{Refused, Source}
 use Rattle.elf_archive.specs.Members.{ReturnsMember, names_passed}
 use Rattle.elf_model.proofs.Slices.{slice-slice, field-slice}
 
--- the size that a header tells is the one that it tells in the file
+-- the size that a header gives is the one that it gives in the file
 pub told-of : (file header : List ℕ) (at size : ℕ) → size ≡ 60 → header ≡ slice file at size → parsed_member_size header 0 ≡ parsed_member_size file at
 unfolding parsed_member_size
 told-of file header at size sixty is =
@@ -25,7 +25,7 @@ table-of file header at is =
 pub name-of : (file header : List ℕ) (at : ℕ) → header ≡ slice file at 60 → take 16 header ≡ name_field file at
 name-of file header at is = rw is (slice-slice file at 60 0 16 (omega arith) ∙ ap (λ n. slice file n 16) (add-zero at))
 
--- no header stands at an offset
+-- no header is at an offset
 pub size-short : (file : List ℕ) (at : ℕ) → length file < at + 60 → member_size file at ≡ Err MemberCut
 unfolding member_size
 size-short file at short = grind (arith, nat_tests)
@@ -42,7 +42,7 @@ pub size-inside : (file : List ℕ) (at size : ℕ) → parsed_member_size file 
 unfolding member_size
 size-inside file at size told inside = grind (arith, nat_tests, told)
 
--- the data of a member, behind a name at their front
+-- the data of a member, after a name at their start
 pub data-none : (file : List ℕ) (at : ℕ) → member_size file at ≡ Err MemberCut → member_data file at ≡ Err MemberCut
 unfolding member_data
 data-none file at none = rw (none, member_data) refl
@@ -71,13 +71,13 @@ pub next-ends : (file : List ℕ) (cap : ℕ) (p : MemberWalkState) → length f
 unfolding next_member
 next-ends file cap p past = let no : nat_lt p.at (length file) ≡ false = grind (arith, nat_tests) in rw no refl
 
--- where no member stands
+-- at an offset without a valid member
 pub next-cut : (file : List ℕ) (cap : ℕ) (p : MemberWalkState) (cause : Cause) → p.at < length file → member_data file p.at ≡ Err cause
     → next_member file cap p ≡ Broken (record { at = p.at; cause = cause })
 unfolding next_member
 next-cut file cap p cause below cut = let yes : nat_lt p.at (length file) ≡ true = grind (arith, nat_tests) in rw (yes, cut) refl
 
--- where its name is refused
+-- if its name is refused
 pub next-unnamed : (file : List ℕ) (cap : ℕ) (extent : FileRange) (p : MemberWalkState) (cause : Cause) → p.at < length file → member_data file p.at ≡ Ok extent → member_name file cap p.names p.at ≡ Err cause
     → next_member file cap p ≡ Broken (record { at = p.at; cause = cause })
 unfolding next_member
@@ -89,7 +89,7 @@ pub next-member : (file : List ℕ) (cap : ℕ) (extent : FileRange) (p : Member
 unfolding next_member
 next-member file cap extent p name below told named = let yes : nat_lt p.at (length file) ≡ true = grind (arith, nat_tests) in rw (yes, told, named) refl
 
--- what a refusal of the header, or of the name, tells of the walk
+-- what a refusal of the header, or of the name, says of the walk
 pub tells-data : (file name : List ℕ) (cap : ℕ) (p : MemberWalkState) (fault : Fault) → p.at < length file → Refuses p.at fault (member_data file p.at) → ReturnsMember file cap p p name (Err fault)
 tells-data file name cap p (Refused refusal) below says = λ other.
     let said = says other in
@@ -103,7 +103,7 @@ tells-name file name cap extent p (Refused refusal) below told says = λ other.
     next-unnamed file cap extent p refusal.cause below told said.1 ∙ ap (λ (a : ℕ). Broken (record { at = a; cause = refusal.cause })) (sym said.0)
 tells-name file name cap extent p (Source fault at) below told says = tt
 
--- the table of names behind a member, by its header
+-- the table of names after a member, by its header
 passed : (file header : List ℕ) (p : MemberWalkState) (extent : FileRange) → header ≡ slice file p.at 60 → names_passed p.names header extent ≡ names_behind file p extent
 passed file header p extent is = go p.names refl
   where
@@ -111,7 +111,7 @@ passed file header p extent is = go p.names refl
     go (Some table) e = rw e refl
     go None e = rw (e, table-of file header p.at is) refl
 
--- the walk behind a member, by its header
+-- the walk after a member, by its header
 pub behind-is : (file header : List ℕ) (p new : MemberWalkState) (m : Member) → header ≡ slice file p.at 60 → new.at ≡ padded_end p.at (m.extent.at + m.extent.size)
     → new.index ≡ p.index + 1 → new.names ≡ names_passed p.names header m.extent → new ≡ behind file p m
 behind-is file header p new m is at index names =

@@ -15,12 +15,12 @@ use Rattle.elf_format.specs.Named.{shown_as}
 use Rattle.elf_archive.specs.Members.{NameShown, member_name_cost, told_cost}
 use Rattle.elf_archive.proofs.MemberLaws.{name-of}
 
--- two slices, one behind the other
+-- two slices, one after the other
 pub two_slices : (file first rest : List ℕ) (at n m : ℕ) → first ≡ slice file at n → rest ≡ slice file (at + n) m → first ++ rest ≡ slice file at (n + m)
 two_slices file first rest at n m p q =
     rw (p, q) (ap (λ r. take n (drop at file) ++ take m r) (sym (drop-drop n at file)) ∙ sym (take-add n m (drop at file)))
 
--- what two reads gave, one behind the other
+-- what two consecutive reads gave
 pub two_reads : {X E : Type 0} (result : Result X E) (file first rest : List ℕ) (at n m whole : ℕ) → n ≡ 4096 → n + m ≡ whole → first ≡ slice file at n
     → OnOk result (rest ≡ slice file (at + 4096) m) → OnOk result (first ++ rest ≡ slice file at whole)
 two_reads (Ok x) file first rest at n m whole first_is all p q =
@@ -69,18 +69,18 @@ long_read file front table offset cap n inside few within whole is =
 pub long-found : (cap place : ℕ) (front : List ℕ) → newline_in front ≡ Some place → long_of cap front (newline_in front) ≡ Ok (capped cap (without_slash (take place front)))
 long-found cap place front is = rw is refl
 
--- the table ends before it does
+-- the table ends before the name does
 pub long-unended : (cap : ℕ) (front : List ℕ) → newline_in front ≡ None → length front < cap + 2 → long_of cap front (newline_in front) ≡ Err NameUnended
 long-unended cap front none short =
     let no : nat_lt (cap + 1) (length front) ≡ false = grind (arith, nat_tests) in rw (none, no) refl
 
--- it is longer than what is looked at
+-- it is longer than the bytes read
 pub long-cut : (cap : ℕ) (front : List ℕ) → newline_in front ≡ None → cap + 2 ≤ length front → long_of cap front (newline_in front) ≡ Ok (capped cap front)
 long-cut cap front none long =
     let yes : nat_lt (cap + 1) (length front) ≡ true = grind (arith, nat_tests) in
     let more : nat_lt cap (length front) ≡ true = grind (arith, nat_tests) in rw (none, yes, more) refl
 
--- a member's name, by the field of its name
+-- a member's name, by its name field
 pub name-bsd : (file header : List ℕ) (cap at size : ℕ) (names : Option FileRange) → header ≡ slice file at 60 → bsd_name_length (take 16 header) ≡ Some size
     → member_name file cap names at ≡ Ok (bsd_name file cap (at + 60) size)
 unfolding member_name
@@ -102,7 +102,7 @@ pub told-short : (file field : List ℕ) (cap : ℕ) (names : Option FileRange) 
 unfolding parsed_member_name
 told-short file field cap names told = rw (told, parsed_member_name) refl
 
--- how many bytes of the data it takes, and whether it stands elsewhere
+-- how many bytes of the data it takes, and whether it is elsewhere
 pub in-data : (field : List ℕ) (size : ℕ) → bsd_name_length field ≡ Some size → name_in_data field ≡ size
 unfolding name_in_data
 in-data field size told = rw (told, name_in_data) refl
@@ -122,7 +122,7 @@ cost-bsd header cap size told = ap (λ t. cost_where t (long_name_bytes cap)) (e
 pub cost-told : (header : List ℕ) (cap : ℕ) → bsd_name_length (take 16 header) ≡ None → member_name_cost header cap ≡ told_cost (take 16 header) cap
 cost-told header cap told = ap (λ t. cost_where t (long_name_bytes cap)) (elsewhere-long (take 16 header) told)
 
--- a name at the front of the data, by the bytes that are looked at
+-- a name at the start of the data, by the bytes read
 pub bsd_looked : (file : List ℕ) (cap start size want : ℕ) → want ≡ min size (cap + 2) → bsd_name file cap start size ≡ capped cap (trimmed 0 (slice file start want))
 unfolding bsd_name
 bsd_looked file cap start size want is = rw is refl
@@ -132,7 +132,7 @@ pub long_front : (file : List ℕ) (table : FileRange) (offset cap n : ℕ) → 
     → long_name file cap (Some table) offset ≡ long_of cap (slice file (table.at + offset) n) (newline_in (slice file (table.at + offset) n))
 long_front file table offset cap n inside few within whole = long_read file (slice file (table.at + offset) n) table offset cap n inside few within whole refl
 
--- and by those that were read into the front of a buffer
+-- and by those that were read into the start of a buffer
 pub long_buffer : (file buffer : List ℕ) (table : FileRange) (offset cap want : ℕ) → want ≤ length buffer → offset < table.size → want ≤ cap + 2 → offset + want ≤ table.size
     → (want < cap + 2 → offset + want ≡ table.size)
     → long_name file cap (Some table) offset
@@ -141,12 +141,12 @@ long_buffer file buffer table offset cap want room inside few within whole =
     let size : length (take want buffer) ≡ want = length-take-le want buffer room in
     rw size (long_front file table offset cap want inside few within whole)
 
--- a fault of a read refuses nothing
+-- a read fault refuses nothing
 pub unread-refuses : {X : Type 0} (at : ℕ) (fault : Fault) (answer : Result X Cause) → IsOfRead fault → Refuses at fault answer
 unread-refuses at (Refused refusal) answer read = λ other. absurd (other read)
 unread-refuses at (Source fault offset) answer read = tt
 
--- and by those that were read into the front of a buffer
+-- and by those that were read into the start of a buffer
 pub bsd-buffer : (file buffer : List ℕ) (cap start size want : ℕ) → want ≡ min size (cap + 2) → want ≤ length buffer → (result : Result Bool Fault) (name : List ℕ)
     → IfOk result (λ cut. capped cap (trimmed 0 (slice file start (length (take want buffer)))) ≡ shown_as cut name)
     → IfOk result (λ cut. bsd_name file cap start size ≡ shown_as cut name)
@@ -155,7 +155,7 @@ bsd-buffer file buffer cap start size want is room (Ok cut) name read =
     bsd_looked file cap start size want is ∙ ap (λ n. capped cap (trimmed 0 (slice file start n))) (sym sized) ∙ read
 bsd-buffer file buffer cap start size want is room (Err fault) name read = tt
 
--- what was read of a name at the front of the data is the member's name
+-- what was read of a name at the start of the data is the member's name
 pub bsd-shown : (file header : List ℕ) (cap at size : ℕ) (names : Option FileRange) (result : Result Bool Fault) (name : List ℕ) → header ≡ slice file at 60
     → bsd_name_length (take 16 header) ≡ Some size → IfErr result IsOfRead → IfOk result (λ cut. bsd_name file cap (at + 60) size ≡ shown_as cut name)
     → NameShown at result name (member_name file cap names at)

@@ -12,24 +12,24 @@ use Rattle.elf_table.specs.declared.run_fault.RunFault.TheVariants.{Refused, Sou
 use Rattle.elf_listing.specs.Shows.{ListingCosts}
 use Rattle.elf_archive.specs.Listed.{ReadsAtMostIn, EndsPart, IsAll, after_start}
 
--- what a source is a range of where it is a range of all bytes
+-- what a source is a range of if it is a range of all bytes
 abbrev all_of : SourceState → RangeParent
 all_of seen = record { size = seen.size; file = seen.file }
 
 some_is : {X : Type 0} {x y : X} → Some x ≡ Some y → x ≡ y
 some_is e = cc
 
--- what it is a range of is the same before and behind
+-- what it is a range of is the same before and after
 same_whole : (a b c d : CountedState) (n start size : ℕ) → IsAll a → Narrows a b start size → ReadsUpTo b c n → Widens c d
     → Some (all_of d.seen) ≡ Some (all_of a.seen)
 same_whole a b c d n start size whole narrows reads widens =
     sym widens.is_whole ∙ (widens.same_whole ∙ (reads.keeps.same_whole ∙ (narrows.same_whole ∙ whole.whole)))
 
--- where nothing is hidden, what was given to be read is what is seen
+-- if nothing is masked, what was given to be read is what is seen
 all_shown : (c : CountedState) → c.hides ≡ false → c.seen ≡ seen_by false c.source
 all_shown c shows = c.is_seen ∙ ap (λ b. seen_by b c.source) shows
 
--- so that it is kept where that is
+-- so that it is kept if that is
 same_view : (a d : CountedState) → a.hides ≡ false → d.hides ≡ false → all_of d.seen ≡ all_of a.seen → a.seen.failures ≤ d.seen.failures → d.seen.whole ≡ a.seen.whole → SameView a d
 same_view a d first last same fewer whole =
     let p = all_shown a first in
@@ -93,7 +93,7 @@ part_limit a b c d n start size narrows widens over = record {
 part_offset : (start at size all : ℕ) → at < size → start + size ≤ all → after_start start at < all
 part_offset start at size all inside lies = omega arith
 
--- WHAT A MEMBER'S LISTING TAKES OF THE ARCHIVE is what it takes of the member
+-- WHAT A MEMBER'S LISTING READS OF THE ARCHIVE is what it reads of the member
 pub part_consumes : {X : Type 0} (a b c d : CountedState) (v : OutState) (n start size : ℕ) (listed : Result X RunFault) (result : Result (Option Refusal) RunFault) → IsAll a → start + size ≤ a.seen.size
     → Narrows a b start size → ListingCosts b c v listed n → Widens c d → EndsPart start listed result → ReadsAtMostIn a d v result n
 part_consumes a b c d v n start size (Ok x) result whole lies narrows costs widens ends =

@@ -43,7 +43,7 @@ whole_archive alone file caps parts any is whole =
       refused = λ same e. let here : any ≡ same = cc in sym here ∙ is;
     }
 
--- a fault that is no refusal
+-- a fault that is not a refusal
 abbrev IsFault : RunFault → Type 0
 IsFault (Refused refusal) = ⊥
 IsFault (Source cause at) = Unit {0}
@@ -54,7 +54,7 @@ wrote_front (Refused refusal) text fault is front = absurd is
 wrote_front (Source cause at) text fault is front = front
 wrote_front (Out cause) text fault is front = front
 
--- a front of a listing is a front of its report
+-- a prefix of a listing is a prefix of its report
 front_report : {a b : OutState} (alone : Bool) (file : List ℕ) (caps : Caps) (parts : ℕ) (stop : RunFault) → IsFault stop → SinkTakesPrefix a b (lines_of (items_with alone file caps parts)) → ReportsArchive alone file caps parts a b (Err stop)
 front_report alone file caps parts stop is front =
     let all : List ListingItem = items_with alone file caps parts in
@@ -66,14 +66,14 @@ front_report alone file caps parts stop is front =
       refused = λ any e. cc;
     }
 
--- whole lines of a listing are a front of its lines
+-- whole lines of a listing are a prefix of its lines
 front_lines : {a b : OutState} (all : List ListingItem) → WrotePrefix a b all → SinkTakesPrefix a b (lines_of all)
 front_lines all front =
     let more = lines_front front.front front.rest in
     let split = ap lines_of front.split ∙ more.1 in
     rw split (SinkTakesPrefix-all (lines_of front.front) more.0 front.takes)
 
--- a listing that ended in a refusal, and what was put of its line
+-- a listing that ended in a refusal, and what was written of its line
 ended : {a b : OutState} (refusal : Refusal) (all : List ListingItem) (ends : WroteUntilRefusal a b refusal all) → IsNext refusal ends.front.rest
     → (lines_of all ≡ lines_of ends.front.front) × (fault_of all ≡ Some refusal)
 ended refusal all ends next =
@@ -82,7 +82,7 @@ ended refusal all ends next =
     let both = listings_append front (FaultItem refusal ∷ next.behind) ends.front.no_fault in
     (ap lines_of whole ∙ both.0 ∙ append-nil (lines_of front), ap fault_of whole ∙ both.1)
 
--- where a call had no room for a read that it costs, its budget is below its cost
+-- if a call had no room for a read that it costs, its budget is below its cost
 pub over_budget : (budget : Option ℕ) (cost : ℕ) (before limited after : CountedState) → before.asked ≤ 2 ^ 127 → SetsLimit before limited budget → ExceedsBudget limited after cost
     → (bytes : ℕ) × (budget ≡ Some bytes) × (bytes < cost)
 over_budget None cost before limited after small limits over = let most = limits.most in let set = over.is_set in absurd (cc)
@@ -126,7 +126,7 @@ ended_listed alone file caps parts refusal before limited after small limits siz
         report_listed alone caps.limits.budget file caps.limits.headers (style_of caps.style) parts _ _
         (record { text_is = sym (ap (λ lines. lines ++ end_text caps.style.format (fault_of all)) is.0 ∙ ap (λ end. lines_of ends.front.front ++ end_text caps.style.format end) is.1); fault_is = sym is.1 })
 
--- a listing that ended in a refusal, whose line was told
+-- a listing that ended in a refusal, whose line was written
 ended_report : {a b c : OutState} (alone : Bool) (file : List ℕ) (caps : Caps) (parts : ℕ) (refusal : Refusal) (told : RunFault) (before limited after : CountedState) → before.asked ≤ 2 ^ 127
     → SetsLimit before limited caps.limits.budget → before.seen.size ≡ length file → BudgetSays limited after (archive_cost file caps.limits.headers (style_of caps.style) parts) refusal
     → WroteUntilRefusal a b refusal (items_with alone file caps parts) → WroteRefusal caps.style.format b c refusal told → ReportsArchive alone file caps parts a c (Err told)
@@ -143,7 +143,7 @@ ended_report {a} {b} {c} alone file caps parts refusal told before limited after
     wrote (Source cause at) line = absurd line
     wrote (Out cause) line = SinkTakesPrefix-then (lines_of ends.front.front) (refusal_line caps.style.format refusal) ends.front.takes line.1
 
--- a listing that stopped, and what was told of that
+-- a listing that stopped, and what was reported of that
 pub stopped_archive : {a c : OutState} (b : OutState) (alone : Bool) (file : List ℕ) (caps : Caps) (parts : ℕ) (stop told : RunFault) (before limited after : CountedState) (out : OutState) → before.asked ≤ 2 ^ 127
     → SetsLimit before limited caps.limits.budget → before.seen.size ≡ length file → StopTells limited after out (archive_cost file caps.limits.headers (style_of caps.style) parts) stop
     → WroteUntilStop a b stop (archive_items alone file caps.limits.headers (style_of caps.style) parts) → ReturnsStop caps.style.format b c stop told → ReportsArchive alone file caps parts a c (Err told)
@@ -154,14 +154,14 @@ stopped_archive b alone file caps parts (Source cause at) told before limited af
 stopped_archive b alone file caps parts (Out cause) told before limited after out small limits sized says ends tells =
     rw (tells.0, tells.1) (front_report alone file caps parts (Out cause) tt ends)
 
--- what is kept, and what is asked for, where a limit was set meanwhile
+-- what is kept, and what is read, if a limit was set meanwhile
 pub leaves_limited : (s0 s1 s2 s3 : CountedState) (n : ℕ) (budget : Option ℕ) → SetsLimit s0 s1 budget → ReadsUpTo s1 s2 n → SetsLimit s2 s3 None → KeepsSourceUnlimited s0 s3
 leaves_limited s0 s1 s2 s3 n budget set reads unset = record { keeps = rw (unset.seen, sym set.seen) reads.keeps; free = unset.most }
 
 pub asked_limited : (s0 s1 s2 s3 : CountedState) (n : ℕ) (budget : Option ℕ) → SetsLimit s0 s1 budget → ReadsUpTo s1 s2 n → SetsLimit s2 s3 None → s3.asked ≤ s0.asked + n
 asked_limited s0 s1 s2 s3 n budget set reads unset = omega (arith, reads.at_most, set.asked, unset.asked)
 
--- what is asked for within a budget
+-- what is read within a budget
 pub asks_in_archive : {X : Type 0} (caps : Caps) (s0 s1 s2 s3 : CountedState) (n : ℕ) (result : Result X RunFault) → s0.asked ≤ 2 ^ 127 → SetsLimit s0 s1 caps.limits.budget
     → ReadsUpTo s1 s2 (archive_ceiling s1.seen.size caps.limits.headers (style_of caps.style)) → SetsLimit s2 s3 None
     → ((refusal : Refusal) → first_refusal (archive_length_checks s1.seen.size) ≡ Some refusal → s2 ≡ s1)
@@ -182,7 +182,7 @@ asks_in_archive caps s0 s1 s2 s3 n result small set reads unset unread late =
       inside = λ refusal is budget. omega (arith, (late refusal is budget).0, size);
     }
 
--- a refusal that was told is the one that stopped the listing
+-- the refusal reported is the one that stopped the listing
 pub reported_late : (format : Format) (s1 s2 : CountedState) (a b out : OutState) (n : ℕ) (stop told : RunFault) → ReturnsStop format a b stop told → StopTells s1 s2 out n stop
     → (refusal : Refusal) → told ≡ Refused refusal → BudgetSays s1 s2 n refusal
 reported_late format s1 s2 a b out n (Refused first) (Refused same) tells says refusal is =
@@ -192,7 +192,7 @@ reported_late format s1 s2 a b out n (Refused first) (Out cause) tells says refu
 reported_late format s1 s2 a b out n (Source cause at) told tells says refusal is = let other = tells.1 in cc
 reported_late format s1 s2 a b out n (Out cause) told tells says refusal is = let other = tells.1 in cc
 
--- what was told of a stop says of the source and the output what the stop did
+-- what was reported of a fault implies for the source and the output what the fault did
 pub told_says : (format : Format) (s0 s1 s2 s3 : CountedState) (a b : OutState) (n : ℕ) (budget : Option ℕ) (stop told : RunFault) → SetsLimit s0 s1 budget → SetsLimit s2 s3 None
     → ReturnsStop format a b stop told → StopTells s1 s2 a n stop → ArchiveSays s0 s3 b told
 told_says format s0 s1 s2 s3 a b n budget (Refused first) (Refused same) set unset tells says = tt

@@ -1,4 +1,4 @@
--- Where the name of a member lies.
+-- The location of the name of a member.
 use Rattle.std.proofs.Common.{◌≡◌, ℕ, ◌+◌, ◌<◌, ◌≤◌, ◌==◌, if◌then◌else◌, min, nat_lt, not, Bool, true, false, List, length, take, drop, take-take, length-take, length-drop, Option, None, Some, Result, Ok, Err, refl, sym, ap, ◌∙◌, arith}
 use Rattle.std.specs.Prelude.{IfErr}
 use Rattle.std.proofs.lemmas.Bool.Decides.{nat_tests}
@@ -39,7 +39,7 @@ short_at file field at size names is told named within =
     told-short file field 4096 names told
     ∙ ap (λ (n : List ℕ). Ok (capped 4096 n)) (sym named ∙ ap (take size) is ∙ take-take size 16 (drop at file) (omega (arith, within, sixteen)))
 
--- a name at the front of the data, by the bytes that are looked at
+-- a name at the start of the data, by the bytes read
 pub bsd_at : (file front : List ℕ) (start size want few : ℕ) → want ≡ min size 4098 → front ≡ slice file start want → take few front ≡ trimmed 0 front → few ≤ length front
     → bsd_name file 4096 start size ≡ capped 4096 (slice file start few)
 bsd_at file front start size want few is read named within =
@@ -47,7 +47,7 @@ bsd_at file front start size want few is read named within =
     bsd_looked file 4096 start size want is
     ∙ ap (capped 4096) (ap (trimmed 0) (sym read) ∙ sym named ∙ ap (take few) read ∙ take-take few want (drop start file) (omega (arith, most, within)))
 
--- a name in the table of names, by the bytes that are looked at
+-- a name in the table of names, by the bytes read
 pub long_looked : (file front : List ℕ) (table : FileRange) (offset : ℕ) → offset < table.size → front ≡ slice (slice file table.at table.size) offset 4098
     → long_name file 4096 (Some table) offset ≡ long_of 4096 front (newline_in front)
 unfolding long_name
@@ -64,7 +64,7 @@ long_within file front at whole offset size inside is within =
     let c = length-take whole (drop at file) in
     (omega (arith, a, within), omega (arith, a, b, c, within, inside))
 
--- where it lies
+-- its location
 pub long_at : (file front : List ℕ) (table : FileRange) (offset size : ℕ) → offset < table.size → front ≡ slice (slice file table.at table.size) offset 4098 → size ≤ length front
     → long_of 4096 front (newline_in front) ≡ Ok (capped 4096 (take size front)) → long_name file 4096 (Some table) offset ≡ Ok (capped 4096 (slice file (table.at + offset) size))
 long_at file front table offset size inside is within told =

@@ -1,4 +1,5 @@
--- The listing of a member in that of its archive: the line of its first fault ends it, and nothing else.
+-- The listing of a member in that of its archive: the line of its first fault ends it, and nothing
+-- else.
 use Rattle.std.proofs.Common.{◌≡◌, ℕ, Bool, List, [], ◌∷◌, ◌++◌, Option, None, Some, is_some, Result, Ok, Err, false, true, refl, sym, ap, ◌∙◌, inl, inr, ◌⊎◌, append-nil, append_assoc}
 use Rattle.std.specs.Prelude.{IfOk, IfSome}
 use Rattle.elf_model.specs.Prelude.{Fault, IsBudgetRefusal, Line, ListingItem, fault_of, lines_of, refusal_line, report_of, told}
@@ -19,7 +20,7 @@ use Rattle.elf_listing.specs.Shows.{WroteItems, WrotePrefix, WroteUntilRefusal, 
 use Rattle.elf_listing.proofs.RowLaws.{WrotePrefix-none}
 use Rattle.elf_archive.specs.Listed.{EndsPart, ListsMember, ListsMembers}
 
--- the listing of a member, and how its end was answered
+-- the listing of a member, and how its end was returned
 pub lists_part : {X : Type 0} (a b : OutState) (items : List ListingItem) (start : ℕ) (listed : Result X RunFault) (result : Result (Option Refusal) RunFault) → WroteSome a b listed items → EndsPart start listed result
     → ListsMember a b result items
 lists_part a b items start (Ok x) result p ends = rw ends p
@@ -31,12 +32,12 @@ lists_part a b items start (Err (Refused refusal)) result p ends = by_cause (is_
 lists_part a b items start (Err (Source fault at)) result p ends = rw ends p
 lists_part a b items start (Err (Out fault)) result p ends = rw ends p
 
--- a fault of a read before anything of it was listed
+-- a read fault before anything of it was listed
 pub part_unread : (a : OutState) (fault : Failure) (items : List ListingItem) → IsOfRead fault → ListsMember a a (Err (stop_of fault)) items
 part_unread a (Refuses refusal) items read = (read, record { front = WrotePrefix-none a items; next = λ other. absurd (other read) })
 part_unread a (Unread fault at) items read = WrotePrefix-none a items
 
--- a refusal that is answered is not for want of budget
+-- a refusal that is returned is not for lack of budget
 pub own_part : {X : Type 0} (start : ℕ) (listed : Result X RunFault) (result : Result (Option Refusal) RunFault) → EndsPart start listed result → IfOk result (λ told. IfSome told (λ refusal. IsBudgetRefusal refusal → ⊥))
 own_part start (Ok x) result ends = rw ends tt
 own_part start (Err (Refused refusal)) result ends = by_cause (is_budget_fault refusal.cause)
@@ -67,7 +68,7 @@ module _ (format : Format) where
   told_lines (Line text ∷ items) = ap (λ rest. text ++ rest) (told_lines items) ∙ sym (append_assoc text _ _)
   told_lines (Fault refusal ∷ items) = append-nil (refusal_line format refusal)
 
-  -- items in front of the first fault stand
+  -- items before the first fault are kept
   told_front : (front rest : List ListingItem) → fault_of front ≡ None → told format (front ++ rest) ≡ front ++ told format rest
   told_front [] rest none = refl
   told_front (Line text ∷ front) rest none = ap (λ more. Line text ∷ more) (told_front front rest none)
@@ -82,7 +83,7 @@ module _ (format : Format) where
       let same = reported_none items p.no_fault in
       (rw same p, sym (ap is_some p.no_fault))
 
-  -- a front of a listing
+  -- a prefix of a listing
   front_told : {a b : OutState} (items : List ListingItem) → WrotePrefix a b items → WrotePrefix a b (told format items)
   front_told items p = record {
     front = p.front;
@@ -98,7 +99,7 @@ module _ (format : Format) where
   stop_told a b items (Source fault at) any p = (front_told items p, tt)
   stop_told a b items (Out fault) any p = (rw (told_lines items) (SinkTakesPrefix-more (lines_of items) _ p), tt)
 
-  -- a listing that ended in a refusal, whose line was put
+  -- a listing that ended in a refusal, whose line was written
   module _ (a b c : OutState) (items : List ListingItem) (refusal : Refusal) (other : IsBudgetRefusal refusal → ⊥) (p : WroteUntilRefusal a b refusal items) where
     behind : items ≡ p.front.front ++ (Fault refusal ∷ (p.next other).behind)
     behind = p.front.split ∙ ap (λ rest. p.front.front ++ rest) (p.next other).is_next

@@ -1,4 +1,4 @@
--- A walk over members lists what they are one behind the other.
+-- A walk over members lists their items one after the other.
 use Rattle.std.proofs.Common.{◌≡◌, ℕ, zero, suc, ◌+◌, ◌<◌, ◌≤◌, ◌||◌, nat_le, Bool, true, false, List, [], ◌++◌, length, Option, None, Some, Result, Ok, Err, refl, sym, ap, ◌∙◌, arith, append_assoc}
 use Rattle.std.proofs.lemmas.Bool.Decides.{nat_tests}
 use Rattle.std.specs.List.{list_any}
@@ -13,7 +13,7 @@ use Rattle.elf_archive.specs.Listed.{ReadsAtMostIn, ListsMembers, StepsTo, next_
 use Rattle.elf_archive.proofs.ConsumeLaws.{ReadsAtMostIn-then}
 use Rattle.elf_archive.proofs.MemberLaws.{next-ends}
 
--- one fewer, where there is one
+-- one fewer, if there is one
 unfoldable pub fewer : ℕ → ℕ
 fewer zero = zero
 fewer (suc n) = n
@@ -23,7 +23,7 @@ unfolding fewer
 fewer_is zero = omega arith
 fewer_is (suc n) = omega arith
 
--- the members from the next place of a walk on
+-- the members starting at the next position of a walk
 abbrev after_members : List ℕ → ℕ → ℕ → MemberWalkState → NextMember → Members
 after_members file cap most p Ends = record { members = []; refusal = None }
 after_members file cap most p (Broken refusal) = record { members = []; refusal = Some refusal }
@@ -37,7 +37,7 @@ members_next file cap (suc most) p Ends enough is = rw (is, members_from) refl
 members_next file cap (suc most) p (Broken refusal) enough is = rw (is, members_from) refl
 members_next file cap (suc most) p (OneMember m) enough is = rw (is, members_from) refl
 
--- what stands behind the next place
+-- what follows the next position
 abbrev pub after_items : (alone : Bool) → List ℕ → ℕ → ListingStyle → ℕ → ℕ → MemberWalkState → NextMember → List ListingItem
 after_items alone file headers style parts most p Ends = []
 after_items alone file headers style parts most p (Broken refusal) = []
@@ -96,7 +96,8 @@ cost_next file headers style parts (suc most) p (OneMember m) enough is =
     ≡ (header_cost file style.cap p + member_cost file headers style parts m) + members_cost most file headers style parts (behind file p m) = omega arith in
     rw is sum
 
--- a walk over at most so many members wrote what is listed of them, for no more than they cost, and answers whether one was refused
+-- a walk over at most n members wrote what is listed of them, for no more than they cost, and
+-- returns whether one was refused
 abbrev pub WalksMembers : (alone : Bool) → List ℕ → ℕ → ListingStyle → (parts most : ℕ) → MemberWalkState → (a b : CountedState) → (old new : OutState) → Result Bool RunFault → Type 0
 WalksMembers alone file headers style parts most p a b old new result =
     ReadsAtMostIn a b new result (members_cost most file headers style parts p)
@@ -145,7 +146,7 @@ or_false : (a : Bool) → (a || false) ≡ a
 or_false true = refl
 or_false false = refl
 
--- a member more
+-- one more member
 pub walk_more : (alone : Bool) (file : List ℕ) (headers : ℕ) (style : ListingStyle) (parts first : ℕ) (start p q : MemberWalkState) (a b c : CountedState) (old new out : OutState) (any refused both : Bool)
     → (any || refused) ≡ both → p.at < q.at → WalkSoFar alone file headers style parts first start p a b old new any → StepsTo file headers style parts p q (Ok (Some refused))
     → ReadsAtMostIn {X = Option Bool} b c out (Ok (Some refused)) (next_cost file headers style parts p (next_member file style.cap p))
@@ -196,7 +197,7 @@ walk_ends alone file headers style parts first start p q a b c old new out any k
       (rw (known.left ∙ ap (λ rest. known.listed ++ rest) whole) (Whole-then known.wrote items), sym (known.refused ∙ (ap (λ more. any || more) none ∙ or_false any))),
     )
 
--- a stop
+-- a fault
 pub walk_stops : (alone : Bool) (file : List ℕ) (headers : ℕ) (style : ListingStyle) (parts first : ℕ) (start p : MemberWalkState) (a b c : CountedState) (old new out : OutState) (any : Bool) (stop : RunFault)
     → WalkSoFar alone file headers style parts first start p a b old new any
     → ReadsAtMostIn {X = Option Bool} b c out (Err stop) (next_cost file headers style parts p (next_member file style.cap p))

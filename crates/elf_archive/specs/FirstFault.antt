@@ -9,33 +9,35 @@ use Rattle.elf_table.specs.declared.run_fault.RunFault.TheVariants.{Out}
 use Rattle.elf_table.specs.declared.run_fault.RunFault.{RunFault}
 use Rattle.elf_table.specs.declared.run_fault.RunFault.TheVariants.{Refused, Source}
 
--- the first fault from where a walk over members has come to, over at most so many
+-- the first fault from the position of a walk over members, over at most n of them
 abbrev pub fault_from : List ℕ → ℕ → ListingStyle → ℕ → ℕ → MemberWalkState → Option Refusal
 fault_from file headers style parts most p =
     first_fault file headers style parts (members_from most file style.cap p).members (members_from most file style.cap p).refusal
 
--- a call answers the first fault, unless it stopped sooner
+-- a call returns the first fault, unless it stopped before
 abbrev pub FindsFault : {X : Type 0} → Option Refusal → Result X RunFault → Type 0
 FindsFault fault (Ok x) = fault ≡ None
 FindsFault fault (Err (Refused refusal)) = (IsBudgetRefusal refusal → ⊥) → fault ≡ Some refusal
 FindsFault fault (Err (Source cause at)) = Unit {0}
 FindsFault fault (Err (Out cause)) = Unit {0}
 
--- a fault is one for want of budget, within a file of so many bytes
+-- a fault is one for lack of budget, within a file of the given size
 pub record IsOverBudget (size : ℕ) (fault : Option Refusal) : Type 0 where
   pub refusal : Refusal
   pub is : fault ≡ Some refusal
   pub for_budget : IsBudgetRefusal refusal
   pub inside : refusal.at < size
 
--- the fault of an archive within a budget: its own, or where its listing costs more than the budget, perhaps that
+-- the fault of an archive within a budget: its own, or if its listing costs more than the budget,
+-- possibly that
 abbrev pub IsArchiveFault : Option ℕ → List ℕ → ℕ → ListingStyle → ℕ → Option Refusal → Type 0
 IsArchiveFault None file headers style parts fault = fault ≡ archive_fault file headers style parts
 IsArchiveFault (Some budget) file headers style parts fault =
     (fault ≡ archive_fault file headers style parts)
     ⊎ ((budget < archive_cost file headers style parts) × IsOverBudget (length file) fault)
 
--- WHAT IS FOUND of an archive with these caps and parts: its fault within the budget, or that there is none, unless a read failed
+-- WHAT IS FOUND of an archive with these caps and parts: its fault within the budget, or that there
+-- is none, unless a read failed
 abbrev pub FindsFirst : {X : Type 0} → Caps → ℕ → List ℕ → Result X RunFault → Type 0
 FindsFirst caps parts file (Ok x) = IsArchiveFault caps.limits.budget file caps.limits.headers (style_of caps.style) parts None
 FindsFirst caps parts file (Err (Refused refusal)) =
@@ -43,7 +45,7 @@ FindsFirst caps parts file (Err (Refused refusal)) =
 FindsFirst caps parts file (Err (Source fault at)) = Unit {0}
 FindsFirst caps parts file (Err (Out fault)) = ⊥
 
--- what a stop says of the source where nothing is put out
+-- what a fault implies for the source if nothing is written
 abbrev pub ReadTells : CountedState → CountedState → RunFault → Type 0
 ReadTells old new (Refused refusal) = Unit {0}
 ReadTells old new (Source fault at) = IsSourceFault old.seen new.seen fault

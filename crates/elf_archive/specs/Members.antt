@@ -1,4 +1,4 @@
--- What a cursor over members tells.
+-- What a cursor over members returns.
 use Rattle.std.specs.Prelude.{ℕ, ◌≡◌, ◌+◌, ◌*◌, ◌^◌, ◌<◌, ◌≤◌, if◌then◌else◌, is_some, nat_le, Bool, List, length, take, Option, None, Some, Result, Ok, Err, IfErr, IfSome, option_map}
 use Rattle.elf_source.specs.Source.{CountedState, ReadsUpTo}
 use Rattle.elf_table.specs.Prelude.{IsReadFault, Refuses}
@@ -19,7 +19,7 @@ extent_of place = record { at = place.at; size = place.size }
 abbrev pub extent_of_names : Option Place → Option FileRange
 extent_of_names names = option_map extent_of names
 
--- a member, with the bytes of its name that are shown
+-- a member, with the shown bytes of its name
 abbrev pub member_of : Given → List ℕ → Member
 member_of given name = record { index = given.index; extent = extent_of given.extent; name = shown_as given.is_cut name }
 
@@ -32,46 +32,50 @@ pub record NamesInBounds (size : ℕ) (names : Option Place) : Type 0 where
   pub small : size < 2 ^ 63
   pub lies : IfSome (extent_of_names names) (IsInBounds size)
 
--- a walk over the members stands within a source of this size, or just behind its end, and has passed over 60 bytes a member
+-- a walk over the members is within a source of this size, or just after its end, and has skipped
+-- 60 bytes per member
 pub record IsMemberWalkInBounds (size : ℕ) (p : MemberWalkState) : Type 0 where
   pub within : p.at ≤ size + 1
   pub passed : 8 + 60 * p.index ≤ p.at
   pub names : IfSome p.names (IsInBounds size)
 
--- a read of a member's data at an offset answers their extent, or refuses for its cause
+-- a read of a member's data at an offset returns their range, or refuses for its cause
 abbrev pub DataRead : ℕ → Result Place Fault → Result FileRange Cause → Type 0
 DataRead at (Ok place) answer = answer ≡ Ok (extent_of place)
 DataRead at (Err fault) answer = Refuses at fault answer
 
--- the extent that a header tells is that of its member's data, or there is no member
+-- the range that a header gives is that of its member's data, or there is no valid member
 abbrev pub DataTold : Option Place → Result FileRange Cause → Type 0
 DataTold (Some place) answer = answer ≡ Ok (extent_of place)
 DataTold None answer = answer ≡ Err MemberCut
 
--- a size that a header tells is that of all its member's data, or there is no member
+-- a size that a header gives is that of all its member's data, or there is no valid member
 abbrev pub SizeTold : Option ℕ → Result ℕ Cause → Type 0
 SizeTold (Some size) answer = answer ≡ Ok size
 SizeTold None answer = answer ≡ Err MemberCut
 
--- a read of a member's name answers whether it is cut, and leaves its bytes, or refuses for its cause
+-- a read of a member's name returns whether it is cut, and leaves its bytes, or refuses for its
+-- cause
 abbrev pub NameShown : ℕ → Result Bool Fault → List ℕ → Result DisplayedName Cause → Type 0
 NameShown at (Ok cut) name answer = answer ≡ Ok (shown_as cut name)
 NameShown at (Err fault) name answer = Refuses at fault answer
 
--- a read of the bytes at a long name's offset answers whether the name is cut, and leaves its bytes, or none where the bytes end
--- before the name does
+-- a read of the bytes at a long name's offset returns whether the name is cut, and leaves its
+-- bytes, or none if the bytes end before the name does
 abbrev pub FrontRead : List ℕ → ℕ → Result (Option Bool) Fault → List ℕ → Type 0
 FrontRead front cap (Ok (Some cut)) name = long_of cap front (newline_in front) ≡ Ok (shown_as cut name)
 FrontRead front cap (Ok None) name = long_of cap front (newline_in front) ≡ Err NameUnended
 FrontRead front cap (Err fault) name = Unit {0}
 
--- the bytes at a long name's offset begin with a name of so many bytes, or they end before the name does
+-- the bytes at a long name's offset begin with a name of the given length, or they end before the
+-- name does
 abbrev pub LengthTold : List ℕ → ℕ → Option ℕ → Type 0
 LengthTold front cap (Some size) =
     (size ≤ length front) × (0 < length front) × (long_of cap front (newline_in front) ≡ Ok (capped cap (take size front)))
 LengthTold front cap None = long_of cap front (newline_in front) ≡ Err NameUnended
 
--- a step over the next member: it is given, with the bytes of its name, or the file's end is told, or its refusal
+-- a step over the next member: it is returned, with the bytes of its name, or the file's end is
+-- reported, or its refusal
 abbrev pub ReturnsMember : List ℕ → ℕ → MemberWalkState → MemberWalkState → List ℕ → Result (Option Given) Fault → Type 0
 ReturnsMember file cap old new name (Ok None) = next_member file cap old ≡ Ends
 ReturnsMember file cap old new name (Ok (Some given)) =
@@ -79,7 +83,8 @@ ReturnsMember file cap old new name (Ok (Some given)) =
 ReturnsMember file cap old new name (Err (Refused refusal)) = (IsBudgetRefusal refusal → ⊥) → next_member file cap old ≡ Broken refusal
 ReturnsMember file cap old new name (Err (Source fault at)) = Unit {0}
 
--- what a step passes over: a member that it gives lies within the source, behind its header, and the walk stands behind it
+-- what a step skips: a member that it returns lies within the source, after its header, and the
+-- walk follows it
 pub record PassesMember (size : ℕ) (old new : MemberWalkState) (given : Given) : Type 0 where
   pub index : given.index ≡ old.index
   pub begins : old.at + 60 ≤ given.extent.at
@@ -88,13 +93,13 @@ pub record PassesMember (size : ℕ) (old new : MemberWalkState) (given : Given)
   pub counts : new.index ≡ old.index + 1
   pub ends : given.extent.at + given.extent.size ≤ new.at
 
--- the same of an answer
+-- the same for a result
 abbrev pub StepsOver : ℕ → MemberWalkState → MemberWalkState → Result (Option Given) Fault → Type 0
 StepsOver size old new (Ok None) = Unit {0}
 StepsOver size old new (Ok (Some given)) = PassesMember size old new given
 StepsOver size old new (Err fault) = Unit {0}
 
--- the table of names behind a member with this header and these data: the first one decides
+-- the table of names after a member with this header and these data: the first one decides
 abbrev pub names_passed : Option FileRange → List ℕ → FileRange → Option FileRange
 names_passed (Some table) header extent = Some table
 names_passed None header extent = if is_name_table header 0 then Some extent else None
@@ -103,14 +108,14 @@ names_passed None header extent = if is_name_table header 0 then Some extent els
 abbrev pub member_name_cost : List ℕ → ℕ → ℕ
 member_name_cost header cap = cost_where (is_elsewhere (take 16 header)) (long_name_bytes cap)
 
--- what a name costs that its field alone tells
+-- what a name costs that its field alone gives
 abbrev pub told_cost : List ℕ → ℕ → ℕ
 told_cost bytes cap = cost_where (is_some (long_offset bytes)) (long_name_bytes cap)
 
--- what a step over the next member asks for at most, whatever stands there: nothing where no header has room
+-- what a step over the next member reads at most, for any bytes: nothing if no header fits
 abbrev pub step_cost : ℕ → ℕ → MemberWalkState → ℕ
 step_cost size cap p = cost_where (nat_le (p.at + 60) size) (60 + long_name_bytes cap)
 
--- what reads did: they asked for at most n bytes, and a fault says what is so
+-- what reads did: they requested at most n bytes, and a fault satisfies `IsReadFault`
 abbrev pub AsksAtMost : {X : Type 0} → CountedState → CountedState → Result X Fault → ℕ → Type 0
 AsksAtMost old new result n = ReadsUpTo old new n × IfErr result (IsReadFault old new n)

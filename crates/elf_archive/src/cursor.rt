@@ -12,10 +12,10 @@ use elf_source::{Counted, Source};
 use elf_table::{Fault, NameBuf, NameLimit, fill, refused};
 use std::marker::Model;
 
-/// The size of the magic string in bytes: the first member's header stands behind it.
+/// The size of the magic string in bytes: the first member's header follows it.
 pub(crate) const MAGIC_BYTES: u64 = 8;
 
-/// Goes over the members of an archive, from the first on. It holds no bytes.
+/// A cursor over the members of an archive, starting at the first. It holds no bytes.
 #[derive(Drop)]
 pub struct MemberCursor {
     at: u64,
@@ -33,7 +33,7 @@ impl Model for MemberCursor {
 }
 
 impl MemberCursor {
-    /// A cursor before the first member.
+    /// Creates a cursor before the first member.
     pub fn new() -> MemberCursor
         ensures { result ≡ before_members }
     {
@@ -44,19 +44,21 @@ impl MemberCursor {
         }
     }
 
-    /// Goes over the next member, of which the header is read, and the name where it stands in the
-    /// table of names or at the front of the data: the member's data begin behind it then. They are
-    /// passed over, with the byte behind them where all data are odd in number.
-    /// At most `cap` bytes of its name are then in `name`. None at the file's end, which is below
-    /// 2^63.
+    /// Reads the header and the name of the next member, and steps over it.
+    ///
+    /// If the name is at the start of the data, the member's data begin after it. The data are
+    /// skipped, with the padding byte after them if their total size is odd. At most `cap` bytes of
+    /// the member's name are then in `name`. Returns `None` at the file's end, which is below 2^63.
     ///
     /// # Errors
-    /// Refused at the offset of the member's header: `MemberCut` where no header stands there, or
-    /// it or the data end past the end of the file, or the name past the end of the data at whose
-    /// front it is said to be; `NameOutside` where the name begins past the table of names, or there
-    /// is none, and `NameUnended` where the table ends before the name does. A fault of a read, or a
-    /// refusal for want of budget, names the offset that was asked for. The cursor then stands where
-    /// it stood.
+    /// - `MemberCut` at the offset of the member's header if there is no header, or it or the data
+    ///   extend past the end of the file, or the name past the end of the data that it is said to
+    ///   precede.
+    /// - `NameOutside` there if the name begins past the table of names, or there is none.
+    /// - `NameUnended` there if the table ends before the name does.
+    /// - A read fault, or a refusal for lack of budget, at the offset that was requested.
+    ///
+    /// The cursor is unchanged then.
     pub fn advance<S: Source>(
         &mut self,
         src: &mut Counted<S>,
@@ -89,7 +91,7 @@ impl MemberCursor {
         }))
     }
 
-    /// Goes behind the member with this header and these data.
+    /// Moves after the member with this header and these data.
     fn pass(&mut self, header: &[u8; MEMBER_HEADER_BYTES], extent: FileRange)
         requires ends { (self.old.at + 60 ≤ extent.at) × (extent.at + extent.size < 2 ^ 63) }
         requires count { self.old.index < 2 ^ 63 }
@@ -105,12 +107,12 @@ impl MemberCursor {
     }
 }
 
-/// Reads the header of the member at an offset below the source's length, and answers its data, behind
-/// the name where that stands at their front. They end at or below that length.
+/// Reads the header of the member at an offset below the source's length, and returns its data,
+/// after the name if that is at their start. They end at or below that length.
 ///
 /// # Errors
-/// Refused at `at` with `MemberCut` where no header stands there, or it or the data end past the
-/// end of the file, or the name past that of the data. Else a fault of the read, at its offset.
+/// Refused at `at` with `MemberCut` if there is no header, or it or the data extend past the end of
+/// the file, or the name past the end of the data. Otherwise a read fault, at its offset.
 fn read_header<S: Source>(
     src: &mut Counted<S>,
     at: u64,

@@ -1,4 +1,4 @@
-//! The fields of a member's header: text in columns, each filled up with spaces.
+//! The fields of a member's header: text in columns, each padded with spaces.
 ghost use Rattle.std.specs.Prelude.{◌≡◌, ◌==◌, ◌+◌, ◌^◌, ◌<◌, ◌≤◌, List, ℕ, length, position, take, if◌then◌else◌, Some, None, IfSome};
 ghost use Rattle.elf_model.specs.Prelude.{are_all, bsd_name_length, is_decimal, is_name_table, long_offset, member_data, member_size, name_in_data, padded_end, padded_number, parse_padded_decimal, parsed_member_size, short_name, slice, trimmed, without_slash};
 ghost use Rattle.elf_archive.specs.Members.{DataTold, SizeTold};
@@ -10,20 +10,20 @@ use memchr::memchr;
 /// The size of a member's header in bytes.
 pub(crate) const MEMBER_HEADER_BYTES: usize = 60;
 
-/// The size of the field of the name in bytes.
+/// The size of the name field in bytes.
 pub(crate) const NAME_FIELD_BYTES: usize = 16;
 
-/// The byte that fills up a field.
+/// The byte that pads a field.
 const SPACE: u8 = b' ';
 
-/// The byte that fills up a name at the front of a member's data.
+/// The byte that pads a name at the start of a member's data.
 pub(crate) const NUL: u8 = 0;
 
 /// The two bytes that end a header, a grave accent and a newline.
 const HEADER_MARK: u16 = 0x0a60;
 
-/// The size of its data that a header tells; None where the header does not end in its mark, or the
-/// field is no decimal number.
+/// Returns the size of its data that a header gives, or `None` if the header does not end in its
+/// mark, or the field is not a decimal number.
 #[tactic(auto, unfolding(elf_model::specs::Archive::parsed_member_size))]
 pub(crate) fn parsed_member_size(header: &[u8; MEMBER_HEADER_BYTES]) -> Option<u64>
     ensures value { result ≡ parsed_member_size header.now 0 }
@@ -35,8 +35,8 @@ pub(crate) fn parsed_member_size(header: &[u8; MEMBER_HEADER_BYTES]) -> Option<u
     padded_number(&header[48..58])
 }
 
-/// The size of all data that a header tells, where the header and they have room in `left` bytes, of
-/// which the header has 60; None where no such size is told.
+/// Returns the size of all data that a header gives, if the header and they fit `left` bytes, of
+/// which the header takes 60, or `None` if no such size is given.
 pub(crate) fn size_within(header: &[u8; MEMBER_HEADER_BYTES], left: u64) -> Option<u64>
     requires { 60 ≤ left }
     ensures lies { IfSome result (λ size. 60 + size ≤ left) }
@@ -52,9 +52,9 @@ pub(crate) fn size_within(header: &[u8; MEMBER_HEADER_BYTES], left: u64) -> Opti
     Some(size)
 }
 
-/// The data that the header at the file offset `at` tells, behind the name where that stands at their
-/// front, where the header and all data have room in `left` bytes, of which the header has 60; None
-/// where no size is told, or one that has no room there, or the name has no room in the data.
+/// Returns the data that the header at the file offset `at` gives, after the name if that is at
+/// their start, if the header and all data fit `left` bytes, of which the header takes 60, or
+/// `None` if no size is given, or one that does not fit, or the name does not fit the data.
 pub(crate) fn data_within(
     header: &[u8; MEMBER_HEADER_BYTES],
     at: u64,
@@ -81,8 +81,8 @@ pub(crate) fn data_within(
     })
 }
 
-/// The offset behind data that end at the offset `end`, of the member whose header stands at `header`,
-/// and behind the byte of padding, which stands where all its data are odd in number.
+/// Returns the offset after data that end at the offset `end`, of the member whose header is at
+/// `header`, and after the padding byte, which follows data whose total size is odd.
 pub(crate) fn padded_end(header: u64, end: u64) -> u64
     requires order { header + 60 ≤ end }
     requires small { end < 2 ^ 63 }
@@ -91,14 +91,14 @@ pub(crate) fn padded_end(header: u64, end: u64) -> u64
     end + (end - (header + MEMBER_HEADER_BYTES as u64)) % 2
 }
 
-/// Whether a header is that of the table of names: its name is two slashes.
+/// Returns `true` if a header is that of the table of names: its name is two slashes.
 pub(crate) fn is_name_table(header: &[u8; MEMBER_HEADER_BYTES]) -> bool
     ensures { result ≡ is_name_table header.now 0 }
 {
     u64_at(header, 0) == 0x2020_2020_2020_2f2f && u64_at(header, 8) == 0x2020_2020_2020_2020
 }
 
-/// The offset in the table of names that the field of a name tells, where it tells one.
+/// Returns the offset in the table of names that a name field gives, if it gives one.
 #[tactic(auto, unfolding(elf_model::specs::Archive::long_offset))]
 pub(crate) fn long_offset(field: &[u8]) -> Option<u64>
     requires { length field.now ≡ 16 }
@@ -111,7 +111,7 @@ pub(crate) fn long_offset(field: &[u8]) -> Option<u64>
     padded_number(&field[1..16])
 }
 
-/// How many bytes at the front of a member's data are its name, where the field of its name tells it:
+/// Returns how many bytes at the start of a member's data are its name, if its name field says so:
 /// `#1/` and a decimal number, as BSD's `ar` writes it (FreeBSD's ar(5)).
 #[tactic(auto, unfolding(elf_model::specs::Archive::bsd_name_length))]
 pub(crate) fn bsd_name_length(field: &[u8]) -> Option<u64>
@@ -125,7 +125,7 @@ pub(crate) fn bsd_name_length(field: &[u8]) -> Option<u64>
     padded_number(&field[3..16])
 }
 
-/// How many bytes of a member's data its name takes, by the field of its name.
+/// Returns how many bytes of a member's data its name takes, by its name field.
 #[tactic(auto, unfolding(elf_model::specs::Archive::name_in_data))]
 fn name_in_data(field: &[u8]) -> u64
     requires { length field.now ≡ 16 }
@@ -138,7 +138,7 @@ fn name_in_data(field: &[u8]) -> u64
     }
 }
 
-/// How many bytes the name has that stands in its field itself, at the front of it.
+/// Returns the length of a name that is in its field itself, at the start of the field.
 #[tactic(auto, unfolding(elf_model::specs::Archive::short_name))]
 pub(crate) fn short_length(field: &[u8]) -> usize
     ensures name { take result field.now ≡ short_name field.now }
@@ -150,7 +150,7 @@ pub(crate) fn short_length(field: &[u8]) -> usize
     }
 }
 
-/// How many bytes a name of the table of names has without the slash at its end.
+/// Returns the length of a name of the table of names without the slash at its end.
 #[tactic(auto, unfolding(elf_model::specs::Archive::without_slash))]
 pub(crate) fn slashless_length(name: &[u8]) -> usize
     ensures name { take result name.now ≡ without_slash name.now }
@@ -162,7 +162,7 @@ pub(crate) fn slashless_length(name: &[u8]) -> usize
     name.len() - 1
 }
 
-/// The place of the first byte that is `byte`.
+/// Returns the index of the first byte that is `byte`.
 pub(crate) fn find_byte(byte: u8, bytes: &[u8]) -> Option<usize>
     ensures first { position (λ b. b == byte) bytes.now ≡ result }
     ensures below { IfSome result (λ place. place < length bytes.now) }
@@ -170,7 +170,7 @@ pub(crate) fn find_byte(byte: u8, bytes: &[u8]) -> Option<usize>
     memchr(byte, bytes)
 }
 
-/// The decimal number in a field of at most 15 bytes: a digit or more, then spaces up to the end.
+/// Returns the decimal number in a field of at most 15 bytes: one or more digits, then only spaces.
 #[tactic(auto, unfolding(elf_model::specs::Archive::padded_number))]
 fn padded_number(field: &[u8]) -> Option<u64>
     requires some { 0 < length field.now }
@@ -184,7 +184,7 @@ fn padded_number(field: &[u8]) -> Option<u64>
     parse_padded_decimal(field)
 }
 
-/// The number that the digits before any other byte spell, where spaces alone stand from there on.
+/// Returns the number that the digits before any other byte form, if only spaces follow them.
 fn parse_padded_decimal(field: &[u8]) -> Option<u64>
     requires { length field.now ≤ 15 }
     ensures value { result ≡ parse_padded_decimal 0 field.now }
@@ -200,28 +200,28 @@ fn parse_padded_decimal(field: &[u8]) -> Option<u64>
     Some(number)
 }
 
-/// A number behind which spaces alone stand.
+/// Returns a number that only spaces follow.
 fn spaced(number: u64, rest: &[u8]) -> Option<u64>
     ensures { result ≡ (if are_all 32 rest.now then Some number else None) }
 {
     if are_spaces(rest) { Some(number) } else { None }
 }
 
-/// Whether a byte is a decimal digit.
+/// Returns `true` if a byte is a decimal digit.
 fn is_decimal(byte: u8) -> bool
     ensures { result ≡ is_decimal byte }
 {
     byte.is_ascii_digit()
 }
 
-/// Whether all bytes are spaces.
+/// Returns `true` if all bytes are spaces.
 fn are_spaces(bytes: &[u8]) -> bool
     ensures { result ≡ are_all 32 bytes.now }
 {
     bytes.iter().all(|byte| *byte == SPACE)
 }
 
-/// How many bytes there are without those at their end that are `byte`.
+/// Returns the length of bytes without those at their end that are `byte`.
 pub(crate) fn trimmed_length(byte: u8, bytes: &[u8]) -> usize
     ensures name { take result bytes.now ≡ trimmed byte bytes.now }
     ensures within { result ≤ length bytes.now }

@@ -14,15 +14,17 @@ use elf_record::Parts;
 use elf_source::{Counted, NullSink, Out, RangeSource, Sink, Source};
 use elf_table::{Caps, HeaderStore, ListingStyle, NameBuf, RunFault};
 
-/// Goes over an archive and through the listing of each member that is an ELF file, as far as `parts` has
-/// it, up to the first fault. Nothing is written. The source is a range of all bytes of the archive, with
-/// nothing hidden, and is one again afterwards. The store has a slot for each header that the caps permit,
-/// and at most 2^127 bytes were asked of the source. Where the caps have a budget it is one over all
-/// members; afterwards no limit is set.
+/// Reads an archive and the listing of each member that is an ELF file, the parts that `parts` has,
+/// up to the first fault.
+///
+/// Nothing is written. The source is a range of all bytes of the archive, with nothing masked, and
+/// is one again on return. The store has a slot for each header that the caps allow, and at most
+/// 2^127 bytes were requested from the source. If the caps have a budget, it is one over all
+/// members; on return no limit is set.
 ///
 /// # Errors
-/// The first fault, with an offset of the archive: its own refusal, that of a member's listing, or of the
-/// place where no member stands; or a refusal for want of budget. A fault of the source.
+/// The first fault, with an offset in the archive: its own refusal, that of a member's listing, or
+/// of an offset without a valid member; or a refusal for lack of budget. A fault of the source.
 pub fn find_fault<S: Source>(
     src: &mut Counted<RangeSource<S>>,
     store: &mut HeaderStore,
@@ -39,7 +41,7 @@ pub fn find_fault<S: Source>(
     ensures cost { (file : List ℕ) → src.old.seen.file ≡ Some file →
         src.new.asked ≤ src.old.asked
         + archive_cost file caps.entry.limits.headers (style_of caps.entry.style) parts.0 }
-    // For every source.
+    // For any source.
     ensures asks { AsksInArchive caps.entry src.old src.new result }
 {
     let mut out = Out::new(NullSink);
@@ -50,10 +52,10 @@ pub fn find_fault<S: Source>(
     found
 }
 
-/// Goes over an archive within the limit that is set on the source, up to its first fault.
+/// Reads an archive within the limit set on the source, up to its first fault.
 ///
 /// # Errors
-/// As [`find_fault`], or a fault of the output.
+/// As for [`find_fault`], or a fault of the output.
 fn find_in_archive<S: Source, W: Sink>(
     src: &mut Counted<RangeSource<S>>,
     store: &mut HeaderStore,
@@ -73,10 +75,10 @@ fn find_in_archive<S: Source, W: Sink>(
     find_in_members(src, store, style, parts, out)
 }
 
-/// Goes over the members of an archive whose magic string was read, up to the first fault.
+/// Reads the members of an archive whose magic string was read, up to the first fault.
 ///
 /// # Errors
-/// As [`find_in_archive`].
+/// As for [`find_in_archive`].
 fn find_in_members<S: Source, W: Sink>(
     src: &mut Counted<RangeSource<S>>,
     store: &mut HeaderStore,

@@ -1,5 +1,6 @@
-//! Archives of object files, as `ar` writes static libraries: the call that lists their members, the one
-//! that finds their first fault, and steps over the members of an archive in memory. No call takes memory.
+//! Archives of object files, as `ar` writes static libraries: the call that lists their members,
+//! the one that finds their first fault, and steps over the members of an archive in memory. No
+//! call allocates.
 #![tactic(auto)]
 
 mod cursor;

@@ -1,4 +1,4 @@
-//! The line of a member, put at once or held back.
+//! The line of a member, written at once or deferred.
 ghost use Rattle.std.specs.Prelude.{◌≡◌, ◌-◌, ◌≤◌};
 ghost use Rattle.elf_model.specs.Archive.{member_line};
 ghost use Rattle.elf_source.specs.Output.{EndsLine, OutPuts};
@@ -11,14 +11,14 @@ use elf_model::Format;
 use elf_source::{DeferredLine, DeferredSink, Out, OutFault, Sink, SliceSink};
 use elf_table::{NameBuf, RunFault};
 
-/// The most bytes that a line has which is held back: a name of 4,096 bytes, each spelt in five at most, and
-/// what stands around it.
+/// The maximum number of bytes of a deferred line: a name of 4,096 bytes, each escaped in at most
+/// five, and the text around it.
 pub const DEFERRED_LINE_BYTES: usize = 20_992;
 
-/// Writes the `A` line of a member with the bytes of its name that are shown.
+/// Writes the `A` line of a member with the shown bytes of its name.
 ///
 /// # Errors
-/// A fault of the output, with a front of the line written.
+/// A fault of the output, with a prefix of the line written.
 pub(crate) fn show_member<W: Sink>(
     member: &Member,
     name: &NameBuf,
@@ -37,11 +37,11 @@ pub(crate) fn show_member<W: Sink>(
     show_named(&mut front, name.bytes(), member.is_cut, out)
 }
 
-/// Has the `A` line of a member held back.
+/// Defers the `A` line of a member.
 ///
 /// # Errors
-/// A fault of the output, with nothing of the line taken: it failed before, or fails for good since the line
-/// has no room in it.
+/// A fault of the output, with nothing of the line taken: it failed before, or fails permanently
+/// since the line does not fit it.
 #[inline(never)]
 pub(crate) fn defer_member_line<W: Sink>(
     member: &Member,
@@ -62,11 +62,11 @@ pub(crate) fn defer_member_line<W: Sink>(
     }
 }
 
-/// Ends a line that was held before a listing, and answers how that ended: the line stays where something
-/// was written behind it, else it is taken back.
+/// Ends a line that was deferred before a listing, and returns how that ended: the line is kept if
+/// something was written after it, otherwise it is discarded.
 ///
 /// # Errors
-/// Those of the listing, with the count of the output as it is now.
+/// Those of the listing, with the current count of the output.
 pub fn end_listed<W: Sink>(
     line: DeferredLine,
     listed: Result<bool, RunFault>,

@@ -1,4 +1,4 @@
-//! The listing of an archive: its members, and behind each that is an ELF file its own listing.
+//! The listing of an archive: its members, and after each that is an ELF file its own listing.
 ghost use Rattle.std.specs.Prelude.{◌≡◌, ℕ, ◌+◌, ◌-◌, ◌^◌, ◌<◌, ◌≤◌, List, length, is_some, Some, IfErr};
 ghost use Rattle.elf_model.specs.Prelude.{allowance, any_refused, archive_ceiling, archive_cost, archive_items, archive_length_checks, before_members, fault_of, first_refusal, line_before, member_line, members_cost, members_of, told, walk_items};
 ghost use Rattle.elf_model.specs.declared.causes.Refusal.{Refusal as Refuses};
@@ -20,8 +20,8 @@ use elf_record::Parts;
 use elf_source::{Counted, DeferredSink, Out, RangeSource, Sink, Source};
 use elf_table::{Caps, HeaderStore, ListingStyle, NameBuf, RunFault};
 
-/// What is listed of members: how rows are shown, which parts of a listing, and whether their lines stand
-/// alone.
+/// What is listed of members: how rows are shown, which parts of a listing, and whether their lines
+/// are written alone.
 #[derive(Clone, Copy)]
 struct MemberOptions<'n> {
     style: ListingStyle<'n>,
@@ -29,21 +29,25 @@ struct MemberOptions<'n> {
     alone: bool,
 }
 
-/// Writes the listing of an archive: of each member its `A` line, alone or only before a line of the member,
-/// and where `parts` has a part of a
-/// listing and the member's data begin as an ELF file, the listing of these parts of the file that
-/// the data are, with offsets from its first byte. A refusal of such a file is the last line of its
-/// listing, and the next member follows. Answers whether there was one. The source is a range of all
-/// bytes of the archive, with nothing hidden, and is one again afterwards. The store has a slot for each header that the
-/// caps permit, and all members share it. At most 2^127 bytes were asked of the source before. Where
-/// the caps have a budget it is one over all members, and the line of a refusal for want of budget
-/// may end the listing sooner; afterwards no limit is set.
+/// Writes the listing of an archive: the `A` line of each member, and the listing of each member
+/// that is an ELF file.
+///
+/// The `A` line of a member is written always, or only before another line of the member. If
+/// `parts` has a part of a listing and the member's data begin like an ELF file, the listing has
+/// these parts of the file that the data are, with offsets from its first byte. A refusal of such a
+/// file is the last line of its listing, and the next member follows. Returns whether there was
+/// one.
+///
+/// The source is a range of all bytes of the archive, with nothing masked, and is one again on
+/// return. The store has a slot for each header that the caps allow, and all members share it. At
+/// most 2^127 bytes were requested from the source before. If the caps have a budget, it is one
+/// over all members, and the line of a refusal for lack of budget may end the listing early; on
+/// return no limit is set.
 ///
 /// # Errors
-/// A refusal of the archive, or for want of budget: its line was written, as the last one. A fault
-/// of the source, with the offset in the archive that was asked for, or of the output, with the
-/// number of bytes that it took: what went out is a front of the listing. The store may be loaded
-/// again.
+/// A refusal of the archive, or for lack of budget: its line was written, as the last one. A fault
+/// of the source, with the offset in the archive that was requested, or of the output, with the
+/// number of bytes it took: a prefix of the listing was written. The store may be loaded again.
 pub fn show_archive<S: Source, W: Sink>(
     src: &mut Counted<RangeSource<S>>,
     store: &mut HeaderStore,
@@ -63,7 +67,7 @@ pub fn show_archive<S: Source, W: Sink>(
     ensures cost { (file : List ℕ) → src.old.seen.file ≡ Some file →
         src.new.asked ≤ src.old.asked
         + archive_cost file caps.entry.limits.headers (style_of caps.entry.style) parts.0 }
-    // For every source.
+    // For any source.
     ensures asks { AsksInArchive caps.entry src.old src.new result }
 {
     src.limit(caps.limits.budget);
@@ -80,12 +84,12 @@ pub fn show_archive<S: Source, W: Sink>(
     }
 }
 
-/// Writes the lines of an archive's listing within the limit that is set on the source, and answers
-/// whether the listing of a member was refused.
+/// Writes the lines of an archive's listing within the limit set on the source, and returns whether
+/// the listing of a member was refused.
 ///
 /// # Errors
-/// A refusal of the archive, or for want of budget: the lines before it were written. A fault of the
-/// source or of the output.
+/// A refusal of the archive, or for lack of budget: the lines before it were written. A fault of
+/// the source or of the output.
 fn list_archive<S: Source, W: Sink>(
     src: &mut Counted<RangeSource<S>>,
     store: &mut HeaderStore,
@@ -107,11 +111,11 @@ fn list_archive<S: Source, W: Sink>(
     list_members(src, store, choice, out)
 }
 
-/// Lists the members of an archive whose magic string was read, and answers whether the listing of
+/// Lists the members of an archive whose magic string was read, and returns whether the listing of
 /// one was refused.
 ///
 /// # Errors
-/// As [`list_archive`].
+/// As for [`list_archive`].
 fn list_members<S: Source, W: Sink>(
     src: &mut Counted<RangeSource<S>>,
     store: &mut HeaderStore,
@@ -144,11 +148,11 @@ fn list_members<S: Source, W: Sink>(
     Ok(any)
 }
 
-/// Lists the next member of an archive, and answers whether its listing was refused; None at the
-/// file's end. `name` is a buffer for its name.
+/// Lists the next member of an archive, and returns whether its listing was refused, or `None` at
+/// the file's end. `name` is a buffer for its name.
 ///
 /// # Errors
-/// A refusal of the place where no member stands, or for want of budget: the lines before it were
+/// A refusal of an offset without a valid member, or for lack of budget: the lines before it were
 /// written. A fault of the source or of the output.
 fn list_next<S: Source, W: Sink>(
     src: &mut Counted<RangeSource<S>>,
@@ -172,11 +176,11 @@ fn list_next<S: Source, W: Sink>(
     Ok(Some(refused))
 }
 
-/// Writes the line of a member, and lists it behind that; a line that does not stand alone is held back till
-/// a line follows. Answers whether the listing was refused.
+/// Writes the line of a member, and lists it after that; a line that is not written alone is
+/// deferred until a line follows. Returns whether the listing was refused.
 ///
 /// # Errors
-/// As [`list_reported`] and [`defer_member_line`].
+/// As for [`list_reported`] and [`defer_member_line`].
 fn list_with_line<S: Source, W: Sink>(
     src: &mut Counted<RangeSource<S>>,
     store: &mut HeaderStore,
@@ -201,11 +205,11 @@ fn list_with_line<S: Source, W: Sink>(
     end_listed(line, listed, out)
 }
 
-/// Lists a member as [`list_member`] does, and answers whether its listing was refused: the line of that
-/// refusal ends it, and the next member follows.
+/// Lists a member as [`list_member`] does, and returns whether its listing was refused: the line of
+/// that refusal ends it, and the next member follows.
 ///
 /// # Errors
-/// As [`list_member`].
+/// As for [`list_member`].
 fn list_reported<S: Source, W: Sink>(
     src: &mut Counted<RangeSource<S>>,
     store: &mut HeaderStore,

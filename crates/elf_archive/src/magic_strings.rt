@@ -15,19 +15,24 @@ use elf_table::{Fault, fill, refused};
 /// The magic string of an archive, `!<arch>` and a newline.
 const ARCHIVE_MAGIC: u64 = 0x0a3e_6863_7261_3c21;
 
-/// That of an archive whose members are in other files, `!<thin>` and a newline.
+/// The magic string of a thin archive, whose members are in other files, `!<thin>` and a newline.
 const THIN_MAGIC: u64 = 0x0a3e_6e69_6874_3c21;
 
 /// The first four bytes of an ELF file (gABI 4, ELF Identification).
 const ELF_MAGIC: u32 = 0x464c_457f;
 
-/// Reads and checks the magic string of an archive: one read of 8 bytes at offset 0, or none where
-/// the length alone refuses the file.
+/// Reads and checks the magic string of an archive: one read of 8 bytes at offset 0, or none if the
+/// length alone refuses the file.
 ///
 /// # Errors
-/// Refused at offset 0: `TooLong` where the length is 2^63 or more, `Short` where it is below 8,
-/// both with nothing read; `Thin` for the magic string of a thin archive, `NotArchive` for other
-/// bytes. Else a fault of the read, or a refusal for want of budget, at offset 0.
+/// Refused at offset 0:
+///
+/// - `TooLong` if the length is 2^63 or more; nothing is read.
+/// - `Short` if it is below 8; nothing is read.
+/// - `Thin` for the magic string of a thin archive.
+/// - `NotArchive` for other bytes.
+///
+/// Otherwise a read fault, or a refusal for lack of budget, at offset 0.
 pub fn magic<S: Source>(src: &mut Counted<S>) -> Result<(), Fault>
     ensures asks { AsksAtMost src.old src.new result 8 }
     ensures unread { (refusal : Refuses) →
@@ -55,11 +60,11 @@ pub fn magic<S: Source>(src: &mut Counted<S>) -> Result<(), Fault>
     Ok(())
 }
 
-/// Whether some bytes of a file, as a member's data, begin with the magic number of ELF: one read of
-/// four bytes, or none where they are fewer. They end at or below the source's length.
+/// Checks whether some bytes of a file, such as a member's data, begin with the ELF magic number:
+/// one read of four bytes, or none if they are fewer. They end at or below the source's length.
 ///
 /// # Errors
-/// A fault of the read, or a refusal for want of budget, at the offset of the bytes.
+/// A fault of the read, or a refusal for lack of budget, at the offset of the bytes.
 pub fn has_elf_magic<S: Source>(src: &mut Counted<S>, extent: FileRange) -> Result<bool, Fault>
     requires lies { IsInBounds src.old.seen.size (extent_of extent) }
     ensures asks { AsksAtMost src.old src.new result 4 }

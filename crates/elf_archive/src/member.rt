@@ -1,6 +1,6 @@
 //! A member of an archive.
 
-/// Some bytes of a file: the offset of the first, and how many there are.
+/// Some bytes of a file: the offset of the first, and how many.
 #[derive(Clone, Copy)]
 pub struct FileRange {
     /// The file offset in bytes.
@@ -12,7 +12,7 @@ pub struct FileRange {
 /// A member of an archive.
 #[derive(Clone, Copy)]
 pub struct Member {
-    /// Its index among the members, from 0 on.
+    /// Its index among the members, starting at 0.
     pub index: u64,
     /// Its data.
     pub extent: FileRange,

@@ -15,18 +15,19 @@ use elf_record::Cause;
 use elf_source::{Counted, READ_BYTES, Source};
 use elf_table::{Fault, NameBuf, NameLimit, fill, refused};
 
-/// The most bytes of a name outside its field that are looked at: a slash and a newline more than are
-/// shown.
+/// The maximum number of bytes read of a name outside its field: a slash and a newline more than
+/// are shown.
 pub(crate) const LONG_NAME_BYTES: usize = 4098;
 
-/// Leaves in `name` what is shown of a member's name with at most `cap` bytes, and answers whether
-/// that is cut. `header` is the member's header, which stands at `at`, and `names` is the table of
-/// names, which lies within the source. A name in the table of names or at the front of the data is
+/// Leaves in `name` the shown part of a member's name with at most `cap` bytes, and returns whether
+/// that is cut. `header` is the member's header, which is at `at`, and `names` is the table of
+/// names, which lies within the source. A name in the table of names or at the start of the data is
 /// read: at most `cap + 2` bytes, never past the table's end or its own.
 ///
 /// # Errors
-/// Refused at `at`: `NameOutside` where there is no table of names or the name begins past its end,
-/// `NameUnended` where the table ends before the name does. Else a fault of a read, at its offset.
+/// - `NameOutside` at `at` if there is no table of names or the name begins past its end.
+/// - `NameUnended` at `at` if the table ends before the name does.
+/// - Otherwise a read fault, at its offset.
 pub(crate) fn read_name<S: Source>(
     src: &mut Counted<S>,
     names: Option<FileRange>,
@@ -49,12 +50,11 @@ pub(crate) fn read_name<S: Source>(
     }
 }
 
-/// Reads the name in the first `size` bytes of a member's data, which begin at the offset `start`: at
-/// most `cap + 2` of them, and the NULs at the end of these are no part of it. Answers whether what is
-/// shown is cut.
+/// Reads the name in the first `size` bytes of a member's data, which begin at the offset `start`:
+/// at most `cap + 2` of them, without the NULs at their end. Returns whether the shown part is cut.
 ///
 /// # Errors
-/// A fault of a read, at its offset.
+/// A read fault, at its offset.
 fn read_bsd_name<S: Source>(
     src: &mut Counted<S>,
     start: u64,
@@ -73,11 +73,11 @@ fn read_bsd_name<S: Source>(
     read_short_name(src, start, &mut buffer[..want as usize], cap, name)
 }
 
-/// Reads the bytes from the offset `at` on into `front`, at most 4,098, and leaves in `name` what is
-/// shown of them without the NULs at their end. Answers whether that is cut.
+/// Reads the bytes at the offset `at` into `front`, at most 4,098, and leaves in `name` the shown
+/// part of them without the NULs at their end. Returns whether that is cut.
 ///
 /// # Errors
-/// A fault of a read, at its offset.
+/// A read fault, at its offset.
 fn read_short_name<S: Source>(
     src: &mut Counted<S>,
     at: u64,
@@ -98,11 +98,11 @@ fn read_short_name<S: Source>(
     Ok(put_name(&front[..length], cap, name))
 }
 
-/// Reads a name that the field of the name alone tells: that in the table of names, or the one in the
-/// field itself, which asks for nothing.
+/// Reads a name that the name field alone gives: that in the table of names, or the one in the
+/// field itself, which reads nothing.
 ///
 /// # Errors
-/// As [`read_name`].
+/// As for [`read_name`].
 fn read_reported<S: Source>(
     src: &mut Counted<S>,
     names: Option<FileRange>,
@@ -127,7 +127,7 @@ fn read_reported<S: Source>(
 /// Reads the name at an offset of the table of names.
 ///
 /// # Errors
-/// As [`read_name`].
+/// As for [`read_name`].
 fn read_long_name<S: Source>(
     src: &mut Counted<S>,
     names: Option<FileRange>,
@@ -161,12 +161,12 @@ fn read_long_name<S: Source>(
     }
 }
 
-/// Reads the bytes from the offset `at` on into `front`, at most `cap + 2`, and leaves in `name` what
-/// is shown of the name that they begin with: it ends before a newline. Answers whether that is cut;
-/// None where they are fewer than `cap + 2` and have no newline.
+/// Reads the bytes at the offset `at` into `front`, at most `cap + 2`, and leaves in `name` the
+/// shown part of the name that they begin with: it ends before a newline. Returns whether that is
+/// cut, or `None` if there are fewer than `cap + 2` bytes, without a newline.
 ///
 /// # Errors
-/// A fault of a read, at its offset.
+/// A read fault, at its offset.
 fn read_terminated_name<S: Source>(
     src: &mut Counted<S>,
     at: u64,
@@ -188,9 +188,10 @@ fn read_terminated_name<S: Source>(
     }
 }
 
-/// How many bytes the name has that the bytes at its offset in the table of names begin with, at most
-/// `cap + 2` of them: it ends before a newline, without a slash there; of a name without an end in so
-/// many bytes they are the front. None where they are fewer and have no newline.
+/// Returns the length of the name that the bytes at its offset in the table of names begin with, at
+/// most `cap + 2` of them: it ends before a newline, without a slash there; if it does not end
+/// within `cap + 2` bytes, they are its prefix. Returns `None` if there are fewer bytes, without a
+/// newline.
 pub(crate) fn long_length(front: &[u8], cap: u16) -> Option<usize>
     requires { length front.now ≤ cap + 2 }
     ensures { LengthTold front.now cap result }
@@ -204,7 +205,7 @@ pub(crate) fn long_length(front: &[u8], cap: u16) -> Option<usize>
     Some(front.len())
 }
 
-/// Leaves in `name` at most `cap` bytes of a name, and answers whether it has more.
+/// Leaves in `name` at most `cap` bytes of a name, and returns whether it has more.
 fn put_name(bytes: &[u8], cap: NameLimit, name: &mut NameBuf) -> bool
     ensures { capped cap.bytes bytes.now ≡ shown_as result name.new }
 {
@@ -213,11 +214,11 @@ fn put_name(bytes: &[u8], cap: NameLimit, name: &mut NameBuf) -> bool
     bytes.len() > usize::from(cap.bytes)
 }
 
-/// Fills `out`, at most 4,098 bytes, with the bytes from the offset `at` on: in one read, or two
-/// where one may not have as many.
+/// Fills `out`, at most 4,098 bytes, with the bytes at the offset `at`: in one read, or two if one
+/// cannot have as many.
 ///
 /// # Errors
-/// A fault of a read, at its offset.
+/// A read fault, at its offset.
 fn read_front<S: Source>(src: &mut Counted<S>, at: u64, out: &mut [u8]) -> Result<(), Fault>
     requires size { (src.old.seen.size < 2 ^ 63) × (length out.old ≤ 4098) }
     requires within { at + length out.old ≤ src.old.seen.size }

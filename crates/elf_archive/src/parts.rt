@@ -12,13 +12,13 @@ use elf_record::{Cause, Parts, Refusal};
 use elf_source::{Counted, Out, RangeSource, Sink, Source};
 use elf_table::{HeaderStore, ListingStyle, RunFault};
 
-/// Lists a member that is an ELF file, where parts of a listing are asked for, and answers its listing's
-/// own refusal, with an offset of the member; the line of that is not written. The member's data are
-/// `extent`, and the source is as it was afterwards.
+/// Lists a member that is an ELF file, if parts of a listing are requested, and returns its
+/// listing's own refusal, with an offset in the member; the line of that is not written. The
+/// member's data are `extent`, and the source is restored on return.
 ///
 /// # Errors
-/// A refusal for want of budget or a fault of the source, with an offset of the archive, or a fault of the
-/// output: a front of the listing was written.
+/// A refusal for lack of budget or a fault of the source, with an offset in the archive, or a fault
+/// of the output: a prefix of the listing was written.
 pub(crate) fn list_member<S: Source, W: Sink>(
     src: &mut Counted<RangeSource<S>>,
     store: &mut HeaderStore,
@@ -45,10 +45,11 @@ pub(crate) fn list_member<S: Source, W: Sink>(
     end_part(listed, extent.at)
 }
 
-/// How the listing of a member that begins at the file offset `start` ended: its own refusal is an answer.
+/// Returns how the listing of a member that begins at the file offset `start` ended: its own
+/// refusal is a result.
 ///
 /// # Errors
-/// What stops the archive's listing too, with an offset of the file: a refusal for want of budget,
+/// What stops the archive's listing too, with an offset in the file: a refusal for lack of budget,
 /// a fault of the source or of the output.
 fn end_part(listed: Result<(), RunFault>, start: u64) -> Result<Option<Refusal>, RunFault>
     ensures { EndsPart start listed result }
@@ -69,8 +70,8 @@ fn end_part(listed: Result<(), RunFault>, start: u64) -> Result<Option<Refusal>,
     }
 }
 
-/// A refusal of a member whose data begin at the file offset `start`, with an offset of the file, as far
-/// as 64 bits go.
+/// Returns a refusal of a member whose data begin at the file offset `start`, with an offset in the
+/// file, saturating at 64 bits.
 pub(crate) fn placed(refusal: Refusal, start: u64) -> Refusal
     ensures { result ≡ placed_after start refusal }
 {

@@ -1,6 +1,6 @@
-//! The members of an archive in memory, as a caller goes over them: each is told by where its header,
-//! its data and its name lie, so that nothing is copied. A place is plain numbers, and no number that
-//! a caller sets is a wrong one: each step tests them.
+//! The members of an archive in memory, for a caller to iterate over: each is returned as the
+//! locations of its header, its data and its name, so that nothing is copied. A position is plain
+//! numbers, and no number that a caller sets is invalid: each step checks them.
 ghost use Rattle.std.specs.Prelude.{◌≡◌, ◌+◌, ◌^◌, ◌<◌, ◌≤◌, if◌then◌else◌, length, take, Ok};
 ghost use Rattle.elf_model.specs.Prelude.{bsd_name, long_name, member_name, name_in_data, padded_end, parsed_member_name, slice};
 ghost use Rattle.elf_model.specs.declared.causes.Cause.TheVariants.{MemberCut};
@@ -21,51 +21,54 @@ use elf_record::{Cause, Refusal};
 use elf_source::{Counted, MemorySource};
 use elf_table::Fault;
 
-/// The most bytes of a name that a row tells.
+/// The maximum number of bytes of a name that a row has.
 const NAME_CAP: u16 = 4096;
 
-/// A place in a walk over the members of an archive.
+/// A position in a walk over the members of an archive.
 #[repr(C)]
 #[derive(Clone, Copy)]
 pub struct MemberPosition {
     /// The file offset of the next member's header.
     pub at: u64,
-    /// The data of the table of names, where there was one.
+    /// The data of the table of names, if there was one.
     pub names: ByteRange,
-    /// Whether a table of names was passed: none where it is 0.
+    /// Whether a table of names was passed: not if it is 0.
     pub has_names: u32,
-    /// 0.
+    /// Always 0.
     pub none: u32,
 }
 
-/// A member of an archive: where it and its parts lie.
+/// A member of an archive: the locations of it and its parts.
 #[repr(C)]
 #[derive(Clone, Copy)]
 pub struct MemberRow {
     /// The file offset of its header.
     pub at: u64,
-    /// Its data, behind the name where that stands at their front.
+    /// Its data, after the name if that is at their start.
     pub content: ByteRange,
     /// Its name, or the first 4,096 bytes of it.
     pub name: ByteRange,
-    /// Whether its name has more bytes: 1, else 0.
+    /// Whether its name has more bytes: 1, otherwise 0.
     pub is_cut: u32,
-    /// 0.
+    /// Always 0.
     pub none: u32,
 }
 
-/// Where a name lies, or the first 4,096 bytes of it, and whether it has more.
+/// The location of a name, or of its first 4,096 bytes, and whether it has more.
 #[derive(Clone, Copy)]
 struct MemberName {
     place: ByteRange,
     is_cut: bool,
 }
 
-/// A place before the first member; there is always one, or a refusal.
+/// Returns a position before the first member; there is always one, or a refusal.
 ///
 /// # Errors
-/// Refused at offset 0 where the file is no archive: `Short` where it has fewer than 8 bytes, `Thin`
-/// for the magic string of a thin archive, `NotArchive` for other bytes.
+/// Refused at offset 0 if the file is not an archive:
+///
+/// - `Short` if it has fewer than 8 bytes.
+/// - `Thin` for the magic string of a thin archive.
+/// - `NotArchive` for other bytes.
 pub fn open_members(file: &[u8]) -> Result<Option<MemberPosition>, Refusal>
     ensures { OpensMembers file.now result }
 {
@@ -84,15 +87,18 @@ pub fn open_members(file: &[u8]) -> Result<Option<MemberPosition>, Refusal>
     }
 }
 
-/// The next member, and steps over it, with the byte behind its data where all of them, a name at their
-/// front too, are odd in number; None at or behind the file's end.
+/// Returns the next member, and steps over it, with the padding byte after its data if their total
+/// size, including a name at their start, is odd; returns `None` at or after the file's end.
 ///
 /// # Errors
-/// Refused at the offset of the member's header: `MemberCut` where no header stands there, or it or
-/// the data end past the end of the file, or the name past the end of the data at whose front it is said
-/// to be; `NameOutside` where the name begins past the table of names, or there is none, and
-/// `NameUnended` where the table, as far as it lies in the file, ends before the name does. Then the
-/// place is as it was.
+/// Refused at the offset of the member's header:
+///
+/// - `MemberCut` if there is no header, or it or the data extend past the end of the file, or the
+///   name past the end of the data that it is said to precede.
+/// - `NameOutside` if the name begins past the table of names, or there is none.
+/// - `NameUnended` if the table, as far as it lies in the file, ends before the name does.
+///
+/// The position is unchanged then.
 pub fn next_member(file: &[u8], members: &mut MemberPosition) -> Result<Option<MemberRow>, Refusal>
     ensures { StepsMember file.now members.old members.new result }
 {
@@ -127,14 +133,14 @@ pub fn next_member(file: &[u8], members: &mut MemberPosition) -> Result<Option<M
     }))
 }
 
-/// A flag as a number.
+/// Returns a flag as a number.
 fn flag(is_set: bool) -> u32
     ensures { result ≡ (if is_set then 1 else 0) }
 {
     if is_set { 1 } else { 0 }
 }
 
-/// The refusal of a place where no member stands.
+/// Returns the refusal of an offset without a valid member.
 fn cut(at: u64) -> Refusal
     ensures { result ≡ record { at = at; cause = MemberCut } }
 {
@@ -144,7 +150,7 @@ fn cut(at: u64) -> Refusal
     }
 }
 
-/// The table of names that was passed, if one was.
+/// Returns the table of names that was passed, if there was one.
 fn table_in(members: &MemberPosition) -> Option<FileRange>
     ensures { extent_of_names result ≡ names_in members.now }
 {
@@ -157,7 +163,7 @@ fn table_in(members: &MemberPosition) -> Option<FileRange>
     })
 }
 
-/// Goes behind the member with this header and these data.
+/// Moves after the member with this header and these data.
 fn pass(members: &mut MemberPosition, header: &[u8; MEMBER_HEADER_BYTES], content: ByteRange)
     requires { (members.old.at + 60 ≤ content.at) × (content.at + content.len < 2 ^ 63) }
     ensures at { members.new.at ≡ padded_end members.old.at (content.at + content.len) }
@@ -172,10 +178,10 @@ fn pass(members: &mut MemberPosition, header: &[u8; MEMBER_HEADER_BYTES], conten
     members.at = padded_end(members.at, content.at + content.len);
 }
 
-/// Where the name of the member with this header lies, which stands at `at`.
+/// Locates the name of the member with this header, which is at `at`.
 ///
 /// # Errors
-/// As [`next_member`].
+/// As for [`next_member`].
 fn find_name(
     file: &[u8],
     names: Option<FileRange>,
@@ -194,8 +200,8 @@ fn find_name(
     }
 }
 
-/// Where the name in the first `size` bytes of a member's data lies, which begin at the offset `start`,
-/// without the NULs at the end of what is looked at.
+/// Locates the name in the first `size` bytes of a member's data, which begin at the offset
+/// `start`, without the NULs at the end of the bytes read.
 fn find_bsd_name(file: &[u8], start: u64, size: u64) -> MemberName
     requires { start + size ≤ length file.now }
     ensures { FindsMemberName file.now (Ok result) (Ok (bsd_name file.now 4096 start size)) }
@@ -208,10 +214,10 @@ fn find_bsd_name(file: &[u8], start: u64, size: u64) -> MemberName
     shortened(file, start, trimmed_length(NUL, front))
 }
 
-/// Where the name lies that the field of the name, at the offset `at`, alone tells.
+/// Locates the name that the name field, at the offset `at`, alone gives.
 ///
 /// # Errors
-/// As [`next_member`].
+/// As for [`next_member`].
 fn find_reported(
     file: &[u8],
     names: Option<FileRange>,
@@ -229,10 +235,10 @@ fn find_reported(
     }
 }
 
-/// Where the name at an offset of the table of names lies.
+/// Locates the name at an offset of the table of names.
 ///
 /// # Errors
-/// As [`next_member`].
+/// As for [`next_member`].
 fn find_long_name(file: &[u8], names: Option<FileRange>, offset: u64) -> Result<MemberName, Cause>
     ensures { FindsMemberName file.now result
         (long_name file.now 4096 (extent_of_names names) offset) }
@@ -258,7 +264,7 @@ fn find_long_name(file: &[u8], names: Option<FileRange>, offset: u64) -> Result<
     }
 }
 
-/// A name of so many bytes at an offset, or the first 4,096 bytes of it.
+/// Returns the location of a name of `size` bytes at an offset, or of its first 4,096 bytes.
 fn shortened(file: &[u8], at: u64, size: usize) -> MemberName
     requires { at + size ≤ length file.now }
     ensures { NamesMember file.now at size result }

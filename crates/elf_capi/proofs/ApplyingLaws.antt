@@ -1,4 +1,4 @@
--- A section that was written to a sink over lent memory stands in the memory.
+-- A section that was written to a sink over the caller's memory is in the memory.
 use Rattle.std.proofs.Common.{◌≡◌, ℕ, List, [], ◌∷◌, ◌++◌, take, length, Option, None, Some, Result, Ok, Err, Bool, IsTrue, IsSome, is_some, IfErr, refl, sym, ap, ◌∙◌, arith}
 use Rattle.std.proofs.lemmas.List.{append-nil}
 use Rattle.elf_model.specs.Prelude.{Layout, applied, apply_cost_by_order}
@@ -26,7 +26,7 @@ whole : (answer : Result (List ℕ) Refusal) (out rest : List ℕ) (byte : ℕ) 
 whole (Ok text) out rest byte is = ap Ok is
 whole (Err refusal) out rest byte is = absurd (some_bytes out rest byte is)
 
--- a sink that took a byte is not as it was
+-- a sink that took a byte is changed
 unchanged : (name other : ℕ) (xs : List ℕ) (byte : ℕ) (old new : OutState) → old.taken ≡ Some (name ∷ []) → Some (other ∷ (xs ++ byte ∷ [])) ≡ new.taken → new ≡ old → ⊥
 unchanged name other xs byte old new before after same =
     let both : Some (other ∷ (xs ++ byte ∷ [])) ≡ Some (name ∷ []) = after ∙ ap (λ (w : OutState). w.taken) same ∙ before in
@@ -34,7 +34,7 @@ unchanged name other xs byte old new before after same =
     some_byte xs byte none
 
 module _ (file : List ℕ) (headers section : ℕ) (budget : Option ℕ) (layout : Layout) where
-  -- WHAT STANDS IN THE MEMORY once a section is written to it
+  -- WHAT IS IN THE MEMORY once a section is written to it
   pub stands : (name other len entries n : ℕ) (out bytes : List ℕ) (spare : Option ℕ) (failed : Bool) (old new : OutState) (s0 s1 t : CountedState) (result : Result Applied RunFault)
       → old.taken ≡ Some (name ∷ []) → Some (other ∷ (take len out ++ spared spare)) ≡ new.taken → failed ≡ new.failed → (IsSome spare → len ≡ length out)
       → (IsTrue failed → IsSome spare) → honest bytes ≡ t.source → SetsLimit s0 s1 budget → s0.asked ≡ 0 → length file ≡ s1.seen.size → IfErr result (ApplySays s1 t new n)

@@ -1,11 +1,11 @@
--- A listing of the rows of some names, by that of every row which the same bytes ask for.
+-- A listing of the rows of some names, by that of every row which the same bytes request.
 use Rattle.std.proofs.Common.{◌≡◌, ℕ, Bool, true, false, if◌then◌else◌, List, None, Some, refl, sym, ap, subst, ◌∙◌}
 use Rattle.elf_model.specs.Prelude.{EveryRow, ListingStyle}
 use Rattle.elf_options.specs.Prelude.{named_style, texts_of}
 use Rattle.elf_capi.specs.Prelude.{AreLendableNames, AsksListing, BorrowedTexts, GivesListing, IsChosenPart, every_row_of, has_versions_in, style_of_flags}
 use Rattle.elf_capi.specs.declared.caller_listing.CallerListing.{CallerListing}
 
--- a style of every row is none by names
+-- a style of every row does not select by name
 by_flag : (by_name : Bool) (names : List (List ℕ)) (style every : ListingStyle) → every.choice ≡ EveryRow → (if by_name then named_style names style else style) ≡ every → style ≡ every
 by_flag false names style every rows same = same
 by_flag true names style every rows same =

@@ -1,4 +1,4 @@
--- The symbols that a hash table is of, stage by stage.
+-- The symbols that a hash table covers, stage by stage.
 use Rattle.std.proofs.Common.{◌≡◌, ℕ, ◌+◌, ◌*◌, ◌≤◌, min, List, [], ◌∷◌, Option, None, Some, Ok, Err, refl, sym, ap, subst, ◌∙◌, arith}
 use Rattle.elf_model.specs.Prelude.{LookupTables as IsScopeOf, counts_check, first_refusal, hashed_symbol_count, lookup_tables_of, symbols_hashed}
 use Rattle.elf_model.specs.declared.causes.Refusal.{Refusal}
@@ -19,11 +19,11 @@ pub few_counts : (kind : HashStyle) → counts_bytes kind ≤ 16
 few_counts Gnu = omega arith
 few_counts Sysv = omega arith
 
--- the place of the table
+-- the location of the table
 pub place_of : (file : List ℕ) (told : IsScopeOf) (scope : LookupTables) → IsLookupTables file told scope → IsPlaceIn told scope.hash
 place_of file told scope is = record { kind = is.kind; head = is.head; table = record { start = is.place; size = is.size; symbols = is.count } }
 
--- so many of these symbols lie where all do
+-- n of these symbols lie in the file if all do
 pub rows_within : (scope : LookupTables) (at count size : ℕ) → at ≡ scope.symbols.table.at → count ≤ scope.symbols.table.count → scope.symbols.table.at + scope.symbols.table.count * scope.symbols.table.entry ≤ size
     → at + 24 * count ≤ size
 rows_within scope at count size is few all =
@@ -32,7 +32,7 @@ rows_within scope at count size is few all =
     omega (arith, is, few, width)
 
 module _ (file : List ℕ) (headers : ℕ) where
-  -- nothing is found that a lookup is made in
+  -- no lookup tables are found
   pub unscoped : (fault : Fault) → FindsLookupTables file (lookup_tables_of file headers) (Err fault) → ReturnsHashedRows file headers (Err fault)
   unscoped (Refused refusal) found = λ unless. let none = found unless in rw (none, hashed_of) refl
   unscoped (Source fault at) found = tt
@@ -51,12 +51,12 @@ module _ (file : List ℕ) (headers : ℕ) where
     uncounted (Refused refusal) counts = λ unless. let e = miscounted refusal (counts unless) in rw (found, e, hashed_of) refl
     uncounted (Source fault at) counts = tt
 
-    -- a word of the table can't be read
+    -- a word of the table cannot be read
     pub unread : (fault : Fault) → IsRead (Err fault) (hashed_symbol_count file told) → ReturnsHashedRows file headers (Err fault)
     unread (Refused refusal) read = λ unless. absurd (unless read)
     unread (Source fault at) read = tt
 
-    -- all of them are told
+    -- all of them are returned
     pub counted : (count : ℕ) (rows : RowPosition) → first_refusal (counts_check file told ∷ []) ≡ None → count ≡ hashed_symbol_count file told → count ≤ told.table.symbols
         → PlacesHashed file told.symbols count rows → ReturnsHashedRows file headers (Ok rows)
     counted count rows e is few hashed_rows =
@@ -65,7 +65,7 @@ module _ (file : List ℕ) (headers : ℕ) where
         let both : hashed_of file headers ≡ Ok (told.symbols, count) = rw (found, n, hashed_of) refl in
         (told.symbols, count, both, hashed_rows)
 
-    -- what that costs: what a lookup is made in, the counts, and the words of the table
+    -- what that costs: the lookup tables, the counts, and the words of the hash table
     cost_is : hashed_cost file headers ≡ scope_cost file headers + (16 + extent_bytes file told)
     cost_is = rw (found, hashed_cost) refl
 
@@ -80,7 +80,7 @@ module _ (file : List ℕ) (headers : ℕ) where
           CallReads-then (scope_cost file headers + 16) (omega (arith, few_counts kind)) first (subst (λ (s : Option Fault). CallReads b c s (counts_bytes kind)) none counts) in
           CallReads-then (hashed_cost file headers) (omega (arith, cost_is)) both words
 
-  -- so many of the symbols that a lookup is made in
+  -- n of the symbols of the lookup tables
   pub places_hashed : (told : IsScopeOf) (scope : LookupTables) (count : ℕ) (rows : RowPosition) → IsDynamicSymbols file told.symbols scope.symbols → count ≤ scope.symbols.table.count
       → rows ≡ record { at = scope.symbols.table.at; count = count; index = 0; entry = 24; strings_at = scope.symbols.names.at; strings_len = scope.symbols.names.size }
       → PlacesHashed file told.symbols count rows

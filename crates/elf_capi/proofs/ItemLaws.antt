@@ -4,7 +4,7 @@ use Rattle.elf_model.specs.Placing.{Layout}
 use Rattle.elf_capi.specs.Prelude.{LaysItem, LaysItems, PutsKind}
 use Rattle.elf_capi.specs.declared.items.CallerItem.{CallerItem}
 
--- an item is put into a layout in one way
+-- an item is added to a layout in one way
 one_put : (kind : ℕ) (item : CallerItem) (old new other : Layout) → PutsKind kind item old new → PutsKind kind item old other → new ≡ other
 one_put zero item old new other (i, p, d, e, f, g, w) (j, q, h, l, m, r, v) = λ k. record {
   lookup = (w ∙ sym v) k;
@@ -48,7 +48,7 @@ one_put (suc (suc (suc (suc zero)))) item old new other (i, p, d, e, f, g, w) (j
 }
 one_put (suc (suc (suc (suc (suc kind))))) item old new other puts others = absurd puts
 
--- what the rest of the items gives behind a layout that one was put into
+-- what the remaining items give after a layout to which one was added
 laid_before : (items : List CallerItem) (i : ℕ) (d : CallerItem) (old next new : Layout) → i < length items
     → LaysItem (slice_index_or items i d) old next → LaysItems next (drop (suc i) items) new → LaysItems old (drop i items) new
 laid_before [] i d old next new within puts lays = absurd (omega arith)
@@ -62,7 +62,7 @@ laid_behind (item ∷ items) zero d old next new within puts (other, put, lays) 
     subst (λ l. LaysItems l items new) (one_put item.kind item old other next put puts) lays
 laid_behind (item ∷ items) (suc i) d old next new within puts lays = laid_behind items i d old next new (omega arith) puts lays
 
--- an item that is put goes before what the rest of the items gives
+-- an item that is added comes before what the remaining items give
 pub put_before : (items : List CallerItem) (i : ℕ) (d : CallerItem) (old next new : Layout) → i < length items
     → LaysItem (slice_index_or items i d) old next → LaysItems next (drop (i + 1) items) new → LaysItems old (drop i items) new
 put_before items i d old next new within puts lays =

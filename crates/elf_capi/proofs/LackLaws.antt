@@ -1,4 +1,4 @@
--- What a layout lacks, as it is told: the bytes of a symbol's name are few.
+-- What a layout lacks, as reported: the bytes of a symbol's name are few.
 use Rattle.std.proofs.Common.{◌≡◌, ℕ, ◌-◌, ◌<◌, ◌≤◌, ◌==◌, Bool, true, false, List, [], ◌++◌, length, length-take, take, drop, Option, None, Some, Result, Ok, Err, option_map, refl, sym, ap, arith}
 use Rattle.elf_model.specs.Prelude.{Cut, DisplayedName, ITEM_NAME_SIZE, IsBudgetRefusal, Layout, MissingEntry, explained, first_refusal, header_checks, lack_of, lack_with, linked_at, load_checks, missing, refused_in, resolved_symbol_name, section_at, shown, strings_of}
 use Rattle.elf_model.specs.declared.causes.Cause.{Cause}
@@ -64,26 +64,27 @@ explained_few : (file : List ℕ) (section : ℕ) (layout : Layout) (refusal : R
 unfolding explained
 explained_few file section layout refusal lack is = lack_by_few file section layout refusal (refused_in file section refusal.at) lack is
 
--- the bytes of a symbol's name that are told are few
+-- the bytes of a symbol's name that are reported are few
 pub few_told : (file : List ℕ) (section : ℕ) (layout : Layout) (refusal : Refusal) (missed : MissingAddress) (end : NameEnd) (name : List ℕ)
     → lack_as name (Some (missed, end)) ≡ explained file section layout refusal → length name ≤ 255
 few_told file section layout refusal missed IsWhole name is = explained_few file section layout refusal _ (sym is)
 few_told file section layout refusal missed IsCut name is = explained_few file section layout refusal _ (sym is)
 
--- keys that rise follow one another
+-- ascending keys follow one another
 pub each_follows : {X K : Type 0} (order : K → K → Ordering) (key : X → K) (items : List X) (i : ℕ) → i < length items → KeysAscend order key items → Follows order key items i
 each_follows order key items i within rise d some = rise (i - 1) i d (omega (arith, some)) within
 
--- and so do names that may be lent
+-- and so do names that may be borrowed
 pub name_follows : (items : List LentName) (i : ℕ) → i < length items → MayBorrow items → MayFollow items i
 name_follows items i within lend = (λ d. lend.names i d within, each_follows {K = List ℕ} name_order lent_name items i within lend.rise)
 
--- the name of a symbol is told, by its bytes and by whether it has more
+-- the name of a symbol is reported, by its bytes and by whether it has more
 pub tells_symbol : (missing : CallerMissing) (end : NameEnd) (name : List ℕ) → take missing.name_len missing.name ≡ name → missing.is_cut ≡ cut_number end → ReturnsSymbol missing (shown_by end name)
 tells_symbol missing IsWhole name is cut = (is, cut)
 tells_symbol missing IsCut name is cut = (is, cut)
 
--- why nothing can be told: the refusal is the file's own, or the rest of the budget is less than finding out costs
+-- why nothing can be known: the refusal is the file's own, or the rest of the budget is less than
+-- finding out costs
 pub cannot_be_known : (file : List ℕ) (headers : ℕ) (budget : Option ℕ) (asked : ℕ) (s0 s1 s2 : CountedState) (refusal : Refusal) → SetsLimit s0 s1 (option_map (λ bytes. bytes - asked) budget) → s0.asked ≡ 0
     → length file ≡ s1.seen.size → IsReadRefusal s1 s2 (explain_bytes headers) refusal
     → ((IsBudgetRefusal refusal → ⊥) → first_refusal (header_checks file ++ load_checks file headers) ≡ Some refusal) → CannotBeKnown file headers budget asked

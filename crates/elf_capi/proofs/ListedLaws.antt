@@ -1,4 +1,4 @@
--- How many dynamic entries are listed, by those that were looked at.
+-- How many dynamic entries are listed, by those that were read.
 use Rattle.std.proofs.Common.{ℕ, ◌≡◌, ◌≢◌, ◌+◌, ◌*◌, ◌<◌, ◌≤◌, ◌⊎◌, inl, inr, true, List, None, Ok, Err, ap, arith}
 use Rattle.std.proofs.lemmas.Bool.{cases_lt}
 use Rattle.elf_model.specs.Prelude.{DT_NULL, d_tag, dynamic_count, e_shnum, section_at}
@@ -9,7 +9,7 @@ use Rattle.elf_capi.specs.Prelude.{IsDynamicTable, ListsWithin, ReadsListed, Rea
 use Rattle.elf_capi.specs.declared.rows.RowPosition.{RowPosition}
 use Rattle.elf_capi.specs.declared.kind.RowKind.TheVariants.{Dynamic}
 
--- where none of those before one has the tag DT_NULL, that one is listed too
+-- if none of those before one has the tag DT_NULL, that one is listed too
 pub count_past : (file : List ℕ) (at n done : ℕ) → done < n → ((i : ℕ) → i < done → d_tag file (at + 16 * i) ≢ DT_NULL) → done < dynamic_count file at n
 count_past file at n done below none = go (cases_lt done (dynamic_count file at n))
   where
@@ -25,7 +25,7 @@ count_past file at n done below none = go (cases_lt done (dynamic_count file at 
 pub count_fitting : (file : List ℕ) (at n : ℕ) → dynamic_count file at n ≤ n
 count_fitting file at n = (counted_is_listed file at n).within
 
--- a table of which more entries are listed than may be looked at
+-- a table of which more entries are listed than may be read
 pub table_past : (file held : List ℕ) (headers section most : ℕ) (table : Table) (names : StringTableRange) (all : RowPosition) (refusal : Refusal) → held ≡ file → load_refused file headers ≡ None
     → section < e_shnum held → holds Dynamic held (section_at held section) ≡ true → IsDynamicTable held (section_at held section) (Ok (table, names)) → all ≡ rows_from_first table names
     → ListsWithin file all most (Err refusal) → ReadsListed (ReadsRows Dynamic file headers section) most (Err refusal)

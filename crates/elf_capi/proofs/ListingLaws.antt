@@ -1,4 +1,4 @@
--- What a sink over lent memory took is what stands at the front of the memory, and behind it.
+-- What a sink over the caller's memory took is what is at the start of the memory, and after it.
 use Rattle.elf_options.specs.Prelude.{style_of}
 use Rattle.elf_options.specs.declared.caps.Caps.{Caps}
 use Rattle.std.proofs.Common.{◌≡◌, ℕ, List, [], ◌∷◌, ◌++◌, take, length, Option, None, Some, Result, Ok, Err, Bool, true, false, IsTrue, IsSome, is_some, IfErr, refl, sym, ap, ◌∙◌, subst, arith}
@@ -15,11 +15,11 @@ use Rattle.elf_table.specs.declared.run_fault.RunFault.TheVariants.{Refused, Sou
 use Rattle.elf_listing.specs.Reports.{WroteReport, FaultSays}
 use Rattle.elf_capi.specs.Prelude.{ListsInMemory, spared, status_from}
 
--- a name and the bytes behind it, to which some bytes are appended
+-- a name and the bytes after it, to which some bytes are appended
 behind : (name other : ℕ) (now bytes : List ℕ) → Appends (Some (name ∷ [])) (Some (other ∷ now)) bytes → now ≡ bytes
 behind name other now bytes p = cc
 
--- a source that gives these bytes never fails, whatever of them is hidden
+-- a source of these bytes never fails, whichever of them are masked
 pub never : (file : List ℕ) (hides : Bool) (old new : SourceState) (fault : SourceFault) → new ≡ seen_by hides (honest file) → IsSourceFault old new fault → ⊥
 never file hides old new Device is says =
     let none : new.failures ≡ 0 = ap (λ (s : SourceState). s.failures) is in
@@ -36,24 +36,24 @@ never file hides old new Ended is says =
 pub nothing_took : (name len : ℕ) (out : List ℕ) (spare : Option ℕ) (taken : Option (List ℕ)) → taken ≡ Some (name ∷ (take len out ++ spared spare)) → len ≡ 0 → spare ≡ None → taken ≡ Some (name ∷ [])
 nothing_took name len out spare taken is none alone = is ∙ ap (λ n. Some (name ∷ (take n out ++ spared spare))) none ∙ ap (λ s. Some (name ∷ ([] ++ spared s))) alone
 
--- what a sink took behind its name
+-- what a sink took after its name
 pub took : (name other : ℕ) (now : List ℕ) (old new : Option (List ℕ)) (bytes : List ℕ) → old ≡ Some (name ∷ []) → Some (other ∷ now) ≡ new → Appends old new bytes → now ≡ bytes
 took name other now old new bytes before after p =
     let q : Appends (Some (name ∷ [])) new bytes = subst (λ (o : Option (List ℕ)). Appends o new bytes) before p in
     behind name other now bytes (subst (λ (n : Option (List ℕ)). Appends (Some (name ∷ [])) n bytes) (sym after) q)
 
--- where a byte stands behind the memory, more of the text does
+-- if a byte follows the memory, more of the text does
 pub more : (out front rest text : List ℕ) (byte len : ℕ) → len ≡ length out → take len out ++ byte ∷ [] ≡ front → text ≡ front ++ rest → text ≡ out ++ byte ∷ rest
 more out front rest text byte len at_end is split =
     let whole : take len out ≡ out = take_all len out (omega (arith, at_end)) in
     split ∙ ap (λ f. f ++ rest) (sym is) ∙ ap (λ o. (o ++ byte ∷ []) ++ rest) whole ∙ append_assoc out (byte ∷ []) rest
 
 module _ (IsText : List ℕ → Option Refusal → Type 0) where
-  -- a text with its fault as the memory has it
+  -- a text with its fault, as in the memory
   pub told : (text front : List ℕ) (fault other : Option Refusal) → front ≡ text → other ≡ fault → IsText text fault → IsText front other
   told text front fault other is same listed = subst (λ f. IsText front f) (sym same) (subst (λ t. IsText t fault) (sym is) listed)
 
-  -- a front of the text, one byte longer than the memory
+  -- a prefix of the text, one byte longer than the memory
   pub full_of : (out front rest text : List ℕ) (fault : Option Refusal) (byte len : ℕ) → len ≡ length out → take len out ++ byte ∷ [] ≡ front → text ≡ front ++ rest → IsText text fault
       → (len ≡ length out) × (b : ℕ) × (r : List ℕ) × (f : Option Refusal) × IsText (out ++ b ∷ r) f
   full_of out front rest text fault byte len at_end is split listed =
@@ -63,7 +63,7 @@ module _ (file : List ℕ) (caps : Caps) (parts : ℕ) where
   abbrev Is : List ℕ → Option Refusal → Type 0
   Is text fault = IsBudgeted caps.limits.budget file caps.limits.headers (style_of caps.style) parts text fault
 
-  -- WHAT STANDS IN THE MEMORY once a listing is written to it
+  -- WHAT IS IN THE MEMORY once a listing is written to it
   pub lists : {X : Type 0} (name other len : ℕ) (out bytes : List ℕ) (spare : Option ℕ) (failed : Bool) (old new : OutState) (s t : CountedState) (result : Result X RunFault)
       → old.taken ≡ Some (name ∷ []) → Some (other ∷ (take len out ++ spared spare)) ≡ new.taken → failed ≡ new.failed → (IsSome spare → len ≡ length out)
       → (IsTrue failed → IsSome spare) → honest bytes ≡ t.source → IfErr result (FaultSays s t new) → WroteReport file caps parts old new result

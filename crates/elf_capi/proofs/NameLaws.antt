@@ -1,4 +1,4 @@
--- Names of which rows may be chosen, one by one.
+-- Names whose rows may be selected, one by one.
 use Rattle.std.proofs.Common.{◌≡◌, ℕ, ◌+◌, ◌-◌, ◌<◌, ◌≤◌, Bool, true, false, not, List, [], ◌∷◌, MatchBool, length, get_or, inl, inr, is_lt, nat_cmp, refl, sym, ap, subst, ◌∙◌, arith}
 use Rattle.std.specs.Borrow.{Bor}
 use Rattle.std.specs.Cmp.Lexicographic.{slice_cmp}
@@ -11,7 +11,7 @@ some_name [] within = absurd (omega (arith, within))
 some_name (name ∷ names) within = name
 
 module _ (versions : Bool) (names : BorrowedTexts) where
-  -- a name that can't be looked for may not stand
+  -- a name that cannot be looked up is not allowed
   pub no_name_stands : (i : ℕ) (name : List ℕ) → i < length names → ((d : Bor (List ℕ)) → name ≡ (get_or names i d).now) → (IsRowName versions name → ⊥) → IsLendableNameAt versions names i → ⊥
   no_name_stands i name within is none stand =
       let d = some_name names (omega (arith, within)) in
@@ -23,7 +23,7 @@ module _ (versions : Bool) (names : BorrowedTexts) where
         subst (λ m. is_lt (slice_cmp nat_cmp name other) ≡ is_lt (slice_cmp nat_cmp (get_or names i d).now (get_or names m d).now)) {x = i - 1} (omega (arith, next))
         (ap (λ (t : List ℕ). is_lt (slice_cmp nat_cmp t other)) (is d) ∙ ap (λ (t : List ℕ). is_lt (slice_cmp nat_cmp (get_or names i d).now t)) (was d))
 
-    -- one that can stands where it is not below the one before it
+    -- one that can is allowed if it is not below the one before it
     pub stands_by : (below : Bool) → below ≡ is_lt (slice_cmp nat_cmp name other) → IsRowName versions name → MatchBool (not below) (IsLendableNameAt versions names i) (IsLendableNameAt versions names i → ⊥)
     stands_by true lower row = λ stand.
         let d = some_name names (omega (arith, within)) in

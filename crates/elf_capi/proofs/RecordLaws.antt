@@ -14,13 +14,13 @@ use Rattle.elf_note.proofs.LeftLaws.{cut-here}
 use Rattle.elf_capi.specs.Prelude.{GoesOnTo, bytes_within, kind_number, records_left, stand_as, standing_in}
 use Rattle.elf_capi.specs.declared.records.VersionRecordPosition.{VersionRecordPosition}
 
--- a record has some bytes
+-- a record has at least 16 bytes
 some_bytes : (kind : VersionKind) → 16 ≤ record_size kind
 some_bytes Definition = omega arith
 some_bytes File = omega arith
 some_bytes Need = omega arith
 
--- where a walk stands by numbers of a kind
+-- where a walk is by numbers of a kind
 pub stands_as : (size : ℕ) (kind : VersionKind) (records : VersionRecordPosition) → records.kind ≡ kind_number kind → records.owner ≤ size → (kind ≡ Need → records.owner + 16 ≤ size)
     → standing_in size records ≡ Some (stand_as kind records)
 stands_as size Definition records is owner needs = let within : nat_le records.owner size ≡ true = grind (arith, nat_tests) in rw (is, within) refl
@@ -45,7 +45,7 @@ same_past file table size left place from owner kind few = elim (cases_lt place 
       ∙ sym (cut-here file table size other left (inr (omega (arith, some, few, high))))
 ]
 
--- the kind and the owner of where a walk stands, if it does
+-- the kind and the owner of where a walk is, if it does
 abbrev kind_in : VersionKind → Option RecordCursorState → VersionKind
 kind_in none None = none
 kind_in none (Some stand) = stand.kind
@@ -63,7 +63,7 @@ needs_owner table place distance owner files = elim (cases_Bool (distance == 0))
   | inr some ↦ rw some (λ e. refl)
 ]
 
--- the file of a version that is to come is one of the table's
+-- the file of the next version is one of the table's
 owned : (file : List ℕ) (table size : ℕ) (kind : VersionKind) (place from owner : ℕ) (s : RecordPosition)
     → Some (record_position_of s) ≡ next_position file table (record { kind = kind; place = place; from = from; owner = owner }) → place + record_size kind ≤ size
     → (kind ≡ Need → owner + 16 ≤ size) → s.kind ≡ Need → s.owner + 16 ≤ size
@@ -88,7 +88,7 @@ gone old s = record (old) { left = old.left - 1; kind = kind_number s.kind; plac
 abbrev ended : VersionRecordPosition → VersionRecordPosition
 ended old = record (old) { left = old.left - 1; kind = 0 }
 
--- WHAT IS LEFT where a walk goes on, as the numbers have it
+-- WHAT IS LEFT if a walk goes on, as the numbers have it
 pub goes_on : (file : List ℕ) (old new : VersionRecordPosition) (stand : RecordCursorState) (next : Option RecordPosition) (each : ℕ) → bytes_within (length file) old < 2 ^ 64
     → stand.place + record_size stand.kind ≤ bytes_within (length file) old → (stand.kind ≡ Need → stand.owner + 16 ≤ bytes_within (length file) old)
     → option_map record_position_of next ≡ next_position file old.at stand → IfSome next (IsPositionInTable (bytes_within (length file) old) each) → GoesOnTo old new next
@@ -109,7 +109,7 @@ pub left_is : (file : List ℕ) (records : VersionRecordPosition) (table : Table
 left_is file records table standing c at count stands its its_standing left =
     rw (its, its_standing, left, at, stands) (ap (λ n. visited_from file records.at n (standing_in n records) records.left) count)
 
--- a record that is met has its bytes in the table
+-- a visited record has its bytes in the table
 no_record : (met : VisitedRecord) (versions other : Versions) → other.met ≡ [] → other ≡ with_visited met versions → ⊥
 no_record met versions other none is = let e : [] ≡ met ∷ versions.met = sym none ∙ ap (λ (v : Versions). v.met) is in absurd (cc)
 

@@ -12,7 +12,7 @@ use Rattle.elf_capi.specs.Prelude.{AreRecords, bytes_within, first_kind, record_
 use Rattle.elf_capi.specs.declared.records.VersionRecordPosition.{VersionRecordPosition}
 use Rattle.elf_capi.proofs.RecordLaws.{stands_as}
 
--- no section begins with a version that is needed
+-- no section begins with a needed version
 pub never_need : (file : List ℕ) (at : ℕ) (kind : VersionKind) → first_kind file at ≡ Some kind → kind ≡ Need → ⊥
 never_need file at kind is need = elim (cases_Bool (sh_type file at == SHT_GNU_VERDEF)) [
   | inl defines ↦ let found = rw defines at is in absurd (cc)

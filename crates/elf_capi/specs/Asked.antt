@@ -1,4 +1,5 @@
--- What a caller asks for of a listing, by the bytes of a struct that a later version may have longer, and by names.
+-- A caller's request for a listing, by the bytes of a struct that a later version may extend, and
+-- by names.
 use Rattle.std.specs.Prelude.{ℕ, ◌≡◌, ◌+◌, ◌≤◌, ◌⊎◌, ⊤, if◌then◌else◌, Bool, true, false, All, List, drop, length, slice_index_or, Option, None, Some}
 use Rattle.std.specs.Borrow.{Bor}
 use Rattle.std.specs.Cmp.Lexicographic.{slice_cmp}
@@ -10,30 +11,30 @@ use Rattle.elf_model.specs.declared.formats.Format.{Format}
 use Rattle.elf_options.specs.Prelude.{IsRowName, NeverDescend, named_style, texts_of}
 use Rattle.elf_capi.specs.declared.caller_listing.CallerListing.{CallerListing}
 
--- names that are lent
+-- borrowed names
 abbrev pub BorrowedTexts : Type 0
 BorrowedTexts = List (Bor (List ℕ))
 
--- which parts are asked for, and the sum of the flags
+-- which parts are requested, and the sum of the flags
 abbrev pub parts_in : List ℕ → ℕ
 parts_in asked = field asked 0 2
 
 abbrev flags_in : List ℕ → ℕ
 flags_in asked = field asked 2 2
 
--- numbers of the GNU system have names, by a flag of 4; the version of a symbol stands behind its name, by one of 16
+-- GNU numbers have names, by a flag of 4; the version of a symbol follows its name, by one of 16
 abbrev is_gnu_in : List ℕ → Bool
 is_gnu_in asked = has (flags_in asked) 4
 
 abbrev pub has_versions_in : List ℕ → Bool
 has_versions_in asked = has (flags_in asked) 16
 
--- how a line is written: a flag of 8 asks for objects
+-- how a line is written: a flag of 8 requests JSON objects
 abbrev pub format_in : ℕ → Format
 format_in flags = if has flags 8 then Object else Columns
 
--- HOW ROWS ARE SHOWN, with so many bytes of a name: by the flags, of which one of 1 asks for tables by the program headers; every
--- row is
+-- HOW ROWS ARE SHOWN, with a limit on the bytes of a name: by the flags, of which 1 requests tables
+-- by the program headers; every row is shown
 abbrev pub style_of_flags : List ℕ → ℕ → ListingStyle
 style_of_flags asked cap = record {
   cap = cap;
@@ -44,14 +45,14 @@ style_of_flags asked cap = record {
   versions = has_versions_in asked;
 }
 
--- the same, or where there are names those rows alone whose name is one of them
+-- the same, or if there are names only those rows whose name is one of them
 abbrev pub style_in : List ℕ → Option BorrowedTexts → ℕ → ListingStyle
 style_in asked None cap = style_of_flags asked cap
 style_in asked (Some names) cap = named_style (texts_of names) (style_of_flags asked cap)
 
--- THE BYTES ASK FOR A LISTING: parts and flags are there, and behind them zeros alone, which ask for nothing that this version
--- does not know; no other flag is set, versions stand behind names in listings of the GNU system alone, and all parts are such as
--- the listing has
+-- THE BYTES REQUEST A LISTING: parts and flags are there, and after them only zeros, which request
+-- nothing that this version does not know; no other flag is set, versions follow names in GNU
+-- listings alone, and all parts are ones that the listing has
 pub record AsksStyled (asked : List ℕ) : Type 0 where
   pub long : 4 ≤ length asked
   pub zeros : are_all 0 (drop 4 asked) ≡ true
@@ -59,30 +60,30 @@ pub record AsksStyled (asked : List ℕ) : Type 0 where
   pub versions : has_versions_in asked ≡ true → is_gnu_in asked ≡ true
   pub parts : parts_in asked ≤ all_parts (is_gnu_in asked)
 
--- the parts of which rows are chosen by names, one alone
+-- the parts whose rows are selected by name, one alone
 abbrev pub IsChosenPart : ℕ → Type 0
 IsChosenPart parts = (parts ≡ SYMBOLS) ⊎ (parts ≡ RELOCS) ⊎ (parts ≡ VERSIONS)
 
--- names that may be lent: each can be looked for, and none is below the one before it
+-- names that may be provided: each can be looked up, and none is below the one before it
 abbrev pub AreLendableNames : (versions : Bool) → BorrowedTexts → Type 0
 AreLendableNames versions names = NeverDescend names × All (λ name. IsRowName versions name.now) names
 
--- so of the name at a place
+-- the same for the name at an index
 abbrev pub IsLendableNameAt : (versions : Bool) → BorrowedTexts → ℕ → Type 0
 IsLendableNameAt versions names i =
     ((d : Bor (List ℕ)) → IsRowName versions (slice_index_or names i d).now)
     × ((j : ℕ) (d : Bor (List ℕ)) → j + 1 ≡ i → is_lt (slice_cmp nat_cmp (slice_index_or names i d).now (slice_index_or names j d).now) ≡ false)
 
--- rows may be chosen by these names, where there are some
+-- rows may be selected by these names, if there are any
 abbrev ChoosesBy : List ℕ → Option BorrowedTexts → Type 0
 ChoosesBy asked None = ⊤
 ChoosesBy asked (Some names) = IsChosenPart (parts_in asked) × AreLendableNames (has_versions_in asked) names
 
--- A LISTING IS ASKED FOR, of every row or of those of some names
+-- A LISTING IS REQUESTED, of every row or of those of some names
 abbrev pub AsksListing : List ℕ → Option BorrowedTexts → Type 0
 AsksListing asked names = AsksStyled asked × ChoosesBy asked names
 
--- how rows of a listing are shown, with so many bytes of a name
+-- how rows of a listing are shown, with a limit on the bytes of a name
 abbrev pub every_row_of : CallerListing → ℕ → ListingStyle
 every_row_of listing cap = record {
   cap = cap;
@@ -97,7 +98,7 @@ abbrev pub caller_style : CallerListing → ℕ → ListingStyle
 caller_style listing cap =
     if listing.by_name then named_style (texts_of listing.names.now) (every_row_of listing cap) else every_row_of listing cap
 
--- the listing is given that is asked for, and none where none is
+-- the requested listing is returned, and none if none is requested
 abbrev pub GivesListing : List ℕ → Option BorrowedTexts → Option CallerListing → Type 0
 GivesListing asked names None = AsksListing asked names → ⊥
 GivesListing asked names (Some listing) =

@@ -1,4 +1,4 @@
--- What opening a table of a file in memory answers, where limits and room are in their ranges.
+-- The result of opening a table of a file in memory, if limits and room are in range.
 use Rattle.std.specs.Prelude.{ℕ, List, Option, None, Some, Result}
 use Rattle.elf_model.specs.declared.causes.Refusal.{Refusal}
 use Rattle.elf_capi.specs.TableOpenings.{ReadsSectionNames, ReadsRows}
@@ -10,7 +10,8 @@ use Rattle.elf_capi.specs.declared.rows.RowPosition.{RowPosition}
 use Rattle.elf_capi.specs.Limits.{AreInRange, headers_of}
 use Rattle.elf_capi.specs.declared.limits.CallerLimits.{CallerLimits}
 
--- what a call has of a reading, for which so many headers are permitted: limits in their range, and room for a header
+-- what a call has of a reading, with the given number of headers allowed: limits in range, and room
+-- for a header
 abbrev pub OpensBy : {A : Type 0} → (ℕ → Result (Option A) Refusal → Type 0) → CallerLimits → ℕ → Option (Result (Option A) Refusal) → Type 0
 OpensBy reads limits room (Some read) = AreInRange limits room × reads (headers_of limits room) read
 OpensBy reads limits room None = AreInRange limits room → ⊥

@@ -3,7 +3,7 @@ use Rattle.std.specs.Prelude.{ℕ}
 use Rattle.elf_model.specs.declared.causes.Cause.TheVariants.{BadClass, BadData, BadLink, BadVersion, Budget, EntrySize, ExtendedNumbering, HashCycle, HashIndex, HashShape, LoadOverlap, MemberCut, NameOutside, NameUnended, NoHash, NotArchive, NotElf, NotRel, NotStrings, NoteCut, Overflow, PlaceOutside, Short, SizeNotWhole, SymbolIndex, TableOutside, Thin, TooLong, TooManyHeaders, Undefined, Unmapped, Unplaced, Unsupported, VersionCut, VersionIndex}
 use Rattle.elf_model.specs.declared.causes.Cause.{Cause}
 
--- the number of a cause, from 1 on; 0 is none
+-- the number of a cause, starting at 1; 0 is none
 abbrev pub cause_number : Cause → ℕ
 cause_number Short = 1
 cause_number NotElf = 2

@@ -15,11 +15,11 @@ use Rattle.elf_capi.specs.declared.end.CallEnd.{CallEnd}
 use Rattle.elf_capi.specs.declared.found.LookupFields.{LookupFields}
 use Rattle.elf_capi.specs.declared.limits.CallerLimits.{CallerLimits}
 
--- a symbol of zeros, where none was found
+-- a symbol of zeros, for a lookup that found none
 abbrev pub no_symbol : Symbol
 no_symbol = record { value = 0; size = 0; name = 0; section = 0; info = 0; other = 0 }
 
--- nothing was found behind so many steps
+-- nothing was found after n steps
 abbrev pub nothing_after : ℕ → LookupFields
 nothing_after steps = record {
   symbol = no_symbol;
@@ -30,24 +30,24 @@ nothing_after steps = record {
   none_behind = 0;
 }
 
--- a lookup within a budget, with so many headers permitted: its answer, or its refusal, unless that is for want of budget,
--- which comes only where the lookup costs more
+-- a lookup within a budget, with the given number of headers allowed: its result, or its refusal,
+-- except one for lack of budget, which occurs only if the lookup costs more
 abbrev pub LooksIn : List ℕ → ℕ → Option ℕ → List ℕ → Result Lookup Refusal → Type 0
 LooksIn file headers budget name (Ok lookup) = AnswersSysvLookup file (looked file headers name) lookup
 LooksIn file headers budget name (Err refusal) =
     ((IsBudgetRefusal refusal → ⊥) → (looked file headers name).answer ≡ Refused refusal)
     × (IsBudgetRefusal refusal → IsWanting budget (find_cost file headers name) (length file) refusal)
 
--- limits in their ranges, room for a header, and a name of at most 4,096 bytes
+-- limits in range, room for a header, and a name of at most 4,096 bytes
 abbrev MayLook : CallerLimits → ℕ → List ℕ → Type 0
 MayLook limits room name = AreInRange limits room × (length name ≤ 4096)
 
--- a lookup in a file; or what was passed is outside its ranges, and nothing is asked for
+-- a lookup in a file; or the arguments are out of range, and nothing is read
 abbrev pub CallLooks : List ℕ → CallerLimits → ℕ → List ℕ → ℕ → Option (Result Lookup Refusal) → Type 0
 CallLooks file limits room name asked None = (MayLook limits room name → ⊥) × (asked ≡ 0)
 CallLooks file limits room name asked (Some looked) = MayLook limits room name × LooksIn file (headers_of limits room) (budget_of limits) name looked
 
--- what is told as numbers
+-- the result as numbers
 abbrev pub ReturnsLooked : ℕ → LookupFields → CallEnd → Option (Result Lookup Refusal) → Type 0
 ReturnsLooked status found end (Some (Ok (Found section index symbol steps))) =
     (status ≡ 0) × (found.section ≡ section) × (found.index ≡ index) × HasFields symbol found.symbol × (found.steps ≡ steps) × (found.none ≡ 0) × (found.none_behind ≡ 0) × ReturnsNone end
@@ -55,7 +55,7 @@ ReturnsLooked status found end (Some (Ok (Absent steps))) = (status ≡ 2) × (f
 ReturnsLooked status found end (Some (Err refusal)) = (status ≡ 1) × (found ≡ nothing_after 0) × ReturnsCause end refusal
 ReturnsLooked status found end None = (status ≡ 4) × (found ≡ nothing_after 0) × ReturnsNone end
 
--- WHAT A CALLER HAS of a lookup, with so many bytes of room: what it answers, as the numbers have it
+-- WHAT A CALLER HAS of a lookup, with the given bytes of room: its result, as the numbers have it
 pub record HasLookup (file : List ℕ) (limits : CallerLimits) (room : ℕ) (name : List ℕ) (status : ℕ) (found : LookupFields) (end : CallEnd) : Type 0 where
   pub answer : Option (Result Lookup Refusal)
   pub looks : CallLooks file limits room name end.asked answer

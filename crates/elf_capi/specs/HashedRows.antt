@@ -1,4 +1,4 @@
--- What a call has of the symbols that a loader knows of a file in memory.
+-- What a call has of the dynamic symbols of a file in memory, as a loader sees them.
 use Rattle.std.specs.Prelude.{ℕ, ◌≡◌, ◌≤◌, ◌==◌, List, length, Option, None, Some, Result, Ok, Err, IfSome}
 use Rattle.elf_model.specs.Prelude.{IsBudgetRefusal, looked_at}
 use Rattle.elf_model.specs.declared.causes.Refusal.{Refusal}
@@ -11,19 +11,19 @@ use Rattle.elf_capi.specs.Wants.{IsWanting}
 use Rattle.elf_capi.specs.declared.end.CallEnd.{CallEnd}
 use Rattle.elf_capi.specs.declared.limits.CallerLimits.{CallerLimits}
 
--- such symbols within a budget, in a file of so many bytes: a place before the first; or the refusal, which comes for want of budget
--- only where they cost more
+-- such symbols within a budget, in a file of the given size: a position before the first; or the
+-- refusal, which is for lack of budget only if they cost more
 abbrev pub ReadsHashed : List ℕ → (headers : ℕ) → Option ℕ → (size : ℕ) → Result (Option RowPosition) Refusal → Type 0
 ReadsHashed file headers budget size (Ok None) = ⊥
 ReadsHashed file headers budget size (Ok (Some rows)) = ReturnsHashedRows file headers (Ok rows)
 ReadsHashed file headers budget size (Err refusal) =
     ReturnsHashedRows file headers (Err (Refused refusal)) × (IsBudgetRefusal refusal → IsWanting budget (hashed_cost file headers) size refusal)
 
--- the file that is looked at: with zeros where its header tells of section headers, for a flag of 1
+-- the file as viewed: for a flag of 1, with the section header fields of its header set to zero
 abbrev pub by_flags : ℕ → List ℕ → List ℕ
 by_flags flags file = looked_at (flags == 1) file
 
--- limits in their range, room for a header, and no other flag
+-- limits in range, room for a header, and no other flag
 abbrev MayOpenHashed : CallerLimits → (room flags : ℕ) → Type 0
 MayOpenHashed limits room flags = AreInRange limits room × (flags ≤ 1)
 
@@ -33,8 +33,8 @@ OpensHashed file limits room flags None = MayOpenHashed limits room flags → �
 OpensHashed file limits room flags (Some read) =
     MayOpenHashed limits room flags × ReadsHashed (by_flags flags file) (headers_of limits room) (budget_of limits) (length file) read
 
--- WHAT A CALLER HAS of these symbols, with so many bytes of room: what was opened, as the numbers have it, beside which they tell how
--- many bytes were asked for
+-- WHAT A CALLER HAS of these symbols, with the given bytes of room: what was opened, as the numbers
+-- have it, and besides how many bytes were requested
 pub record HasHashed (file : List ℕ) (limits : CallerLimits) (room flags status : ℕ) (old new : RowPosition) (end : CallEnd) : Type 0 where
   pub opened : Option (Result (Option RowPosition) Refusal)
   pub opens : OpensHashed file limits room flags opened

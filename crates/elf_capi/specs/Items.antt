@@ -6,13 +6,13 @@ use Rattle.elf_layout.specs.declared.layout.Item.{Item as Laid}
 use Rattle.elf_model.specs.Placing.{Layout, no_items}
 use Rattle.elf_capi.specs.declared.items.CallerItem.{CallerItem}
 
--- an address stands behind others, of which there may be so many, and none of these has its index or name
+-- an address is appended to others, up to a maximum number, none of which has its index or name
 abbrev pub IsAdded : {K : Type 0} → ℕ → K → ℕ → List (K × ℕ) → List (K × ℕ) → Type 0
 IsAdded most key address old new = Adds {X = Unit {0}} most key address old new (Ok tt)
 
--- an item of a kind is put into a layout, behind those of its sort, and all else stays: 0 is a section, by an index below 2^16; by a name, 1 a
--- definition, 2 an entry of the procedure linkage table, 3 one of the global offset table and 4 one there of an offset from the
--- thread pointer; there are no others
+-- an item of a kind is added to a layout, after those of its type, and all else is unchanged: 0 is
+-- a section, by an index below 2^16; by a name, 1 a definition, 2 a PLT entry, 3 a GOT entry and 4
+-- a GOT entry for an offset from the thread pointer; there are no others
 abbrev pub PutsKind : ℕ → CallerItem → Layout → Layout → Type 0
 PutsKind zero item old new =
     (item.index < 2 ^ 16) × IsAdded 64 item.index item.address old.sections new.sections
@@ -31,11 +31,11 @@ PutsKind (suc (suc (suc (suc zero)))) item old new =
     × (new.sections ≡ old.sections) × (new.definitions ≡ old.definitions) × (new.linkage ≡ old.linkage) × (new.table ≡ old.table) × (new.lookup ≡ old.lookup)
 PutsKind (suc (suc (suc (suc (suc kind))))) item old new = ⊥
 
--- an item is put into a layout
+-- an item is added to a layout
 abbrev pub LaysItem : CallerItem → Layout → Layout → Type 0
 LaysItem item old new = PutsKind item.kind item old new
 
--- THE LAYOUT that items give behind those of another, from the first to the last
+-- THE LAYOUT that items give after those of another, from the first to the last
 abbrev pub LaysItems : Layout → List CallerItem → Layout → Type 0
 LaysItems old [] new = new ≡ old
 LaysItems old (item ∷ items) new = (next : Layout) × LaysItem item old next × LaysItems next items new
@@ -45,7 +45,7 @@ abbrev pub LaysOut : List CallerItem → Layout → Bool → Type 0
 LaysOut items layout true = LaysItems no_items items layout
 LaysOut items layout false = (other : Layout) → LaysItems no_items items other → ⊥
 
--- an item as a layout has it; none where no layout has it
+-- an item as a layout has it; none if no layout has it
 abbrev pub GivesItem : CallerItem → Option Laid → Type 0
 GivesItem item None = (old new : Layout) → LaysItem item old new → ⊥
 GivesItem item (Some (Section index address)) = (item.kind ≡ 0) × (item.index < 2 ^ 16) × (index ≡ item.index) × (address ≡ item.address)

@@ -1,7 +1,7 @@
--- What a sink over lent memory keeps behind it.
+-- What a sink over the caller's memory keeps after it.
 use Rattle.std.specs.Prelude.{ℕ, List, [], ◌∷◌, Option, None, Some}
 
--- a byte behind the memory
+-- a byte after the memory
 abbrev pub spared : Option ℕ → List ℕ
 spared None = []
 spared (Some byte) = byte ∷ []

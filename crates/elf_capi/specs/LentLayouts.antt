@@ -1,4 +1,4 @@
--- A layout of any size, which a caller lends, and what it lacks where a section was refused.
+-- A layout of any size, which a caller provides, and what it lacks if a section was refused.
 use Rattle.std.specs.Prelude.{ℕ, ◌≡◌, ◌+◌, ◌<◌, ◌≤◌, ◌⊎◌, List, ◌++◌, take, length, Option, None, Some, IfSome}
 use Rattle.std.specs.Ordering.{nat_cmp}
 use Rattle.elf_model.specs.Prelude.{Cut, DisplayedName, IsBudgetRefusal, Layout, MissingEntry, Searched, apply_cost_by_order, explained, first_refusal, header_checks, load_checks}
@@ -20,7 +20,8 @@ use Rattle.elf_capi.specs.declared.missing.CallerMissing.{CallerMissing}
 use Rattle.elf_capi.specs.declared.call_status.CallStatus.{CallStatus}
 use Rattle.elf_capi.specs.declared.call_status.CallStatus.TheVariants.{Refused, BadCall}
 
--- A LAYOUT MAY BE LENT: the indices of its sections rise, and of each sort its names are such as an item may have, and rise
+-- A LAYOUT MAY BE BORROWED: the indices of its sections ascend, and of each type its names are
+-- valid names of items, and ascend
 pub record MayBorrowLayout (layout : CallerLayout) : Type 0 where
   pub sections : KeysAscend nat_cmp borrowed_index layout.sections.now
   pub definitions : MayBorrow layout.definitions.now
@@ -39,13 +40,13 @@ lent_layout layout = record {
   thread = named layout.thread.now;
 }
 
--- it is given where it may be lent, and not else
+-- it is returned if it may be borrowed, and not otherwise
 abbrev pub GivesLayout : CallerLayout → Option BorrowedLayout → Type 0
 GivesLayout layout None = MayBorrowLayout layout → ⊥
 GivesLayout layout (Some lent) = MayBorrowLayout layout × (borrowed_as lent ≡ lent_layout layout)
 
--- the items of which one would help, each sort of them as a number: 1 a section, 2 a definition, 4 an entry of the procedure
--- linkage table, 8 one of the global offset table, 16 one there of an offset from the thread pointer
+-- the items of which one would help, each type of them as a number: 1 a section, 2 a definition, 4
+-- a PLT entry, 8 a GOT entry, 16 a GOT entry for an offset from the thread pointer
 abbrev pub helpful : LayoutAddress → ℕ
 helpful (Place section) = 1
 helpful (Named Symbol) = 2
@@ -54,7 +55,7 @@ helpful (Named Table) = 8
 helpful (Named Thread) = 16
 helpful Entry = 4
 
--- the section that wants an address, or 0 where a name does
+-- the section that needs an address, or 0 if a name does
 abbrev pub apply_input_of : LayoutAddress → ℕ
 apply_input_of (Place section) = section
 apply_input_of (Named base) = 0
@@ -65,7 +66,8 @@ abbrev pub ReturnsSymbol : CallerMissing → DisplayedName → Type 0
 ReturnsSymbol missing (Whole name) = (take missing.name_len missing.name ≡ name) × (missing.is_cut ≡ 0)
 ReturnsSymbol missing (Cut front) = (take missing.name_len missing.name ≡ front) × (missing.is_cut ≡ 1)
 
--- WHAT IS MISSING, AS NUMBERS: which items would help, with the number of the relocation type; nothing where none would
+-- WHAT IS MISSING, AS NUMBERS: which items would help, with the number of the relocation type;
+-- nothing if none would
 abbrev pub ReturnsMissing : CallerMissing → Option MissingEntry → Type 0
 ReturnsMissing missing None =
     (missing.helpful ≡ 0) × (missing.section ≡ 0) × (missing.relocation ≡ 0) × (missing.name_len ≡ 0) × (missing.is_cut ≡ 0)
@@ -73,27 +75,29 @@ ReturnsMissing missing (Some lack) =
     (missing.helpful ≡ helpful lack.missing.wanted) × (missing.section ≡ apply_input_of lack.missing.wanted)
     × (missing.relocation ≡ lack.missing.kind) × ReturnsSymbol missing lack.name
 
--- nothing can be told: the file's headers are refused; or it is for want of budget, which is not enough to find out too
+-- nothing can be known: the file's headers are refused; or it is for lack of budget, which does not
+-- suffice to find out too
 abbrev pub CannotBeKnown : List ℕ → (headers : ℕ) → Option ℕ → (asked : ℕ) → Type 0
 CannotBeKnown file headers budget asked =
     (refusal : Refusal)
     × ((IsBudgetRefusal refusal → ⊥) → first_refusal (header_checks file ++ load_checks file headers) ≡ Some refusal)
     × (IsBudgetRefusal refusal → (bytes : ℕ) × (budget ≡ Some bytes) × (bytes < asked + explain_bytes headers))
 
--- what a layout lacks where a section was refused, behind so many bytes that were asked for: what would help, or nothing is told
+-- what a layout lacks if a section was refused, after n bytes that were requested: what would help,
+-- or nothing is reported
 abbrev pub ExplainsRefusal : List ℕ → (headers : ℕ) → Option ℕ → (section : ℕ) → Layout → (asked : ℕ) → Refusal → CallerMissing → Type 0
 ExplainsRefusal file headers budget section layout asked refusal missing =
     ReturnsMissing missing (explained file section layout refusal)
     ⊎ (ReturnsMissing missing None × CannotBeKnown file headers budget asked)
 
--- the same of a call: where it was not refused nothing is missing
+-- the same for a call: if it was not refused nothing is missing
 abbrev pub ExplainsTold : List ℕ → (headers : ℕ) → Option ℕ → (section : ℕ) → Layout → (cost : ℕ) → CallStatus → CallerMissing → Type 0
 ExplainsTold file headers budget section layout cost (Refused refusal) missing =
     (asked : ℕ) × (asked ≤ cost) × ExplainsRefusal file headers budget section layout asked refusal missing
 ExplainsTold file headers budget section layout cost _ missing = ReturnsMissing missing None
 
--- what a call did with its arguments: within the cost and the budget it gives the section for the layout that is lent, and where
--- it is refused what that lacks
+-- the effect of a call with its arguments: within the cost and the budget it gives the section for
+-- the borrowed layout, and if it is refused what that lacks
 pub record Places (file : List ℕ) (limits : CallerLimits) (section : ℕ) (layout : CallerLayout) (room : ℕ) (out : List ℕ) (end : CallEnd) (missing : CallerMissing) (told : CallStatus) : Type 0 where
   pub permitted : AreInRange limits room
   pub lent : MayBorrowLayout layout
@@ -103,7 +107,7 @@ pub record Places (file : List ℕ) (limits : CallerLimits) (section : ℕ) (lay
   pub cost : end.asked ≤ apply_cost_by_order file (headers_of limits room) section (lent_layout layout) + explain_bytes (headers_of limits room)
   pub budget : IfSome (budget_of limits) (λ bytes. end.asked ≤ bytes)
 
--- or its arguments are outside their ranges, and nothing is asked for and written
+-- or its arguments are out of range, and nothing is read and written
 abbrev pub PlacesInMemory : List ℕ → CallerLimits → ℕ → CallerLayout → ℕ → List ℕ → List ℕ → CallEnd → CallerMissing → CallStatus → Type 0
 PlacesInMemory file limits section layout room before out end missing BadCall =
     (AreInRange limits room → MayBorrowLayout layout → ⊥) × Untouched before out end × ReturnsMissing missing None
@@ -114,8 +118,8 @@ abbrev pub CountsWritten : CallEnd → CallStatus → Type 0
 CountsWritten end (Refused refusal) = end.written ≡ 0
 CountsWritten end _ = Unit {0}
 
--- WHAT A CALLER HAS of a section in a layout that is lent, with so many bytes of room: what was told, as the memory and the
--- numbers have it
+-- WHAT A CALLER HAS of a section in a borrowed layout, with the given bytes of room: the result, as
+-- the memory and the numbers have it
 pub record IsPlaced (file : List ℕ) (limits : CallerLimits) (section : ℕ) (layout : CallerLayout) (room status : ℕ) (before out : List ℕ) (missing : CallerMissing) (end : CallEnd) : Type 0 where
   pub told : CallStatus
   pub places : PlacesInMemory file limits section layout room before out end missing told

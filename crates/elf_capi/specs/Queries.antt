@@ -3,18 +3,18 @@ use Rattle.std.specs.Prelude.{ℕ, ◌<◌, ◌≤◌, ◌%◌, ◌==◌, nat_lt
 use Rattle.elf_model.specs.Loader.{VersionQuery, NoVersion, Version, DefaultVersion, SymbolQuery}
 use Rattle.elf_capi.specs.declared.query.Query.{Query}
 
--- WHAT A CALLER ASKS FOR: how it is looked up, a name, and the name of a version
+-- WHAT A CALLER REQUESTS: how it is looked up, a name, and the name of a version
 pub record QueryAsked : Type 0 where
   pub flags : ℕ
   pub name : List ℕ
   pub version : List ℕ
 
--- the same of names that are lent
+-- the same of borrowed names
 abbrev pub asks_of : Query → QueryAsked
 asks_of query = record { flags = query.flags; name = query.name.now; version = query.version.now }
 
--- flags add up: 1 is a lookup by the program headers, 2 asks for the default version alone. There are no others, and neither the
--- name nor the version has more than 4,096 bytes
+-- flags are a sum: 1 is a lookup by the program headers, 2 requests the default version alone.
+-- There are no others, and neither the name nor the version has more than 4,096 bytes
 abbrev pub IsPermitted : QueryAsked → Type 0
 IsPermitted asks = (asks.flags < 4) × (length asks.name ≤ 4096) × (length asks.version ≤ 4096)
 
@@ -22,11 +22,11 @@ IsPermitted asks = (asks.flags < 4) × (length asks.name ≤ 4096) × (length as
 abbrev pub goes_by_segments : ℕ → Bool
 goes_by_segments flags = flags % 2 == 1
 
--- the version that is asked for: none by a name of no bytes
+-- the version that is requested: none for a name of no bytes
 abbrev pub asked_version : ℕ → List ℕ → VersionQuery
 asked_version flags version =
     if length version == 0 then NoVersion else if nat_lt flags 2 then Version version else DefaultVersion version
 
--- what is wanted
+-- the symbol query
 abbrev pub wanted_by : QueryAsked → SymbolQuery
 wanted_by asks = record { name = asks.name; asked = asked_version asks.flags asks.version }

@@ -1,9 +1,9 @@
--- A place in a table of a file in memory, and steps over its rows.
+-- A position in a table of a file in memory, and steps over its rows.
 use Rattle.std.specs.Prelude.{ℕ, ◌≡◌, ◌+◌, ◌-◌, ◌*◌, ◌/◌, ◌==◌, min, if◌then◌else◌}
 use Rattle.elf_table.specs.Tables.{TableRange as Table, StringTableRange}
 use Rattle.elf_capi.specs.declared.rows.RowPosition.{RowPosition}
 
--- a place before the first row of a table, with its string table
+-- a position before the first row of a table, with its string table
 abbrev pub rows_from_first : Table → StringTableRange → RowPosition
 rows_from_first table names = record {
   at = table.at;
@@ -14,17 +14,17 @@ rows_from_first table names = record {
   strings_len = names.size;
 }
 
--- where the k-th of the next entries stands
+-- where the k-th of the next entries is
 abbrev pub next_at : RowPosition → ℕ → ℕ → ℕ
 next_at rows entry k = rows.at + entry * rows.index + entry * k
 
--- how many entries are left: those that the numbers count, as far as they lie within a file of so many bytes; none where
--- their size is another
+-- how many entries are left: those that the numbers count, as far as they lie within a file of the
+-- given size; none if their size is another
 abbrev pub rows_left : ℕ → RowPosition → ℕ → ℕ
 rows_left size rows entry =
     if rows.entry == entry then min ((size - (rows.at + entry * rows.index)) / entry) (rows.count - rows.index) else 0
 
--- so many entries further
+-- n entries further
 abbrev pub stepped : RowPosition → ℕ → RowPosition
 stepped rows count = record {
   at = rows.at;
@@ -35,7 +35,7 @@ stepped rows count = record {
   strings_len = rows.strings_len;
 }
 
--- A STEP: over as many of the next entries as there are and as there is room for
+-- A STEP: over as many of the next entries as there are and as fit
 pub record StepsRows (size entry : ℕ) (old new : RowPosition) (room count : ℕ) : Type 0 where
   pub counted : count ≡ min (rows_left size old entry) room
   pub stepped : new ≡ stepped old count

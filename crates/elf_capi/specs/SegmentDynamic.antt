@@ -6,7 +6,7 @@ use Rattle.elf_memory.specs.Checked.{first_refused}
 use Rattle.elf_capi.specs.ListedEntries.{all_listed}
 use Rattle.elf_capi.specs.declared.rows.RowPosition.{RowPosition}
 
--- a place before the first of all entries in so many bytes at an offset; without strings
+-- a position before the first of all entries in n bytes at an offset; without strings
 abbrev pub entries_at : ℕ → ℕ → RowPosition
 entries_at at bytes = record {
   at = at;
@@ -17,7 +17,7 @@ entries_at at bytes = record {
   strings_len = 0;
 }
 
--- those, where they are whole entries within the file; the refusal names a place
+-- those, if they are whole entries within the file; the refusal is at a place
 abbrev pub AreSegmentEntries : List ℕ → ℕ → ℕ → ℕ → Result (Option RowPosition) Refusal → Type 0
 AreSegmentEntries file place at bytes (Ok (Some rows)) =
     (first_refusal (unless_empty bytes (whole_checks_of (length file) at bytes place 16)) ≡ None) × (rows ≡ entries_at at bytes)
@@ -26,7 +26,7 @@ AreSegmentEntries file place at bytes (Ok None) = ⊥
 AreSegmentEntries file place at bytes (Err refusal) =
     first_refusal (unless_empty bytes (whole_checks_of (length file) at bytes place 16)) ≡ Some refusal
 
--- the file has a segment of this index, of type DYNAMIC
+-- the file has a segment at this index, of type DYNAMIC
 abbrev HasEntries : List ℕ → ℕ → Type 0
 HasEntries file index = (index < e_phnum file) × (p_type file (segment_at file index) ≡ PT_DYNAMIC)
 
@@ -34,8 +34,8 @@ HasEntries file index = (index < e_phnum file) × (p_type file (segment_at file 
 abbrev all_entries : List ℕ → ℕ → RowPosition
 all_entries file index = entries_at (p_offset file (segment_at file index)) (p_filesz file (segment_at file index))
 
--- a place before the first of all entries of a segment, which lie within the file; that there is no such segment, or that it holds
--- none; or the first check that fails
+-- a position before the first of all entries of a segment, which lie within the file; or that there
+-- is no such segment, or that it holds none; or the first check that fails
 abbrev pub FindsEntries : List ℕ → ℕ → Result (Option RowPosition) Refusal → Type 0
 FindsEntries file index (Ok (Some rows)) =
     (first_refused file ≡ None) × HasEntries file index
@@ -47,8 +47,9 @@ FindsEntries file index (Err refusal) =
     ⊎ ((first_refused file ≡ None) × HasEntries file index
     × (first_refusal (segment_dynamic_checks file (segment_at file index)) ≡ Some refusal))
 
--- WHAT A CALLER HAS of the dynamic entries of a segment: a place before the first, in a table whose checks pass; that the file
--- has no such segment, or that it holds none; or the first check that fails
+-- WHAT A CALLER HAS of the dynamic entries of a segment: a position before the first, in a table
+-- whose checks pass; or that the file has no such segment, or that it holds none; or the first
+-- check that fails
 abbrev pub ReadsSegmentDynamic : List ℕ → ℕ → Result (Option RowPosition) Refusal → Type 0
 ReadsSegmentDynamic file index (Ok (Some rows)) =
     (first_refused file ≡ None) × HasEntries file index

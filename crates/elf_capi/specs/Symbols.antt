@@ -13,7 +13,7 @@ pub record HasFields (sym : Sym) (symbol : Symbol) : Type 0 where
   pub info : symbol.info ≡ sym.st_info
   pub other : symbol.other ≡ sym.st_other
 
--- the fields of the symbol that stands at an offset of a file (gABI 4, Symbol Table)
+-- the fields of the symbol at an offset of a file (gABI 4, Symbol Table)
 pub record IsSymbol (file : List ℕ) (at : ℕ) (symbol : Symbol) : Type 0 where
   pub name : symbol.name ≡ st_name file at
   pub info : symbol.info ≡ st_info file at

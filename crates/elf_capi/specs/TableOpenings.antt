@@ -1,4 +1,4 @@
--- What opening a table of a file in memory answers.
+-- The result of opening a table of a file in memory.
 use Rattle.std.specs.Prelude.{ℕ, ◌≡◌, ◌<◌, ◌≤◌, ◌==◌, ◌⊎◌, Bool, true, false, List, Option, None, Some, Result, Ok, Err, option_map}
 use Rattle.elf_model.specs.Prelude.{SHT_DYNAMIC, SHT_GNU_VERSYM, SHT_RELA, all_checks, e_shnum, first_refusal, is_symbol_table, section_at, section_name_checks, sh_type, symbol_versions}
 use Rattle.elf_model.specs.declared.causes.Refusal.{Refusal}
@@ -26,20 +26,22 @@ abbrev pub NamesSections : List ℕ → Result (Option StringTableRange) Refusal
 NamesSections file (Ok names) = (first_refusal (section_name_checks file) ≡ None) × (names ≡ section_names file)
 NamesSections file (Err refusal) = first_refusal (section_name_checks file) ≡ Some refusal
 
--- a section whose header stands at an offset holds rows of a kind, by its type
+-- a section whose header is at an offset holds rows of a kind, by its type
 abbrev pub holds : RowKind → List ℕ → ℕ → Bool
 holds Symbols file at = is_symbol_table file at
 holds Relocations file at = sh_type file at == SHT_RELA
 holds Dynamic file at = sh_type file at == SHT_DYNAMIC
 holds VersionWords file at = sh_type file at == SHT_GNU_VERSYM
 
--- the string table of the symbols that relocation entries refer to; no bytes where they refer to none
+-- the string table of the symbols that relocation entries refer to; no bytes if they refer to none
 abbrev pub linked_names : Option (Table × StringTableRange) → StringTableRange
 linked_names None = record { at = 0; size = 0 }
 linked_names (Some symbols) = symbols.1
 
--- the rows of a kind of the section with this header, whose checks pass: symbols with their string table; relocation entries with
--- the string table of the symbols that they refer to; dynamic entries up to and with the first DT_NULL, with their string table; words of symbols' versions
+-- the rows of a kind of the section with this header, whose checks pass: symbols with their string
+-- table; relocation entries with the string table of the symbols that they refer to; dynamic
+-- entries up to and including the first DT_NULL, with their string table; entries of symbols'
+-- versions
 abbrev AreOpenedRows : RowKind → List ℕ → ℕ → RowPosition → Type 0
 AreOpenedRows Symbols file at rows = (table : Table) × (names : StringTableRange) × (symbols_at file at ≡ Ok (table, names)) × (rows ≡ rows_from_first table names)
 AreOpenedRows Relocations file at rows =
@@ -60,16 +62,17 @@ abbrev pub OpensTable : RowKind → List ℕ → ℕ → Result RowPosition Faul
 OpensTable kind file at (Ok rows) = AreOpenedRows kind file at rows
 OpensTable kind file at (Err fault) = RefusesRows kind file at fault
 
--- the file has a section of this index, and it holds rows of a kind
+-- the file has a section at this index, and it holds rows of a kind
 abbrev HasRows : RowKind → List ℕ → ℕ → Type 0
 HasRows kind file section = (section < e_shnum file) × (holds kind file (section_at file section) ≡ true)
 
--- it has none, or that holds no such rows
+-- it has none, or the section holds no such rows
 abbrev LacksRows : RowKind → List ℕ → ℕ → Type 0
 LacksRows kind file section = (e_shnum file ≤ section) ⊎ (holds kind file (section_at file section) ≡ false)
 
--- WHAT A CALLER HAS of a section of rows of a kind: its rows, whose checks pass; that there is no such section; or the first check
--- that fails, until the section headers are loaded or of the table
+-- WHAT A CALLER HAS of a section of rows of a kind: its rows, whose checks pass; or that there is
+-- no such section; or the first check that fails, until the section headers are loaded or of the
+-- table
 abbrev pub ReadsRows : RowKind → List ℕ → ℕ → ℕ → Result (Option RowPosition) Refusal → Type 0
 ReadsRows kind file headers section (Ok (Some rows)) = (load_refused file headers ≡ None) × HasRows kind file section × AreOpenedRows kind file (section_at file section) rows
 ReadsRows kind file headers section (Ok None) = (load_refused file headers ≡ None) × LacksRows kind file section
@@ -77,12 +80,12 @@ ReadsRows kind file headers section (Err refusal) =
     (load_refused file headers ≡ Some refusal)
     ⊎ ((load_refused file headers ≡ None) × HasRows kind file section × RefusesRows kind file (section_at file section) (Refused refusal))
 
--- the range that a string table is
+-- the range of a string table
 abbrev range_of : StringTableRange → ByteRange
 range_of names = record { at = names.at; len = names.size }
 
--- WHAT A CALLER HAS of the section names: their string table; that there is none; or the first check that fails until the
--- section headers are loaded
+-- WHAT A CALLER HAS of the section names: their string table; or that there is none; or the first
+-- check that fails until the section headers are loaded
 abbrev pub ReadsSectionNames : List ℕ → ℕ → Result (Option ByteRange) Refusal → Type 0
 ReadsSectionNames file headers (Ok found) = (load_refused file headers ≡ None) × (found ≡ option_map range_of (section_names file))
 ReadsSectionNames file headers (Err refusal) = load_refused file headers ≡ Some refusal

@@ -1,4 +1,4 @@
-//! A section of a file in memory with its relocations applied, written to memory that a caller lent.
+//! A section of a file in memory with its relocations applied, written to memory of the caller.
 ghost use Rattle.std.specs.Prelude.{◌≡◌, ◌≤◌, IfSome, length};
 ghost use Rattle.elf_model.specs.ApplyCost.{apply_cost_by_order};
 ghost use Rattle.elf_capi.specs.Applied.{AppliesIn};
@@ -11,19 +11,19 @@ use elf_reloc::apply_with;
 use elf_source::{Counted, MemorySource, Out};
 use elf_table::HeaderStore;
 
-/// A section that is to be written, the addresses that it is written for, and how many bytes may be read,
-/// where that is limited.
+/// A section to write, the addresses for which it is written, and how many bytes may be read, if
+/// limited.
 #[derive(Clone, Copy)]
 pub struct ApplyInput<'a> {
-    /// Its index.
+    /// The section's index.
     pub section: u16,
     /// The addresses.
     pub layout: &'a Addresses<'a>,
-    /// The read budget, where there is one.
+    /// The read budget, if there is one.
     pub budget: Option<u64>,
 }
 
-/// Writes a section to the front of some memory, and answers how many bytes were written.
+/// Writes a section to the start of a buffer, and returns how many bytes were written.
 pub fn write_section(
     file: &[u8],
     store: &mut HeaderStore,
@@ -47,7 +47,7 @@ pub fn write_section(
     len
 }
 
-/// Writes a section to the front of some memory, and gives the sink over it.
+/// Writes a section to the start of a buffer, and returns the sink over it.
 fn write_to_sink<'a>(
     file: &[u8],
     store: &mut HeaderStore,

@@ -1,4 +1,4 @@
-//! What a caller asks for of a listing.
+//! A caller's request for a listing.
 ghost use Rattle.std.specs.Prelude.{◌≡◌, MatchBool, None, Some};
 ghost use Rattle.elf_model.specs.Prelude.{all_parts, are_all};
 ghost use Rattle.elf_capi.specs.Asked.{GivesListing, IsChosenPart, format_in};
@@ -8,24 +8,26 @@ use crate::name_list::may_choose;
 use elf_model::Format;
 use elf_record::{Parts, u16_at};
 
-/// The bytes of the struct that says it, as far as this version of the library knows it.
+/// The size in bytes of the request struct, as this version of the library knows it.
 const KNOWN_BYTES: usize = 4;
-/// Tables are found by the program headers, also where there are section headers.
+/// Tables are found by the program headers, even if there are section headers.
 const BY_SEGMENTS: u16 = 1;
-/// Numbers of the GNU system have names too, and symbol versions can be listed.
+/// GNU numbers have names too, and symbol versions can be listed.
 const GNU: u16 = 4;
 /// Each line is a JSON object.
 const JSON: u16 = 8;
-/// The version of a symbol stands behind its name.
+/// The version of a symbol follows its name.
 const NAME_VERSIONS: u16 = 16;
-/// All bits that are no flag.
+/// All bits that are not a flag.
 const NO_FLAGS: u16 = 0xffe2;
 
-/// The listing that the bytes of a struct ask for: its parts and the sum of its flags, each of 16 bits.
-/// None where there are fewer bytes than these, where one behind them is not 0, for a flag that is not
-/// known, for versions behind names without those of the GNU system, and for a part that such a listing
-/// has not.
-pub fn listing_of(asked: &[u8]) -> Option<CallerListing<'static>>
+/// Returns the listing that the bytes of a struct request: its parts and the sum of its flags, each
+/// of 16 bits.
+///
+/// Returns `None` if there are fewer bytes than these, if one after them is not 0, for an unknown
+/// flag, for versions after names in a listing that is not GNU, and for a part that such a listing
+/// does not have.
+pub fn caller_listing_of(asked: &[u8]) -> Option<CallerListing<'static>>
     ensures { GivesListing asked.now None result }
 {
     if asked.len() < KNOWN_BYTES || !are_zeros(&asked[KNOWN_BYTES..]) {
@@ -48,13 +50,15 @@ pub fn listing_of(asked: &[u8]) -> Option<CallerListing<'static>>
     Some(listing)
 }
 
-/// The same of the rows alone whose name is one of some. None also where the part is none of which rows
-/// are chosen by names, or not one alone: symbols, relocation entries and symbol versions are; where a
-/// name can't be looked for; and where one is below the one before it, by their bytes.
+/// Returns the same listing of only the rows whose name is one of some.
+///
+/// Returns `None` also if the part is not exactly one of those whose rows are selected by name,
+/// which are symbols, relocation entries and symbol versions; if a name cannot be looked up; and if
+/// one is below the one before it, by their bytes.
 pub fn named_listing_of<'n>(asked: &[u8], names: &'n [&'n [u8]]) -> Option<CallerListing<'n>>
     ensures { GivesListing asked.now (Some names.now) result }
 {
-    let every = listing_of(asked)?;
+    let every = caller_listing_of(asked)?;
     if !is_chosen_part(every.parts) {
         return None;
     }
@@ -72,7 +76,7 @@ pub fn named_listing_of<'n>(asked: &[u8], names: &'n [&'n [u8]]) -> Option<Calle
     })
 }
 
-/// Whether it is one part, of which rows are chosen by names.
+/// Returns `true` if it is a single part whose rows are selected by name.
 fn is_chosen_part(parts: Parts) -> bool
     ensures { MatchBool result (IsChosenPart parts.0) (IsChosenPart parts.0 → ⊥) }
 {
@@ -80,7 +84,7 @@ fn is_chosen_part(parts: Parts) -> bool
     part == Parts::SYMBOLS.0 || part == Parts::RELOCS.0 || part == Parts::VERSIONS.0
 }
 
-/// How a line is written, by the flags.
+/// Returns how a line is written, by the flags.
 fn format_of(flags: u16) -> Format
     ensures { result ≡ format_in flags }
 {
@@ -91,14 +95,15 @@ fn format_of(flags: u16) -> Format
     }
 }
 
-/// The sum of all parts of a listing, of the GNU system or of the standards alone.
+/// Returns the sum of all parts of a listing, of a GNU listing if `gnu` is set, otherwise of the
+/// standards alone.
 fn most_parts(gnu: bool) -> u16
     ensures { result ≡ all_parts gnu }
 {
     if gnu { 255 } else { 127 }
 }
 
-/// Whether all bytes are 0.
+/// Returns `true` if all bytes are 0.
 fn are_zeros(bytes: &[u8]) -> bool
     ensures { result ≡ are_all 0 bytes.now }
 {

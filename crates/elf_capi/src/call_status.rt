@@ -1,4 +1,4 @@
-//! What a caller is told of a listing, or of a section with its relocations applied.
+//! The result of a listing, or of writing a section with its relocations applied, for a caller.
 ghost use Rattle.std.specs.Prelude.{◌≡◌};
 ghost use Rattle.elf_capi.specs.Ends.{ReturnsNone};
 ghost use Rattle.elf_capi.specs.Told.{IsStatus, status_from};
@@ -12,16 +12,16 @@ use elf_table::RunFault;
 pub enum CallStatus {
     /// All of it was written.
     Done,
-    /// The file or what was asked of it is refused, or the read budget is used up.
+    /// The file or the request is refused, or the read budget is exhausted.
     Refused(Refusal),
-    /// The memory has too few bytes for it.
+    /// The memory is too small for it.
     Full,
-    /// A number is outside its range.
+    /// A number is out of range.
     BadCall,
 }
 
-/// What a call did by its answer, and by whether there were more bytes than memory for them. Neither a
-/// fault of a source in memory nor one of an output that is not full comes.
+/// Returns the status for the result of a call, and for whether there were more bytes than fit the
+/// memory. A fault of a source in memory, or one of an output that is not full, does not occur.
 pub fn status_from<T>(answer: &Result<T, RunFault>, full: bool) -> CallStatus
     ensures { result ≡ status_from answer.now full }
 {
@@ -33,7 +33,7 @@ pub fn status_from<T>(answer: &Result<T, RunFault>, full: bool) -> CallStatus
     }
 }
 
-/// Tells it as numbers, and answers the status: 0, 1, 3 or 4.
+/// Writes it as numbers, and returns the status: 0, 1, 3 or 4.
 pub fn report_status(told: CallStatus, end: &mut CallEnd) -> u32
     requires { ReturnsNone end.old × (end.old.none ≡ 0) }
     ensures status { IsStatus result end.new told }

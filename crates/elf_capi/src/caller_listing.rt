@@ -1,4 +1,4 @@
-//! A listing, as a caller asks for it.
+//! A listing, as a caller requests it.
 ghost use Rattle.elf_options.specs.Names.{NeverDescend};
 
 use elf_model::Format;
@@ -6,23 +6,23 @@ use elf_options::{RowFilter, style_with_names};
 use elf_record::Parts;
 use elf_table::{ListingStyle, NameLimit};
 
-/// A listing, as a caller asks for it: which parts it has, and how its rows are shown, but for how
+/// A listing, as a caller requests it: which parts it has, and how its rows are shown, except how
 /// many bytes of a name.
 #[derive(Clone, Copy)]
 pub struct CallerListing<'n> {
     /// The parts.
     pub parts: Parts,
-    /// Whether numbers of the GNU system have names.
+    /// Whether GNU numbers have names.
     pub gnu: bool,
-    /// Whether tables are found by the program headers also where there are section headers.
+    /// Whether tables are found by the program headers even if there are section headers.
     pub by_segments: bool,
     /// How a line is written.
     pub format: Format,
-    /// Whether the version of a symbol stands behind its name.
+    /// Whether the version of a symbol follows its name.
     pub versions: bool,
-    /// Whether rows are chosen by their names.
+    /// Whether rows are selected by name.
     pub by_name: bool,
-    /// The names that they are chosen by, in the rising order of their bytes.
+    /// The names that they are selected by, sorted by their bytes.
     pub names: &'n [&'n [u8]],
     pub ghost sorted: { NeverDescend names.now },
 }
@@ -33,8 +33,8 @@ impl<'n> CallerListing<'n> {
     ghost use Rattle.elf_options.specs.Permitted.{style_of};
     ghost use Rattle.elf_capi.specs.Asked.{caller_style};
 
-    /// Every row of some parts, in the standards' names, by the section headers where there are some, and
-    /// in columns.
+    /// Returns a listing of every row of some parts, with the standards' names, by the section
+    /// headers if there are any, and in columns.
     pub fn standard(parts: Parts) -> CallerListing<'static>
         ensures parts { result.parts ≡ parts }
         ensures style { (cap : ℕ) → caller_style result cap ≡ standard cap }
@@ -50,7 +50,7 @@ impl<'n> CallerListing<'n> {
         }
     }
 
-    /// How its rows are shown, with so many bytes of a name.
+    /// Returns how its rows are shown, with the given limit on the bytes of a name.
     pub fn style(self, cap: NameLimit) -> ListingStyle<'n>
         ensures { style_of result ≡ caller_style self.entry cap.bytes }
     {

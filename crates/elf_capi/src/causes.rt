@@ -4,7 +4,7 @@ ghost use Rattle.elf_capi.specs.Causes.{cause_number};
 
 use elf_record::Cause;
 
-/// The number of a cause, from 1 on, as `elfsee.h` has it.
+/// Returns the number of a cause, starting at 1, as in `elfsee.h`.
 pub(crate) fn cause_number(cause: Cause) -> u32
     ensures { result ≡ cause_number cause }
 {

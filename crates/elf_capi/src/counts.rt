@@ -1,7 +1,7 @@
-//! Counts of bytes as C has them.
+//! Byte counts as C has them.
 ghost use Rattle.std.specs.Prelude.{◌≡◌, ◌-◌, ◌^◌, min};
 
-/// A count, or 2^64 - 1 where it is larger.
+/// Returns a count, or 2^64 - 1 if it is larger.
 pub fn short(count: u128) -> u64
     ensures { result ≡ min count (2 ^ 64 - 1) }
 {

@@ -15,7 +15,7 @@ use elf_record::sizes::DYNAMIC_BYTES;
 pub struct Dynamic {
     /// Its tag.
     pub tag: i64,
-    /// Its value, a number or an address, as the tag says.
+    /// Its value, a number or an address, depending on the tag.
     pub value: u64,
 }
 
@@ -33,7 +33,7 @@ impl TableRow for Dynamic {
     }
 }
 
-/// The fields of a dynamic entry.
+/// Returns the fields of a dynamic entry.
 fn fields_of(entry: &Dyn) -> Dynamic
     ensures { (file : List ℕ) (at : ℕ) → IsDyn file at entry.now → IsDynamic file at result }
 {

@@ -8,8 +8,8 @@ use elf_memory::chunk_at;
 use elf_record::numbers::DT_NULL;
 use elf_record::{Cause, Dyn, Refusal};
 
-/// Of rows that are all entries of a table those that are listed: up to and with the first DT_NULL, or
-/// all.
+/// Returns, of rows that are all entries of a table, those that are listed: up to and including the
+/// first DT_NULL, or all.
 pub(crate) fn listed_rows(file: &[u8], all: RowPosition) -> RowPosition
     requires { 0 < all.count → all.at + all.count * 16 ≤ length file.now }
     ensures { result ≡ all_listed file.now all }
@@ -23,10 +23,10 @@ pub(crate) fn listed_rows(file: &[u8], all: RowPosition) -> RowPosition
     rows
 }
 
-/// The same, where no more than `most` entries have to be looked at.
+/// Returns the same, if at most `most` entries have to be read.
 ///
 /// # Errors
-/// `Budget` where more have to be, at the first of these.
+/// `Budget` if more have to be read, at the first of those.
 pub(crate) fn listed_within(
     file: &[u8],
     all: RowPosition,
@@ -48,7 +48,7 @@ pub(crate) fn listed_within(
     }
 }
 
-/// How many of `count` entries from the offset `at` on are listed; None where they are more than
+/// Returns how many of the `count` entries at offset `at` are listed, or `None` if more than
 /// `most`.
 fn listed_count(file: &[u8], at: u64, count: u64, most: u64) -> Option<u64>
     requires { 0 < count → at + count * 16 ≤ length file.now }
@@ -67,7 +67,7 @@ fn listed_count(file: &[u8], at: u64, count: u64, most: u64) -> Option<u64>
     Some(count)
 }
 
-/// Whether the entry at an offset of the file has the tag DT_NULL.
+/// Returns `true` if the entry at an offset of the file has the tag DT_NULL.
 fn is_null(file: &[u8], at: usize) -> bool
     requires { at + 16 ≤ length file.now }
     ensures { result ≡ (d_tag file.now at == DT_NULL) }

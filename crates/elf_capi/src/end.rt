@@ -5,24 +5,24 @@ ghost use Rattle.elf_capi.specs.Ends.{ReturnsCause};
 use crate::causes::cause_number;
 use elf_record::Refusal;
 
-/// How a call ended, and what it took.
+/// How a call ended, and its counts.
 #[repr(C)]
 #[derive(Clone, Copy)]
 pub struct CallEnd {
-    /// The file offset that the refusal names, in bytes; 0 where there is none.
+    /// The file offset of the refusal, in bytes; 0 if there is none.
     pub at: u64,
-    /// How many bytes were written to the memory for them.
+    /// How many bytes were written to the output memory.
     pub written: u64,
-    /// How many bytes of the file were asked for, at most 2^64 - 1.
+    /// How many bytes of the file were requested, at most 2^64 - 1.
     pub asked: u64,
-    /// The cause of the refusal, as a number; 0 where there is none.
+    /// The cause of the refusal, as a number; 0 if there is none.
     pub cause: u32,
-    /// 0.
+    /// Always 0.
     pub none: u32,
 }
 
 impl CallEnd {
-    /// No refusal, nothing written and nothing asked for.
+    /// Sets no refusal, nothing written and nothing requested.
     pub fn clear(&mut self)
         ensures { self.new ≡ record { at = 0; written = 0; asked = 0; cause = 0; none = 0 } }
     {
@@ -35,7 +35,7 @@ impl CallEnd {
         };
     }
 
-    /// Tells of a refusal.
+    /// Sets a refusal.
     pub fn refuse(&mut self, refusal: Refusal)
         ensures told { ReturnsCause self.new refusal }
         ensures written { self.new.written ≡ self.old.written }

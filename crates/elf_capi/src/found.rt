@@ -1,10 +1,10 @@
-//! What a lookup answers, as C sees it.
+//! The result of a lookup, as C sees it.
 ghost use Rattle.std.specs.Prelude.{◌≡◌};
 ghost use Rattle.elf_capi.specs.Found.{no_symbol, nothing_after};
 
 use crate::symbol::Symbol;
 
-/// What a lookup found; all 0 where it found nothing, but for the steps.
+/// What a lookup found; all 0 if it found nothing, except the steps.
 #[repr(C)]
 #[derive(Clone, Copy)]
 pub struct LookupFields {
@@ -16,14 +16,14 @@ pub struct LookupFields {
     pub steps: u32,
     /// The index of the section that has the symbol.
     pub section: u16,
-    /// 0.
+    /// Always 0.
     pub none: u16,
-    /// 0.
+    /// Always 0.
     pub none_behind: u32,
 }
 
 impl LookupFields {
-    /// Nothing was found, and no name compared.
+    /// Sets that nothing was found, and no name compared.
     pub fn clear(&mut self)
         ensures { self.new ≡ nothing_after 0 }
     {
@@ -38,7 +38,7 @@ impl LookupFields {
     }
 }
 
-/// A symbol of zeros, where none was found.
+/// Returns a symbol of zeros, for a lookup that found none.
 pub fn no_symbol() -> Symbol
     ensures { result ≡ no_symbol }
 {

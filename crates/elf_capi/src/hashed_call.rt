@@ -1,4 +1,4 @@
-//! The symbols that a loader knows of a file in memory.
+//! The dynamic symbols of a file in memory, as a loader sees them.
 ghost use Rattle.std.specs.Prelude.{◌≤◌, IfSome, length};
 ghost use Rattle.elf_model.specs.Style.{looked_at};
 ghost use Rattle.elf_capi.specs.Hashed.{hashed_cost};
@@ -11,8 +11,8 @@ use elf_record::Refusal;
 use elf_source::{Counted, MemorySource};
 use elf_table::{Fault, HeaderStore};
 
-/// Finds them within a read budget, where there is one: with `by_segments` by the program headers also
-/// where there are section headers. `asked` is set to how many bytes were asked for.
+/// Finds them within a read budget, if there is one: with `by_segments` by the program headers even
+/// if there are section headers. `asked` is set to the number of bytes requested.
 ///
 /// # Errors
 /// Those of [`hashed_rows`].

@@ -1,4 +1,4 @@
-//! The symbols that a loader knows of a file.
+//! The dynamic symbols of a file, as a loader sees them.
 ghost use Rattle.std.specs.Prelude.{◌≡◌, ◌+◌, ◌*◌, ◌<◌, ◌≤◌, IfOk};
 ghost use Rattle.elf_table.specs.Ledger.{CallDid, fault_of_result};
 ghost use Rattle.elf_capi.specs.Hashed.{FindsHashed, hashed_bytes};
@@ -9,18 +9,19 @@ use elf_record::sizes::SYMBOL_BYTES;
 use elf_source::{Counted, Source};
 use elf_table::{Fault, HeaderStore};
 
-/// The symbols that a file's hash table is of, which a loader looks names up among: by the section
-/// headers, or where there are none by the program headers and their dynamic entries ([`find_lookup_tables`]).
-/// How many there are: in a table of the gABI as many as it has chains, in one of the GNU system up to
-/// the end of the last chain, or where no symbol is found in it those before their strings (gABI 5, Hash
-/// Table). The place that is given stands
+/// Returns the symbols that a file's hash table covers, among which a loader looks up names.
+///
+/// They are found by the section headers, or if there are none by the program headers and their
+/// dynamic entries ([`find_lookup_tables`]). Their number is the number of chain entries in a SysV
+/// table; in a GNU table they extend to the end of the last chain, or, if no symbol is found in it,
+/// to as many as fit before their string table (gABI 5, Hash Table). The position returned is
 /// before the first, with their string table. The headers are loaded into the store.
 ///
-/// Where the source's file is known the answer is the file's own, and so is the refusal.
+/// If the source's file is known, the result is the file's own, and so is the refusal.
 ///
 /// # Errors
-/// The first that fails: those of [`find_lookup_tables`], then those of [`counts`]. Else a fault of the source,
-/// or `Budget` where a limit has no room for a read, at the offset that was asked for.
+/// The first that fails: those of [`find_lookup_tables`], then those of [`counts`]. Otherwise a
+/// fault of the source, or `Budget` if a read exceeds the limit, at the offset that was requested.
 pub fn hashed_rows<S: Source>(
     src: &mut Counted<S>,
     store: &mut HeaderStore,
@@ -38,7 +39,7 @@ pub fn hashed_rows<S: Source>(
     Ok(rows_of(&scope.symbols, count))
 }
 
-/// A place before the first of so many symbols.
+/// Returns a position before the first of `count` symbols.
 fn rows_of(symbols: &DynamicSymbols, count: u64) -> RowPosition
     ensures { result ≡ record {
       at = symbols.now.table.at;

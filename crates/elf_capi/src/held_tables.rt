@@ -1,5 +1,5 @@
-//! The checks of a section of a file in memory: those of [`elf_table::File`], by the headers where they
-//! stand.
+//! The checks of a section of a file in memory: those of [`elf_table::SectionView`], with the
+//! headers in place.
 ghost use Rattle.std.specs.Prelude.{◌≡◌, ◌<◌, ◌≤◌, length, IfOk, IfErr};
 ghost use Rattle.elf_model.specs.Records.{section_at};
 ghost use Rattle.elf_table.specs.Prelude.{IsOfCheck, Links, Relocates, TableInBounds, Versioned, string_table_at, symbols_at, table_at};
@@ -14,7 +14,8 @@ use elf_table::{
 };
 
 impl MemoryFile<'_> {
-    /// The section as a table of rows of `entry` bytes, 1 to 4,096. One of size 0 is not checked.
+    /// Returns the section as a table of rows of `entry` bytes, 1 to 4,096. One of size 0 is not
+    /// checked.
     ///
     /// # Errors
     /// The first check that fails, at the section's header.
@@ -35,10 +36,10 @@ impl MemoryFile<'_> {
         )
     }
 
-    /// The string table that a section refers to by its sh_link (gABI 4, String Table).
+    /// Returns the string table that a section refers to by its sh_link (gABI 4, String Table).
     ///
     /// # Errors
-    /// The first check that fails: `BadLink` at the header of `section` where its link is 0 or names
+    /// The first check that fails: `BadLink` at the header of `section` if its link is 0 or names
     /// no section; then those of the linked section, at its header.
     fn strings(&self, section: u16) -> Result<Names, Fault>
         requires { section < self.now.header.e_shnum }
@@ -54,8 +55,8 @@ impl MemoryFile<'_> {
         checked_strings(&self.section(link), self.size(), self.place(link))
     }
 
-    /// The symbols of a section with their string table; two empty ones where the section is empty
-    /// (gABI 4, Symbol Table).
+    /// Returns the symbols of a section with their string table; two empty ones if the section is
+    /// empty (gABI 4, Symbol Table).
     ///
     /// # Errors
     /// The first check that fails, of the table and then of the string table.
@@ -74,8 +75,8 @@ impl MemoryFile<'_> {
         Ok((table, names))
     }
 
-    /// The symbols that a section of relocations refers to by its sh_link, with their string table;
-    /// None where that names no section of symbols (gABI 4, Relocation).
+    /// Returns the symbols that a section of relocations refers to by its sh_link, with their
+    /// string table, or `None` if that names no section of symbols (gABI 4, Relocation).
     ///
     /// # Errors
     /// Those of [`MemoryFile::symbols`] at the linked section.
@@ -97,8 +98,8 @@ impl MemoryFile<'_> {
         Ok(Some(symbols))
     }
 
-    /// The relocation entries of a section, and the symbols that they refer to; no rows and None
-    /// where the section is empty (gABI 4, Relocation).
+    /// Returns the relocation entries of a section, and the symbols that they refer to; no rows and
+    /// `None` if the section is empty (gABI 4, Relocation).
     ///
     /// # Errors
     /// The first check that fails, of the table and then of the symbols.
@@ -117,11 +118,12 @@ impl MemoryFile<'_> {
         Ok((table, linked))
     }
 
-    /// The words of symbols' versions of a section, and how many symbols there are in the table that it
-    /// links to; none of an empty section (Linux Standard Base Core, Symbol Versioning).
+    /// Returns the entries of symbols' versions of a section, and how many symbols there are in the
+    /// table that it links to; none for an empty section (Linux Standard Base Core, Symbol
+    /// Versioning).
     ///
     /// # Errors
-    /// The first check that fails: of the table; `BadLink` at the section's header where its link is 0
+    /// The first check that fails: of the table; `BadLink` at the section's header if its link is 0
     /// or names no section of symbols; then those of [`MemoryFile::symbols`] at the linked section.
     pub(crate) fn version_words(&self, section: u16) -> Result<(Table, u64), Fault>
         requires { section < self.now.header.e_shnum }
@@ -141,8 +143,8 @@ impl MemoryFile<'_> {
         Ok((table, symbols.0.len()))
     }
 
-    /// The section of symbols, not the first section, that a section links to; None where it links to
-    /// none.
+    /// Returns the section of symbols, not section 0, that a section links to, or `None` if it
+    /// links to none.
     fn symbols_link(&self, section: u16) -> Option<u16>
         requires { section < self.now.header.e_shnum }
         ensures { let file = self.now.bytes.now in
@@ -160,11 +162,12 @@ impl MemoryFile<'_> {
         }
     }
 
-    /// The string table of the definitions or needs of a section, whose bytes lie in the file; no bytes
-    /// where the section is empty (Linux Standard Base Core, Symbol Versioning).
+    /// Returns the string table of the definitions or needs of a section, whose bytes lie in the
+    /// file; no bytes if the section is empty (Linux Standard Base Core, Symbol Versioning).
     ///
     /// # Errors
-    /// The first check that fails: `TableOutside` at the section's header; then of the string table.
+    /// The first check that fails: `TableOutside` at the section's header; then of the string
+    /// table.
     pub(crate) fn record_names(&self, section: u16) -> Result<Names, Fault>
         requires { section < self.now.header.e_shnum }
         ensures value { let file = self.now.bytes.now in
@@ -181,8 +184,8 @@ impl MemoryFile<'_> {
         self.strings(section)
     }
 
-    /// The dynamic entries of a section with their string table; no bytes of an empty one (gABI 5,
-    /// Dynamic Section).
+    /// Returns the dynamic entries of a section with their string table; no bytes for an empty one
+    /// (gABI 5, Dynamic Section).
     ///
     /// # Errors
     /// The first check that fails, of the table and then of the string table.

@@ -10,45 +10,46 @@ use elf_layout::{ITEM_NAME_BYTES, Layout};
 const SECTION: u32 = 0;
 /// An address of a symbol that the file does not define.
 const DEFINE: u32 = 1;
-/// An address of a symbol's entry in the procedure linkage table.
+/// An address of a symbol's PLT entry.
 const ENTRY: u32 = 2;
-/// An address of a symbol's entry in the global offset table.
+/// An address of a symbol's GOT entry.
 const TABLE: u32 = 3;
-/// An address of the entry in the global offset table of a symbol's offset from the thread pointer.
+/// An address of the GOT entry for a symbol's offset from the thread pointer.
 const THREAD: u32 = 4;
 
 /// The largest index of a section.
 const LAST_INDEX: u32 = 65_535;
 
-/// An address that a layout gives, as a caller says it.
+/// An address that a layout gives, as a caller passes it.
 #[repr(C)]
 #[derive(Clone, Copy)]
 pub struct CallerItem<'a> {
     /// The address.
     pub address: u64,
-    /// The name of the symbol, 1 to 255 bytes without a NUL. Of a section it is not looked at.
+    /// The name of the symbol, 1 to 255 bytes without a NUL. Ignored for a section.
     pub name: &'a [u8],
     /// What the address is of: 0 a section, 1 a symbol that the file does not define, 2 a symbol's
-    /// entry in the procedure linkage table, 3 one in the global offset table, 4 one there of its
-    /// offset from the thread pointer.
+    /// PLT entry, 3 its GOT entry, 4 the GOT entry for its offset from the thread pointer.
     pub kind: u32,
-    /// The index of the section, up to 65,535. Of a symbol it is not looked at.
+    /// The index of the section, up to 65,535. Ignored for a symbol.
     pub index: u32,
 }
 
-/// A section, and the addresses at which it and what it refers to are to lie, as a caller says it.
+/// A section, and the addresses of it and of what it refers to, as a caller passes them.
 #[repr(C)]
 #[derive(Clone, Copy)]
 pub struct ApplyCall<'a> {
-    /// The addresses: of at most 64 sections, 32 definitions and 32 entries of each kind, none twice.
+    /// The addresses: of at most 64 sections, 32 definitions and 32 entries of each type, none
+    /// twice.
     pub items: &'a [CallerItem<'a>],
     /// The index of the section, up to 65,535.
     pub section: u32,
-    /// It is not looked at.
+    /// Ignored.
     pub none: u32,
 }
 
-/// Lays out items, from the first to the last, and no other items; whether they can be laid out.
+/// Adds items to a layout, from the first to the last, and no other items; returns whether all can
+/// be added.
 pub fn layout_from(items: &[CallerItem<'_>], layout: &mut Layout) -> bool
     ensures { LaysOut items.now layout.new result }
 {
@@ -63,7 +64,7 @@ pub fn layout_from(items: &[CallerItem<'_>], layout: &mut Layout) -> bool
     true
 }
 
-/// Puts an item into a layout, behind those of its sort; whether it can be put there.
+/// Adds an item to a layout, after those of its type; returns whether it can be added.
 fn put(item: &CallerItem<'_>, layout: &mut Layout) -> bool
     ensures { MatchBool result (LaysItem item.now layout.old layout.new)
         ((new : Placed) → LaysItem item.now layout.old new → ⊥) }
@@ -74,7 +75,8 @@ fn put(item: &CallerItem<'_>, layout: &mut Layout) -> bool
     }
 }
 
-/// The item as a layout has it; None where its kind, its index or its name is none that it may have.
+/// Returns the item as a layout has it, or `None` if its kind, its index or its name is not
+/// allowed.
 fn item_of<'a>(item: &CallerItem<'a>) -> Option<elf_layout::Item<'a>>
     ensures { GivesItem item.now result }
 {
@@ -98,7 +100,7 @@ fn item_of<'a>(item: &CallerItem<'a>) -> Option<elf_layout::Item<'a>>
     }
 }
 
-/// Whether bytes are a name that an item may have: 1 to 255 bytes, none a NUL.
+/// Returns `true` if bytes are a valid name of an item: 1 to 255 bytes, none a NUL.
 fn is_name(name: &[u8]) -> bool
     ensures { MatchBool result (IsName name.now) (IsName name.now → ⊥) }
 {

@@ -1,4 +1,4 @@
-//! The kinds of rows that sections have.
+//! The kinds of rows of sections.
 ghost use Rattle.std.specs.Prelude.{◌≡◌, ℕ, List};
 ghost use Rattle.elf_record.specs.Shdr.{IsShdr};
 ghost use Rattle.elf_capi.specs.TableOpenings.{holds};
@@ -13,16 +13,16 @@ use elf_table::holds_symbols;
 pub enum RowKind {
     /// Symbols, of a section of type SYMTAB or DYNSYM (gABI 4, Symbol Table).
     Symbols,
-    /// Relocation entries with addends, of one of type RELA (gABI 4, Relocation).
+    /// Relocation entries with addends, of a section of type RELA (gABI 4, Relocation).
     Relocations,
-    /// Dynamic entries, of one of type DYNAMIC (gABI 5, Dynamic Section).
+    /// Dynamic entries, of a section of type DYNAMIC (gABI 5, Dynamic Section).
     Dynamic,
-    /// Words of symbols' versions, of one of type GNU_versym (Linux Standard Base Core, Symbol
-    /// Versioning).
+    /// Entries of symbols' versions, of a section of type GNU_versym (Linux Standard Base Core,
+    /// Symbol Versioning).
     VersionWords,
 }
 
-/// Whether a section holds rows of a kind, by its type.
+/// Returns `true` if a section holds rows of a kind, by its type.
 pub(crate) fn holds(header: &Shdr, kind: RowKind) -> bool
     ensures { (file : List ℕ) (at : ℕ) → IsShdr file at header.now →
         result ≡ holds kind file at }

@@ -6,25 +6,25 @@ ghost use Rattle.elf_capi.specs.LentLayouts.{GivesLayout};
 
 use elf_layout::{BorrowedLayout, LentName, LentSection, SortedNames, SortedSections};
 
-/// Addresses at which sections, names and the entries of names are to lie, as many as a caller lends.
+/// Addresses of sections, names and the entries of names, as many as a caller provides.
 #[repr(C)]
 #[derive(Clone, Copy)]
 pub struct CallerLayout<'a> {
-    /// Sections, by rising index.
+    /// Sections, sorted by index.
     pub sections: &'a [LentSection],
-    /// Symbols that the file does not define, in the rising order of the bytes of their names.
+    /// Symbols that the file does not define, sorted by the bytes of their names.
     pub definitions: &'a [LentName<'a>],
-    /// Entries of symbols in the procedure linkage table, in the same order.
+    /// PLT entries of symbols, in the same order.
     pub linkage: &'a [LentName<'a>],
-    /// Entries of symbols in the global offset table, in the same order.
+    /// GOT entries of symbols, in the same order.
     pub table: &'a [LentName<'a>],
-    /// Entries there of the offsets of symbols from the thread pointer, in the same order.
+    /// GOT entries for the offsets of symbols from the thread pointer, in the same order.
     pub thread: &'a [LentName<'a>],
 }
 
 impl<'a> CallerLayout<'a> {
-    /// The layout; None where an index or a name is not above the one before it, or a name is none of 1
-    /// to 255 bytes without a NUL.
+    /// Returns the layout, or `None` if an index or a name is not above the one before it, or a
+    /// name is not one of 1 to 255 bytes without a NUL.
     pub fn lend(&self) -> Option<BorrowedLayout<'a>>
         ensures { GivesLayout self.now result }
     {
@@ -43,7 +43,7 @@ impl<'a> CallerLayout<'a> {
     }
 }
 
-/// Sections whose indices rise; None of others.
+/// Returns sections whose indices ascend, or `None` for others.
 fn sections_of(items: &[LentSection]) -> Option<SortedSections<'_>>
     ensures { MatchOption result (KeysAscend nat_cmp borrowed_index items.now → ⊥)
         (λ sections. (sections ≡ placed items.now) × KeysAscend nat_cmp borrowed_index items.now) }
@@ -54,7 +54,7 @@ fn sections_of(items: &[LentSection]) -> Option<SortedSections<'_>>
     }
 }
 
-/// Names that rise; None of others.
+/// Returns names that ascend, or `None` for others.
 fn names_of<'a>(items: &'a [LentName<'a>]) -> Option<SortedNames<'a>>
     ensures { MatchOption result (MayBorrow items.now → ⊥)
         (λ names. (names ≡ named items.now) × MayBorrow items.now) }

@@ -1,22 +1,23 @@
-//! A sink over memory that a caller lent.
+//! A sink over memory of the caller.
 ghost use Rattle.std.specs.Prelude.{◌≡◌, ◌∷◌, ◌++◌, ◌≤◌, None, Some, IsSome, IsTrue, length, take};
 ghost use Rattle.elf_capi.specs.Lent.{spared};
 ghost use Rattle.elf_source.specs.Output.{nothing_held};
 
 use elf_source::{Sink, SinkFault};
 
-/// A sink that writes a slice from its front, and keeps one byte more beside it: so it is known of a
-/// text that it has more bytes than the slice. Unlike `elf_source::SliceSink` it is seen whole in
-/// contracts, and what it took begins with the ghost name of the slice: so calls that keep what a sink
-/// took, and add to it, are known to keep the slice too, though their contracts name no sink.
+/// A sink that writes a slice from its start, and keeps one more byte apart: so it is known if a
+/// text has more bytes than the slice. Unlike `elf_source::SliceSink` all of it is visible in
+/// contracts, and what it took begins with the ghost name of the slice: so calls that preserve what
+/// a sink took, and append to it, are known to preserve the slice too, though their contracts name
+/// no sink.
 pub(crate) struct ProbeSink<'a> {
     /// The memory.
     pub(crate) buffer: &'a mut [u8],
     /// How many bytes of it are written.
     pub(crate) len: usize,
-    /// The byte behind the memory, once there was one.
+    /// The byte after the memory, if there was one.
     pub(crate) spare: Option<u8>,
-    /// Whether there was no room for a byte.
+    /// Whether a byte did not fit.
     pub(crate) failed: bool,
     pub(crate) ghost within: { len ≤ length buffer.now },
     pub(crate) ghost full: { IsSome spare → len ≡ length buffer.now },
@@ -24,7 +25,7 @@ pub(crate) struct ProbeSink<'a> {
 }
 
 impl<'a> ProbeSink<'a> {
-    /// A sink with all of `buffer` free.
+    /// Creates a sink with all of `buffer` free.
     pub(crate) fn new(buffer: &'a mut [u8]) -> Self
         ensures same { result.buffer.ghost_name ≡ buffer.entry.ghost_name }
         ensures len { result.len ≡ 0 }
@@ -49,10 +50,10 @@ impl<'a> Sink for ProbeSink<'a> {
 
     ghost room = { λ _. nothing_held };
 
-    /// Takes as many of `bytes` as there are bytes free, or one where the memory is full.
+    /// Takes as many of `bytes` as there are bytes free, or one if the memory is full.
     ///
     /// # Errors
-    /// `SinkFault` exactly where one byte was taken behind the memory.
+    /// `SinkFault` exactly if one byte was taken after the memory.
     fn take(&mut self, bytes: &[u8]) -> Result<usize, SinkFault> {
         if self.spare.is_some() {
             self.failed = true;

@@ -1,10 +1,7 @@
-//! The rows of tables of an ELF64 file that lies in memory, as a caller keeps them: symbols, relocation
-//! entries, dynamic entries and symbol versions, field by field, and places in tables that are plain
-//! numbers. No number that a caller sets is a wrong one: each step tests them. What a read answers is told
-//! in the numbers that C has.
-//!
-//! What the calls of the library do, over memory that a caller lends, in the numbers that C has: limits,
-//! items and listings as a caller says them, what is written into lent memory, and how a call ends.
+//! What the calls of the library do, in caller-provided memory and in the numbers of C: the limits,
+//! items and listings that a caller asks for, the rows of tables of a file in memory, field by
+//! field, positions in tables as plain numbers, and [`CallEnd`], how a call ended. No number that a
+//! caller sets can do harm: each step checks them.
 #![tactic(auto)]
 
 mod applied;
@@ -50,7 +47,7 @@ mod tables;
 mod version_words;
 
 pub use applied::{ApplyInput, write_section};
-pub use asked::{listing_of, named_listing_of};
+pub use asked::{caller_listing_of, named_listing_of};
 pub use call_status::{CallStatus, report_status};
 pub use caller_listing::CallerListing;
 pub use counts::short;
@@ -62,8 +59,8 @@ pub use hashed_symbols::hashed_rows;
 pub use items::{ApplyCall, CallerItem, layout_from};
 pub use kind::RowKind;
 pub use lent_layout::CallerLayout;
-pub use limits::{CallerLimits, caps_of, limits_of};
-pub use listing::{CallOutcome, list};
+pub use limits::{CallerLimits, caps_of, checked_limits};
+pub use listing::{CallOutcome, write_listing};
 pub use loader_lookup::{report_resolved, resolve_in};
 pub use lookup_call::{look_in, report_found};
 pub use missing::CallerMissing;

@@ -1,4 +1,4 @@
-//! A listing of a file in memory, written to memory that a caller lent.
+//! A listing of a file in memory, written to memory of the caller.
 ghost use Rattle.std.specs.Prelude.{◌≡◌, ◌≤◌, IfSome, length};
 ghost use Rattle.elf_model.specs.Cost.{listing_cost};
 ghost use Rattle.elf_options.specs.Permitted.{style_of};
@@ -11,16 +11,16 @@ use elf_record::Parts;
 use elf_source::{Counted, MemorySource, Out};
 use elf_table::{Caps, HeaderStore};
 
-/// What a call that writes to memory did, and how many bytes of the file it asked for.
+/// The result of a call that writes to memory, and how many bytes of the file it requested.
 #[derive(Clone, Copy)]
 pub struct CallOutcome {
     pub told: CallStatus,
     pub asked: u128,
 }
 
-/// Lists a file to the front of some memory, and answers how many bytes were written. The store has a
-/// slot for each header that the caps permit.
-pub fn list(
+/// Lists a file to the start of a buffer, and returns how many bytes were written. The store has a
+/// slot for each header that the caps allow.
+pub fn write_listing(
     file: &[u8],
     store: &mut HeaderStore,
     caps: Caps,
@@ -44,7 +44,7 @@ pub fn list(
     len
 }
 
-/// Lists a file to the front of some memory, and gives the sink over it.
+/// Lists a file to the start of a buffer, and returns the sink over it.
 fn list_to_sink<'a>(
     file: &[u8],
     store: &mut HeaderStore,

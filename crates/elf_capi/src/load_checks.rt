@@ -1,4 +1,4 @@
-//! The load checks of a file that lies in memory.
+//! The load checks of a file in memory.
 ghost use Rattle.std.specs.Prelude.{length};
 ghost use Rattle.elf_record.specs.Ehdr.{IsEhdr};
 ghost use Rattle.elf_table.specs.Load.{PassesLoadChecks};
@@ -10,11 +10,11 @@ use elf_record::sizes::SECTION_HEADER_BYTES;
 use elf_record::{Ehdr, Refusal};
 use elf_table::{Fault, Names, check_before_load, checked_strings};
 
-/// The file, where its headers pass the checks of a load.
+/// Returns the file, if its headers pass the checks of a load.
 ///
 /// # Errors
-/// The first check that fails: of the file header, then those of a load with so many headers
-/// permitted.
+/// The first check that fails: of the file header, then those of a load with the given number of
+/// headers allowed.
 pub(crate) fn held_file(file: &[u8], headers: u16) -> Result<MemoryFile<'_>, Refusal>
     ensures { LoadsFile file.now headers result }
 {
@@ -30,7 +30,8 @@ pub(crate) fn held_file(file: &[u8], headers: u16) -> Result<MemoryFile<'_>, Ref
     })
 }
 
-/// The string table of the section names; None where e_shnum or e_shstrndx is 0 (gABI 4, ELF Header).
+/// Returns the string table of the section names, or `None` if e_shnum or e_shstrndx is 0 (gABI 4,
+/// ELF Header).
 ///
 /// # Errors
 /// The first check of it that fails.

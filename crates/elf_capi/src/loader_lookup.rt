@@ -1,4 +1,4 @@
-//! A name looked up in a file in memory as a loader does, and what a caller is told of it.
+//! A loader's lookup of a name in a file in memory, and its result for a caller.
 ghost use Rattle.std.specs.Prelude.{◌≡◌, ◌≤◌, IfSome, length};
 ghost use Rattle.elf_model.specs.LoaderFind.{loader_cost};
 ghost use Rattle.elf_capi.specs.Ends.{ReturnsNone};
@@ -14,7 +14,7 @@ use elf_record::Refusal;
 use elf_source::{Counted, MemorySource};
 use elf_table::{Fault, HeaderStore, NameBuf};
 
-/// Looks it up within a read budget, where there is one.
+/// Looks it up within a read budget, if there is one.
 ///
 /// # Errors
 /// Those of [`look_up`].
@@ -46,8 +46,8 @@ pub fn resolve_in(
     }
 }
 
-/// Tells what was found as numbers, and answers the status. None is a call with a number outside its
-/// range. Of the name of a version `told` bytes are held.
+/// Writes what was found as numbers, and returns the status. `None` is a call with a number out of
+/// range. `told` bytes of the name of a version are available.
 pub fn report_resolved(
     answer: &Option<Result<SymbolLookup, Refusal>>,
     told: u64,

@@ -1,4 +1,4 @@
-//! A name looked up in a file in memory, and what a caller is told of it.
+//! A lookup of a name in a file in memory, and its result for a caller.
 ghost use Rattle.std.specs.Prelude.{◌≡◌, ◌≤◌, IfSome, length};
 ghost use Rattle.elf_model.specs.Find.{find_cost};
 ghost use Rattle.elf_capi.specs.Ends.{ReturnsNone};
@@ -13,7 +13,7 @@ use elf_record::Refusal;
 use elf_source::{Counted, MemorySource};
 use elf_table::{Fault, HeaderStore};
 
-/// Looks a name of at most 4,096 bytes up within a read budget, where there is one.
+/// Looks up a name of at most 4,096 bytes within a read budget, if there is one.
 ///
 /// # Errors
 /// Those of [`find`].
@@ -41,7 +41,7 @@ pub fn look_in(
     }
 }
 
-/// Tells what was found as numbers, and answers the status. None is a call with a number outside its
+/// Writes what was found as numbers, and returns the status. `None` is a call with a number out of
 /// range.
 pub fn report_found(
     looked: &Option<Result<Lookup, Refusal>>,

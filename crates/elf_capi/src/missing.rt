@@ -7,28 +7,27 @@ ghost use Rattle.elf_capi.specs.Resolved.{cut_number};
 use elf_model::{LayoutAddress, MissingAddress, RelocationBase};
 use elf_table::NameEnd;
 
-/// What a layout lacks where a section was refused; all 0 where no address would help.
+/// What a layout lacks if a section was refused; all 0 if no address would help.
 #[repr(C)]
 #[derive(Clone, Copy)]
 pub struct CallerMissing {
-    /// The sum of the sorts of items of which one would help: 1 a section, 2 a definition, 4 an entry of
-    /// the procedure linkage table, 8 one of the global offset table, 16 one there of an offset from the
-    /// thread pointer.
+    /// The sum of the types of items of which one would help: 1 a section, 2 a definition, 4 a PLT
+    /// entry, 8 a GOT entry, 16 a GOT entry for an offset from the thread pointer.
     pub helpful: u32,
-    /// The index of the section that wants an address, where one does.
+    /// The index of the section that needs an address, if one does.
     pub section: u32,
     /// The number of the relocation type of the entry that was refused.
     pub relocation: u32,
-    /// How many bytes of its symbol's name are told: all, or the first 255.
+    /// How many bytes of its symbol's name are given: all, or the first 255.
     pub name_len: u32,
-    /// 1 where the name has more, else 0.
+    /// 1 if the name has more, otherwise 0.
     pub is_cut: u32,
-    /// The bytes of the name, and zeros behind them.
+    /// The bytes of the name, and zeros after them.
     pub name: [u8; 256],
 }
 
 impl CallerMissing {
-    /// Nothing is missing.
+    /// Sets that nothing is missing.
     pub fn clear(&mut self)
         ensures { ReturnsMissing self.new None }
     {
@@ -42,7 +41,7 @@ impl CallerMissing {
         };
     }
 
-    /// Tells what is missing, with the bytes of the symbol's name.
+    /// Sets what is missing, with the bytes of the symbol's name.
     pub fn report(&mut self, missing: &MissingAddress, end: NameEnd, name: &[u8])
         requires { length name.now ≤ 256 }
         ensures { ReturnsMissing self.new (lack_as name.now (Some (missing.now, end))) }
@@ -58,7 +57,7 @@ impl CallerMissing {
     }
 }
 
-/// A name with zeros behind it.
+/// Returns a name with zeros after it.
 fn padded(name: &[u8]) -> [u8; 256]
     requires { length name.now ≤ 256 }
     ensures { take (length name.now) result ≡ name.now }
@@ -68,14 +67,14 @@ fn padded(name: &[u8]) -> [u8; 256]
     bytes
 }
 
-/// Whether a name has more bytes than those that are told, as a number.
+/// Returns whether a name has more bytes than those given, as a number.
 fn cut_number(end: NameEnd) -> u32
     ensures { result ≡ cut_number end }
 {
     u32::from(end == NameEnd::Cut)
 }
 
-/// The sorts of items of which one would help, each a number, added up.
+/// Returns the types of items of which one would help, as a sum of numbers.
 fn helpful(wanted: LayoutAddress) -> u32
     ensures { result ≡ helpful wanted }
 {
@@ -89,7 +88,7 @@ fn helpful(wanted: LayoutAddress) -> u32
     }
 }
 
-/// The section that wants an address; 0 where a name does.
+/// Returns the section that needs an address, or 0 if a name does.
 fn apply_input_of(wanted: LayoutAddress) -> u32
     ensures { result ≡ apply_input_of wanted }
 {

@@ -1,4 +1,4 @@
-//! The names of which rows are listed, as a caller lends them.
+//! The names whose rows are listed, as a caller provides them.
 ghost use Rattle.std.specs.Prelude.{◌≡◌, ◌<◌, MatchBool, length, slice_index_or};
 ghost use Rattle.std.specs.Borrow.{Bor};
 ghost use Rattle.std.specs.Prelude.{List, ℕ};
@@ -8,8 +8,8 @@ ghost use Rattle.elf_capi.specs.Asked.{AreLendableNames, IsLendableNameAt};
 
 use elf_options::is_valid_row_name;
 
-/// Whether rows may be chosen by these names: each can be looked for ([`is_valid_row_name`]), and none is below
-/// the one before it.
+/// Returns `true` if rows may be selected by these names: each can be looked up
+/// ([`is_valid_row_name`]), and none is below the one before it.
 pub(crate) fn may_choose(names: &[&[u8]], versions: bool) -> bool
     ensures { MatchBool result (AreLendableNames versions names.now)
         (AreLendableNames versions names.now → ⊥) }
@@ -24,7 +24,7 @@ pub(crate) fn may_choose(names: &[&[u8]], versions: bool) -> bool
     true
 }
 
-/// Whether the name at a place can be looked for, and is not below the one before it.
+/// Returns `true` if the name at an index can be looked up, and is not below the one before it.
 fn may_stand(names: &[&[u8]], i: usize, versions: bool) -> bool
     requires { i < length names.now }
     ensures { MatchBool result (IsLendableNameAt versions names.now i)
@@ -34,7 +34,7 @@ fn may_stand(names: &[&[u8]], i: usize, versions: bool) -> bool
     is_valid_row_name(name, versions) && (i == 0 || !is_below(name, name_at(names, i - 1)))
 }
 
-/// The name at a place.
+/// Returns the name at an index.
 fn name_at<'a>(names: &[&'a [u8]], i: usize) -> &'a [u8]
     requires { i < length names.now }
     ensures { (d : Bor (List ℕ)) → result.now ≡ (slice_index_or names.now i d).now }
@@ -42,7 +42,7 @@ fn name_at<'a>(names: &[&'a [u8]], i: usize) -> &'a [u8]
     names[i]
 }
 
-/// Whether a name is below another, by their bytes.
+/// Returns `true` if a name is below another, by their bytes.
 fn is_below(name: &[u8], other: &[u8]) -> bool
     ensures { result ≡ is_lt (slice_cmp nat_cmp name.now other.now) }
 {

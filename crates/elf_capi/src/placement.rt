@@ -1,4 +1,4 @@
-//! A section of a file in memory in a layout of any size, and what that lacks where it is refused.
+//! A section of a file in memory in a layout of any size, and what that lacks if it is refused.
 ghost use Rattle.std.specs.Prelude.{◌≡◌, ◌+◌, ◌-◌, ◌≤◌, IfSome, length, option_map};
 ghost use Rattle.elf_model.specs.ApplyCost.{apply_cost_by_order};
 ghost use Rattle.elf_reloc.specs.Explained.{explain_bytes};
@@ -17,8 +17,8 @@ use elf_reloc::explain;
 use elf_source::{Counted, MemorySource};
 use elf_table::{Fault, HeaderStore, NameBuf};
 
-/// Writes a section to the front of some memory, tells in `missing` what its layout lacks where it is
-/// refused, and answers how that ended. The counts are written to `end`.
+/// Writes a section to the start of a buffer, sets in `missing` what its layout lacks if it is
+/// refused, and returns how that ended. The counts are written to `end`.
 pub fn place_section(
     file: &[u8],
     store: &mut HeaderStore,
@@ -56,8 +56,8 @@ pub fn place_section(
     outcome.told
 }
 
-/// Tells in `missing` what the layout lacks where a section was refused, for which `asked` bytes were
-/// asked for, and answers how many more were. Nothing is told where the budget has no room to find out.
+/// Sets in `missing` what the layout lacks if a section was refused, for which `asked` bytes were
+/// requested, and returns how many more were. Nothing is set if the budget has no room to find out.
 fn report_missing(
     file: &[u8],
     store: &mut HeaderStore,
@@ -97,7 +97,7 @@ fn report_missing(
     }
 }
 
-/// What is left of a budget behind so many bytes.
+/// Returns what is left of a budget after `asked` bytes.
 fn rest_of(budget: Option<u64>, asked: u128) -> Option<u64>
     ensures { result ≡ option_map (λ bytes. bytes - asked) budget }
 {

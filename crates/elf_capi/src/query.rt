@@ -7,26 +7,26 @@ ghost use Rattle.elf_capi.specs.Queries.{IsPermitted, asked_version, asks_of, go
 
 use elf_options::{SymbolQuery, VersionQuery};
 
-/// The most bytes of a name, and of a version.
+/// The maximum number of bytes of a name, and of a version.
 const NAME_BYTES: usize = 4_096;
-/// What is looked up in is found by the program headers, also where there are section headers.
+/// The lookup tables are found by the program headers, even if there are section headers.
 const BY_SEGMENTS: u32 = 1;
 /// The version is to be the symbol's default version.
 const DEFAULT_ONLY: u32 = 2;
 
-/// A symbol that is looked up, as a caller says it.
+/// A symbol to look up, as a caller passes it.
 #[derive(Clone, Copy)]
 pub struct Query<'a> {
     /// How it is looked up: the sum of the numbers above.
     pub flags: u32,
     /// The name of the symbol, without a NUL.
     pub name: &'a [u8],
-    /// The name of its version; of no bytes where none is asked for.
+    /// The name of its version; of no bytes if none is requested.
     pub version: &'a [u8],
 }
 
 impl<'a> Query<'a> {
-    /// Whether the flags are known, and neither name is too long.
+    /// Returns `true` if the flags are known, and neither name is too long.
     pub fn is_permitted(&self) -> bool
         ensures { let asks = asks_of self.now in
             MatchBool result (IsPermitted asks) (IsPermitted asks → ⊥) }
@@ -36,14 +36,14 @@ impl<'a> Query<'a> {
             && self.version.len() <= NAME_BYTES
     }
 
-    /// Whether it is looked up by the program headers.
+    /// Returns `true` if it is looked up by the program headers.
     pub fn by_segments(&self) -> bool
         ensures { result ≡ goes_by_segments self.now.flags }
     {
         self.flags % 2 == BY_SEGMENTS
     }
 
-    /// What is wanted.
+    /// Returns the symbol query.
     pub fn wanted(&self) -> SymbolQuery<'a>
         ensures is { query_of result ≡ wanted_by (asks_of self.now) }
         ensures short { IsPermitted (asks_of self.now) → AreShort (query_of result) }
@@ -54,7 +54,7 @@ impl<'a> Query<'a> {
         }
     }
 
-    /// The version that is asked for.
+    /// Returns the version that is requested.
     fn asked(&self) -> VersionQuery<'a>
         ensures is { asked_of result ≡ asked_version self.now.flags self.now.version.now }
         ensures short { length self.now.version.now ≤ 4096 →

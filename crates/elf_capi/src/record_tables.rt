@@ -1,4 +1,4 @@
-//! The records of symbol versions of a section, behind the checks of its table.
+//! The records of symbol versions of a section, after the checks of its table.
 ghost use Rattle.std.specs.Prelude.{◌≡◌, ℕ, List};
 ghost use Rattle.elf_record.specs.Shdr.{IsShdr};
 ghost use Rattle.elf_capi.specs.VersionRecords.{ReadsRecords, first_kind, starting};
@@ -11,14 +11,16 @@ use elf_record::gnu_numbers::{SHT_GNU_VERDEF, SHT_GNU_VERNEED};
 use elf_record::{Refusal, Shdr, VersionKind};
 use elf_table::{Fault, Names};
 
-/// Checks the table of version definitions or needs that a section of a file that lies in memory is, and
-/// gives a place before its first record; None where the file has no such section, or one of another
-/// type than GNU_verdef and GNU_verneed. No more section headers are read than those of the section
-/// names, of the section, and of what it links to (Linux Standard Base Core, Symbol Versioning).
+/// Checks the table of version definitions or needs that a section of a file in memory holds, and
+/// returns a position before its first record.
+///
+/// Returns `None` if the file has no such section, or one of another type than GNU_verdef and
+/// GNU_verneed. Only the section headers of the section names, of the section, and of what it links
+/// to are read (Linux Standard Base Core, Symbol Versioning).
 ///
 /// # Errors
-/// The first check that fails of those that a listing makes up to the table's first record, with so
-/// many headers permitted.
+/// The first check that fails of those that a listing makes up to the table's first record, with
+/// the given number of headers allowed.
 pub fn records_in(
     file: &[u8],
     headers: u16,
@@ -45,7 +47,7 @@ pub fn records_in(
     }
 }
 
-/// The kind of the first record of a section, by its type.
+/// Returns the kind of the first record of a section, by its type.
 fn first_kind(header: &Shdr) -> Option<VersionKind>
     ensures { (file : List ℕ) (at : ℕ) → IsShdr file at header.now → result ≡ first_kind file at }
 {
@@ -56,8 +58,8 @@ fn first_kind(header: &Shdr) -> Option<VersionKind>
     }
 }
 
-/// A place before the first record of a section whose header stands at a file offset; behind the last
-/// where it is empty.
+/// Returns a position before the first record of a section whose header is at a file offset; after
+/// the last if it is empty.
 fn first_records(header: &Shdr, kind: VersionKind, at: u64, names: Names) -> VersionRecordPosition
     ensures { (file : List ℕ) (place : ℕ) → IsShdr file place header.now → at ≡ place →
         result ≡ starting file kind place names }

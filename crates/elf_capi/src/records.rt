@@ -1,4 +1,4 @@
-//! A place in a walk over the records of symbol versions, and steps over them.
+//! A position in a walk over the records of symbol versions, and steps over them.
 ghost use Rattle.std.specs.Prelude.{◌≡◌, ◌+◌, ◌≤◌, ◌^◌, ◌<◌, IfSome, length, option_map};
 ghost use Rattle.elf_model.specs.declared.versions.VersionKind.TheVariants.{Need};
 ghost use Rattle.elf_note.specs.Prelude.{IsPositionInTable, KnowsAhead, record_position_of};
@@ -13,8 +13,8 @@ use elf_record::{Refusal, Verneed, VersionKind};
 use elf_source::{Counted, MemorySource};
 use elf_table::{Fault, Table};
 
-/// A place in a walk over the records of a table of definitions or needs: plain numbers, which a caller
-/// keeps where it likes and may copy. Each step tests them again, so that no numbers are wrong ones.
+/// A position in a walk over the records of a table of definitions or needs: plain numbers, which a
+/// caller may store anywhere and copy. Each step checks them again, so that no numbers are invalid.
 #[repr(C)]
 #[derive(Clone, Copy)]
 pub struct VersionRecordPosition {
@@ -22,32 +22,37 @@ pub struct VersionRecordPosition {
     pub at: u64,
     /// How many bytes it has.
     pub size: u64,
-    /// The place in the table of the record that is next.
+    /// The offset in the table of the next record.
     pub place: u64,
-    /// The file offset of what led there: a refusal names it.
+    /// The file offset of what led there: a refusal reports it.
     pub from: u64,
-    /// The place in the table of the needed file, where a version that is needed of it is next.
+    /// The offset in the table of the needed file, if a version needed of it is next.
     pub owner: u64,
-    /// How many records may still be met.
+    /// How many records may still be visited.
     pub left: u64,
-    /// The file offset of the string table of their names; 0 where there is none.
+    /// The file offset of the string table of their names; 0 if there is none.
     pub strings_at: u64,
-    /// How many bytes that has; 0 where there is none.
+    /// The size of that string table in bytes; 0 if there is none.
     pub strings_len: u64,
-    /// What is next: 1 a definition, 2 a needed file, 3 a version that is needed of one; by any other
-    /// number nothing is.
+    /// What is next: 1 a definition, 2 a needed file, 3 a version needed of one; nothing for any
+    /// other number.
     pub kind: u32,
-    /// 0.
+    /// Always 0.
     pub none: u32,
 }
 
-/// Reads the next record and steps over it; None behind the last (Linux Standard Base Core, Symbol
-/// Versioning).
+/// Reads the next record and steps over it; returns `None` after the last (Linux Standard Base
+/// Core, Symbol Versioning).
 ///
 /// # Errors
-/// Where no record is met: `VersionCut` at what led there, where it is not in the table or where as
-/// many records are met as have room, and at the record whose name is not in the table; `BadVersion` at
-/// one of another layout; `VersionIndex` at one whose number is 1,024 or more. Then the place stays.
+/// If there is no valid record:
+///
+/// - `VersionCut` at what led there, if it is not in the table or if as many records were visited
+///   as fit, and at the record whose name is not in the table.
+/// - `BadVersion` at one of another layout.
+/// - `VersionIndex` at one whose version index is 1,024 or more.
+///
+/// The position is unchanged then.
 pub fn next_record(
     file: &[u8],
     records: &mut VersionRecordPosition,
@@ -74,7 +79,7 @@ pub fn next_record(
 }
 
 impl VersionRecordPosition {
-    /// The bytes of the table that lie within a file of so many.
+    /// Returns the bytes of the table that lie within a file of the given size.
     fn table(&self, size: u64) -> Table
         ensures at { result.at ≡ self.now.at }
         ensures count { result.count ≡ bytes_within size self.now }
@@ -84,7 +89,7 @@ impl VersionRecordPosition {
         Table::new(self.at, self.size.min(size.saturating_sub(self.at)), 1)
     }
 
-    /// Where the walk stands in the bytes of its table.
+    /// Returns where the walk is in the bytes of its table.
     fn standing(&self, file: &[u8], table: Table) -> Option<RecordPosition>
         requires at { table.at ≡ self.now.at }
         requires count { table.count ≡ bytes_within (length file.now) self.now }
@@ -105,7 +110,7 @@ impl VersionRecordPosition {
         }
     }
 
-    /// Where it stands, before a record of a kind.
+    /// Returns where the walk is, before a record of a kind.
     fn standing_at(&self, kind: VersionKind, files: u32) -> RecordPosition
         ensures { result ≡ record {
           kind = kind;
@@ -124,7 +129,7 @@ impl VersionRecordPosition {
         }
     }
 
-    /// Goes to where a record led, with one record less that may be met.
+    /// Moves to where a record leads, with one record fewer that may be visited.
     fn go(&mut self, next: Option<RecordPosition>)
         requires { 0 < self.old.left }
         ensures { GoesOnTo self.old self.new next }

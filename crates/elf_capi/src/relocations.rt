@@ -13,7 +13,7 @@ use elf_record::sizes::RELOCATION_BYTES;
 #[repr(C)]
 #[derive(Clone, Copy)]
 pub struct Relocation {
-    /// Where it is applied: in a relocatable file an offset in its section in bytes, else an
+    /// Where it is applied: in a relocatable file a byte offset in its section, otherwise an
     /// address.
     pub offset: u64,
     /// The index of its symbol, in the high 32 bits, and its type, in the low 32.
@@ -36,7 +36,7 @@ impl TableRow for Relocation {
     }
 }
 
-/// The fields of a relocation entry.
+/// Returns the fields of a relocation entry.
 fn fields_of(entry: &Rela) -> Relocation
     ensures { (file : List ℕ) (at : ℕ) → IsRela file at entry.now → IsRelocation file at result }
 {

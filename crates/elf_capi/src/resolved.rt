@@ -1,4 +1,4 @@
-//! What a loader's lookup answers, as C sees it.
+//! The result of a loader's lookup, as C sees it.
 ghost use Rattle.std.specs.Prelude.{◌≡◌, Some};
 ghost use Rattle.elf_capi.specs.Resolved.{HasSymbol, SameSymbol, ReturnsFoundVersion, nothing_resolved};
 
@@ -9,7 +9,7 @@ use elf_memory::ByteRange;
 use elf_record::version_number;
 use elf_table::NameEnd;
 
-/// What a loader's lookup found; all 0 where it found nothing, but for the symbols that were tried.
+/// What a loader's lookup found; all 0 if it found nothing, except the number of symbols tried.
 #[repr(C)]
 #[derive(Clone, Copy)]
 pub struct Resolved {
@@ -19,29 +19,30 @@ pub struct Resolved {
     pub index: u64,
     /// How many symbols were tried.
     pub tried: u64,
-    /// Where the name of its version lies in the file, or the first 256 bytes of it; no bytes where a
-    /// version was asked for, where it has no name and where there are no versions.
+    /// Where the name of its version lies in the file, or the first 256 bytes of it; no bytes if a
+    /// version was requested, if it has no name and if there are no versions.
     pub version: ByteRange,
-    /// 1 where the file has versions of symbols, else 0.
+    /// 1 if the file has versions of symbols, otherwise 0.
     pub has_version: u32,
-    /// 1 where a name alone does not take the version, else 0.
+    /// 1 if the version is hidden: a lookup by name alone does not match it; otherwise 0.
     pub is_hidden: u32,
-    /// 1 where the name of the version has more bytes, else 0.
+    /// 1 if the name of the version has more bytes, otherwise 0.
     pub is_cut: u32,
-    /// The index of the section that has the symbol, or of the program header of the dynamic entries.
+    /// The index of the section that has the symbol, or of the program header of the dynamic
+    /// entries.
     pub section: u16,
-    /// The index of the section of the words of versions, or of that program header.
+    /// The index of the section of version indices, or of that program header.
     pub words: u16,
-    /// The number of the version, below 2^15.
+    /// The version index, below 2^15.
     pub number: u16,
-    /// 0.
+    /// Always 0.
     pub none: u16,
-    /// 0.
+    /// Always 0.
     pub none_behind: u32,
 }
 
 impl Resolved {
-    /// Nothing was found, and no symbol tried.
+    /// Sets that nothing was found, and no symbol tried.
     pub fn clear(&mut self)
         ensures { self.new ≡ nothing_resolved 0 }
     {
@@ -61,7 +62,7 @@ impl Resolved {
         };
     }
 
-    /// Tells of a symbol; of the name of its version `told` bytes are held.
+    /// Sets a symbol; `told` bytes of the name of its version are available.
     pub fn report(&mut self, found: &FoundSymbol, told: u64)
         requires { self.old ≡ nothing_resolved 0 }
         ensures symbol { HasSymbol self.new found.now }
@@ -76,7 +77,7 @@ impl Resolved {
         }
     }
 
-    /// Tells of a version.
+    /// Sets a version.
     fn report_version(&mut self, version: &FoundVersion, told: u64)
         requires none { (self.old.version ≡ record { at = 0; len = 0 }) × (self.old.is_cut ≡ 0) }
         ensures version { ReturnsFoundVersion self.new told (Some version.now) }

@@ -1,4 +1,4 @@
-//! What a read of a row and the opening of a table answer, as C sees it.
+//! The result of reading a row and of opening a table, as C sees it.
 ghost use Rattle.elf_capi.specs.Ends.{IsOpenedTable, IsRowReported};
 
 use crate::end::CallEnd;
@@ -8,13 +8,13 @@ use elf_record::Refusal;
 const OK: u32 = 0;
 /// The status of a file that is refused.
 const REFUSED: u32 = 1;
-/// The status of a row that is not there.
+/// The status of a row that does not exist.
 const ABSENT: u32 = 2;
-/// The status of a call with a number outside its range.
+/// The status of a call with a number out of range.
 const BAD_CALL: u32 = 4;
 
-/// Writes the row that was read to `row`, the refusal, where there is one, to `end`, and answers
-/// the status.
+/// Writes the row that was read to `row`, the refusal, if there is one, to `end`, and returns the
+/// status.
 pub fn report_row<T: Copy>(read: Result<Option<T>, Refusal>, row: &mut T, end: &mut CallEnd) -> u32
     ensures { IsRowReported result row.old row.new end.new read }
 {
@@ -32,8 +32,8 @@ pub fn report_row<T: Copy>(read: Result<Option<T>, Refusal>, row: &mut T, end: &
     }
 }
 
-/// Writes what was opened to `place`, the refusal, where there is one, to `end`, and answers the
-/// status. None is a call with a number outside its range.
+/// Writes what was opened to `place`, the refusal, if there is one, to `end`, and returns the
+/// status. `None` is a call with a number out of range.
 pub fn report_opened<T: Copy>(
     opened: Option<Result<Option<T>, Refusal>>,
     place: &mut T,

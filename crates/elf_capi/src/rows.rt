@@ -1,11 +1,11 @@
-//! A place in a table of a file in memory.
+//! A position in a table of a file in memory.
 ghost use Rattle.std.specs.Prelude.{◌≡◌, ◌<◌, min};
 ghost use Rattle.elf_capi.specs.Rows.{rows_left, rows_from_first};
 
 use elf_table::{Names, Table};
 
-/// A place in a table: plain numbers, which a caller keeps where it likes and may copy. Each step
-/// tests them again, so that no numbers are wrong ones.
+/// A position in a table: plain numbers, which a caller may store anywhere and copy. Each step
+/// checks them again, so that no numbers are invalid.
 #[repr(C)]
 #[derive(Clone, Copy)]
 pub struct RowPosition {
@@ -17,14 +17,14 @@ pub struct RowPosition {
     pub index: u64,
     /// The size of an entry in bytes.
     pub entry: u64,
-    /// The file offset of the string table that goes with it; 0 where there is none.
+    /// The file offset of the string table that belongs to it; 0 if there is none.
     pub strings_at: u64,
-    /// How many bytes that has; 0 where there is none.
+    /// The size of that string table in bytes; 0 if there is none.
     pub strings_len: u64,
 }
 
 impl RowPosition {
-    /// A place before the first row of a table, with its string table.
+    /// Returns a position before the first row of a table, with its string table.
     pub(crate) fn of(table: Table, names: Names) -> RowPosition
         ensures { result ≡ rows_from_first table names }
     {
@@ -38,7 +38,8 @@ impl RowPosition {
         }
     }
 
-    /// How many entries of `entry` bytes are next in a file of `size` bytes, no more than `room`.
+    /// Returns how many entries of `entry` bytes are next in a file of `size` bytes, at most
+    /// `room`.
     pub fn next(&self, size: usize, entry: u64, room: usize) -> usize
         requires { 0 < entry }
         ensures { result ≡ min (rows_left size self.now entry) room }

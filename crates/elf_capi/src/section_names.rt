@@ -1,16 +1,16 @@
-//! Where the string table of the section names lies.
+//! The string table of the section names.
 ghost use Rattle.elf_capi.specs.TableOpenings.{ReadsSectionNames};
 
 use crate::load_checks::held_file;
 use elf_memory::ByteRange;
 use elf_record::Refusal;
 
-/// Where the string table of the section names of a file that lies in memory lies; None where there is
+/// Locates the string table of the section names of a file in memory; returns `None` if there is
 /// none (gABI 4, ELF Header).
 ///
 /// # Errors
 /// The first check that fails of those that a listing makes until the section headers are loaded,
-/// with so many headers permitted.
+/// with the given number of headers allowed.
 pub fn names_in(file: &[u8], headers: u16) -> Result<Option<ByteRange>, Refusal>
     ensures { ReadsSectionNames file.now headers result }
 {

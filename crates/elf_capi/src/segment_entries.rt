@@ -12,16 +12,19 @@ use elf_record::sizes::DYNAMIC_BYTES;
 use elf_record::{Cause, Refusal};
 use elf_table::is_out_of_bounds;
 
-/// A place before the first dynamic entry of a segment of a file that lies in memory, with as many as
-/// up to and with the first DT_NULL; None where it has no such segment, or one of another type than
-/// DYNAMIC. The place has no string table: [`find_mapped`](elf_memory::find_mapped) tells where the one lies whose
-/// address and size the entries have (gABI 5, Dynamic Section).
+/// Returns a position before the first dynamic entry of a segment of a file in memory, up to and
+/// including the first DT_NULL.
+///
+/// Returns `None` if it has no such segment, or one of another type than DYNAMIC. The position has
+/// no string table: [`find_mapped`](elf_memory::find_mapped) locates the one whose address and size
+/// the entries have (gABI 5, Dynamic Section).
 ///
 /// # Errors
-/// The first check that fails of those that a listing makes before it reads the headers, as many of
-/// them permitted as can be; then, at the program header and of a segment that has bytes in the file,
-/// `SizeNotWhole` where p_filesz is no multiple of 16, `TableOutside` where the segment ends past the
-/// end of the file.
+/// - The first check that fails of those that a listing makes before it reads the headers, with the
+///   maximum number of headers allowed.
+/// - Then, at the program header and of a segment that has bytes in the file: `SizeNotWhole` if
+///   p_filesz is not a multiple of 16, `TableOutside` if the segment extends past the end of the
+///   file.
 pub fn segment_dynamic(file: &[u8], segment: u16) -> Result<Option<RowPosition>, Refusal>
     ensures { ReadsSegmentDynamic file.now segment result }
 {
@@ -31,11 +34,11 @@ pub fn segment_dynamic(file: &[u8], segment: u16) -> Result<Option<RowPosition>,
     }
 }
 
-/// The same as [`segment_dynamic`], where no more than `most` entries have to be looked at to know
-/// which are listed.
+/// Returns the same as [`segment_dynamic`], if at most `most` entries have to be read to know which
+/// are listed.
 ///
 /// # Errors
-/// As for [`segment_dynamic`], and then `Budget` where more have to be, at the first of these.
+/// As for [`segment_dynamic`], and then `Budget` if more have to be read, at the first of those.
 pub fn segment_dynamic_within(
     file: &[u8],
     segment: u16,
@@ -52,8 +55,8 @@ pub fn segment_dynamic_within(
     }
 }
 
-/// A place before the first of all entries of a segment of type DYNAMIC, listed or not; None where
-/// there is no such segment.
+/// Returns a position before the first of all entries of a segment of type DYNAMIC, listed or not,
+/// or `None` if there is no such segment.
 ///
 /// # Errors
 /// As for [`segment_dynamic`].
@@ -70,7 +73,8 @@ fn segment_table(file: &[u8], segment: u16) -> Result<Option<RowPosition>, Refus
     entries(file, place as u64, &header)
 }
 
-/// All entries that a program header tells of, where its checks pass. Refusals name `place`.
+/// Returns all entries that a program header describes, if its checks pass. Refusals are at
+/// `place`.
 fn entries(file: &[u8], place: u64, header: &Segment) -> Result<Option<RowPosition>, Refusal>
     ensures { AreSegmentEntries file.now place header.now.offset header.now.filesz result }
 {

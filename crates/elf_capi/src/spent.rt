@@ -1,4 +1,4 @@
-//! Rows within a budget: how much of it they have left, and what they count.
+//! Rows within a budget: how many of them it allows, and what they count.
 ghost use Rattle.std.specs.Prelude.{◌≡◌, ◌*◌, ◌/◌, ◌<◌, ◌≤◌, ℕ, IfSome, length, min, slice_index_or};
 ghost use Rattle.elf_capi.specs.Rows.{next_at};
 ghost use Rattle.elf_capi.specs.Limits.{budget_of};
@@ -12,9 +12,11 @@ use crate::table_row::{TableRow, next_rows};
 use elf_record::sizes::DYNAMIC_BYTES;
 use elf_record::{Cause, Refusal};
 
-/// Reads the next rows to the front of `out` and steps over them, as [`next_rows`] does, and no more
-/// than the budget of the limits has left; answers how many. Their bytes count in `asked`. Where more
-/// rows are left, and room for them, the budget ended it: then `end` tells so, at the next row.
+/// Reads the next rows to the start of `out` and steps over them, as [`next_rows`] does, and no
+/// more than the budget of the limits has left; returns how many.
+///
+/// Their bytes count in `asked`. If more rows are left, and would fit, the budget ended it: then
+/// `end` reports it, at the next row.
 pub fn next_within<R: TableRow>(
     file: &[u8],
     limits: &CallerLimits,
@@ -37,7 +39,8 @@ pub fn next_within<R: TableRow>(
     count
 }
 
-/// How many bytes may still be read where `asked` were asked for; 2^64 - 1 where there is no budget.
+/// Returns how many bytes may still be read if `asked` were requested; 2^64 - 1 if there is no
+/// budget.
 fn budget_left(limits: &CallerLimits, asked: u64) -> u64
     ensures { result ≡ budget_left (budget_of limits.now) asked }
 {
@@ -47,14 +50,14 @@ fn budget_left(limits: &CallerLimits, asked: u64) -> u64
     }
 }
 
-/// How many dynamic entries that are.
+/// Returns how many dynamic entries may still be read.
 pub fn entries_left(limits: &CallerLimits, asked: u64) -> u64
     ensures { result ≡ budget_left (budget_of limits.now) asked / 16 }
 {
     budget_left(limits, asked) / DYNAMIC_BYTES
 }
 
-/// How many entries of `entry` bytes that are, no more than there is room for.
+/// Returns how many entries of `entry` bytes may still be read, at most as many as fit.
 fn room_left(limits: &CallerLimits, asked: u64, entry: u64, room: usize) -> usize
     requires { 0 < entry }
     ensures { result ≡ min room (budget_left (budget_of limits.now) asked / entry) }
@@ -62,14 +65,14 @@ fn room_left(limits: &CallerLimits, asked: u64, entry: u64, room: usize) -> usiz
     (budget_left(limits, asked) / entry).min(room as u64) as usize
 }
 
-/// Counts so many bytes more; `asked` stays at 2^64 - 1 where it would pass that.
+/// Counts more bytes; `asked` saturates at 2^64 - 1.
 fn count_bytes(bytes: u128, asked: &mut u64)
     ensures { asked.new ≡ asked_more asked.old bytes }
 {
     *asked = short(u128::from(*asked).saturating_add(bytes));
 }
 
-/// Counts the dynamic entries that an opening looked at, of which it might look at `most`.
+/// Counts the dynamic entries that an opening read, of at most `most`.
 pub fn count_entries(
     opened: &Option<Result<Option<RowPosition>, Refusal>>,
     most: u64,
@@ -92,7 +95,8 @@ pub fn count_entries(
     count_bytes(16 * u128::from(looked), asked);
 }
 
-/// Tells whether the budget ended a step: where more rows are left, and room for `free` rows.
+/// Reports whether the budget ended a step: if more rows are left, and there is room for `free`
+/// rows.
 fn report_rest(size: usize, rows: &RowPosition, entry: u64, free: usize, end: &mut CallEnd)
     requires { 0 < entry }
     ensures { end.new ≡ step_end size entry rows.now free }

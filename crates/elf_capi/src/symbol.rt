@@ -28,7 +28,7 @@ pub struct Symbol {
 }
 
 impl Symbol {
-    /// The fields of a symbol.
+    /// Returns the fields of a symbol.
     pub fn of(symbol: &Sym) -> Symbol
         ensures fields { HasFields symbol.now result }
         ensures stands { (file : List ℕ) (at : ℕ) → IsSym file at symbol.now →

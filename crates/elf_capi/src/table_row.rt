@@ -12,10 +12,10 @@ pub trait TableRow: Copy {
     /// The size of an entry in bytes.
     ghost BYTES: { ℕ };
 
-    /// In a file it is the entry that stands at an offset.
+    /// The entry at an offset of a file.
     ghost stands: { List ℕ → ℕ → Self → Type 0 };
 
-    /// The entry at an offset of a file.
+    /// Returns the entry at an offset of a file.
     fn read(file: &[u8], at: usize) -> Self
         requires { at + BYTES ≤ length file.now }
         ensures { stands file.now at result };
@@ -24,8 +24,8 @@ pub trait TableRow: Copy {
     ghost some: { 0 < BYTES };
 }
 
-/// Reads the next rows to the front of `out`, as many as there are and as it has room for, steps
-/// over them, and answers how many.
+/// Reads the next rows to the start of `out`, as many as there are and as fit, steps over them, and
+/// returns how many.
 pub fn next_rows<R: TableRow>(file: &[u8], rows: &mut RowPosition, out: &mut [R]) -> usize
     ensures steps { StepsRows (length file.now) R.BYTES rows.old rows.new
         (length out.old) result }
@@ -41,7 +41,7 @@ pub fn next_rows<R: TableRow>(file: &[u8], rows: &mut RowPosition, out: &mut [R]
     count
 }
 
-/// Reads so many rows from the offset `first` on to the front of `out`.
+/// Reads the given number of rows at the offset `first` to the start of `out`.
 fn read_rows<R: TableRow>(file: &[u8], first: usize, count: usize, out: &mut [R])
     requires within { first + R.BYTES * count ≤ length file.now }
     requires room { count ≤ length out.old }

@@ -1,4 +1,4 @@
-//! The rows of a section, behind the checks of its table.
+//! The rows of a section, after the checks of its table.
 ghost use Rattle.std.specs.Prelude.{◌≡◌, ◌<◌, IfErr, min};
 ghost use Rattle.elf_model.specs.Records.{section_at};
 ghost use Rattle.elf_table.specs.Faults.{IsOfCheck};
@@ -14,15 +14,16 @@ use crate::rows::RowPosition;
 use elf_record::Refusal;
 use elf_table::{Fault, Names, Table};
 
-/// Checks the table of a kind that a section of a file that lies in memory is, and gives a place
-/// before its first row; None where the file has no such section or it holds no such rows. With
-/// relocation entries the string table is that of the symbols that they refer to, and of dynamic
-/// entries there are as many as up to and with the first DT_NULL. No more section headers are read
-/// than those of the section names, of the section, and of what it links to.
+/// Checks the table of a kind that a section of a file in memory holds, and returns a position
+/// before its first row, or `None` if the file has no such section or it holds no such rows.
+///
+/// With relocation entries the string table is that of the symbols that they refer to, and dynamic
+/// entries are those up to and including the first DT_NULL. Only the section headers of the section
+/// names, of the section, and of what it links to are read.
 ///
 /// # Errors
-/// The first check that fails of those that a listing makes up to the table's first row, with so
-/// many headers permitted.
+/// The first check that fails of those that a listing makes up to the table's first row, with the
+/// given number of headers allowed.
 pub fn rows_in(
     file: &[u8],
     headers: u16,
@@ -46,11 +47,11 @@ pub fn rows_in(
     }
 }
 
-/// Checks the table of dynamic entries that a section of a file that lies in memory is, as [`rows_in`]
-/// does, where no more than `most` entries have to be looked at to know which are listed.
+/// Checks the table of dynamic entries that a section of a file in memory holds, as [`rows_in`]
+/// does, if at most `most` entries have to be read to know which are listed.
 ///
 /// # Errors
-/// As for [`rows_in`], and then `Budget` where more have to be, at the first of these.
+/// As for [`rows_in`], and then `Budget` if more have to be read, at the first of those.
 pub fn dynamic_within(
     file: &[u8],
     headers: u16,
@@ -77,7 +78,7 @@ pub fn dynamic_within(
     }
 }
 
-/// The rows of a section of a file.
+/// Returns the rows of a section of a file.
 ///
 /// # Errors
 /// The first check of its table that fails.
@@ -107,7 +108,7 @@ fn opened(held: &MemoryFile<'_>, section: u16, kind: RowKind) -> Result<RowPosit
     }
 }
 
-/// The words of the versions of so many symbols, as far as there are some.
+/// Returns the version entries of the given number of symbols, as far as there are any.
 fn words_of(words: Table, symbols: u64) -> RowPosition
     ensures { result ≡ record {
       at = words.at;
@@ -123,7 +124,7 @@ fn words_of(words: Table, symbols: u64) -> RowPosition
     rows
 }
 
-/// The string table of symbols; no bytes where there are no symbols.
+/// Returns the string table of symbols; no bytes if there are no symbols.
 fn names_of(symbols: Option<(Table, Names)>) -> Names
     ensures { result ≡ linked_names symbols }
 {

@@ -1,4 +1,4 @@
-//! The words of symbols' versions.
+//! The entries of symbols' versions.
 ghost use Rattle.std.proofs.Common.{rules};
 ghost use Rattle.elf_capi.specs.VersionRecords.{IsVersionWord};
 
@@ -10,9 +10,9 @@ use elf_record::{u16_at, version_number};
 #[repr(C)]
 #[derive(Clone, Copy)]
 pub struct Versym {
-    /// Its number, below 2^15; 0 and 1 are no version's.
+    /// Its version index, below 2^15; 0 and 1 are no version's.
     pub number: u16,
-    /// 1 where a name alone does not take the symbol, else 0.
+    /// 1 if it is hidden: a lookup by name alone does not match the symbol; otherwise 0.
     pub is_hidden: u16,
 }
 

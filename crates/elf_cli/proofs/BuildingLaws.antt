@@ -1,4 +1,4 @@
--- What a word more makes of a command.
+-- What one more argument makes of a command.
 use Rattle.std.proofs.Common.{◌≡◌, ◌∙◌, ◌+◌, ◌<◌, ◌≤◌, ap, refl, rules, subst, sym, ℕ, zero, suc, drop, length, slice_index_or, arith}
 use Rattle.std.proofs.Common.{List, [], ◌∷◌}
 use Rattle.clap.specs.Simple.{App, with_rule, with_subcommand}
@@ -22,7 +22,7 @@ word_before part [] i d app within = absurd (omega arith)
 word_before part (word ∷ words) zero d app within = refl
 word_before part (word ∷ words) (suc i) d app within = word_before part words i d app (omega arith)
 
--- a word's rule goes before those of the rest of the words
+-- an argument's rule comes before those of the remaining arguments
 pub word_at : (part : ValueParser) (words : List ArgSpec) (i : ℕ) (d : ArgSpec) (app : App) → i < length words
     → add_args part (with_rule app (rule_by part (slice_index_or words i d))) (drop (i + 1) words) ≡ add_args part app (drop i words)
 word_at part words i d app within =
@@ -36,7 +36,7 @@ none_left part [] (suc i) app past = refl
 none_left part (word ∷ words) zero app past = absurd (omega arith)
 none_left part (word ∷ words) (suc i) app past = none_left part words i app (omega arith)
 
--- a command that the rest of the words, of which none is left, makes what all make of the first
+-- a command to which the remaining arguments, of which none is left, add what all add to the first
 pub all_added : (part : ValueParser) (words : List ArgSpec) (i : ℕ) (app now : App) (whole : Command) → length words ≤ i
     → add_args part now (drop i words) ≡ add_args part app words → IsBuilt now whole → IsBuilt (add_args part app words) whole
 all_added part words i app now whole past same built = subst (λ a. IsBuilt a whole) (sym (none_left part words i now past) ∙ same) built
@@ -48,7 +48,7 @@ command_before part [] i d app next within is = absurd (omega arith)
 command_before part (command ∷ commands) zero d app next within is = ap (λ a. add_subcommands part a commands) is
 command_before part (command ∷ commands) (suc i) d app next within is = command_before part commands i d app next (omega arith) is
 
--- a command goes before the rest of the commands
+-- a command comes before the remaining commands
 pub command_at : (part : ValueParser) (commands : List CommandSpec) (i : ℕ) (d : CommandSpec) (app next : App) → i < length commands
     → next ≡ with_subcommand app (described part (slice_index_or commands i d)).top
     → add_subcommands part next (drop (i + 1) commands) ≡ add_subcommands part app (drop i commands)

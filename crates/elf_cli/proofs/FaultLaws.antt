@@ -1,4 +1,4 @@
--- Why the command line refuses words, and that its definition tells the kinds.
+-- Why the command line rejects arguments, and that its definition gives the kinds.
 use Rattle.std.proofs.Common.{◌≡◌, List, [], true, ap, sym, ◌∙◌, refl, subst, inl, inr}
 use Rattle.clap.specs.Faults.{fault_of, is_simple_and_free}
 use Rattle.clap.specs.Kinds.{HasKind, IsAmong, Kinds}
@@ -41,7 +41,7 @@ refused app parts words error fault is named kinds told = record {
   among = subst (λ a. IsOneOf (fault_of a words) fault) is (fault_told (fault_of app words) error fault told (kinds (ap is_simple_and_free is ∙ is_known parts)));
 }
 
--- matches of such a command line: they are those of the words, for which it has no fault
+-- matches of such a command line: they are those of the arguments, for which it has no fault
 pub read : (app : App) (parts : PartWords) (words : List Text) (m : ArgMatches) → app ≡ program parts → ArePartNames parts
     → (is_simple_and_free app ≡ true → fault_of app words ≡ []) → HasMatchesOf app words m → AreRead words (subcommand_rows_of m)
 read app parts words m is named taken matches = record {

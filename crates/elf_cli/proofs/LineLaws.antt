@@ -1,4 +1,4 @@
--- What a sink of whole lines keeps of what it gives on.
+-- What a sink of whole lines keeps of what it passes on.
 use Rattle.std.proofs.Common.{◌≡◌, ℕ, ◌+◌, ◌-◌, ◌≤◌, List, ◌++◌, Option, sym, ap, ◌∙◌, length, take, drop, subst, arith}
 use Rattle.std.specs.Io.KnownBytes.{Appends, Keeps, append_known}
 use Rattle.std.proofs.KnownBytes.{append_known-moved}
@@ -7,7 +7,7 @@ use Rattle.std.specs.List.{copy_within}
 use Rattle.std.proofs.lemmas.List.{take-append-drop, take-take, length-drop, length-take-le}
 use Rattle.elf_source.proofs.HoldLaws.{between}
 
--- what is left behind the bytes that went out moves to the front of the room
+-- what is left after the written bytes moves to the start of the buffer
 pub moved_up : (room new : List ℕ) (given len : ℕ) → given ≤ len → len ≤ length room → new ≡ copy_within room given len 0
     → take (len - given) new ≡ drop given (take len room)
 moved_up room new given len le fits is =

@@ -1,4 +1,4 @@
--- A text that is told beside another, byte by byte.
+-- A text printed by another one, byte by byte.
 use Rattle.std.proofs.Common.{◌≡◌, ◌≢◌, ℕ, ◌+◌, ◌<◌, ◌≤◌, ◌==◌, true, false, inl, inr, codes, List, [], ◌∷◌, ◌++◌, length, drop, get_or, refl, subst, arith}
 use Rattle.std.proofs.Common.{append-nil, add-one, drop-cons}
 use Rattle.std.proofs.lemmas.List.{drop_all}
@@ -11,7 +11,7 @@ use Rattle.elf_source.specs.Output.{OutState, SinkTakes, SinkTakesPrefix}
 use Rattle.elf_source.proofs.PutsLaws.{SinkTakesPrefix-more}
 use Rattle.elf_cli.specs.Marked.{byte_beside, bytes_beside, told_beside}
 
--- the bytes that are left are the next byte and those behind it
+-- the remaining bytes are the next byte and those after it
 pub beside-next : (text marked : List ℕ) (i : ℕ) → i < length text → length text ≡ length marked
     → bytes_beside (drop i text) (drop i marked) ≡ byte_beside (get_or text i 0) (get_or marked i 0) ++ bytes_beside (drop (i + 1) text) (drop (i + 1) marked)
 unfolding bytes_beside
@@ -24,21 +24,21 @@ pub beside-none : (text marked : List ℕ) (i : ℕ) → length text ≤ i → b
 unfolding bytes_beside
 beside-none text marked i over = rw (drop_all i text over) refl
 
--- texts of one length are told by their bytes
+-- texts of one length are printed by their bytes
 pub beside-same : (text marked : List ℕ) → length text ≡ length marked → told_beside text marked ≡ bytes_beside text marked
 unfolding told_beside
 beside-same text marked same =
     let is : (length text == length marked) ≡ true = grind (arith, nat_tests) in
     rw is refl
 
--- beside one of another length each newline stands as it is
+-- with a text of another length each newline is as it is
 pub beside-other : (text marked : List ℕ) → length text ≢ length marked → told_beside text marked ≡ reported_text text
 unfolding told_beside
 beside-other text marked other =
     let is : (length text == length marked) ≡ false = grind (arith, nat_tests) in
     rw is refl
 
--- the byte that is left next was told
+-- the next byte was written
 pub beside-more : {a b c : OutState} {whole : List ℕ} (text marked : List ℕ) (i : ℕ) → i < length text → length text ≡ length marked
     → TakesBefore a b whole (bytes_beside (drop i text) (drop i marked))
     → SinkTakes b c (byte_beside (get_or text i 0) (get_or marked i 0))
@@ -46,7 +46,7 @@ pub beside-more : {a b c : OutState} {whole : List ℕ} (text marked : List ℕ)
 beside-more {a} {b} {c} {whole} text marked i inside same before took =
     TakesBefore-then (subst (TakesBefore a b whole) (beside-next text marked i inside same) before) (record { front = byte_beside (get_or text i 0) (get_or marked i 0); split = refl; takes = took })
 
--- or a front of it
+-- or a prefix of it
 pub beside-front : {a b c : OutState} {whole : List ℕ} (text marked : List ℕ) (i : ℕ) → i < length text → length text ≡ length marked
     → TakesBefore a b whole (bytes_beside (drop i text) (drop i marked))
     → SinkTakesPrefix b c (byte_beside (get_or text i 0) (get_or marked i 0))
@@ -55,12 +55,12 @@ beside-front {a} {b} {c} {whole} text marked i inside same before took =
     TakesBefore-front (subst (TakesBefore a b whole) (beside-next text marked i inside same) before)
     (SinkTakesPrefix-more (byte_beside (get_or text i 0) (get_or marked i 0)) (bytes_beside (drop (i + 1) text) (drop (i + 1) marked)) took)
 
--- a newline of a word
+-- a newline of an argument
 pub newline-told : (byte mark : ℕ) → byte ≡ 10 → (mark == 10) ≡ false → codes "\\x0a" ≡ byte_beside byte mark
 unfolding byte_beside name_byte_text hex digit
 newline-told byte mark is other = rw (is, other) refl
 
--- a byte that is told alone
+-- a byte that is written alone
 pub byte-told : (byte mark : ℕ) → (byte ≡ 10 → mark ≡ 10) → reported_text (byte ∷ []) ≡ byte_beside byte mark
 unfolding reported_text reported_byte byte_beside
 byte-told byte mark h = elim (cases_Bool (byte == 10)) [

@@ -32,7 +32,7 @@ module _ (E : Type 0) (G : List ℕ → Result ℕ E → Type 0) (only : (u : Li
       → IfSome (result_ok r) (HasNumber (one_of id (rows_of f)))
   number_read f id r none some = subst (λ o. IfSome (result_ok r) (HasNumber o)) (one_text-rows f id) (some_text (one_text f id) r none some)
 
-  -- and where it reads none, there is none
+  -- and if it reads none, there is none
   pub no_number : (f : Found) (id : Text) (r : Result (Option ℕ) E) → (one_text f id ≡ None → r ≡ Ok None) → ((t : Text) → one_text f id ≡ Some t → TriesOne G t r)
       → result_ok r ≡ None → (value : Option ℕ) → HasNumber (one_of id (rows_of f)) value → ⊥
   no_number f id r none some failed =

@@ -1,4 +1,4 @@
--- The command line: its commands and their options, as the reader of the words sees them.
+-- The command line: its commands and their options, as the parser of the arguments sees them.
 use Rattle.std.specs.Prelude.{List, [], ◌∷◌, codes, pos, true, Some}
 use Rattle.std.specs.Borrow.{Bor}
 use Rattle.clap.specs.Walk.{Rule, Text}
@@ -12,35 +12,35 @@ use Rattle.clap.specs.declared.builder.value_parser.ValueParser.TheVariants.{Sig
 abbrev pub ArgWords : Type 0
 ArgWords = Bor (List (Bor Text))
 
--- an option without a value, which is set where it stands among the words
+-- an option without a value, which is set if it is given
 abbrev pub flag : Text → Rule
 flag name = record (new_rule name) { long = Some name; action = Some SetTrue }
 
--- an option with one value, which help has a name for
+-- an option with one value, with its name in help
 abbrev pub valued : Text → Rule
 valued name = record (new_rule name) { long = Some name; value_names = 1 }
 
--- one that may stand among the words again, with another value
+-- one that may be repeated, with another value
 abbrev pub repeated : Text → Rule
 repeated name = record (valued name) { action = Some Append }
 
--- one whose value a parser takes
+-- one whose value a parser reads
 abbrev pub option : Text → ValueParser → Rule
 option name parser = record (valued name) { parser = Some parser }
 
--- one with a number, which is that of the default where the option is not there
+-- one with a number, which has a default if the option is absent
 abbrev pub numbered_option : Text → ValueParser → Text → Rule
 numbered_option name parser default = record (option name parser) { defaults = default ∷ [] }
 
--- a word that has to be there
+-- a required argument
 abbrev pub required : Text → Rule
 required name = record (new_rule name) { required = true }
 
--- one that a parser takes
+-- one that a parser reads
 abbrev pub indexed : Text → ValueParser → Rule
 indexed name parser = record (required name) { parser = Some parser }
 
--- any number of words
+-- any number of arguments
 abbrev pub any_words : Text → Rule
 any_words name = record (new_rule name) { range = Some (record { start_inclusive = 0; end_inclusive = usize_max }) }
 
@@ -78,16 +78,17 @@ with_listing_options parts command =
     with_rule (with_rule (with_rule (with_rule (with_rule (with_rule (with_rule command headers_option) names_option) max_read_option)
     (only_option parts)) gnu_option) by_segments_option) json_option
 
--- a command with the options of a listing that is written: whether the version of a symbol stands behind its name
+-- a command with the options of a listing that is written: whether the version of a symbol follows
+-- its name
 abbrev with_written_rows : ArgWords → App → App
 with_written_rows parts command = with_rule (with_listing_options parts command) (flag (codes "versions"))
 
--- a command with the options of a listing of which rows are chosen by their names: one each time it stands among the words, and
--- a file that has such names, one a line
+-- a command with the options of a listing whose rows are selected by name: one per occurrence, and
+-- a file of such names, one per line
 abbrev with_chosen_rows : ArgWords → App → App
 with_chosen_rows parts command = with_rule (with_rule (with_written_rows parts command) (repeated (codes "name"))) (valued (codes "name-list"))
 
--- a file that has paths, each ended by NUL
+-- a file of paths, each ended by NUL
 abbrev list_option : Rule
 list_option = valued (codes "files0-from")
 
@@ -95,7 +96,7 @@ list_option = valued (codes "files0-from")
 abbrev path_argument : Rule
 path_argument = any_words (codes "PATH")
 
--- a command that goes over many files, and perhaps into archives
+-- a command that reads many files, and perhaps the members of archives
 abbrev over_files : App → App
 over_files command = with_rule (with_rule (with_rule command (flag (codes "members"))) list_option) path_argument
 
@@ -110,8 +111,8 @@ find_command =
     with_rule (with_rule (with_rule (with_rule (with_rule (with_reading_options (new_app (codes "find"))) gnu_option) by_segments_option) json_option)
     file_argument) (required (codes "NAME"))
 
--- a file that has items, one a line; whether the item that would help is printed, where an address is missing; a section's index;
--- and items
+-- a file of items, one per line; whether the item that would help is printed if an address is
+-- missing; a section's index; and items
 abbrev pub apply_command : App
 apply_command =
     with_rule (with_rule (with_rule (with_rule (with_rule (with_reading_options (new_app (codes "apply"))) (valued (codes "layout"))) (flag (codes "explain")))
@@ -123,13 +124,13 @@ check_command parts = over_files (with_listing_options parts (new_app (codes "ch
 abbrev pub list_command : ArgWords → App
 list_command parts = over_files (with_chosen_rows parts (new_app (codes "list")))
 
--- words that are required, which commas part
+-- required traits, separated by commas
 abbrev pub traits_command : App
 traits_command =
     with_rule (with_rule (with_rule (with_rule (with_reading_options (new_app (codes "traits"))) (valued (codes "require"))) json_option) list_option) path_argument
 
--- folders, which colons part; the folder that another system's files stand in; a loader's cache, or none; and whether the file that
--- each symbol is bound to is printed too
+-- directories, separated by colons; the root directory of another system's files; a loader's cache,
+-- or none; and whether the file that each symbol is bound to is printed too
 abbrev pub needs_command : App
 needs_command =
     with_rule (with_rule (with_rule (with_rule (with_rule (with_rule (with_rule (with_rule (with_reading_options (new_app (codes "needs"))) (valued (codes "library-path")))
@@ -138,12 +139,12 @@ needs_command =
 abbrev pub archive_command : ArgWords → App
 archive_command parts = with_rule (with_chosen_rows parts (new_app (codes "archive"))) file_argument
 
--- the program, whose words begin behind its name, and which wants a command
+-- the program, whose arguments begin after its name, and which requires a command
 abbrev pub without_command : App
 without_command = let app = new_app (codes "elfsee") in
     record app { top = record app.top { no_binary_name = true; subcommand_required = true; arg_required_else_help = true } }
 
--- the program, with the commands that read one file, but for the one that lists an archive
+-- the program, with the commands that read one file, except the one that lists an archive
 abbrev pub with_one_file : ArgWords → App
 with_one_file parts =
     with_subcommand (with_subcommand (with_subcommand (with_subcommand without_command (show_command parts).top) (sample_command parts).top)
@@ -160,7 +161,7 @@ pub record PartWords : Type 0 where
   pub listed : ArgWords
   pub archived : ArgWords
 
--- THE COMMAND LINE: the program with all its commands; `version` takes no word
+-- THE COMMAND LINE: the program with all its commands; `version` takes no argument
 abbrev pub program : PartWords → App
 program parts =
     with_subcommand (with_subcommand (with_many_files parts.listed (with_one_file parts.listed)) (archive_command parts.archived).top)

@@ -21,7 +21,7 @@ error_line (Err (Refused refusal)) = []
 error_line (Err (Source fault at)) = codes "elfsee: read fault"
 error_line (Err (Out fault)) = codes "elfsee: write fault"
 
--- the exit status for words that are no request, and the line on standard error
+-- the exit status for arguments that are no request, and the line on standard error
 abbrev pub refused_status : RequestFault → ℕ
 refused_status (Words error) = 2
 refused_status BadName = 2
@@ -42,23 +42,23 @@ refused_line LayoutRepeat = codes "elfsee: layout-repeat"
 refused_line BadTrait = codes "elfsee: bad trait"
 refused_line Memory = codes "elfsee: out of memory"
 
--- how a program ends whose words are no request
+-- how a program ends whose arguments are no request
 abbrev pub EndsWords : RequestFault → ℕ → List ℕ → Type 0
 EndsWords fault status line = (status ≡ refused_status fault) × (line ≡ refused_line fault)
 
--- how a program ends whose output is written last: as its run, or, where the sink has failed, by a fault of the output; after
--- a fault of the source by that
+-- how a program ends whose output is flushed: as its run, or, if the sink has failed, by a fault of
+-- the output; after a fault of the source by that
 abbrev pub ProgramEnds : Result ℕ RunFault → Bool → ℕ → List ℕ → Type 0
 ProgramEnds (Err (Source fault at)) failed status line = (status ≡ 3) × (line ≡ codes "elfsee: read fault")
 ProgramEnds answer true status line = (status ≡ 3) × (line ≡ codes "elfsee: write fault")
 ProgramEnds answer false status line = (status ≡ exit_status answer) × (line ≡ error_line answer)
 
--- whether what is left of an output is to be written: not after its fault
+-- whether the rest of an output is to be written: not after its fault
 abbrev pub wants_rest : Result ℕ RunFault → Bool
 wants_rest (Err (Out fault)) = false
 wants_rest answer = true
 
--- the same of a run whose faults have lines of their own
+-- the same for a run whose faults have lines of their own
 abbrev pub EndsRun : RunEnd → Bool → ℕ → List ℕ → Type 0
 EndsRun (Status status) false now line = (now ≡ status) × (line ≡ [])
 EndsRun (Status status) true now line = (now ≡ 3) × (line ≡ codes "elfsee: write fault")
@@ -69,8 +69,8 @@ abbrev pub wants_rest_of : RunEnd → Bool
 wants_rest_of Unwritten = false
 wants_rest_of ended = true
 
--- WHAT BECOMES OF THE REST of an output: all of it goes out, or a front where the sink has failed; where it isn't wanted
--- nothing is written
+-- WHAT HAPPENS TO THE REST of an output: all of it is written, or a prefix if the sink has failed;
+-- if it is not wanted, nothing is written
 abbrev pub PutsRest : (wanted failed : Bool) (rest : List ℕ) (old new : Option (List ℕ)) → Type 0
 PutsRest false failed rest old new = (failed ≡ false) × (new ≡ old)
 PutsRest true false rest old new = Appends old new rest

@@ -1,4 +1,4 @@
--- Why words are not read.
+-- Why arguments are rejected.
 use Rattle.std.specs.Prelude.{◌≡◌, ⊤}
 use Rattle.clap.specs.Kinds.{IsAmong, Kinds}
 use Rattle.clap.specs.Values.{kind_of}
@@ -7,7 +7,8 @@ use Rattle.clap.specs.declared.error.kind.ErrorKind.TheVariants.{Format, OutOfMe
 use Rattle.elf_cli.specs.declared.faults.RequestFault.{RequestFault}
 use Rattle.elf_cli.specs.declared.faults.RequestFault.TheVariants.{Words, Memory}
 
--- the fault that an error of the command line's reader is: want of memory is never told as bad words
+-- the fault for an error of the command line's parser: lack of memory is never reported as bad
+-- arguments
 abbrev pub IsFaultOf : Error → RequestFault → Type 0
 IsFaultOf error Memory = kind_of error ≡ OutOfMemory
 IsFaultOf error (Words told) = (told ≡ error) × (kind_of error ≡ OutOfMemory → ⊥)

@@ -1,4 +1,4 @@
--- The listings of one file that words ask for, and the version of the program.
+-- The listings of one file that arguments request, and the version of the program.
 use Rattle.std.specs.Prelude.{◌≡◌, false, ◌⊎◌, List, codes, Option, None, Some}
 use Rattle.std.specs.Borrow.{Bor}
 use Rattle.clap.specs.Walk.{Row, Text, first_of}
@@ -11,12 +11,12 @@ use Rattle.elf_cli.specs.declared.listings.ListingRequest.{ListingRequest}
 use Rattle.elf_cli.specs.declared.listings.ShowRequest.{ShowRequest}
 use Rattle.elf_cli.specs.declared.listings.ShowRequest.TheVariants.{Listed, Version}
 
--- the file whose path stands among the values, or for `sample` none
+-- the file whose path is among the values, or for `sample` none
 abbrev pub IsOfFile : Text → List Row → Option (Bor Text) → Type 0
 IsOfFile command rows (Some path) = (command ≡ codes "show") × (first_of (codes "FILE") rows ≡ Some path.now)
 IsOfFile command rows None = command ≡ codes "sample"
 
--- a command with the values of its arguments asks for just this listing, of every row
+-- a command with the values of its arguments requests just this listing, of every row
 pub record IsListing (command : Text) (rows : List Row) (asked : ListingRequest) : Type 0 where
   pub of_file : IsOfFile command rows asked.file
   pub limits : AreLimitOptions rows asked.limits
@@ -24,34 +24,36 @@ pub record IsListing (command : Text) (rows : List Row) (asked : ListingRequest)
   pub parts : AreParts rows asked.parts
   pub every : has_name_option rows ≡ false
 
--- a command with the values of its arguments asks for this, by what such values ask for
+-- a command with the values of its arguments requests this, by what such values request
 abbrev pub AskedBy : {A : Type 0} → (Text → List Row → A → Type 0) → Option (Text × List Row) → A → Type 0
 AskedBy asks None asked = ⊥
 AskedBy asks (Some (command, rows)) asked = asks command rows asked
 
--- nothing of the kind is asked for
+-- nothing of the kind is requested
 abbrev pub NoneAsked : {A : Type 0} → (Text → List Row → A → Type 0) → Option (Text × List Row) → Type 0
 NoneAsked {A} asks matches = (asked : A) → AskedBy asks matches asked → ⊥
 
--- the version of the program is asked for
+-- the version of the program is requested
 abbrev pub AsksVersion : Option (Text × List Row) → Type 0
 AsksVersion None = ⊥
 AsksVersion (Some (command, rows)) = command ≡ codes "version"
 
--- a command with the values of its arguments asks for just this
+-- a command with the values of its arguments requests just this
 abbrev pub ShowsBy : Option (Text × List Row) → ShowRequest → Type 0
 ShowsBy matches (Listed listing) = AskedBy IsListing matches listing
 ShowsBy matches Version = AsksVersion matches
 
--- neither a listing of one file is asked for nor the version
+-- neither a listing of one file is requested nor the version
 abbrev pub NothingShown : Option (Text × List Row) → Type 0
 NothingShown matches = (asked : ShowRequest) → ShowsBy matches asked → ⊥
 
--- WHAT IS TO BE SHOWN: the command line takes the words, and what it makes of them asks for this listing, or for the version
+-- WHAT IS TO BE SHOWN: the command line accepts the arguments, and the command that it parses
+-- requests this listing, or the version
 abbrev pub WordsShow : List Text → ShowRequest → Type 0
 WordsShow words asked = (matches : Option (Text × List Row)) × AreRead words matches × ShowsBy matches asked
 
--- WHY NOTHING IS: the command line refuses the words, or makes of them what asks for no listing of one file and for no version
+-- WHY NOTHING IS: the command line rejects the arguments, or parses a command that requests neither
+-- a listing of one file nor the version
 abbrev pub ShowsNothing : List Text → RequestFault → Type 0
 ShowsNothing words fault =
     AreRefused words fault ⊎ ((matches : Option (Text × List Row)) × AreRead words matches × NothingShown matches × IsUnasked fault)

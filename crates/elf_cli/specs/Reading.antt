@@ -1,4 +1,4 @@
--- How the command line reads words.
+-- How the command line parses arguments.
 use Rattle.std.specs.Prelude.{◌≡◌, true, List, [], map, Option}
 use Rattle.clap.specs.Walk.{Row, Text, texts}
 use Rattle.clap.specs.Simple.{subcommand_of}
@@ -8,19 +8,20 @@ use Rattle.elf_cli.specs.Faults.{IsOneOf}
 use Rattle.elf_cli.specs.Options.{member_part_names, part_names}
 use Rattle.elf_cli.specs.declared.faults.RequestFault.{RequestFault}
 
--- the names of the parts, as the reader of the words has them
+-- the names of the parts, as the parser of the arguments has them
 pub record ArePartNames (parts : PartWords) : Type 0 where
   pub listed : texts parts.listed.now ≡ map (λ part. part.1) (part_names true)
   pub archived : texts parts.archived.now ≡ map (λ part. part.1) (member_part_names true)
 
--- WHAT WORDS ARE READ AS: the command line takes them, and makes of them this command with the values of its arguments
+-- WHAT ARGUMENTS ARE READ AS: the command line accepts them, and parses them to this command with
+-- the values of its arguments
 pub record AreRead (words : List Text) (matches : Option (Text × List Row)) : Type 0 where
   pub parts : PartWords
   pub named : ArePartNames parts
   pub taken : fault_of (program parts) words ≡ []
   pub made : subcommand_of (program parts) words ≡ matches
 
--- the command line refuses the words: this is one of the faults that it has for them
+-- the command line rejects the arguments: this is one of its faults for them
 pub record AreRefused (words : List Text) (fault : RequestFault) : Type 0 where
   pub parts : PartWords
   pub named : ArePartNames parts

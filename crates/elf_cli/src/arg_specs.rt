@@ -1,4 +1,4 @@
-//! What commands take among their words, as data, and the arguments that are made of it.
+//! Command arguments as data, and the `clap` arguments built from it.
 ghost use Rattle.elf_cli.specs.Building.{IsArg};
 ghost use Rattle.elf_cli.specs.CommandLine.{any_words, flag, indexed, numbered_option};
 ghost use Rattle.elf_cli.specs.CommandLine.{option, repeated, required, valued};
@@ -8,36 +8,36 @@ use clap::builder::ValueParser;
 use clap::{Arg, ArgAction};
 use std::alloc::Global;
 
-/// What a command takes among its words.
+/// An argument of a command.
 pub(crate) struct ArgSpec {
     pub(crate) name: &'static str,
     pub(crate) kind: ArgKind,
     pub(crate) help: &'static str,
 }
 
-/// How a word is read.
+/// How an argument is read.
 pub(crate) enum ArgKind {
     /// An option without a value.
     Flag,
-    /// An option with a value, which help has this name for.
+    /// An option with a value, with its name in help.
     Value(&'static str),
-    /// An option with a value, which may stand there again, with another.
+    /// An option with a value, which may be repeated with another value.
     Repeated(&'static str),
-    /// An option with a number, as the parser has it.
+    /// An option with a number, which the parser reads.
     Number(ValueParser<'static>),
-    /// An option with a number, and what it is where the option is not there.
+    /// An option with a number, and its default if the option is absent.
     Count(ValueParser<'static>, &'static str),
     /// An option with the name of a part.
     Part,
-    /// A word that has to be there.
+    /// A required argument.
     Needed,
-    /// A word that has to be there, a number.
+    /// A required argument, a number.
     Index(ValueParser<'static>),
-    /// Any number of words.
+    /// Any number of arguments.
     Any,
 }
 
-/// The argument that a word is, where this parser takes the name of a part.
+/// Returns the `clap` argument for a specification, with this parser for the name of a part.
 pub(crate) fn clap_arg_of<'a>(alloc: Global, word: &ArgSpec, part: ValueParser<'a>) -> Arg<'a>
     ensures { IsArg (rule_by part.entry word.now) result }
 {
@@ -54,7 +54,7 @@ pub(crate) fn clap_arg_of<'a>(alloc: Global, word: &ArgSpec, part: ValueParser<'
     }
 }
 
-/// An option without a value.
+/// Returns an option without a value.
 fn flag<'a>(alloc: Global, word: &ArgSpec) -> Arg<'a>
     ensures { IsArg (flag word.now.name.now) result }
 {
@@ -64,7 +64,7 @@ fn flag<'a>(alloc: Global, word: &ArgSpec) -> Arg<'a>
         .help(word.help)
 }
 
-/// An option with one value, which help has a name for.
+/// Returns an option with one value, with its name in help.
 fn valued<'a>(alloc: Global, word: &ArgSpec, value: &'static str) -> Arg<'a>
     ensures { IsArg (valued word.now.name.now) result }
 {
@@ -74,14 +74,14 @@ fn valued<'a>(alloc: Global, word: &ArgSpec, value: &'static str) -> Arg<'a>
         .help(word.help)
 }
 
-/// An option with a value, which may stand there again, with another.
+/// Returns an option with a value, which may be repeated with another value.
 fn repeated<'a>(alloc: Global, word: &ArgSpec, value: &'static str) -> Arg<'a>
     ensures { IsArg (repeated word.now.name.now) result }
 {
     valued(alloc, word, value).action(ArgAction::Append)
 }
 
-/// An option with one value, which the parser takes.
+/// Returns an option with one value, which the parser reads.
 fn parsed<'a>(
     alloc: Global,
     word: &ArgSpec,
@@ -93,7 +93,7 @@ fn parsed<'a>(
     valued(alloc, word, value).value_parser(parser)
 }
 
-/// An option with a number, and what it is where the option is not there.
+/// Returns an option with a number, and its default if the option is absent.
 fn count<'a>(
     alloc: Global,
     word: &ArgSpec,
@@ -105,21 +105,21 @@ fn count<'a>(
     parsed(alloc, word, "N", parser).default_value(default)
 }
 
-/// A word that has to be there.
+/// Returns a required argument.
 fn required<'a>(alloc: Global, word: &ArgSpec) -> Arg<'a>
     ensures { IsArg (required word.now.name.now) result }
 {
     Arg::new(alloc, word.name).required(true).help(word.help)
 }
 
-/// A word that has to be there, which the parser takes.
+/// Returns a required argument, which the parser reads.
 fn index<'a>(alloc: Global, word: &ArgSpec, parser: ValueParser<'a>) -> Arg<'a>
     ensures { IsArg (indexed word.now.name.now parser.entry) result }
 {
     required(alloc, word).value_parser(parser)
 }
 
-/// Any number of words.
+/// Returns an argument with any number of values.
 fn any<'a>(alloc: Global, word: &ArgSpec) -> Arg<'a>
     ensures { IsArg (any_words word.now.name.now) result }
 {

@@ -1,4 +1,4 @@
-//! The options of the commands, and the words that stand without one.
+//! The options of the commands, and their positional arguments.
 use crate::arg_specs::{ArgKind, ArgSpec};
 use clap::builder::ValueParser;
 
@@ -50,14 +50,14 @@ pub(crate) const FILE: ArgSpec = ArgSpec {
     help: "The file to read; - is standard input",
 };
 
-// Whether the name is looked up as a loader of the GNU system does it.
+// Whether the name is looked up as glibc's dynamic loader does it.
 pub(crate) const AS_LOADER: ArgSpec = ArgSpec {
     name: "gnu",
     kind: ArgKind::Flag,
     help: "Take the symbol that a loader of the GNU system takes, by its version too",
 };
 
-// Whether that loader's way to the tables is gone also where there are section headers.
+// Whether the tables are found as that loader finds them even if there are section headers.
 pub(crate) const AS_LOADED: ArgSpec = ArgSpec {
     name: "by-segments",
     kind: ArgKind::Flag,

@@ -1,4 +1,4 @@
-//! Commands that are made of what describes them.
+//! Commands built from their descriptions.
 ghost use Rattle.std.specs.Prelude.{◌≡◌, IfOk, false};
 ghost use Rattle.clap.specs.Simple.{App, new_app, with_subcommand};
 ghost use Rattle.clap.specs.Words.{app_of};
@@ -10,16 +10,16 @@ use clap::Command;
 use clap::builder::ValueParser;
 use std::alloc::{AllocError, Global};
 
-/// A command, as it is described.
+/// The description of a command.
 pub(crate) struct CommandSpec {
     pub(crate) name: &'static str,
-    /// What help prints before the arguments, and behind them.
+    /// What help prints before the arguments, and after them.
     pub(crate) about: &'static str,
     pub(crate) more: &'static str,
     pub(crate) words: &'static [ArgSpec],
 }
 
-/// A command of this name, with what its help prints before and behind its arguments.
+/// Creates a command with the given name, with what its help prints before and after its arguments.
 pub(crate) fn new_command<'a>(
     alloc: Global,
     name: &'a str,
@@ -31,7 +31,7 @@ pub(crate) fn new_command<'a>(
     Command::new(alloc, name).about(about).after_help(more)
 }
 
-/// The command that is described so, where this parser takes the name of a part.
+/// Returns the command for a description, with this parser for the name of a part.
 pub(crate) fn clap_command_of<'a>(
     alloc: Global,
     command: &CommandSpec,
@@ -43,7 +43,7 @@ pub(crate) fn clap_command_of<'a>(
     add_args(alloc, named, command.words, part)
 }
 
-/// A command with the arguments of these words behind those that it has.
+/// Returns a command with the given arguments added after those it has.
 fn add_args<'a>(
     alloc: Global,
     command: Command<'a>,
@@ -60,7 +60,7 @@ fn add_args<'a>(
     Ok(whole)
 }
 
-/// A command with these commands below it, behind those that it has.
+/// Returns a command with the given subcommands added after those it has.
 pub(crate) fn add_subcommands<'a>(
     alloc: Global,
     command: Command<'a>,
@@ -77,7 +77,7 @@ pub(crate) fn add_subcommands<'a>(
     Ok(whole)
 }
 
-/// A command with a command more below it.
+/// Returns a command with one more subcommand.
 pub(crate) fn with_command<'a>(
     alloc: Global,
     command: Command<'a>,

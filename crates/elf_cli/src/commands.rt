@@ -1,4 +1,4 @@
-//! The commands of the command line, with what each takes among its words.
+//! The commands of the command line, with the arguments of each.
 ghost use Rattle.std.specs.Prelude.{◌≡◌, IfOk};
 ghost use Rattle.clap.specs.Simple.{App};
 ghost use Rattle.clap.specs.Words.{app_of};
@@ -164,11 +164,11 @@ static OF_ONE_FILE: [CommandSpec; 4] = [SHOW, SAMPLE, FIND, APPLY];
 
 static OF_MANY_FILES: [CommandSpec; 4] = [CHECK, LIST_FILES, TRAITS, NEEDS];
 
-/// The command line, with the names of the parts of a listing, and of those of an archive's: all
-/// commands with their arguments and help, as `clap` reads words by them.
+/// Returns the command line, given the names of the parts of a listing and of those of an archive's
+/// listing: all commands with their arguments and help, by which `clap` parses arguments.
 ///
 /// # Errors
-/// There is no memory for it; nothing of it is left then.
+/// Out of memory; nothing of it is kept then.
 pub fn command_line<'a>(
     alloc: Global,
     parts: &'a [&'a str],
@@ -184,7 +184,7 @@ pub fn command_line<'a>(
     with_command(alloc, command, &VERSION, ValueParser::Names(parts))
 }
 
-/// The commands that read one file, but for the one that lists an archive.
+/// Returns the commands that read one file, except the one that lists an archive.
 fn of_one_file() -> &'static [CommandSpec]
     ensures { (parts : ArgWords)
         → add_subcommands (Names parts) without_command result.now ≡ with_one_file parts }
@@ -192,7 +192,7 @@ fn of_one_file() -> &'static [CommandSpec]
     &OF_ONE_FILE
 }
 
-/// The commands that read many files.
+/// Returns the commands that read many files.
 fn of_many_files() -> &'static [CommandSpec]
     ensures { (parts : ArgWords) (app : App)
         → add_subcommands (Names parts) app result.now ≡ with_many_files parts app }
@@ -200,7 +200,7 @@ fn of_many_files() -> &'static [CommandSpec]
     &OF_MANY_FILES
 }
 
-/// The program, without its commands.
+/// Returns the program, without its commands.
 fn program<'a>(alloc: Global) -> Result<Command<'a>, AllocError>
     ensures { IfOk result (λ command. app_of command ≡ without_command) }
 {
@@ -212,81 +212,82 @@ fn program<'a>(alloc: Global) -> Result<Command<'a>, AllocError>
     program.bin_name("elfsee")
 }
 
-/// The command that lists a file, with the names of the parts that it can list alone.
+/// Returns the command that lists a file, given the names of the parts that it can list alone.
 ///
 /// # Errors
-/// There is no memory for it; nothing of it is left then.
-pub fn show<'a>(alloc: Global, parts: &'a [&'a str]) -> Result<Command<'a>, AllocError>
+/// Out of memory; nothing of it is kept then.
+pub fn show_command<'a>(alloc: Global, parts: &'a [&'a str]) -> Result<Command<'a>, AllocError>
     ensures { IfOk result (IsBuilt (show_command parts.entry)) }
 {
     clap_command_of(alloc, &SHOW, ValueParser::Names(parts))
 }
 
-/// The command that lists the sample, with the names of the parts that it can list alone.
+/// Returns the command that lists the sample, given the names of the parts that it can list alone.
 ///
 /// # Errors
-/// There is no memory for it; nothing of it is left then.
-pub fn sample<'a>(alloc: Global, parts: &'a [&'a str]) -> Result<Command<'a>, AllocError>
+/// Out of memory; nothing of it is kept then.
+pub fn sample_command<'a>(alloc: Global, parts: &'a [&'a str]) -> Result<Command<'a>, AllocError>
     ensures { IfOk result (IsBuilt (sample_command parts.entry)) }
 {
     clap_command_of(alloc, &SAMPLE, ValueParser::Names(parts))
 }
 
-/// The command that looks a name up.
+/// Returns the command that looks up a name.
 ///
 /// # Errors
-/// There is no memory for it; nothing of it is left then.
-pub fn find<'a>(alloc: Global) -> Result<Command<'a>, AllocError>
+/// Out of memory; nothing of it is kept then.
+pub fn find_command<'a>(alloc: Global) -> Result<Command<'a>, AllocError>
     ensures { IfOk result (IsBuilt find_command) }
 {
     clap_command_of(alloc, &FIND, ValueParser::Names(&[]))
 }
 
-/// The command that checks many files, with the names of the parts that it can go by.
+/// Returns the command that checks many files, given the names of the parts that it can check.
 ///
 /// # Errors
-/// There is no memory for it; nothing of it is left then.
-pub fn check<'a>(alloc: Global, parts: &'a [&'a str]) -> Result<Command<'a>, AllocError>
+/// Out of memory; nothing of it is kept then.
+pub fn check_command<'a>(alloc: Global, parts: &'a [&'a str]) -> Result<Command<'a>, AllocError>
     ensures { IfOk result (IsBuilt (check_command parts.entry)) }
 {
     clap_command_of(alloc, &CHECK, ValueParser::Names(parts))
 }
 
-/// The command that lists many files, with the names of the parts that it can list alone.
+/// Returns the command that lists many files, given the names of the parts that it can list alone.
 ///
 /// # Errors
-/// There is no memory for it; nothing of it is left then.
-pub fn list<'a>(alloc: Global, parts: &'a [&'a str]) -> Result<Command<'a>, AllocError>
+/// Out of memory; nothing of it is kept then.
+pub fn list_command<'a>(alloc: Global, parts: &'a [&'a str]) -> Result<Command<'a>, AllocError>
     ensures { IfOk result (IsBuilt (list_command parts.entry)) }
 {
     clap_command_of(alloc, &LIST_FILES, ValueParser::Names(parts))
 }
 
-/// The command that lists how files are hardened.
+/// Returns the command that lists how files are hardened.
 ///
 /// # Errors
-/// There is no memory for it; nothing of it is left then.
-pub fn traits<'a>(alloc: Global) -> Result<Command<'a>, AllocError>
+/// Out of memory; nothing of it is kept then.
+pub fn traits_command<'a>(alloc: Global) -> Result<Command<'a>, AllocError>
     ensures { IfOk result (IsBuilt traits_command) }
 {
     clap_command_of(alloc, &TRAITS, ValueParser::Names(&[]))
 }
 
-/// The command that lists which libraries a program needs.
+/// Returns the command that lists which libraries a program needs.
 ///
 /// # Errors
-/// There is no memory for it; nothing of it is left then.
-pub fn needs<'a>(alloc: Global) -> Result<Command<'a>, AllocError>
+/// Out of memory; nothing of it is kept then.
+pub fn needs_command<'a>(alloc: Global) -> Result<Command<'a>, AllocError>
     ensures { IfOk result (IsBuilt needs_command) }
 {
     clap_command_of(alloc, &NEEDS, ValueParser::Names(&[]))
 }
 
-/// The command that lists an archive, with the names of its parts: the members, and those of a listing.
+/// Returns the command that lists an archive, given the names of its parts: the members, and those
+/// of a listing.
 ///
 /// # Errors
-/// There is no memory for it; nothing of it is left then.
-pub fn archive<'a>(alloc: Global, parts: &'a [&'a str]) -> Result<Command<'a>, AllocError>
+/// Out of memory; nothing of it is kept then.
+pub fn archive_command<'a>(alloc: Global, parts: &'a [&'a str]) -> Result<Command<'a>, AllocError>
     ensures { IfOk result (IsBuilt (archive_command parts.entry)) }
 {
     clap_command_of(alloc, &ARCHIVE, ValueParser::Names(parts))

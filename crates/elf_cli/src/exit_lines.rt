@@ -7,47 +7,47 @@ use crate::faults::RequestFault;
 use elf_table::RunFault;
 use std::process::ExitCode;
 
-/// An exit status, and a line for standard error, which is empty where there is nothing to say.
+/// An exit status, and a line for standard error, which is empty if there is nothing to report.
 pub type ExitLine = (u8, &'static str);
 
-/// The words ask for nothing that there is, or for help: what is said about that stands before.
+/// The arguments are invalid, or help was requested: the message was printed before.
 pub(crate) const BAD_WORDS: ExitLine = (2, "");
 
-/// The words are no text.
+/// The arguments are not valid UTF-8.
 pub(crate) const NOT_UTF8: ExitLine = (2, "elfsee: words are not UTF-8");
 
-/// There was no memory.
+/// Out of memory.
 pub const OUT_OF_MEMORY: ExitLine = (3, "elfsee: out of memory");
 
-/// The file can't be opened.
+/// The file cannot be opened.
 pub const CANNOT_OPEN: ExitLine = (3, "elfsee: cannot open");
 
-/// The file can't be read.
+/// The file cannot be read.
 pub const READ_FAULT: ExitLine = (3, "elfsee: read fault");
 
-/// The output can't be written.
+/// The output cannot be written.
 pub(crate) const WRITE_FAULT: ExitLine = (3, "elfsee: write fault");
 
-/// The word is no name that can be looked up.
+/// The argument is not a name that can be looked up.
 const BAD_NAME: ExitLine = (2, "elfsee: bad name");
 
-/// The word is no item of a layout.
+/// The argument is not a layout item.
 const BAD_ITEM: ExitLine = (2, "elfsee: bad item");
 
-/// There are more items of a sort than a layout holds.
+/// There are more items of one type than a layout holds.
 const LAYOUT_FULL: ExitLine = (2, "elfsee: layout-full");
 
-/// There is an item of the same sort with the same index or name.
+/// There is another item of the same type with the same index or name.
 const LAYOUT_REPEAT: ExitLine = (2, "elfsee: layout-repeat");
 
-/// There are more names among the words than may stand there.
+/// More names are given than allowed.
 const NAMES_FULL: ExitLine = (2, "elfsee: too many names");
 
-/// A word that is required of traits is none.
+/// A required trait is not a valid one.
 const BAD_TRAIT: ExitLine = (2, "elfsee: bad trait");
 
-/// The exit status of a run, which is 1 for a refusal, and its line on standard error, which is empty
-/// for a status of 0 or 1.
+/// Returns the exit status of a run, which is 1 for a refusal, and its line on standard error,
+/// which is empty for a status of 0 or 1.
 pub fn outcome(answer: &Result<u8, RunFault>) -> ExitLine
     ensures status { result.0 ≡ exit_status answer.now }
     ensures line { result.1.now ≡ error_line answer.now }
@@ -60,8 +60,8 @@ pub fn outcome(answer: &Result<u8, RunFault>) -> ExitLine
     }
 }
 
-/// The exit status for words that are no request, and the line on standard error, which is empty for
-/// `Words`: what is said then is in the fault.
+/// Returns the exit status for arguments that are no request, and the line on standard error, which
+/// is empty for `Words`: its message is in the fault.
 pub(crate) fn refused(fault: &RequestFault) -> ExitLine
     ensures status { result.0 ≡ refused_status fault.now }
     ensures line { result.1.now ≡ refused_line fault.now }
@@ -78,8 +78,8 @@ pub(crate) fn refused(fault: &RequestFault) -> ExitLine
     }
 }
 
-/// Tells the line of an ending on standard error, if it has one, and answers its exit status. Where
-/// standard error can't be written either, the status alone says so.
+/// Prints the line of an exit on standard error, if it has one, and returns its exit status. If
+/// standard error cannot be written either, the status alone reports it.
 pub fn exit<R: Eprint>(rt: &R, ending: Result<ExitLine, ExitLine>) -> ExitCode
     ensures ok { IfOk ending.entry (λ ending. status_of result ≡ ending.0) }
     ensures err { IfErr ending.entry (λ ending. status_of result ≡ ending.0) }

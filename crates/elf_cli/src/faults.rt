@@ -1,36 +1,35 @@
-//! Why words are no request.
+//! Why arguments are no request.
 ghost use Rattle.std.specs.Prelude.{◌≡◌};
 ghost use Rattle.elf_cli.specs.Faults.{IsFaultOf};
 
 use clap::error::ErrorKind;
 use thiserror::Error;
 
-/// Why words are no request.
+/// Why arguments are no request.
 #[derive(Debug, Drop, Error)]
 pub enum RequestFault {
-    /// The words ask for nothing that there is, or for help: the text that is printed about that.
+    /// The arguments are invalid, or help was requested: the text to print.
     #[error("bad words")]
     Words(clap::Error),
-    /// The words ask for a name that can't be looked for.
+    /// The arguments give a name that cannot be looked up.
     #[error("bad name")]
     BadName,
-    /// The words ask for the rows of more than 64 names.
+    /// The arguments ask for the rows of more than 64 names.
     #[error("too many names")]
     NamesFull,
-    /// The first word for an item of a layout that is refused spells none.
+    /// The first layout item that is refused is malformed.
     #[error("bad item")]
     BadItem,
-    /// The first word that is refused gives one item more of a sort than a layout holds.
+    /// The first layout item that is refused is one more of its type than a layout holds.
     #[error("layout-full")]
     LayoutFull,
-    /// The first word that is refused gives an item of the same sort with the same index or name as
-    /// an earlier one.
+    /// The first layout item that is refused has the type and the index or name of an earlier one.
     #[error("layout-repeat")]
     LayoutRepeat,
-    /// One of the words that are required of a file's traits is none.
+    /// One of the traits required of a file is not a valid one.
     #[error("bad trait")]
     BadTrait,
-    /// There was no memory for the request.
+    /// Out of memory for the request.
     #[error("out of memory")]
     Memory,
 }

@@ -1,8 +1,7 @@
-//! The commands and options of the command line, as they are described to `clap`.
-//!
-//! Words, as the command line reads them, and what of them a program takes that only lists one file.
-//!
-//! What the programs share: their words, the files that they open, what they write last, and how they end.
+//! What the programs share: [`command_line`], the commands and options as they are described to
+//! `clap`, and [`parse_arguments`]; the options of a listing; the file that is opened; the output
+//! that is written last; and [`outcome`] and [`exit`], the exit status and the line on standard
+//! error.
 #![tactic(auto)]
 
 mod arg_specs;
@@ -23,7 +22,10 @@ mod row_names;
 mod texts;
 mod version;
 
-pub use commands::{archive, check, command_line, find, list, needs, sample, show, traits};
+pub use commands::{
+    archive_command, check_command, command_line, find_command, list_command, needs_command,
+    sample_command, show_command, traits_command,
+};
 pub use exit_lines::{CANNOT_OPEN, ExitLine, OUT_OF_MEMORY, READ_FAULT, exit, outcome};
 pub use faults::RequestFault;
 pub use files::open;

@@ -1,4 +1,4 @@
-//! A sink that gives on whole lines.
+//! A sink that passes on whole lines.
 ghost use Rattle.std.specs.Prelude.{◌≡◌, ◌+◌, ◌<◌, ◌≤◌, [], Some, false, drop, length};
 ghost use Rattle.std.specs.Io.KnownBytes.{Keeps, append_known};
 ghost use Rattle.elf_source.specs.Output.{KeepsPart, nothing_held};
@@ -10,9 +10,10 @@ use std::marker::Model;
 /// The byte that ends a line.
 const NEWLINE: u8 = b'\n';
 
-/// A sink over another that keeps bytes in its room until it is full. Then what is kept goes out up to the
-/// end of its last line, or all of it where no line ends in it: so lines that have room stay whole, and each
-/// goes out in one piece with those before it. What is kept counts as taken.
+/// A sink over another that buffers bytes until the buffer is full. Then the buffered bytes are
+/// written up to the end of the last line, or all of them if no line ends in them: so lines that
+/// fit the buffer stay whole, and each is written in one piece with those before it. Buffered bytes
+/// count as taken.
 #[derive(Drop)]
 pub struct LineSink<W: Sink> {
     sink: W,
@@ -38,7 +39,8 @@ impl<W: Sink> Model for LineSink<W> {
 }
 
 impl<W: Sink> LineSink<W> {
-    /// A sink over `sink` that keeps at most as many bytes as there is room for, which is some, and none yet.
+    /// Creates a sink over `sink` that buffers at most the capacity of `room`, which is not zero,
+    /// and is empty.
     pub fn new(sink: W, room: Vec<u8>) -> Self
         requires { 0 < length room.items }
         ensures below { result.below ≡ W.taken sink }
@@ -49,7 +51,8 @@ impl<W: Sink> LineSink<W> {
         LineSink { sink, room, len: 0 }
     }
 
-    /// Gives on all that is kept, as far as the sink below takes it: a front of it where that fails.
+    /// Passes on all buffered bytes, as far as the sink below takes them: a prefix of them if that
+    /// fails.
     pub fn give_rest(&mut self)
         ensures gives { GivesFront self.old self.new (length self.old.held) }
     {
@@ -57,7 +60,7 @@ impl<W: Sink> LineSink<W> {
         self.give_front(count);
     }
 
-    /// Gives the sink below back. What is kept is lost.
+    /// Returns the sink below. Buffered bytes are lost.
     pub fn into_inner(self) -> W
         ensures below { W.taken result ≡ self.below }
         ensures failed { W.failed result ≡ self.failed }
@@ -66,7 +69,7 @@ impl<W: Sink> LineSink<W> {
         sink
     }
 
-    /// Keeps as many of `bytes` as there is room for, which is some.
+    /// Buffers as many of `bytes` as fit, which is at least one.
     fn keep(&mut self, bytes: &[u8]) -> usize
         requires { (0 < length bytes.now) × (0 < self.old.free) }
         ensures failed { self.new.failed ≡ self.old.failed }
@@ -79,8 +82,8 @@ impl<W: Sink> LineSink<W> {
         count
     }
 
-    /// Gives on the first `count` bytes that are kept, as far as the sink below takes them. What is left moves
-    /// to the front of the room.
+    /// Passes on the first `count` buffered bytes, as far as the sink below takes them. The
+    /// remaining bytes move to the start of the buffer.
     fn give_front(&mut self, count: usize)
         requires { count ≤ length self.old.held }
         ensures gives { GivesFront self.old self.new count }
@@ -102,11 +105,11 @@ impl<W: Sink> Sink for LineSink<W> {
 
     ghost room = { λ _. nothing_held };
 
-    /// Takes some of `bytes`: keeps as many as there is room for, behind what was kept, of which whole lines
-    /// go out where there is none.
+    /// Takes some of `bytes`: buffers as many as fit, after the buffered bytes, of which whole
+    /// lines are passed on if there is no space left.
     ///
     /// # Errors
-    /// `SinkFault` where the sink below fails.
+    /// `SinkFault` if the sink below fails.
     fn take(&mut self, bytes: &[u8]) -> Result<usize, SinkFault> {
         if self.failed() {
             return Err(SinkFault);
@@ -126,8 +129,8 @@ impl<W: Sink> Sink for LineSink<W> {
     }
 }
 
-/// How many bytes go out of those that are kept: up to the end of the last line, or all where none ends in
-/// them.
+/// Returns how many of the buffered bytes are passed on: up to the end of the last line, or all if
+/// no line ends in them.
 fn whole_lines(bytes: &[u8]) -> usize
     ensures within { result ≤ length bytes.now }
     ensures some { 0 < length bytes.now → 0 < result }

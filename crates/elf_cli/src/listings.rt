@@ -1,4 +1,4 @@
-//! The words that ask for a listing of one file, or for the version.
+//! The arguments that request a listing of one file, or the version.
 ghost use Rattle.std.specs.Prelude.{◌≡◌, IfErr, IfOk, IfSome, None, Option, Some, false, map};
 ghost use Rattle.clap.specs.Walk.{rows_of};
 ghost use Rattle.clap.specs.Words.{found_of, subcommand_rows_of};
@@ -23,13 +23,13 @@ use elf_table::{Limits, ListingStyle};
 use std::alloc::Global;
 use std::convert::AsStr;
 
-/// A listing that is asked for: of which file, how much of it may be read, which parts there are, and
-/// how rows are shown.
+/// A requested listing: of which file, how much of it may be read, which parts it has, and how rows
+/// are shown.
 #[derive(Clone, Copy, Drop)]
 pub struct ListingRequest<'a> {
-    /// The file's path, or none for the sample, which is a file that the program carries.
+    /// The file's path, or `None` for the sample, which is a file that the program contains.
     pub file: Option<&'a str>,
-    /// How many headers are permitted, and how many bytes may be read.
+    /// How many headers are allowed, and how many bytes may be read.
     pub limits: Limits,
     /// The parts of the listing.
     pub parts: Parts,
@@ -37,20 +37,21 @@ pub struct ListingRequest<'a> {
     pub style: ListingStyle<'a>,
 }
 
-/// What a program that only lists one file can be asked for.
+/// The requests of a program that only lists one file.
 #[derive(Drop)]
 pub enum ShowRequest<'a> {
-    /// A file is listed.
+    /// List a file.
     Listed(ListingRequest<'a>),
-    /// The version of the program is told.
+    /// Print the version of the program.
     Version,
 }
 
-/// What words ask for, which are those of the whole command line, without the program's name: a listing
-/// of one file, or the version.
+/// Parses the arguments of the whole command line, without the program's name, as a request for a
+/// listing of one file or the version.
 ///
 /// # Errors
-/// `Words` for words that ask for neither, or for help; `Memory` where there is none for reading them.
+/// - `Words` for arguments that request neither, or help.
+/// - `Memory` if out of memory.
 pub fn parse_show<'a, S: AsStr>(
     alloc: Global,
     words: &'a [S],
@@ -62,10 +63,10 @@ pub fn parse_show<'a, S: AsStr>(
     shown_by(alloc, &matches)
 }
 
-/// What words ask for which the command line let through.
+/// Returns what arguments request that the command line accepts.
 ///
 /// # Errors
-/// They ask for no listing of one file, and not for the version.
+/// The request is neither a listing of one file nor the version.
 fn shown_by<'a>(alloc: Global, matches: &ArgMatches<'a>) -> Result<ShowRequest<'a>, RequestFault>
     ensures asked { IfOk result (ShowsBy (subcommand_rows_of matches.now)) }
     ensures refused { IfErr result (λ fault.
@@ -81,8 +82,8 @@ fn shown_by<'a>(alloc: Global, matches: &ArgMatches<'a>) -> Result<ShowRequest<'
     }
 }
 
-/// What a command with these arguments asks for, or None where it asks neither for a listing of one
-/// file nor for the version.
+/// Returns what a command with these arguments requests, or `None` if it is neither a listing of
+/// one file nor the version.
 fn shown_of<'a>(command: &str, options: &ArgMatches<'a>) -> Option<ShowRequest<'a>>
     ensures some { IfSome result (ShowsBy (Some (command.now, rows_of (found_of options.now)))) }
     ensures none { result ≡ None →
@@ -97,7 +98,8 @@ fn shown_of<'a>(command: &str, options: &ArgMatches<'a>) -> Option<ShowRequest<'
     }
 }
 
-/// The listing of one file that a command with these arguments asks for, or None where it asks for none.
+/// Returns the listing of one file that a command with these arguments requests, or `None` if it
+/// requests none.
 pub fn listing_of<'a>(command: &str, options: &ArgMatches<'a>) -> Option<ListingRequest<'a>>
     ensures some { IfSome result (IsListing command.now (rows_of (found_of options.now))) }
     ensures none { result ≡ None → (listing : ListingRequest)
@@ -110,7 +112,7 @@ pub fn listing_of<'a>(command: &str, options: &ArgMatches<'a>) -> Option<Listing
     }
 }
 
-/// The listing of a file, or of the sample where there is none, with the options that are asked for.
+/// Returns the listing of a file, or of the sample if there is none, with the given options.
 fn options_of<'a>(file: Option<&'a str>, options: &ArgMatches<'a>) -> Option<ListingRequest<'a>>
     ensures file { IfSome result (λ listing. listing.file ≡ file.entry) }
     ensures limits { IfSome result (λ listing.

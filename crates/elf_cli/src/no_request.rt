@@ -1,10 +1,13 @@
-//! What is told of words that the command line lets through though they ask for nothing.
+//! Messages for arguments that the command line accepts though they request nothing.
 ghost use Rattle.std.specs.Prelude.{◌≡◌, IfOk};
 ghost use Rattle.clap.specs.Values.{kind_of};
 ghost use Rattle.clap.specs.declared.error.kind.ErrorKind.TheVariants.{Format};
 ghost use Rattle.elf_cli.specs.Faults.{IsUnasked};
 
-use crate::commands::{archive, check, find, list, sample, show, traits};
+use crate::commands::{
+    archive_command, check_command, find_command, list_command, sample_command, show_command,
+    traits_command,
+};
 use crate::faults::RequestFault;
 use crate::option_values::{find_without_gnu, has_gnu_option, text_of, versions_without_gnu};
 use crate::parser::{MEMBER_PARTS, PARTS};
@@ -13,28 +16,28 @@ use clap::error::ErrorKind;
 use clap::{ArgMatches, Command, Error};
 use std::alloc::{AllocError, Global};
 
-/// What a command of many files is told without a path, as other commands are of their FILE.
+/// The message for a command of many files without a path, like that of other commands without
+/// FILE.
 const NO_PATH: &str = "the following required arguments were not provided:\n  <PATH>";
 
-/// What a command is told that lists the symbol versions alone, which only listings of the GNU
-/// system have, and `find` where tables are to be found by the program headers, which only a lookup
-/// as a loader's goes by.
+/// The message for a command that lists only the symbol versions, which only GNU listings have, and
+/// for `find` by the program headers, which only a loader's lookup supports.
 const NO_GNU: &str = "the following required arguments were not provided:\n  --gnu";
 
-/// What other commands are told where only listings of one file are read.
+/// The message for other commands of a program that only lists one file.
 const NO_LISTING: &str =
     "of this program there are as yet only the commands show, sample and version, without '--name'";
 
-/// What a command is told that chooses rows by names, and is to show so many bytes of a name.
+/// The message for a command that selects rows by name and limits the shown bytes of a name.
 const NO_WIDTH: &str = "the argument '--names <N>' cannot be used with '--name <NAME>'";
 
-/// What a command is told that chooses rows by names in a part that has no such rows.
+/// The message for a command that selects rows by name in a part that has no such rows.
 const NO_ROWS: &str = "with '--name <NAME>' the part is symbols, relocs or, with '--gnu', versions";
 
-/// The answer to words that the command line lets through though they ask for nothing: to the
-/// symbol versions alone where the listing is not of the GNU system, to a command of many files where
-/// it has neither a path nor a file with paths, to `find` by the program headers that is no loader's
-/// lookup, and to other commands where only listings are read.
+/// Returns the error for arguments that the command line accepts though they request nothing: only
+/// the symbol versions of a listing that is not GNU, a command of many files with neither a path
+/// nor a list of paths, `find` by the program headers without a loader's lookup, and other commands
+/// of a program that only lists one file.
 pub fn unasked(alloc: Global, matches: &ArgMatches<'_>) -> RequestFault
     ensures { IsUnasked result }
 {
@@ -44,7 +47,7 @@ pub fn unasked(alloc: Global, matches: &ArgMatches<'_>) -> RequestFault
     }
 }
 
-/// The error of a command that asks for nothing, with its usage.
+/// Returns the error of a command that requests nothing, with its usage.
 fn missing(alloc: Global, matches: &ArgMatches<'_>) -> Result<Error, AllocError>
     ensures { IfOk result (λ error. kind_of error ≡ Format) }
 {
@@ -53,7 +56,7 @@ fn missing(alloc: Global, matches: &ArgMatches<'_>) -> Result<Error, AllocError>
     command.error(ErrorKind::Format, told)
 }
 
-/// The command whose usage is told, and what it lacks.
+/// Returns the command whose usage is printed, and what it lacks.
 fn lacking<'m>(matches: &'m ArgMatches<'_>) -> (&'m str, &'static str) {
     match matches.subcommand() {
         Some((command, options)) if gnu_option_is_missing(options) => (command, NO_GNU),
@@ -67,7 +70,7 @@ fn lacking<'m>(matches: &'m ArgMatches<'_>) -> (&'m str, &'static str) {
     }
 }
 
-/// What is told where rows are chosen by names.
+/// Returns the message if rows are selected by name.
 fn lacking_rows(options: &ArgMatches<'_>) -> &'static str {
     if is_given(options, "names") {
         return NO_WIDTH;
@@ -78,7 +81,7 @@ fn lacking_rows(options: &ArgMatches<'_>) -> &'static str {
     }
 }
 
-/// Whether the symbol versions alone are asked for, but no listing of the GNU system.
+/// Returns `true` if only the symbol versions are requested, but no GNU listing.
 fn gnu_option_is_missing(options: &ArgMatches<'_>) -> bool {
     match text_of(options, "only") {
         Some(part) => part == "versions" && !has_gnu_option(options),
@@ -86,16 +89,17 @@ fn gnu_option_is_missing(options: &ArgMatches<'_>) -> bool {
     }
 }
 
-/// The command of this name that lists, checks or looks up, with the name that it is told of by.
+/// Returns the command of this name that lists, checks or looks up, with the name that the message
+/// uses.
 fn named<'a>(alloc: Global, command: &str) -> Result<Command<'a>, AllocError> {
     let parts = PARTS.as_slice();
     match command {
-        "find" => find(alloc)?.bin_name("elfsee find"),
-        "sample" => sample(alloc, parts)?.bin_name("elfsee sample"),
-        "check" => check(alloc, parts)?.bin_name("elfsee check"),
-        "list" => list(alloc, parts)?.bin_name("elfsee list"),
-        "traits" => traits(alloc)?.bin_name("elfsee traits"),
-        "archive" => archive(alloc, MEMBER_PARTS.as_slice())?.bin_name("elfsee archive"),
-        _ => show(alloc, parts)?.bin_name("elfsee show"),
+        "find" => find_command(alloc)?.bin_name("elfsee find"),
+        "sample" => sample_command(alloc, parts)?.bin_name("elfsee sample"),
+        "check" => check_command(alloc, parts)?.bin_name("elfsee check"),
+        "list" => list_command(alloc, parts)?.bin_name("elfsee list"),
+        "traits" => traits_command(alloc)?.bin_name("elfsee traits"),
+        "archive" => archive_command(alloc, MEMBER_PARTS.as_slice())?.bin_name("elfsee archive"),
+        _ => show_command(alloc, parts)?.bin_name("elfsee show"),
     }
 }

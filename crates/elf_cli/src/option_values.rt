@@ -18,7 +18,7 @@ use elf_options::RowFilter;
 use elf_record::Parts;
 use elf_table::{Limits, ListingStyle, NameLimit};
 
-/// The limits that the options ask for.
+/// Returns the limits that the options set.
 pub fn limits_of(options: &ArgMatches<'_>) -> Option<Limits>
     ensures some { IfSome result (AreLimitOptions (rows_of (found_of options.now))) }
     ensures none { result ≡ None → (limits : Limits)
@@ -29,7 +29,7 @@ pub fn limits_of(options: &ArgMatches<'_>) -> Option<Limits>
     Limits::new(headers, budget)
 }
 
-/// How rows are shown, by the options: every row is, and no versions behind names.
+/// Returns how rows are shown, by the options: every row is, without versions after names.
 pub fn style_of(options: &ArgMatches<'_>) -> Option<ListingStyle<'static>>
     ensures some { IfSome result (IsStyle (rows_of (found_of options.now))) }
     ensures none { result ≡ None → (style : ListingStyle)
@@ -51,7 +51,7 @@ pub fn style_of(options: &ArgMatches<'_>) -> Option<ListingStyle<'static>>
     })
 }
 
-/// How a line is written, by the options.
+/// Returns how a line is written, by the options.
 pub fn format_of(options: &ArgMatches<'_>) -> Format
     ensures { result ≡ asked_format (rows_of (found_of options.now)) }
 {
@@ -62,7 +62,7 @@ pub fn format_of(options: &ArgMatches<'_>) -> Format
     }
 }
 
-/// Whether an option without a value is set.
+/// Returns `true` if an option without a value is set.
 pub fn is_set(options: &ArgMatches<'_>, option: &str) -> bool
     ensures { result ≡ is_option_set (first_of option.now (rows_of (found_of options.now))) }
 {
@@ -72,35 +72,35 @@ pub fn is_set(options: &ArgMatches<'_>, option: &str) -> bool
     }
 }
 
-/// Whether the options ask for a listing of the GNU system.
+/// Returns `true` if the options request a GNU listing.
 pub fn has_gnu_option(options: &ArgMatches<'_>) -> bool
     ensures { result ≡ has_gnu_option (rows_of (found_of options.now)) }
 {
     is_set(options, "gnu")
 }
 
-/// Whether the options ask for the version of a symbol behind its name.
+/// Returns `true` if the options request the version of a symbol after its name.
 pub fn has_versions_option(options: &ArgMatches<'_>) -> bool
     ensures { result ≡ has_versions_option (rows_of (found_of options.now)) }
 {
     is_set(options, "versions")
 }
 
-/// Whether they do, of a listing that is none of the GNU system.
+/// Returns `true` if the options request versions after names in a listing that is not GNU.
 pub fn versions_without_gnu(options: &ArgMatches<'_>) -> bool
     ensures { result ≡ versions_without_gnu (rows_of (found_of options.now)) }
 {
     has_versions_option(options) && !has_gnu_option(options)
 }
 
-/// Whether a lookup by the program headers is asked for that is none as a loader does it.
+/// Returns `true` if a lookup by the program headers is requested that is not a loader's lookup.
 pub fn find_without_gnu(options: &ArgMatches<'_>) -> bool
     ensures { result ≡ gnu_option_is_missing (rows_of (found_of options.now)) }
 {
     is_set(options, "by-segments") && !has_gnu_option(options)
 }
 
-/// The parts that the options ask for.
+/// Returns the parts that the options select.
 pub fn parts_of(options: &ArgMatches<'_>) -> Option<Parts>
     ensures some { IfSome result (AreParts (rows_of (found_of options.now))) }
     ensures none { result ≡ None → (parts : Parts)
@@ -113,14 +113,14 @@ pub fn parts_of(options: &ArgMatches<'_>) -> Option<Parts>
     }
 }
 
-/// All parts of a listing of the GNU system (`gnu`), or of the standards' alone.
+/// Returns all parts of a GNU listing if `gnu` is set, otherwise those of the standards alone.
 pub fn whole(gnu: bool) -> Parts
     ensures { result.0 ≡ all_parts gnu }
 {
     if gnu { Parts(255) } else { Parts(127) }
 }
 
-/// The value of an argument, where it has one.
+/// Returns the value of an argument, if it has one.
 pub fn text_of<'a>(options: &ArgMatches<'a>, argument: &str) -> Option<&'a str>
     ensures { option_map (λ text. text.now) result
         ≡ first_of argument.now (rows_of (found_of options.now)) }
@@ -128,7 +128,7 @@ pub fn text_of<'a>(options: &ArgMatches<'a>, argument: &str) -> Option<&'a str>
     options.get_str(argument)
 }
 
-/// The number below 2^16 that an option has, where it has one.
+/// Returns the number below 2^16 that an option has, if it has one.
 pub fn u16_option_of(options: &ArgMatches<'_>, option: &str) -> Option<u16>
     ensures some { IfSome result (λ value.
         HasNumber (one_of option.now (rows_of (found_of options.now))) (Some value)) }
@@ -141,7 +141,7 @@ pub fn u16_option_of(options: &ArgMatches<'_>, option: &str) -> Option<u16>
     }
 }
 
-/// The number that an option has, where it has one; None where its value is no number.
+/// Returns the number that an option has, if it has one; `None` if its value is not a number.
 fn number_of(options: &ArgMatches<'_>, option: &str) -> Option<Option<u64>>
     ensures some { IfSome result
         (HasNumber (one_of option.now (rows_of (found_of options.now)))) }
@@ -151,7 +151,8 @@ fn number_of(options: &ArgMatches<'_>, option: &str) -> Option<Option<u64>>
     options.try_get_one(option).ok()
 }
 
-/// The part of a listing of the GNU system (`gnu`), or of the standards' alone, that has this name.
+/// Returns the part with this name, of a GNU listing if `gnu` is set, otherwise of the standards'
+/// alone.
 #[tactic(auto, unfolding(elf_model::specs::Text::name_of))]
 fn part_named(name: &str, gnu: bool) -> Option<Parts>
     ensures some { IfSome result (λ parts. name_of (part_names gnu) parts.0 ≡ Some name.now) }

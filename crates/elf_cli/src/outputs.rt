@@ -1,4 +1,4 @@
-//! What programs write last.
+//! How programs flush their output.
 ghost use Rattle.std.specs.Prelude.{◌≡◌, true, false};
 ghost use Rattle.std.specs.Io.Buffered.{writer_buffer, writer_inner};
 ghost use Rattle.elf_cli.specs.Endings.{ProgramEnds, EndsRun, PutsRest, wants_rest, wants_rest_of};
@@ -9,30 +9,30 @@ use elf_source::{Out, Sink, WriteSink};
 use elf_table::RunFault;
 use std::io::{BufWriter, Write};
 
-/// How many bytes of output are kept before they are written.
+/// How many bytes of output are buffered before they are written.
 pub const OUTPUT_BYTES: usize = 65_536;
 
-/// How many bytes a pipe takes in one piece, with none of another program between them (`PIPE_BUF` of Linux's
-/// pipe(7)).
+/// How many bytes a pipe takes atomically, with none of another program between them (`PIPE_BUF` of
+/// Linux's pipe(7)).
 pub const PIPE_BYTES: usize = 4_096;
 
-/// How many bytes for standard error are kept before they are written.
+/// How many bytes for standard error are buffered before they are written.
 pub const ERROR_LINE_BYTES: usize = 4_096;
 
-/// How a run ended, before what is left of its output is written.
+/// How a run ended, before the rest of its output is written.
 #[derive(Clone, Copy)]
 pub enum RunEnd {
     /// With this exit status.
     Status(u8),
-    /// By a fault that is reported whatever becomes of the output.
+    /// By a fault that is reported in any case.
     Told(ExitLine),
     /// By a fault of the output.
     Unwritten,
 }
 
-/// Writes what is left of the output, and answers how the program ends: as `outcome` says, or, where
-/// the source had no fault, by one of the output, exactly where the sink that comes back has failed.
-/// After such a fault nothing more is written.
+/// Writes the rest of the output, and returns how the program ends: as `outcome` says, or, if the
+/// source had no fault, by a fault of the output, exactly if the returned sink has failed. After
+/// such a fault nothing more is written.
 pub fn end_answer<W: Write + Drop>(
     answer: &Result<u8, RunFault>,
     output: BufWriter<W>,
@@ -51,8 +51,8 @@ pub fn end_answer<W: Write + Drop>(
     (ending, rest)
 }
 
-/// The same where a run reports faults of its own: a status stands unless the sink that comes back has
-/// failed, and a fault of the run's own is reported all the same.
+/// Writes the rest of the output of a run that reports faults of its own: its status is kept unless
+/// the returned sink has failed, and a fault of the run's own is reported in any case.
 pub fn end_run<W: Write + Drop>(ended: RunEnd, output: BufWriter<W>) -> (ExitLine, WriteSink<W>)
     ensures ends { EndsRun ended result.1.failed result.0.0 result.0.1.now }
     ensures rest { PutsRest (wants_rest_of ended) result.1.failed (writer_buffer output)
@@ -62,7 +62,7 @@ pub fn end_run<W: Write + Drop>(ended: RunEnd, output: BufWriter<W>) -> (ExitLin
     (ending_of(ended, rest.failed()), rest)
 }
 
-/// The same of an output of whole lines. Gives back the sink below it.
+/// Writes the rest of an output of whole lines, like `end_run`. Returns the sink below it.
 pub fn end_lines<W: Sink>(ended: RunEnd, output: LineSink<W>) -> (ExitLine, W)
     ensures ends { EndsRun ended (W.failed result.1) result.0.0 result.0.1.now }
     ensures rest { wants_rest_of ended ≡ true →
@@ -77,7 +77,7 @@ pub fn end_lines<W: Sink>(ended: RunEnd, output: LineSink<W>) -> (ExitLine, W)
     (ending_of(ended, sink.failed()), sink)
 }
 
-/// Whether what is left of an output is to be written: not after its fault.
+/// Returns `true` if the rest of an output is to be written: not after a fault of the output.
 fn is_rest_wanted(ended: RunEnd) -> bool
     ensures { result ≡ wants_rest_of ended }
 {
@@ -87,7 +87,7 @@ fn is_rest_wanted(ended: RunEnd) -> bool
     }
 }
 
-/// How the program ends by how its run did, and by whether the output failed.
+/// Returns how the program ends, by how its run did, and by whether the output failed.
 fn ending_of(ended: RunEnd, failed: bool) -> ExitLine
     ensures { EndsRun ended failed result.0 result.1.now }
 {
@@ -99,9 +99,10 @@ fn ending_of(ended: RunEnd, failed: bool) -> ExitLine
     }
 }
 
-/// Writes what is left of an output, to its end or the first fault, if that is wanted. The output is
-/// taken apart, since one that is dropped tries once more to write what it could not. What it writes to
-/// is to keep nothing back. Gives a sink over that, which has failed exactly where not all was written.
+/// Writes the rest of an output, to its end or the first fault, if that is wanted.
+///
+/// The output is taken apart, since dropping it would try once more to write what failed. The sink
+/// below must not buffer. Returns a sink over it, which has failed exactly if not all was written.
 pub fn write_rest<W: Write + Drop>(output: BufWriter<W>, wanted: bool) -> WriteSink<W>
     ensures { PutsRest wanted result.failed (writer_buffer output)
         (W.contents (writer_inner output)) (W.contents result.writer) }

@@ -1,4 +1,4 @@
-//! Words, as the command line reads them.
+//! The parser of the command line.
 ghost use Rattle.std.specs.Prelude.{◌≡◌, IfErr, IfOk, map};
 ghost use Rattle.clap.specs.Words.{app_of, subcommand_rows_of};
 ghost use Rattle.elf_cli.specs.CommandLine.{PartWords, program};
@@ -10,7 +10,7 @@ use clap::{ArgMatches, Command};
 use std::alloc::{AllocError, Global};
 use std::convert::AsStr;
 
-/// The names of the parts of a listing, in its order, the GNU system's last.
+/// The names of the parts of a listing, in its order, GNU parts last.
 pub(crate) static PARTS: [&str; 8] = [
     "header", "sections", "segments", "symbols", "relocs", "notes", "dynamic", "versions",
 ];
@@ -21,12 +21,11 @@ pub(crate) static MEMBER_PARTS: [&str; 9] = [
     "versions",
 ];
 
-/// What the command line makes of words, without the program's name: a command with the values of its
-/// arguments.
+/// Parses arguments, without the program's name: a command with the values of its arguments.
 ///
 /// # Errors
-/// `Words` for words that the command line refuses, or that ask for help; `Memory` where there is none for
-/// reading them.
+/// - `Words` for arguments that the command line rejects, or that request help.
+/// - `Memory` if out of memory.
 pub fn parse_arguments<'a, S: AsStr>(
     alloc: Global,
     words: &'a [S],
@@ -41,7 +40,7 @@ pub fn parse_arguments<'a, S: AsStr>(
     }
 }
 
-/// Reads words by a command line, which has the names of the parts that there are.
+/// Parses arguments by a command line that has the names of the parts.
 fn read_by<'a, S: AsStr>(
     commands: &mut Command<'a>,
     words: &'a [S],

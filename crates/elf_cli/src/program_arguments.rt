@@ -1,4 +1,4 @@
-//! The words of a program, and what is said of wrong ones.
+//! The arguments of a program, and the messages for wrong ones.
 ghost use Rattle.std.specs.Prelude.{◌≡◌, ◌≢◌, ◌⊎◌, All, IfErr, IfOk, [], codes, string_bytes};
 ghost use Rattle.elf_source.specs.Output.{OutPuts};
 ghost use Rattle.elf_cli.specs.Endings.{EndsWords};
@@ -16,13 +16,13 @@ use std::env;
 use std::io::{BufWriter, ErrorKind, Stderr};
 use std::rt::Env;
 
-/// A newline of a word, as it is spelt.
+/// A newline of an argument, escaped.
 const NEWLINE: &str = "\\x0a";
 
-/// The words behind the program's name.
+/// Returns the arguments after the program's name.
 ///
 /// # Errors
-/// How the program ends where they are no text, or there is no memory for them.
+/// How the program ends if they are not valid UTF-8, or if out of memory.
 pub fn read_words<R: Env + AllocGlobal>(rt: &R) -> Result<Vec<String>, ExitLine>
     ensures told { IfErr result (λ ending. (ending.1.now ≡ codes "elfsee: out of memory")
         ⊎ (ending.1.now ≡ codes "elfsee: words are not UTF-8")) }
@@ -39,9 +39,9 @@ pub fn read_words<R: Env + AllocGlobal>(rt: &R) -> Result<Vec<String>, ExitLine>
     }
 }
 
-/// Tells why words are no request, and answers how the program ends: by the fault, or where there is no
-/// memory for telling what is wrong with the words, as for want of it. What is wrong with them, and help,
-/// is written to `errors`.
+/// Reports why arguments are no request, and returns how the program ends: by the fault, or as for
+/// lack of memory if there is none for the message. The message for wrong arguments, and help, are
+/// written to `errors`.
 pub fn report_refused(
     alloc: Global,
     fault: &RequestFault,
@@ -57,8 +57,9 @@ pub fn report_refused(
     }
 }
 
-/// Writes what is wrong with words, or help, with each byte of a word spelt so that no terminal acts on
-/// it, and answers how the program ends. Where it can't be written, the status alone says so.
+/// Writes the message for wrong arguments, or help, with each byte of an argument escaped so that
+/// no terminal acts on it, and returns how the program ends. If it cannot be written, the status
+/// alone reports it.
 fn report_words(alloc: Global, told: &clap::Error, words: &[String], errors: Stderr) -> ExitLine
     ensures { ((result.0 ≡ 2) × (result.1.now ≡ []))
         ⊎ ((result.0 ≡ 3) × (result.1.now ≡ codes "elfsee: out of memory")) }
@@ -69,10 +70,10 @@ fn report_words(alloc: Global, told: &clap::Error, words: &[String], errors: Std
     }
 }
 
-/// Writes what is wrong with words, or help. Where it can't be written, nothing is said.
+/// Writes the message for wrong arguments, or help. If it cannot be written, nothing is reported.
 ///
 /// # Errors
-/// There is no memory for the text; nothing is written then.
+/// Out of memory for the text; nothing is written then.
 fn report_clap_error(
     alloc: Global,
     told: &clap::Error,
@@ -90,11 +91,12 @@ fn report_clap_error(
     Ok(())
 }
 
-/// What is wrong with the same words with a carriage return in the place of each newline: so the newlines
-/// of words are told from those between lines. Empty where no word has one, or nothing is wrong.
+/// Returns the message for the same arguments with each newline replaced by a carriage return: so
+/// newlines of arguments can be distinguished from those between lines. Empty if no argument has
+/// one, or nothing is wrong.
 ///
 /// # Errors
-/// There is no memory for the text.
+/// Out of memory for the text.
 fn marked_text(alloc: Global, words: &[String]) -> Result<String, AllocError>
     ensures { All (λ word. All (λ byte. byte ≢ 10) (string_bytes word)) words.now →
         IfOk result (λ text. string_bytes text ≡ []) }
@@ -116,10 +118,10 @@ fn marked_text(alloc: Global, words: &[String]) -> Result<String, AllocError>
     }
 }
 
-/// A word with a carriage return in the place of each newline.
+/// Returns an argument with each newline replaced by a carriage return.
 ///
 /// # Errors
-/// There is no memory for it.
+/// Out of memory for it.
 fn marked_word(alloc: Global, word: &str) -> Result<String, AllocError> {
     let mut other = String::new(alloc);
     for letter in word.chars() {
@@ -128,12 +130,12 @@ fn marked_word(alloc: Global, word: &str) -> Result<String, AllocError> {
     Ok(other)
 }
 
-/// Writes what is wrong with words, by what is wrong with them where their newlines are changed: a
-/// newline that is changed there too is a word's, and is spelt. Where that has another length, each
-/// newline stands as it is.
+/// Writes the message for wrong arguments, using the message in which their newlines are replaced:
+/// a newline that is replaced there too is an argument's, and is escaped. If that message has
+/// another length, each newline is written as it is.
 ///
 /// # Errors
-/// A fault of the output, with a front of the text written.
+/// A fault of the output, with a prefix of the text written.
 fn show_marked<W: Sink>(text: &[u8], marked: &[u8], out: &mut Out<W>) -> Result<(), OutFault>
     ensures { OutPuts out.old out.new result (told_beside text.now marked.now) }
 {
@@ -146,11 +148,11 @@ fn show_marked<W: Sink>(text: &[u8], marked: &[u8], out: &mut Out<W>) -> Result<
     out.put(&[])
 }
 
-/// Writes a byte of a text: as it is where it is a newline, and the byte at its place in the other text
-/// is one too; else spelt as in a name.
+/// Writes a byte of a text: as it is if it is a newline, and so is the byte at its place in the
+/// other text; otherwise escaped as in a name.
 ///
 /// # Errors
-/// A fault of the output, with a front of the byte's text written.
+/// A fault of the output, with a prefix of the byte's text written.
 #[tactic(auto, unfolding(crate::specs::Marked::byte_beside))]
 fn show_byte<W: Sink>(byte: u8, mark: u8, out: &mut Out<W>) -> Result<(), OutFault>
     ensures { OutPuts out.old out.new result (byte_beside byte mark) }

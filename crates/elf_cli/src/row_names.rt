@@ -1,4 +1,4 @@
-//! The names of which the rows are shown, and the parts that have such rows.
+//! The names whose rows are shown, and the parts that have such rows.
 ghost use Rattle.std.specs.Prelude.{◌≡◌, IfSome, None, Some, false, is_some};
 ghost use Rattle.std.specs.List.{list_any};
 ghost use Rattle.std.specs.Prelude.{bytes_eq};
@@ -14,28 +14,28 @@ use clap::ArgMatches;
 use clap::parser::ValueSource;
 use elf_record::Parts;
 
-/// Whether the rows of some names alone are asked for.
+/// Returns `true` if only the rows of some names are requested.
 pub fn has_name_option(options: &ArgMatches<'_>) -> bool
     ensures { result ≡ has_name_option (rows_of (found_of options.now)) }
 {
     has_values(options, "name") || has_values(options, "name-list")
 }
 
-/// Whether an argument has values.
+/// Returns `true` if an argument has values.
 fn has_values(options: &ArgMatches<'_>, argument: &str) -> bool
     ensures { result ≡ is_some (all_of argument.now (rows_of (found_of options.now))) }
 {
     options.get_strs(argument).is_some()
 }
 
-/// Whether an option stands among the words.
+/// Returns `true` if an option is given on the command line.
 pub fn is_given(options: &ArgMatches<'_>, option: &str) -> bool
     ensures { result ≡ is_given option.now (rows_of (found_of options.now)) }
 {
     from_words(options.value_source(option))
 }
 
-/// Whether a value comes from the words.
+/// Returns `true` if a value comes from the command line.
 fn from_words(source: Option<ValueSource>) -> bool
     ensures { result ≡ is_of_words source }
 {
@@ -46,9 +46,9 @@ fn from_words(source: Option<ValueSource>) -> bool
     }
 }
 
-/// The parts that the options ask for where rows are chosen by names: the symbols, or the one part that
-/// is named. None for a part without such rows, and where it is asked for how many bytes of a name are
-/// shown.
+/// Returns the parts that the options select if rows are selected by name: the symbols, or the one
+/// part that is named. `None` for a part without such rows, and if a limit on the shown bytes of a
+/// name is given.
 pub fn chosen_parts_of(options: &ArgMatches<'_>) -> Option<Parts>
     ensures some { IfSome result (AreChosenParts (rows_of (found_of options.now))) }
     ensures none { result ≡ None → (parts : Parts)
@@ -64,8 +64,8 @@ pub fn chosen_parts_of(options: &ArgMatches<'_>) -> Option<Parts>
     }
 }
 
-/// The part with rows that are chosen by names, of a listing of the GNU system (`gnu`) or of the
-/// standards' alone, that has this name.
+/// Returns the part with this name whose rows are selected by name, of a GNU listing if `gnu` is
+/// set, otherwise of the standards' alone.
 #[tactic(auto, unfolding(elf_model::specs::Text::name_of))]
 fn chosen_part_named(name: &str, gnu: bool) -> Option<Parts>
     ensures some { IfSome result

@@ -8,13 +8,13 @@ use elf_source::{Out, OutFault, Sink, WriteSink};
 use elf_table::RunFault;
 use std::io::{self, BufWriter, Write};
 
-/// The line of the version: the program's name and three numbers.
+/// The version line: the program's name and three numbers.
 const VERSION: &str = "elfsee 0.1.0\n";
 
-/// Makes what memory is needed, and writes the line of the version to standard output.
+/// Allocates the output, and writes the version line to standard output.
 ///
 /// # Errors
-/// There is no memory; nothing is written then.
+/// Out of memory; nothing is written then.
 pub fn report_version<R: Print + AllocGlobal>(rt: &R) -> Result<ExitLine, ExitLine> {
     match BufWriter::with_capacity(rt.alloc(), OUTPUT_BYTES, io::writer(rt)) {
         Ok(output) => Ok(version_into(output)),
@@ -22,7 +22,7 @@ pub fn report_version<R: Print + AllocGlobal>(rt: &R) -> Result<ExitLine, ExitLi
     }
 }
 
-/// Writes the line of the version, and what is left of the output.
+/// Writes the version line, and the rest of the output.
 fn version_into<W: Write + Drop>(output: BufWriter<W>) -> ExitLine
     ensures { VersionEnds result.0 result.1.now }
 {
@@ -35,10 +35,10 @@ fn version_into<W: Write + Drop>(output: BufWriter<W>) -> ExitLine
     ending
 }
 
-/// Writes the line of the version.
+/// Writes the version line.
 ///
 /// # Errors
-/// The output takes no more: it took a front of the line.
+/// A fault of the output: it took a prefix of the line.
 pub(crate) fn write_version<W: Sink>(out: &mut Out<W>) -> Result<(), OutFault>
     ensures { OutPuts out.old out.new result version_line }
 {

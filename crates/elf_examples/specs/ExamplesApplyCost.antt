@@ -27,7 +27,7 @@ CostsOfLastWindows =
     × (apply_cost (relocated (zeros 129) (relocation 0 14 1)) 3 1 empty_layout ≡ 64 + 192 + (1 + 3) * 48 + 129)
 
 -- in order one pass applies all entries; otherwise each window of 64 bytes takes one, also if an
--- offset decreases by 1. With fewer headers allowed than there are only the file header is read
+-- offset decreases by 1. With fewer headers allowed than there are, only the file header is read
 abbrev pub CostsByOrder : Type 0
 CostsByOrder =
     (apply_cost_by_order rising_relocations 3 1 empty_layout ≡ 768)

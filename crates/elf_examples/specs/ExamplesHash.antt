@@ -134,7 +134,7 @@ SectionZeroAsHash =
     RefusesLookup (with_bytes 0xac (little 4 5) hash_with_cycle) (codes "a") 0xa8 HashShape
     × RefusesLookup (with_bytes 0xac (little 4 11) (with_hash_header 40 (little 4 0))) (codes "a") 0xe8 BadLink
 
--- if the section headers are not read only the file header is read
+-- if the section headers are not read, only the file header is read
 abbrev pub FindCostsAtLeast : Type 0
 FindCostsAtLeast = (find_cost hash_with_cycle 3 (codes "a") ≡ 64) × (find_cost [] 3 (codes "a") ≡ 64)
 

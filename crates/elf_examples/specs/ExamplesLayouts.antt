@@ -67,7 +67,7 @@ PlacesAreWhole =
     RefusesToApply (with_bytes 0x48 (little 8 (2 ^ 64 - 4)) one_call) entry_layout 0x48 PlaceOutside
     × RefusesToApply (with_bytes 0x48 (little 8 (2 ^ 64 - 1)) one_call) entry_layout 0x48 PlaceOutside
 
--- if a check of the file header fails only the file header is read
+-- if a check of the file header fails, only the file header is read
 abbrev pub BadHeadersCost : Type 0
 BadHeadersCost =
     (cost (with_bytes 4 (little 1 1) one_symbol_table) 3 63 ALL ≡ 64)

@@ -40,7 +40,8 @@ StateIs budget file found = state_of (Some budget) file (report_fault file 3 63 
 abbrev over_budget : FileStatus
 over_budget = refused (record { at = 0; cause = Budget })
 
--- what a short file is is decided by four bytes within the budget, of one that has fewer by none; of a longer file by the file header
+-- what a short file is is decided by four bytes within the budget, or by none if it has fewer; a
+-- longer file by its file header
 abbrev pub StatesWithinBudgets : Type 0
 StatesWithinBudgets =
     StateIs 4 (codes "text\n") state.NoElf × StateIs 63 (codes "text\n") state.NoElf

@@ -1,16 +1,7 @@
-//! Worked examples of the definitions: whole listings, their order, their costs and their budgets,
-//! of files given byte by byte. Each is the contract of a function with an empty body, and the
-//! prover computes it.
-//!
-//! Worked examples of the definitions: the contents of tables, that is fields, names, notes,
-//! dynamic entries and hash tables, the results of lookups, and the traits of a file: its kind,
-//! what its segments, dynamic entries, properties and symbols say of its hardening, and what is
-//! required of it. Each is the contract of a function with an empty body, and the prover computes
-//! it.
-//!
-//! Worked examples of the definitions: relocation entries as they are listed, the values that they
-//! store, symbols and places in layouts, applied sections and their costs. Each is the contract of
-//! a function with an empty body, and the prover computes it.
+//! Worked examples of the definitions: whole listings, their order, costs and budgets; the contents
+//! of tables, that is fields, names, notes, dynamic entries and hash tables; the results of
+//! lookups; the traits of a file; and relocation entries, the values that they store, and applied
+//! sections. Each is the contract of a function with an empty body, and the prover computes it.
 #![tactic(auto)]
 
 mod allowed_rows;

@@ -1,7 +1,6 @@
-//! The fields of a line, each written with its key, in columns or as a member of a JSON object; and
-//! lines that end in a name of any length.
-//!
-//! The lines of a listing: each built from its record or result, and the calls that write one.
+//! The lines of a listing, each built from its record or result, in columns or as a JSON object:
+//! [`LinePrefix`] is what precedes a name of any length, the calls `show_..` write a line to an
+//! `Out`, and [`Render`] writes the fields with their keys. No file is read here.
 #![tactic(auto)]
 
 mod buffers;

@@ -80,7 +80,7 @@ SymbolsAsk =
     × SeeksAt (with_bytes 0xfc (little 1 0x02) library) 1 (Ok None)
     × SeeksAt (with_bytes 0xf8 (little 4 0) library) 1 (Ok None)
 
--- one whose name is empty asks for nothing, whatever its word of a version is
+-- one whose name is empty is no reference, for any versym entry
 abbrev pub EmptyNamesAskForNothing : Type 0
 EmptyNamesAskForNothing =
     SeeksAt (with_bytes 0xf8 (little 4 5) library) 1 (Ok None)

@@ -134,7 +134,8 @@ OtherLinesTell =
     × (any_unbound (puts 0 (state.Refused 2) ∷ []) ≡ true)
     × (any_unbound (puts 0 state.Weak ∷ fault ∷ []) ≡ true)
 
--- a name with an `@` in it: in columns it looks as one with a version, as an object it does not; bytes of both are spelt
+-- a name with an `@` in it: in columns it looks like one with a version, as an object it does not;
+-- bytes of both are escaped
 abbrev pub NamesAndVersionsArePartedInObjects : Type 0
 NamesAndVersionsArePartedInObjects =
     (bound_text Columns (Told 0 1 state.Weak (codes "a@b") None ∷ Told 0 2 state.Weak (codes "a") (Some (codes "b")) ∷ [])

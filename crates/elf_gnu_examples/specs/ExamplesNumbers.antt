@@ -99,7 +99,7 @@ NeedsNameToo =
     × LoaderCosts (with_bytes 0x22c (little 4 0x10) versioned_library) (codes "f@V2") 1064
 
 -- records that overlap: no more are read than have room one after another; of a needed file whose
--- versions are outside the file itself alone
+-- versions are outside, only the file itself
 abbrev pub RecordsLieOver : Type 0
 RecordsLieOver =
     Fails (with_bytes 0x226 (little 2 0) (with_bytes 0x224 (little 2 8) (with_bytes 0x220 (little 4 0x16) (with_bytes 0x218 (little 4 8) versioned_library)))) (codes "f@V9") (codes "! 0000000000000218 version-cut\n")

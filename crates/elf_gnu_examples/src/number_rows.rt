@@ -63,7 +63,7 @@ pub fn needs_name_too()
 {}
 
 /// Records that overlap: no more are read than have room one after another; of a needed file whose
-/// versions are outside the file itself alone.
+/// versions are outside, only the file itself.
 #[tactic(auto, unfolding(elf_model::proofs::OnLiterals::on_literals, elf_model::proofs::OnLoader::on_loader))]
 pub fn records_lie_over()
     ensures { RecordsLieOver }

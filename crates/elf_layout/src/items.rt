@@ -22,7 +22,7 @@ use crate::texts::TextEnd;
 use std::alloc::{AllocError, Global};
 use std::marker::Model;
 
-/// Why a file gives no items.
+/// Why the items of a file could not be read.
 pub enum LayoutFileFault {
     /// It can't be read, or is not text.
     Read,
@@ -73,8 +73,8 @@ impl<'a> Items<'a> {
     /// A text that was cut counts as followed by a line that is not an item.
     ///
     /// # Errors
-    /// Returns `BadItem` with the number of the first line that is not an item, counted from 1;
-    /// `Memory` if there is not enough memory for the items.
+    /// - `BadItem` with the number of the first line that is not an item, counted from 1.
+    /// - `Memory` if there is not enough memory for the items.
     pub fn gather(
         alloc: Global,
         layout: &'a Layout,

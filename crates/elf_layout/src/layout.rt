@@ -215,9 +215,10 @@ impl Layout {
     /// Appends an item to those of its kind. A name is copied; it has 1 to 255 bytes, none a NUL.
     ///
     /// # Errors
-    /// Returns `Repeat` if there is an item of this kind with this index or name; otherwise `Full`
-    /// if there are 64 sections, 32 definitions or 32 entries of this kind. Either leaves the
-    /// layout unchanged.
+    /// - `Repeat` if there is an item of this kind with this index or name.
+    /// - `Full` if there is none, but 64 sections, 32 definitions or 32 entries of this kind.
+    ///
+    /// Either leaves the layout unchanged.
     pub fn push(&mut self, item: Item<'_>) -> Result<(), LayoutFault>
         requires { OnName item IsName }
         ensures { Pushes item.entry self.old self.new result }

@@ -1,6 +1,9 @@
 //! Layouts: the addresses that are given for sections, names and their entries in the procedure
 //! linkage table and in the global offset table, and how they are parsed from arguments and from
-//! the lines of a file. Only the items of a file allocate.
+//! the lines of a file.
+//!
+//! A [`Layout`] has a fixed size, a [`BorrowedLayout`] has any number of the caller's items, and
+//! [`Items`] gathers those of a file. Only the items of a file allocate.
 #![tactic(auto)]
 
 mod addresses;

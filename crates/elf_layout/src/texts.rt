@@ -25,8 +25,11 @@ pub enum TextEnd {
 /// is the buffer for a piece; `text` is empty.
 ///
 /// # Errors
-/// Returns `Read` if the file can't be read, `TooLarge` if it has more than 67,108,864 bytes,
-/// `Memory` if there is not enough memory for the text. What was read stays in `text`.
+/// - `Read` if the file can't be read.
+/// - `TooLarge` if it has more than 67,108,864 bytes.
+/// - `Memory` if there is not enough memory for the text.
+///
+/// What was read stays in `text`.
 pub fn read_text<I: Read>(
     file: &mut I,
     room: &mut [u8],
@@ -61,8 +64,8 @@ pub fn read_text<I: Read>(
 /// `line` has the number of bytes that the text's last line has so far.
 ///
 /// # Errors
-/// Returns `TooLarge` if the text then has too many bytes, `Memory` if there is not enough memory
-/// for it.
+/// - `TooLarge` if the text then has too many bytes.
+/// - `Memory` if there is not enough memory for it.
 fn put_piece(piece: &[u8], line: &mut usize, text: &mut Vec<u8>) -> Result<TextEnd, LayoutFileFault>
     requires few { vec_len text.old ≤ 67108864 }
     requires within { IsWithinLine text.old.items (length text.old.items) line.old }

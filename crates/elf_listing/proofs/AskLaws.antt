@@ -1,4 +1,4 @@
--- What a listing asks for within its budget.
+-- What a listing reads within its budget.
 use Rattle.std.proofs.Common.{subst, ◌≡◌, ℕ, ◌+◌, ◌^◌, ◌<◌, ◌≤◌, false, Option, None, Some, Result, Err, refl, sym, ap, ◌∙◌, arith}
 use Rattle.std.specs.Prelude.{IfSome}
 use Rattle.elf_model.specs.Prelude.{first_refusal, has_tables, known_parts, length_checks, style_ceiling}
@@ -34,7 +34,7 @@ asks_within caps parts s0 s1 s2 s3 n result small set reads unset unread alone l
       place = λ refusal is budget. (late refusal is budget).2 ∙ sym unset.stopped;
     }
 
--- a refusal that was told is the one that stopped the call
+-- the refusal reported is the one that stopped the call
 pub reported_late : (format : Format) (s1 s2 : CountedState) (a b out : OutState) (n : ℕ) (stop told : RunFault) → ReturnsStop format a b stop told → StopSays s1 s2 out n stop
     → (refusal : Refusal) → told ≡ Refused refusal → IsReadRefusal s1 s2 n refusal
 reported_late format s1 s2 a b out n (Refused first) (Refused same) tells says refusal is =
@@ -44,7 +44,7 @@ reported_late format s1 s2 a b out n (Refused first) (Out cause) tells says refu
 reported_late format s1 s2 a b out n (Source cause at) told tells says refusal is = let other = tells.1 in cc
 reported_late format s1 s2 a b out n (Out cause) told tells says refusal is = let other = tells.1 in cc
 
--- what was told of a stop says of the source and the output what the stop did
+-- what was reported of a fault implies for the source and the output what the fault did
 pub told_says : (format : Format) (s0 s1 s2 s3 : CountedState) (a b : OutState) (n : ℕ) (budget : Option ℕ) (stop told : RunFault) → SetsLimit s0 s1 budget → SetsLimit s2 s3 None
     → ReturnsStop format a b stop told → StopSays s1 s2 a n stop → FaultSays s0 s3 b told
 told_says format s0 s1 s2 s3 a b n budget (Refused first) (Refused same) set unset tells says = tt

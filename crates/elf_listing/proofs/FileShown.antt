@@ -1,4 +1,4 @@
--- The items of a whole listing: the file header's, and what stands behind it.
+-- The items of a whole listing: the file header's, and what follows it.
 use Rattle.std.proofs.lemmas.Bool.{cases_Bool, eqb-true, or_left, or_right}
 use Rattle.std.proofs.Common.{◌≡◌, ℕ, ◌==◌, ◌||◌, inl, inr, Bool, true, List, [], ◌∷◌, ◌++◌, None, Err, false, sym, ap, ◌∙◌, refl, append-nil, append_assoc}
 use Rattle.elf_model.specs.Prelude.{DYNAMIC, Fault, HEADER, IsBudgetRefusal, Line, ListingItem, ListingStyle, NOTES, SEGMENTS, TableHeaders, VERSIONS, e_phnum, e_shnum, each, fault_of, file_sections, file_segments, first_refusal, has, has_tables, header_checks, header_line, kinds_rows, known_parts, listing, load_checks, load_items, loaded_items, records_rows, relocations, relocations_with_versions, section_dynamic, section_kinds, section_notes, segment_dynamic, segment_kinds, segment_notes, segment_row, suffixed_symbols, symbol_versions, symbols, table_headers, table_items, version_definitions, version_needs, view_checks, viewed as view_of, where_asked}
@@ -30,7 +30,7 @@ header_alone file headers style parts fault read refusal is other =
     let first = rw is at read in
     guarded-fault (header_checks file) (header_part style.format file parts ++ load_items (view_of style file) headers style (known_parts style parts)) refusal (first other)
 
--- a refusal of the load is all that is listed behind the file header
+-- a refusal of the load is all that is listed after the file header
 pub load_alone : (file : List ℕ) (headers : ℕ) (style : ListingStyle) (parts : ℕ) (fault : TableFault) (store : StoreState) → LoadedAs file (Err fault) store → store.slots ≡ headers → has_tables parts ≡ true
     → (refusal : Refusal) → fault ≡ Refused refusal → (IsBudgetRefusal refusal → ⊥) → load_items file headers style parts ≡ Fault refusal ∷ []
 load_alone file headers style parts fault store read same tables refusal is other =
@@ -38,7 +38,7 @@ load_alone file headers style parts fault store read same tables refusal is othe
     load_some file headers style parts tables
     ∙ guarded-fault (load_checks file headers) (loaded_items file style parts) refusal (ap (λ n. first_refusal (load_checks file n)) (sym same) ∙ first other)
 
--- where the load passes, what stands behind its checks is listed
+-- if the load passes, what follows its checks is listed
 load_behind : (file : List ℕ) (headers slots : ℕ) (style : ListingStyle) (parts : ℕ) → first_refusal (load_checks file slots) ≡ None → slots ≡ headers → has_tables parts ≡ true
     → load_items file headers style parts ≡ loaded_items file style parts
 load_behind file headers slots style parts passed same tables =
@@ -55,7 +55,7 @@ view_alone file headers slots style parts passed same tables fault checked refus
     load_behind file headers slots style parts passed same tables
     ∙ guarded-fault (view_checks file style parts) (table_items file style parts) refusal (first other)
 
--- where they pass too, the tables are listed
+-- if they pass too, the tables are listed
 pub load_passed : (file : List ℕ) (headers slots : ℕ) (style : ListingStyle) (parts : ℕ) → first_refusal (load_checks file slots) ≡ None → slots ≡ headers → has_tables parts ≡ true
     → first_refusal (view_checks file style parts) ≡ None → load_items file headers style parts ≡ table_items file style parts
 unfolding loaded_items
@@ -63,7 +63,7 @@ load_passed file headers slots style parts passed same tables checked =
     load_behind file headers slots style parts passed same tables
     ∙ guarded-passes (view_checks file style parts) (table_items file style parts) checked
 
--- a part of so many headers
+-- a part of n headers
 abbrev pub of_headers : List ℕ → ListingStyle → ℕ → Part → ℕ → List ListingItem
 of_headers file style parts part count = where_asked parts (listed_by part).bit (part_items part style count file)
 
@@ -78,7 +78,7 @@ none_of : (file : List ℕ) (style : ListingStyle) (parts : ℕ) (part : Part) (
 unfolding each
 none_of file style parts part count none = rw none (nothing_asked parts (listed_by part).bit)
 
--- a part whose number of headers matters only where it is asked for
+-- a part whose number of headers matters only if it is listed
 asked_same : (parts part : ℕ) (items : ℕ → List ListingItem) (n m : ℕ) → (has parts part ≡ true → n ≡ m) → where_asked parts part (items n) ≡ where_asked parts part (items m)
 asked_same parts part items n m same = elim (cases_Bool (has parts part)) [
   | inl asked ↦ ap (λ k. where_asked parts part (items k)) (same asked)
@@ -106,7 +106,7 @@ sections_alone y r n d v w x = simp (append_assoc, append-nil)
 segments_alone : (n d : List ListingItem) → n ++ (d ++ []) ≡ (((([] ++ []) ++ ([] ++ n)) ++ ([] ++ d)) ++ ([] ++ [])) ++ []
 segments_alone n d = simp (append_assoc, append-nil)
 
--- where a part wants the program headers of a file without sections, they are loaded
+-- if a part needs the program headers of a file without sections, they are loaded
 viewed_where : (parts : ℕ) (loaded : LoadedFile) → (loaded.header.e_shnum == 0) ≡ true → (has parts SEGMENTS || (has parts NOTES || has parts DYNAMIC)) ≡ true
     → viewed_headers parts loaded ≡ loaded.header.e_phnum
 viewed_where parts loaded none asked = rw (none, asked) refl
@@ -117,7 +117,7 @@ viewed_none parts loaded some = rw some refl
 pub viewed_segments : (parts : ℕ) (loaded : LoadedFile) → (loaded.header.e_shnum == 0) ≡ true → has parts SEGMENTS ≡ true → viewed_headers parts loaded ≡ loaded.header.e_phnum
 viewed_segments parts loaded none asked = rw (none, asked) refl
 
--- the parts of all kinds of tables, by so many section headers and program headers
+-- the parts of all kinds of tables, for given numbers of section headers and program headers
 abbrev of_kinds : List ℕ → ListingStyle → ℕ → (sections segments : ℕ) → List ListingItem
 of_kinds file style parts sections segments =
     ((((of_headers file style parts (symbols_part style.versions) sections ++ of_headers file style parts (relocations_part style.versions) sections)
@@ -157,7 +157,7 @@ kinds_are file style parts loaded store belongs view =
 behind : (a b c d e f : List ListingItem) → a ++ ((((b ++ c) ++ d) ++ e) ++ f) ≡ ((((a ++ b) ++ c) ++ d) ++ e) ++ f
 behind a b c d e f = simp append_assoc
 
--- how many headers the symbols and the relocation entries go over
+-- how many headers the symbols and the relocation entries iterate over
 symbols_counted : (versions : Bool) (store : StoreState) → (listed_by (symbols_part versions)).count store ≡ store.loaded
 symbols_counted true store = refl
 symbols_counted false store = refl
@@ -166,7 +166,8 @@ relocations_counted : (versions : Bool) (store : StoreState) → (listed_by (rel
 relocations_counted true store = refl
 relocations_counted false store = refl
 
--- the tables of the headers in the store, so many of which have symbols, and relocation entries
+-- the tables of the headers in the store, given numbers of which have symbols, and relocation
+-- entries
 abbrev pub by_counts : List ℕ → ListingStyle → ℕ → StoreState → (symbols entries : ℕ) → List ListingItem
 by_counts file style parts store n m =
     (((((of_headers file style parts Headers store.loaded ++ segment_part file style parts)
@@ -196,7 +197,7 @@ tables_are file style parts loaded store belongs view =
     ∙ (ap (λ (k : ℕ). by_counts file style parts store k store.loaded) (sym n)
     ∙ ap (by_counts file style parts store ((listed_by (symbols_part style.versions)).count store)) (sym m))
 
--- where the rows of definitions and needs are asked for and have no fault, they have none at all
+-- if the rows of definitions and needs are listed and have no fault, they have none at all
 pub versions_none : (file : List ℕ) (style : ListingStyle) (parts : ℕ) (loaded : LoadedFile) (store : StoreState) → HoldsSectionHeaders file loaded store
     → has parts VERSIONS ≡ true
     → fault_of (of_headers file style parts Definitions store.loaded ++ of_headers file style parts Needs store.loaded) ≡ None

@@ -1,4 +1,4 @@
--- What is taken in of the first section that holds records of a kind.
+-- What is added from the first section that holds records of a kind.
 use Rattle.std.proofs.Common.{◌≡◌, ℕ, ◌+◌, ◌*◌, ◌/◌, ◌≤◌, ◌==◌, not, true, false, List, [], ◌++◌, length, Option, None, Some, Result, Ok, Err, refl, sym, ap, ◌∙◌, subst, arith, append-nil}
 use Rattle.elf_model.specs.Prelude.{Check, VisitedRecord, all_checks, first_of_type, first_refusal, first_strings, first_versions, or_refusal, section_at, section_versions, sh_offset, sh_size, strings_of, version_table, versions_in, visited_from, walk_refusal}
 use Rattle.elf_model.specs.declared.versions.VersionKind.TheVariants.{Definition, File}
@@ -13,7 +13,7 @@ use Rattle.elf_note.specs.declared.version_names.VersionNameRef.{VersionNameRef}
 use Rattle.elf_listing.specs.Prelude.{AreRecordsWhole, NumberedOr, NumbersTaken, TakenIn, TakenOr, kind_type}
 use Rattle.elf_listing.proofs.VersionSections.{left_all}
 
--- what a found section refuses
+-- what a section that was found refuses
 abbrev refusal_of : VersionKind → List ℕ → Option ℕ → Option Refusal
 refusal_of kind file found = elim found [
   | None ↦ None
@@ -45,7 +45,7 @@ walk-whole kind type file whole = by_found (first_of_type file type) refl
     by_found None first = walk-none kind type file first
     by_found (Some i) first = let both = whole i first in walk-some kind type file i first ∙ or-none _ _ None both.0 both.1
 
--- where there is no record, nothing is taken in
+-- if there is no record, nothing is added
 pub taken-none : (file : List ℕ) (kind : VersionKind) (records : List VisitedRecord) (names : List VersionNameRef) (places : List ℕ) (strings : StringTableRange)
     → (first_versions kind (kind_type kind) file ≡ []) × AreRecordsWhole file kind → NamesNumbers file records names places
     → TakenIn file kind records (NumbersTaken names places) strings
@@ -55,7 +55,7 @@ taken-none file kind records names places strings none is = record {
   named = λ some. absurd (some none.0);
 }
 
--- what a found section gives
+-- what a section that was found gives
 abbrev records_of : VersionKind → List ℕ → Option ℕ → List VisitedRecord
 records_of kind file found = elim found [ None ↦ [] | Some i ↦ (section_versions kind file (section_at file i)).met ]
 
@@ -95,7 +95,7 @@ taken-all file kind i records after places table c strings first passes same sta
       named = λ some. sym is ∙ sym (ap (strings_found file) first);
     }
 
--- a walk that is cut
+-- a walk that is truncated
 pub taken-cut : (file : List ℕ) (kind : VersionKind) (i : ℕ) (records : List VisitedRecord) (after : List VersionNameRef) (places : List ℕ) (table : TableRange) (c : VersionCursorState) (fault : Fault)
     → first_of_type file (kind_type kind) ≡ Some i → first_refusal (all_checks version_table file (section_at file i)) ≡ None
     → table ≡ rows (sh_offset file (section_at file i)) (sh_size file (section_at file i)) 1
@@ -121,7 +121,7 @@ pub of-read : (file : List ℕ) (kind : VersionKind) (records : List VisitedReco
 of-read file kind records after (Refused refusal) is = λ other. absurd (other is)
 of-read file kind records after (Source fault offset) is = tt
 
--- the definitions are refused, or the needs behind definitions that are not
+-- the definitions are refused, or the needs after definitions that are not
 pub numbered-cut : (file : List ℕ) (records : List VisitedRecord) (after : List ℕ → List VisitedRecord → Type 0) (places : List ℕ) (fault : Fault)
     → TakenOr file Definition records after (Err fault) → NumberedOr file places (Err fault)
 numbered-cut file records after places (Refused refusal) taken = λ other. or-some _ _ refusal (taken other)
@@ -137,6 +137,6 @@ pub check-says : (a b : CountedState) (n : ℕ) (fault : Fault) → IsOfCheck fa
 check-says a b n (Refused refusal) check = λ budget. absurd (check budget)
 check-says a b n (Source fault offset) check = absurd check
 
--- what a new cursor asks for and what it may still ask for is a walk's cost
+-- what a new cursor reads and what it may still read is a walk's cost
 pub walk-asks : (before between after unread cost : ℕ) → between + unread ≤ before + cost → after ≤ between + unread → after ≤ before + cost
 walk-asks before between after unread cost made taken = omega arith

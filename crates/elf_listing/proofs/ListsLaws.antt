@@ -46,7 +46,7 @@ ListingCalls-refused a (Refused refusal) n shown check is = record {
 }
 ListingCalls-refused a (Source fault at) n shown check is = absurd check
 
--- what a name is read for was not
+-- the name that was needed was not read
 pub ListingCalls-unread : {S W : Type 0} {s : Sources S} {w : Sinks W} (a b : Listing S W s w) (fault : Fault) (n k : ℕ) (shown : Type 0)
     → n ≤ k → ListingReads {X = NameEnd} a b (Err fault) n → shown → ListingCalls {X = Unit {0}} a b (Err (stop_of fault)) k shown
 ListingCalls-unread a b fault n k shown within p is = record {
@@ -76,7 +76,7 @@ ListingCalls-named a b c result n k read shown within p q is = record {
   shows = is;
 }
 
--- what was asked for is within more
+-- what was read is within a larger bound
 pub ListingCalls-within : {S W X : Type 0} {s : Sources S} {w : Sinks W} (a b : Listing S W s w) (result : Result X RunFault) (n k : ℕ) (read shown : Type 0)
     → n ≤ k → ListingCalls a b result n read → shown → ListingCalls a b result k shown
 ListingCalls-within a b result n k read shown within p is = record {

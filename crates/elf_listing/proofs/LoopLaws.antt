@@ -20,7 +20,7 @@ use Rattle.elf_listing.proofs.ShowLaws.{SpentCredit-fault, StopSays-then, Whole-
 pub rows_none : (row : ℕ → List ListingItem) (i : ℕ) (a : OutState) → i ≡ 0 → WroteItems a a (each row 0 i)
 rows_none row i a first = rw (first, each-none row) (Whole-none a)
 
--- a row more was shown
+-- one more row was shown
 pub rows_more : (row : ℕ → List ListingItem) (i next : ℕ) {a b c : OutState} → next ≡ i + 1 → WroteItems a b (each row 0 i) → WroteItems b c (row i) → WroteItems a c (each row 0 next)
 rows_more row i next step before this = rw (step, each-more row i) (Whole-then before this)
 
@@ -29,25 +29,26 @@ pub rows_unread : (row : ℕ → List ListingItem) (i count : ℕ) (a b : OutSta
 rows_unread row i count a b fault at within is before =
     let more = each-front row i count within in rw more.1 (WroteUntilStop-unread a b fault at (each row 0 i) more.0 is before)
 
--- a row stopped
+-- a row failed
 pub rows_stopped : (row : ℕ → List ListingItem) (i count : ℕ) (a b c : OutState) (stop : RunFault) → i < count → WroteItems a b (each row 0 i) → WroteUntilStop b c stop (row i) → WroteUntilStop a c stop (each row 0 count)
 rows_stopped row i count a b c stop below before this =
     let more = each-front row (i + 1) count (omega arith) in
     let shown = rw (← each-more row i) at (WroteUntilStop-then a b c stop (each row 0 i) (row i) before this) in
     rw more.1 (WroteUntilStop-more a c stop (each row 0 (i + 1)) more.0 shown)
 
--- what a new cursor may ask for is its table
+-- what a new cursor may read is its table
 pub account_begins : (c : CursorState) (table : TableRange) (kind : RowLayout) (cap : ℕ) → table.entry ≡ row_size kind → c.failed ≡ None → c.unread ≡ size_of table → c.left ≡ table.count
     → unread_bytes c + c.left * own_cost kind cap ≡ rows_cost kind table cap
 account_begins c table kind cap entry none unread left = rw (none, unread, left, entry) (omega arith)
 
--- the account of a loop: what was asked for, what is unread, and what the rows that are left ask for stay within a bound
+-- the account of a loop: what was read, what is unread, and what the remaining rows read stay
+-- within a bound
 pub account_step : (old new : CursorState) (before after later own bound : ℕ) → new.left + 1 ≡ old.left → after + unread_bytes new ≤ before + unread_bytes old
     → later ≤ after + own → before + (unread_bytes old + old.left * own) ≤ bound → later + (unread_bytes new + new.left * own) ≤ bound
 account_step old new before after later own bound less step more within =
     let product = ap (λ (n : ℕ). n * own) less in omega arith
 
--- what a row may ask for is left in the bound
+-- what a row may read is left in the bound
 pub account_row : (old new : CursorState) (before after own bound : ℕ) → new.left + 1 ≡ old.left → after + unread_bytes new ≤ before + unread_bytes old
     → before + (unread_bytes old + old.left * own) ≤ bound → after + own ≤ bound
 account_row old new before after own bound less step within =
@@ -57,23 +58,23 @@ account_row old new before after own bound less step within =
 pub with_credit : (u0 u1 before after credit : ℕ) → after + u1 ≤ before + u0 → after + credit + u1 ≤ before + credit + u0
 with_credit u0 u1 before after credit step = omega arith
 
--- a row stopped, and what it might ask for was left in the bound
+-- a row failed, and what it might read was left in the bound
 pub spent_stopped : (a b c : CountedState) (out : OutState) (x y z : ℕ) (stop : RunFault) (n m k : ℕ) → b.asked + y + m ≤ a.asked + (x + k)
     → ReadsOnCredit a b x y n → SpentCredit {X = Unit {0}} b c out y z (Err stop) m → SpentCredit {X = Unit {0}} a c out x z (Err stop) k
 spent_stopped a b c out x y z stop n m k within p q =
     (SpendsAtMost-to (SpendsAtMost-then p q.0) (omega (arith, q.0.account)), StopSays-then a b c out stop (x + n) (y + m) (x + k) (omega arith) p.reads q.1)
 
--- a read failed before the next row, and what it might ask for was left in the bound
+-- a read failed before the next row, and what it might read was left in the bound
 pub spent_unread : (a b c : CountedState) (out : OutState) (x y : ℕ) (fault : Fault) (n m k : ℕ) → b.asked + y + m ≤ a.asked + (x + k)
     → ReadsOnCredit a b x y n → ReadsUpTo b c m → IsReadFault b c m fault → SpentCredit {X = Unit {0}} a c out x y (Err (stop_of fault)) k
 spent_unread a b c out x y fault n m k within p reads says =
     spent_stopped a b c out x y y (stop_of fault) n m k within p (SpentCredit-fault b c out y fault m m (omega arith) reads says)
 
--- what is bounded with what is left is bounded
+-- what is bounded together with what is left is bounded
 pub at_most : (n m k : ℕ) → n + m ≤ k → n ≤ k
 at_most n m k within = omega arith
 
--- a step read, and then its row stopped, which might ask for so much
+-- a step read, and then its row failed, which might read this much
 pub step_stopped : (a b d c : CountedState) (out : OutState) (x y z : ℕ) (stop : RunFault) (n u m own k : ℕ) → m ≡ own → d.asked + y + own ≤ a.asked + (x + k)
     → ReadsOnCredit a b x y n → ReadsUpTo b d u → SpentCredit {X = Unit {0}} d c out y z (Err stop) m → SpentCredit {X = Unit {0}} a c out x z (Err stop) k
 step_stopped a b d c out x y z stop n u m own k same within p reads q =
@@ -87,7 +88,7 @@ step_more {y = y} p reads q within = SpendsAtMost-to (SpendsAtMost-then p (Spend
 pub step_last : {a b d : CountedState} {x y n u k : ℕ} → ReadsOnCredit a b x y n → ReadsUpTo b d u → d.asked + y ≤ a.asked + (x + k) → ReadsOnCredit a d x y k
 step_last {y = y} p reads within = SpendsAtMost-to (SpendsAtMost-then p (SpendsAtMost-reads y reads)) within
 
--- the account of a loop whose rows ask for nothing: what was asked for, and what is unread
+-- the account of a loop whose rows read nothing: what was read, and what is unread
 pub account_kept : (u0 u1 before after credit later bound : ℕ) → after + u1 ≤ before + u0 → later ≤ after + (credit + 0) → before + credit + u0 ≤ bound → later + u1 ≤ bound
 account_kept u0 u1 before after credit later bound step more within = omega arith
 
@@ -110,7 +111,7 @@ given_row {old = old} {new = new} {row = row} file kind table gives lends held a
       here = moved ∙ (ap (λ (n : ℕ). old.table.at + old.index * n) whole ∙ (ap (λ (p : ℕ). p + old.index * row_size kind) from_ ∙ ap (λ (i : ℕ). table.at + i * row_size kind) (sym index)));
     }
 
--- a step that answered that it gave a row
+-- a step that returned that there is a row
 pub step_gives : {holds : Option (List ℕ)} {old new : RowCursor} (answer : Bool) → answer ≡ true → AdvancesRows holds old new (Ok answer) → GivesListed holds old new
 step_gives answer is steps = rw is at steps
 
@@ -150,7 +151,7 @@ pub turn_more : (file : List ℕ) (style now : Shape) (kind : RowLayout) (table 
 turn_more file style now kind table old new row a b c same this shown =
     rows_more (row_items kind file (style_of style) table.at) (reading old).index _ this.next this.before (rw (this.index, same) at (shown this.of_kind this.is_row))
 
--- or stopped
+-- or failed
 pub turn_stopped : (file : List ℕ) (style now : Shape) (kind : RowLayout) (table : TableRange) (old new : RowCursor) (row : Row) (a b c : OutState) (stop : RunFault) → now ≡ style
     → Turn file style kind table old new row a b
     → (KindOf file table.at kind → IsRowOf file table.at kind row → WroteUntilStop b c stop (row_items kind file (style_of now) table.at row.index))

@@ -1,4 +1,4 @@
--- The notes of a table, by what is left of them.
+-- The notes of a table, by the notes that are left.
 use Rattle.std.proofs.Common.{◌≡◌, ℕ, ◌+◌, zero, suc, Bool, true, Option, None, Some, Ok, List, [], ◌∷◌, ◌++◌, inl, inr, length, drop, refl, sym, ap, ◌∙◌, arith, append_assoc, append-nil, add-zero, zero-add}
 use Rattle.elf_model.specs.Prelude.{DisplayedName, Fault as FaultItem, Line, ListingItem, ListingStyle, NextNote, Note, NoteScan, OneNote, next_note, note_line, note_prefix, note_row, note_shown, notes_rows, slice, walk_from, walk_rows, walked, with_note}
 use Rattle.elf_model.specs.declared.causes.Cause.TheVariants.{NoteCut}
@@ -19,7 +19,7 @@ use Rattle.elf_table.specs.declared.fault.Fault.TheVariants.{Refused, Source as 
 use Rattle.elf_listing.specs.Prelude.{IsNoteRow, WrittenBefore, WroteItems, WrotePrefix, WroteUntilStop, cut_of, note_items}
 use Rattle.elf_listing.proofs.ShowLaws.{Whole-none, Whole-then, WroteUntilStop-then, WroteUntilStop-more}
 
--- what is left where no note is, and where no note stands
+-- what is left at an offset with a note, and at one without
 none_left : (style : ListingStyle) (index : ℕ) → note_items style index no_notes ≡ []
 unfolding walk_rows notes_rows
 none_left style index = refl
@@ -28,7 +28,7 @@ cut_left : (style : ListingStyle) (index at : ℕ) → note_items style index (c
 unfolding walk_rows notes_rows
 cut_left style index at = ap (λ (x : ℕ). FaultItem (record { at = x; cause = NoteCut }) ∷ []) (zero-add at)
 
--- a note, and what is left behind it
+-- a note, and what is left after it
 pub note_left : (style : ListingStyle) (index : ℕ) (note : Note) (left : NoteScan) → note_items style index (with_note note left) ≡ (note_row style index note ∷ []) ++ note_items style index left
 unfolding walk_rows notes_rows
 note_left style index note left = refl
@@ -37,7 +37,7 @@ note_left style index note left = refl
 pub before_all : (a : OutState) (all left : List ListingItem) → all ≡ left → WrittenBefore a a all left
 before_all a all left same = record { done = []; split = same; whole = Whole-none a }
 
--- some items more were written
+-- some more items were written
 pub before_more : {a b c : OutState} (all left next later : List ListingItem) → left ≡ next ++ later → WrittenBefore a b all left → WroteItems b c next → WrittenBefore a c all later
 before_more all left next later is before more = record {
   done = before.done ++ next;
@@ -45,7 +45,7 @@ before_more all left next later is before more = record {
   whole = Whole-then before.whole more;
 }
 
--- what is written next stopped
+-- what is written next failed
 pub before_stopped : (a b c : OutState) (stop : RunFault) (all left next later : List ListingItem) → left ≡ next ++ later → WrittenBefore a b all left → WroteUntilStop b c stop next → WroteUntilStop a c stop all
 before_stopped a b c stop all left next later is before more =
     rw (before.split ∙ ap (λ (x : List ListingItem). before.done ++ x) is ∙ sym (append_assoc before.done next later))
@@ -63,14 +63,14 @@ cut_next : (a b : OutState) (at : ℕ) (all left : List ListingItem) → left �
 unfolding front_of
 cut_next a b at all left is before = record { front = front_of all left before; next = λ other. record { behind = []; is_next = is } }
 
--- a step over the next note failed: at a read, or where no note stands
+-- a step over the next note failed: at a read, or at an offset without a note
 pub before_fault : (a b : OutState) (fault : Fault) (style : ListingStyle) (index at : ℕ) (all : List ListingItem) (left : NoteScan) → StopsNote at fault → (fault ≡ note_cut at → left ≡ cut_at at)
     → WrittenBefore a b all (note_items style index left) → WroteUntilStop a b (stop_of fault) all
 before_fault a b fault style index at all left (inl read) cut before = unread_next a b fault all (note_items style index left) read before
 before_fault a b fault style index at all left (inr is) cut before =
     rw is (cut_next a b at all (note_items style index left) (ap (note_items style index) (cut is) ∙ cut_left style index at) before)
 
--- behind the last note
+-- after the last note
 pub before_none : {a b : OutState} (style : ListingStyle) (index : ℕ) (all : List ListingItem) (left : NoteScan) → left ≡ no_notes → WrittenBefore a b all (note_items style index left) → WroteItems a b all
 before_none style index all left none before =
     rw (before.split ∙ ap (λ (x : List ListingItem). before.done ++ x) (ap (note_items style index) none ∙ none_left style index) ∙ append-nil before.done) before.whole
@@ -104,14 +104,14 @@ note_given file align style now old new name row answer is same shape steps lend
           (tells.0, tells.1, note_of bytes align style.cap.bytes old.ahead.at tells.0 new row name lends tells.2);
     }
 
--- the note that was next was shown, and then what is left behind it
+-- the note that was next was shown, and then what is left after it
 pub note_more : (a b c : OutState) (style : ListingStyle) (index : ℕ) (all : List ListingItem) (old new : NoteScan) (row : NoteRow) (name : List ℕ) → (note : Note) × (old ≡ with_note note new) × IsNoteRow style.cap note row name
     → WrittenBefore a b all (note_items style index old) → ((note : Note) → IsNoteRow style.cap note row name → WroteItems b c (note_row style index note ∷ []))
     → WrittenBefore a c all (note_items style index new)
 note_more a b c style index all old new row name gives before shown =
     before_more _ _ _ _ (ap (note_items style index) gives.1 ∙ note_left style index gives.0 new) before (shown gives.0 gives.2)
 
--- or its row stopped
+-- or its row failed
 pub note_stopped : (a b c : OutState) (stop : RunFault) (style : ListingStyle) (index : ℕ) (all : List ListingItem) (old new : NoteScan) (row : NoteRow) (name : List ℕ) → (note : Note) × (old ≡ with_note note new) × IsNoteRow style.cap note row name
     → WrittenBefore a b all (note_items style index old) → ((note : Note) → IsNoteRow style.cap note row name → WroteUntilStop b c stop (note_row style index note ∷ [])) → WroteUntilStop a c stop all
 note_stopped a b c stop style index all old new row name gives before shown =

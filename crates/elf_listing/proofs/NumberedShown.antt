@@ -1,4 +1,4 @@
--- The rows of symbols' versions, by where the names of their numbers are told to be.
+-- The rows of symbols' versions, by the locations of their names.
 use Rattle.std.proofs.Common.{◌≡◌, ℕ, ◌+◌, ◌*◌, List, [], ◌∷◌, refl, sym, ap, ◌∙◌, arith}
 use Rattle.elf_model.specs.Prelude.{LinePrefix, ListingItem, ListingStyle, chosen_row, field, number_in, slice, symbol_version_prefix, versym}
 use Rattle.elf_model.proofs.Slices.{field-slice}

@@ -1,4 +1,4 @@
--- What calls of a listing did one behind another.
+-- What successive calls of a listing did.
 use Rattle.elf_options.specs.Prelude.{style_of}
 use Rattle.elf_options.specs.declared.caps.ListingStyle.{ListingStyle}
 use Rattle.std.proofs.Common.{◌≡◌, ℕ, ◌+◌, ◌-◌, ◌<◌, Bool, List, ◌++◌, Some, Result, Ok, Err, sym, ap, ◌∙◌, subst, arith, zero-add}
@@ -20,7 +20,7 @@ use Rattle.elf_listing.proofs.ListsLaws.{ListingCalls-within, SameFile-then}
 use Rattle.elf_listing.proofs.RowLaws.{WroteSome-as}
 use Rattle.elf_listing.proofs.ShowLaws.{SpentCredit-then, WroteUntilStop-more, WroteSome-then}
 
--- what a part asks for, and its items, where the parts have it
+-- what a part reads, and its items, if it is one of the given parts
 abbrev pub cost_asked : ℕ → Part → SectionView → ListingStyle → ℕ
 cost_asked parts part f style = asked_cost parts part f.loaded f.store.now style.cap.bytes
 
@@ -33,7 +33,7 @@ module _ {S W X : Type 0} {s : Sources S} {w : Sinks W} where
       → ((file : List ℕ) → a.src.now.seen.file ≡ Some file → ys file ≡ xs file) → ListingCalls a b result n (ListingWrote a b result xs) → ListingCalls a b result n (ListingWrote a b result ys)
   Parts-as same p = ListingCalls-within _ _ _ _ _ _ _ (omega arith) p (λ file held. WroteSome-as _ _ _ (same file held) (p.shows file held))
 
-  -- a part was shown, and then another, whose cost and items the file and the style tell
+  -- a part was shown, and then another, whose cost and items the file and the style determine
   pub Parts-then : {a b c : Listing S W s w} {x : X} {result : Result X RunFault} {n : ℕ} (xs : List ℕ → List ListingItem) (m : SectionView → ListingStyle → ℕ) (ys : SectionView → ListingStyle → List ℕ → List ListingItem)
       → ListingCalls a b (Ok x) n (ListingWrote a b (Ok x) xs) → ListingCalls b c result (m b.file b.style) (ListingWrote b c result (ys b.file b.style))
       → ListingCalls a c result (n + m a.file a.style) (ListingWrote a c result (λ file. xs file ++ ys a.file a.style file))
@@ -46,7 +46,7 @@ module _ {S W X : Type 0} {s : Sources S} {w : Sinks W} where
         WroteSome-then _ _ _ _ _ _ (p.shows file held) shown;
   }
 
-  -- a part stopped, and nothing behind it was shown
+  -- a part failed, and nothing after it was shown
   pub Parts-more : {a b : Listing S W s w} {stop : RunFault} {n : ℕ} (m : ℕ) (xs ys : List ℕ → List ListingItem)
       → ListingCalls {X = X} a b (Err stop) n (ListingWrote {X = X} a b (Err stop) xs) → ListingCalls {X = X} a b (Err stop) (n + m) (ListingWrote {X = X} a b (Err stop) (λ file. xs file ++ ys file))
   Parts-more m xs ys p = ListingCalls-within _ _ _ _ _ _ _ (omega arith) p (λ file held. WroteUntilStop-more _ _ _ _ _ (p.shows file held))
@@ -61,7 +61,7 @@ module _ {S W X : Type 0} {s : Sources S} {w : Sinks W} where
       rw (last_cost cost 0 i ∙ ap (λ n. sum_over cost 0 i + cost n) (zero-add i))
       (Parts-as (λ file held. each-more (row a.style file) i) (Parts-then _ (λ f style. amount f style i) (λ f style file. row style file i) p q))
 
-  -- the last of them stopped, and none behind it was shown
+  -- the last of them failed, and none after it was shown
   pub headers_stopped : {a b : Listing S W s w} {stop : RunFault} (amount : ℕ → ℕ) (row : List ℕ → ℕ → List ListingItem) (i count : ℕ) → i < count
       → ListingCalls {X = X} a b (Err stop) (sum_over amount 0 (i + 1)) (ListingWrote {X = X} a b (Err stop) (λ file. each (row file) 0 (i + 1)))
       → ListingCalls {X = X} a b (Err stop) (sum_over amount 0 count) (ListingWrote {X = X} a b (Err stop) (λ file. each (row file) 0 count))
@@ -69,7 +69,7 @@ module _ {S W X : Type 0} {s : Sources S} {w : Sinks W} where
       let all : count ≡ i + 1 + (count - (i + 1)) = omega arith in
       rw (all, sums_split amount 0 (i + 1) (count - (i + 1))) (Parts-as (λ file held. rows_split (row file) 0 (i + 1) (count - (i + 1))) (Parts-more _ _ _ p))
 
-  -- two parts that the style chooses
+  -- two parts that the style selects
   pub Pair-as : {a b : Listing S W s w} {result : Result X RunFault} (parts : ℕ) (versions : Bool) → a.style.versions ≡ versions
       → ListsPair parts (symbols_part versions) (relocations_part versions) a b result
       → ListsPair parts (symbols_part a.style.versions) (relocations_part a.style.versions) a b result

@@ -35,7 +35,7 @@ whole_report file caps parts whole =
       wrote = (whole.takes, refl);
     }
 
--- a fault that is no refusal
+-- a fault that is not a refusal
 abbrev IsFault : RunFault → Type 0
 IsFault (Refused refusal) = ⊥
 IsFault (Source cause at) = Unit {0}
@@ -46,7 +46,7 @@ wrote_front (Refused refusal) text fault is front = absurd is
 wrote_front (Source cause at) text fault is front = front
 wrote_front (Out cause) text fault is front = front
 
--- a front of a listing is a front of its report
+-- a prefix of a listing is a prefix of its report
 front_report : {a b : OutState} (file : List ℕ) (caps : Caps) (parts : ℕ) (stop : RunFault) → IsFault stop → SinkTakesPrefix a b (lines_of (listing file caps.limits.headers (style_of caps.style) parts))
     → WroteReport {X = Unit {0}} file caps parts a b (Err stop)
 front_report file caps parts stop is front =
@@ -58,14 +58,14 @@ front_report file caps parts stop is front =
       wrote = wrote_front stop (report_of caps.style.format all) (fault_of all) is (SinkTakesPrefix-more (lines_of all) (end_text caps.style.format (fault_of all)) front);
     }
 
--- whole lines of a listing are a front of its lines
+-- whole lines of a listing are a prefix of its lines
 front_lines : {a b : OutState} (all : List ListingItem) → WrotePrefix a b all → SinkTakesPrefix a b (lines_of all)
 front_lines all front =
     let more = lines_front front.front front.rest in
     let split = ap lines_of front.split ∙ more.1 in
     rw split (SinkTakesPrefix-all (lines_of front.front) more.0 front.takes)
 
--- a listing that ended in a refusal, and what was put of its line
+-- a listing that ended in a refusal, and what was written of its line
 ended : {a b : OutState} (refusal : Refusal) (all : List ListingItem) (ends : WroteUntilRefusal a b refusal all) → IsNext refusal ends.front.rest
     → (lines_of all ≡ lines_of ends.front.front) × (fault_of all ≡ Some refusal)
 ended refusal all ends next =
@@ -119,7 +119,7 @@ ended_listed file caps parts refusal before limited after small limits sized say
         report_listed caps.limits.budget file caps.limits.headers (style_of caps.style) parts _ _
         (record { text_is = sym (ap (λ lines. lines ++ end_text caps.style.format (fault_of all)) is.0 ∙ ap (λ end. lines_of ends.front.front ++ end_text caps.style.format end) is.1); fault_is = sym is.1 })
 
--- a listing that ended in a refusal, whose line was told
+-- a listing that ended in a refusal, whose line was written
 ended_report : {a b c : OutState} (file : List ℕ) (caps : Caps) (parts : ℕ) (refusal : Refusal) (told : RunFault) (before limited after : CountedState) → before.asked ≤ 2 ^ 127
     → SetsLimit before limited caps.limits.budget → before.seen.size ≡ length file → IsReadRefusal limited after (listing_cost file caps.limits.headers (style_of caps.style) parts) refusal
     → WroteUntilRefusal a b refusal (listing file caps.limits.headers (style_of caps.style) parts) → WroteRefusal caps.style.format b c refusal told → WroteReport {X = Unit {0}} file caps parts a c (Err told)
@@ -135,7 +135,7 @@ ended_report {a} {b} {c} file caps parts refusal told before limited after small
     wrote (Source cause at) line = absurd line
     wrote (Out cause) line = SinkTakesPrefix-then (lines_of ends.front.front) (refusal_line caps.style.format refusal) ends.front.takes line.1
 
--- a listing that stopped, and what was told of that
+-- a listing that stopped, and what was reported of that
 pub stopped_report : {a c : OutState} (b : OutState) (file : List ℕ) (caps : Caps) (parts : ℕ) (stop told : RunFault) (before limited after : CountedState) (out : OutState) → before.asked ≤ 2 ^ 127
     → SetsLimit before limited caps.limits.budget → before.seen.size ≡ length file → StopSays limited after out (listing_cost file caps.limits.headers (style_of caps.style) parts) stop
     → WroteUntilStop a b stop (listing file caps.limits.headers (style_of caps.style) parts) → ReturnsStop caps.style.format b c stop told → WroteReport {X = Unit {0}} file caps parts a c (Err told)

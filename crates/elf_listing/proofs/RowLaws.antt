@@ -1,4 +1,4 @@
--- The items of one row, by the line that was put.
+-- The items of one row, by the line that was written.
 use Rattle.elf_model.specs.Prelude.{DisplayedName, Fault as FaultItem, IsBudgetRefusal, Line, LinePrefix, ListingItem, ListingStyle, NoSuffix, RowFilter, Suffix, chooses, chosen_row, e_machine, e_phoff, entry_at, lines_of, named_line, named_row, r_sym, relocation_prefix, relocation_row, section_at, segment_at, segment_line, segment_row, sh_offset, shown, st_name, strings_of, symbol_named, symbol_prefix, symbol_row}
 use Rattle.elf_model.specs.declared.causes.Cause.{Cause}
 use Rattle.elf_model.specs.declared.causes.Refusal.{Refusal}
@@ -20,7 +20,7 @@ use Rattle.elf_listing.specs.Shows.{WroteItems, WrotePrefix, WroteUntilRefusal, 
 pub WroteSome-as : {X : Type 0} (a b : OutState) (result : Result X RunFault) {xs ys : List ListingItem} → xs ≡ ys → WroteSome a b result ys → WroteSome a b result xs
 WroteSome-as a b result same written = subst (λ (items : List ListingItem). WroteSome a b result items) (sym same) written
 
--- a line was put
+-- a line was written
 pub Whole-line : {a b : OutState} (line : List ℕ) → SinkTakes a b line → WroteItems a b (Line line ∷ [])
 Whole-line line p = record { takes = rw append-nil p; no_fault = refl }
 
@@ -31,22 +31,22 @@ WroteUntilStop-line line p = rw append-nil p
 pub WrotePrefix-none : (a : OutState) (all : List ListingItem) → WrotePrefix a a all
 WrotePrefix-none a all = record { front = []; rest = all; split = refl; takes = SinkTakes-nothing a; no_fault = refl }
 
--- a refusal stands in the place of all items
+-- a refusal replaces all items
 pub Ends-first : (a : OutState) (refusal : Refusal) (all : List ListingItem) → ((IsBudgetRefusal refusal → ⊥) → all ≡ FaultItem refusal ∷ []) → WroteUntilRefusal a a refusal all
 unfolding WrotePrefix-none
 Ends-first a refusal all is = record { front = WrotePrefix-none a all; next = λ other. record { behind = []; is_next = is other } }
 
--- a fault of a read before anything was written
+-- a read fault before anything was written
 pub WroteUntilStop-first : (a : OutState) (fault : Fault) (all : List ListingItem) → ((refusal : Refusal) → fault ≡ Refused refusal → (IsBudgetRefusal refusal → ⊥) → all ≡ FaultItem refusal ∷ []) → WroteUntilStop a a (stop_of fault) all
 WroteUntilStop-first a (Refused refusal) all is = Ends-first a refusal all (is refusal refl)
 WroteUntilStop-first a (Source fault at) all is = WrotePrefix-none a all
 
--- a fault of a read before anything was written, and nothing is known of the file
+-- a read fault before anything was written, and nothing is known of the file
 pub WroteUntilStop-unread-first : (a : OutState) (fault : Fault) (all : List ListingItem) → IsOfRead fault → WroteUntilStop a a (stop_of fault) all
 WroteUntilStop-unread-first a (Refused refusal) all read = Ends-first a refusal all (λ other. absurd (other read))
 WroteUntilStop-unread-first a (Source fault at) all read = WrotePrefix-none a all
 
--- the row of a name is its line where it is shown, else nothing
+-- the row of a name is its line if it is shown, otherwise nothing
 pub chosen-shown : (choice : RowFilter) (front : LinePrefix) (at : ℕ) (end : NameEnd) (name : List ℕ) (answer : Result DisplayedName Cause) → NameRead at (Ok end) name answer
     → chooses choice (shown_by end name) NoSuffix ≡ true → chosen_row choice front at answer ≡ named_row front at answer
 chosen-shown choice front at NameWhole name answer read is = rw read (rw is refl)
@@ -57,7 +57,7 @@ pub chosen-hidden : (choice : RowFilter) (front : LinePrefix) (at : ℕ) (end : 
 chosen-hidden choice front at NameWhole name answer read is = rw read (rw is refl)
 chosen-hidden choice front at NameCut name answer read is = rw read (rw is refl)
 
--- what was answered of a name, in a style that is the same
+-- the result for a name, in a style that is the same
 pub chosen-as : (style now : Shape) (name : DisplayedName) (behind : Suffix) (answer b : Bool) → now ≡ style → answer ≡ chooses (choice_of now.choice) name behind → answer ≡ b
     → chooses (choice_of style.choice) name behind ≡ b
 chosen-as style now name behind answer b same is shows = rw (← same) (sym is ∙ shows)

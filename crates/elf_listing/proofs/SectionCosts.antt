@@ -1,4 +1,4 @@
--- What the tables of a loaded file ask for, by the section headers in the store.
+-- What the tables of a loaded file read, by the section headers in the store.
 use Rattle.elf_model.specs.Prelude.{Check, DYNAMIC, HeaderTable, ListingStyle, NOTES, PT_DYNAMIC, SECTIONS, SEGMENTS, TableKind, after_header, ceiling, cost_where, e_phnum, e_shnum, early_checks, file_segments, first_refusal, has, has_tables, header_checks, held_headers, is_loadable, is_outside, kind_by_kind, kinds_cost, known_parts, listing_cost, name_bytes, p_filesz, p_offset, p_type, pass, range_checks_of, refuse, relocations, relocations_with_versions, section_at, section_dynamic, section_kinds, section_name_checks, section_notes, sections_cost, segment_at, segment_dynamic, segment_kinds, segment_notes, segments_cost, sh_offset, sh_size, style_ceiling, suffixed_symbols, suffixes_most, sum_over, symbol_versions, symbols, table_checks_of, table_cost, tables_cost, version_definitions, version_needs, viewed as view_of, whole_checks_of}
 use Rattle.elf_model.specs.declared.causes.Cause.TheVariants.{SizeNotWhole, TableOutside}
 use Rattle.std.proofs.Common.{◌≡◌, ℕ, ◌+◌, ◌-◌, ◌*◌, ◌/◌, ◌%◌, ◌<◌, ◌≤◌, ◌==◌, ◌&&◌, ◌||◌, ◌⊎◌, inl, inr, not, if◌then◌else◌, Bool, true, false, List, [], ◌∷◌, length, Option, None, Some, Result, Ok, refl, sym, ap, ◌∙◌, arith}
@@ -18,11 +18,11 @@ use Rattle.elf_listing.specs.declared.parts.Part.TheVariants.{Headers, SectionDy
 use Rattle.elf_listing.proofs.FileShown.{viewed_none}
 use Rattle.elf_table.proofs.LoadLaws.{early_is}
 
--- as many equal costs
+-- n equal costs
 pub sum_of_equal : (amount count : ℕ) → sum_over (λ i. amount) 0 count ≤ count * amount
 sum_of_equal amount count = sum_over-le (λ i. amount) amount 0 count (λ i. omega arith)
 
--- a section's name, which costs nothing where no string table is told
+-- a section's name, which costs nothing if there is no string table
 name_where : (names : Option StringTableRange) (none : Bool) (cap : ℕ) → (none ≡ true → names ≡ None) → name_cost names cap ≤ cost_where (not none) (name_bytes cap)
 name_where names true cap is = rw (is refl) (omega arith)
 name_where None false cap is = omega arith
@@ -31,7 +31,7 @@ name_where (Some strings) false cap is = omega arith
 pub name_within : (names : Option StringTableRange) (index cap : ℕ) → (index ≡ 0 → names ≡ None) → name_cost names cap ≤ cost_where (not (index == 0)) (name_bytes cap)
 name_within names index cap is = name_where names (index == 0) cap (λ e. is (eqb-true index 0 e))
 
--- what a table asks for that was answered, behind checks or empty, is within what is counted by its header
+-- what a returned table reads, after checks or empty, is within what is counted for its header
 pub within_kind : (kind : TableKind) (headers : HeaderTable) (i size cap n : ℕ) (amount : ℕ → ℕ) (checks : List Check) (none some table : TableRange)
     → kind.has_table (headers.bytes i) (headers.at i) ≡ true
     → (first_refusal checks ≡ None → pass (kind.checks.own (headers.bytes i) (headers.at i) size) ≡ true)
@@ -47,7 +47,7 @@ within_kind kind headers i size cap n amount checks none some table has same zer
     by_cases true zero h = let is : none ≡ table = cc in rw (ap (λ (r : TableRange). amount r.count) (sym is) ∙ zero refl) (omega arith)
     by_cases false zero h = let p = passed_first (first_refusal checks) some table h in rw (same p.0, ap (λ (r : TableRange). amount r.count) (sym p.1)) (omega arith)
 
--- the entries of a section, each of which asks for so many bytes
+-- the entries of a section, each of which reads a given number of bytes
 pub section_within : (kind : TableKind) (store : StoreState) (i size place cap entry each : ℕ) (table : TableRange) → kind.has_table (row store i) 0 ≡ true
     → kind.checks.own (row store i) 0 size ≡ table_checks_of (row store i) 0 size 0 entry
     → sh_size (row store i) 0 / entry * each ≡ kind.asks (store_sections store) i size cap
@@ -58,14 +58,14 @@ section_within kind store i size place cap entry each table has own asks h =
     (rows (sh_offset bytes 0) 0 entry) (rows (sh_offset bytes 0) (sh_size bytes 0 / entry) entry) table has
     (λ none. ap pass own ∙ (places_decide_nothing bytes 0 size 0 place entry ∙ ap is_none none)) (λ _. omega arith) (omega (arith, asks)) (sym h)
 
--- where checks pass that name one place, they pass that name another
+-- if checks at one place pass, they pass at another
 whole_by_cases : (broken outside : Bool) (place other : ℕ) → first_refusal (refuse broken place SizeNotWhole ∷ refuse outside place TableOutside ∷ []) ≡ None
     → pass (refuse broken other SizeNotWhole ∷ refuse outside other TableOutside ∷ []) ≡ true
 whole_by_cases true outside place other h = cc
 whole_by_cases false true place other h = cc
 whole_by_cases false false place other h = refl
 
--- the bytes of a range, of which so many ask for an amount, and none for nothing
+-- the bytes of a range, of which a given number cost an amount, and none cost nothing
 pub range_within : (kind : TableKind) (headers : HeaderTable) (i size offset n place cap : ℕ) (amount : ℕ → ℕ) (table : TableRange)
     → kind.has_table (headers.bytes i) (headers.at i) ≡ true
     → kind.checks.own (headers.bytes i) (headers.at i) size ≡ range_checks_of size offset n (headers.at i)
@@ -94,7 +94,7 @@ segment_within store i size place cap table kind h =
     unless_by_cases true checks all = refl
     unless_by_cases false checks all = refl
 
--- what the tables ask for that the headers in the store describe
+-- what the tables read that the headers in the store describe
 abbrev pub sections_sum : Bool → LoadedFile → StoreState → ℕ → ℕ → ℕ
 sections_sum versions loaded store most parts =
     sum_over (λ i. kinds_cost (section_kinds versions) (store_sections store) i loaded.size most parts) 0 store.loaded
@@ -102,7 +102,8 @@ sections_sum versions loaded store most parts =
 abbrev pub segments_sum : LoadedFile → StoreState → ℕ → ℕ → ℕ
 segments_sum loaded store most parts = sum_over (λ i. kinds_cost segment_kinds (store_segments store) i loaded.size most parts) 0 store.segments
 
--- the names of so many sections, where the parts have them, and the program headers, once, where any part wants them
+-- the names of n sections, if the parts have them, and the program headers, once, if any part needs
+-- them
 abbrev pub names_asked : LoadedFile → ℕ → ℕ → ℕ → ℕ
 names_asked loaded count most parts = cost_where (has parts SECTIONS && not (loaded.header.e_shstrndx == 0)) (count * name_bytes most)
 
@@ -116,7 +117,7 @@ names_listed true true n count = sum_of_equal n count
 names_listed true false n count = omega (arith, sum_of_equal 0 count)
 names_listed false named n count = omega arith
 
--- the program headers are asked for once, however they are read
+-- the program headers are read once, however they are read
 segments_once : (none p n d : Bool) (amount : ℕ)
     → cost_where (none && (p || (n || d))) amount + cost_where (p && not none) amount ≤ cost_where (p || (none && (n || d))) amount
 segments_once true true n d amount = omega arith
@@ -130,7 +131,7 @@ sum_of_none : (amount : ℕ → ℕ) (count : ℕ) → count ≡ 0 → sum_over 
 unfolding sum_over
 sum_of_none amount count none = rw none refl
 
--- what is listed asks for the names, the program headers, and the tables of all kinds
+-- what is listed reads the names, the program headers, and the tables of all kinds
 listed_parts : (versions : Bool) (loaded : LoadedFile) (store : StoreState) (most parts : ℕ)
     → view_cost parts loaded + tables_listed parts loaded store most versions
     ≤ names_asked loaded store.loaded most parts + segments_asked loaded parts + sections_sum versions loaded store most parts + segments_sum loaded store most parts
@@ -195,7 +196,7 @@ pub slots_below : (size headers : ℕ) (style : ListingStyle) → 64 + 64 * head
 slots_below size headers style =
     let all = any_rows (held_headers 0 (λ i. [])) style size headers 0 headers 0 (omega arith) (omega arith) in omega arith
 
--- versions behind the names of symbols lower no ceiling
+-- versions after the names of symbols lower no ceiling
 ceiling_below : (size headers : ℕ) (style : ListingStyle) → ceiling size headers style.cap ≤ style_ceiling size headers style
 unfolding style_ceiling
 ceiling_below size headers style = by_cases style.versions
@@ -210,12 +211,13 @@ headers_within : (file : List ℕ) (loaded : LoadedFile) (most parts : ℕ) → 
 unfolding sections_cost segments_cost
 headers_within file loaded most parts is = rw (is.e_shnum, is.e_phnum, is.e_shstrndx) (omega arith)
 
--- where the checks before the load and the first of the load pass, what is asked for behind the header counts
+-- if the checks before the load and the first of the load pass, what is read after the header
+-- counts
 loadable : (file : List ℕ) (headers : ℕ) → first_refusal (header_checks file) ≡ None → pass (early_checks file headers) ≡ true → is_loadable file headers ≡ true
 unfolding is_loadable
 loadable file headers passed early = ap is_none (first_refusal-none (header_checks file) (early_checks file headers) passed) ∙ early
 
--- a load asks for the section headers where the checks before them pass, and for nothing else
+-- a load reads the section headers if the checks before them pass, and nothing else
 pub load_within : (file : List ℕ) (header : Ehdr) (size slots : ℕ) (style : ListingStyle) (parts : ℕ) → IsEhdr file 0 header → size ≡ length file → first_refusal (header_checks file) ≡ None → has_tables parts ≡ true
     → load_cost header size slots ≤ after_header file slots style parts
 load_within file header size slots style parts is same passed tables =
@@ -247,7 +249,7 @@ module _ (file : List ℕ) (loaded : LoadedFile) (store : StoreState) (slots : �
       let headers = headers_within file loaded style.cap parts belongs.header in
       rw (tables, loads passed) (omega (arith, once, headers))
 
--- and within the ceiling, whatever the source is
+-- and within the ceiling, for any source
 pub loaded_below : (loaded : LoadedFile) (store : StoreState) (size slots : ℕ) (style : ListingStyle) (parts : ℕ) → loaded.size ≡ size → store.slots ≡ slots → store.loaded ≡ loaded.header.e_shnum
     → loaded.header.e_shnum ≤ slots → loaded.header.e_phnum ≤ slots → store.segments ≡ viewed_headers parts loaded
     → 64 + (64 * loaded.header.e_shnum + (view_cost parts loaded + tables_listed parts loaded store style.cap style.versions)) ≤ style_ceiling size slots style
@@ -277,7 +279,8 @@ view_below loaded size slots style parts few some =
     let below = loaded_below (record { size = size; header = loaded.header }) store size slots style parts refl refl refl few some refl in
     omega (arith, below)
 
--- what is asked for behind a load, and behind the program headers that it reads too, is paid where all of it is
+-- what is read after a load, and after the program headers that it reads too, is paid if all of it
+-- is
 pub load_pays : (before m : ℕ) {after load shnum n k : ℕ} → after ≤ before + load → load ≤ 64 * shnum → n ≡ shnum → 64 * n + m ≤ k → after + m ≤ before + k
 load_pays before m read most same within = omega arith
 

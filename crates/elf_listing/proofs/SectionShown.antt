@@ -1,4 +1,4 @@
--- The items of one header, by what the store and the checks of a loaded file answer.
+-- The items of one header, by what the store and the checks of a loaded file return.
 use Rattle.elf_model.specs.Prelude.{Check, DT_STRSZ, LinePrefix, ListingItem, ListingStyle, TableKind, all_checks, dynamic_at, dynamic_count, dynamic_row, dynamic_table_checks, e_machine, e_shnum, e_shoff, e_shstrndx, each, entry_count, first_refusal, guarded, listed_value, mapped_strings, named_row, no_name, p_filesz, p_offset, range_checks_of, section_at, section_dynamic, section_name, section_prefix, section_row, segment_dynamic_checks, sh_link, sh_name, sh_offset, sh_size, shown, slice, strings_at as strings_mapped, strings_checks, strings_of, table_checks, table_rows, unless_empty}
 use Rattle.elf_model.specs.declared.causes.Refusal.{Refusal}
 use Rattle.std.proofs.Common.{◌≡◌, ℕ, ◌+◌, ◌*◌, ◌/◌, ◌<◌, ◌==◌, ◌&&◌, not, Bool, true, false, inl, inr, if◌then◌else◌, List, [], ◌∷◌, ◌++◌, length, Option, None, Some, Result, Ok, Err, refl, sym, ap, ◌∙◌, subst, arith}
@@ -21,7 +21,7 @@ pub no_table : (kind : TableKind) (file : List ℕ) (style : ListingStyle) (inde
 unfolding table_rows
 no_table kind file style index at a none = rw (none, table_rows) (Whole-none a)
 
--- one that describes a table has its rows behind its checks: they pass, or the first refuses
+-- one that describes a table has its rows after its checks: they pass, or the first refuses
 module _ (kind : TableKind) (file : List ℕ) (style : ListingStyle) (index at : ℕ) (has : kind.has_table file at ≡ true) where
   rows_are : table_rows kind file style index at ≡ guarded (all_checks kind.checks file at) (kind.rows file style index at)
   unfolding table_rows
@@ -50,7 +50,7 @@ name_by_cases file true b names off cap h = cc
 some_sections : (n : ℕ) → 0 < n → (n == 0) ≡ false
 some_sections n h = grind (arith)
 
--- the row of a section header, by its front and its name
+-- the row of a section header, by its prefix and its name
 pub section_is : (file : List ℕ) (front : LinePrefix) (names : Option StringTableRange) (off at index : ℕ) (style : ListingStyle) → names ≡ section_names file → 0 < e_shnum file → at ≡ section_at file index
     → off ≡ sh_name file (section_at file index) → front ≡ section_prefix style.format style.gnu (e_machine file) file (section_at file index) index
     → section_row file style index ≡ named_row front at (shown_in file names off style.cap)
@@ -60,16 +60,17 @@ section_is file front names off at index style same some place is before =
     (ap (named_row (section_prefix style.format style.gnu (e_machine file) file (section_at file index) index) (section_at file index))
     (sym (name_by_cases file (e_shnum file == 0) (e_shstrndx file == 0) (names_at file (section_at file (e_shstrndx file))) _ style.cap (some_sections (e_shnum file) some))))
 
--- a range that a header tells of is the file's, as a load knows the file's size and the header's place
+-- a range that a header gives is the file's, since a load knows the file's size and the header's
+-- place
 pub range_of_file : {size offset n place all from_ count at : ℕ} {result : Result TableRange Fault} → size ≡ all → offset ≡ from_ → n ≡ count → place ≡ at
     → result ≡ byte_rows size offset n place → byte_rows all from_ count at ≡ result
 range_of_file sized from_is counted placed is = rw (← sized, ← from_is, ← counted, ← placed) (sym is)
 
--- the place of a section header, as a load knows where the section headers begin
+-- the place of a section header, since a load knows where the section headers begin
 pub section_placed : {place begin : ℕ} (file : List ℕ) (i : ℕ) → place ≡ begin + 64 * i → begin ≡ e_shoff file → place ≡ section_at file i
 section_placed file i is begins = omega arith
 
--- the bytes of a range that is answered
+-- the bytes of a range that is returned
 pub range_passes : (file : List ℕ) (offset size place : ℕ) (table : TableRange) → byte_rows (length file) offset size place ≡ Ok table
     → (first_refusal (unless_empty size (range_checks_of (length file) offset size place)) ≡ None) × (rows offset size 1 ≡ table)
 range_passes file offset size place table h =
@@ -81,7 +82,7 @@ range_passes file offset size place table h =
       ],
     )
 
--- the dynamic entries that are listed, of so many at an offset, where the strings of an entry are told
+-- the dynamic entries that are listed, of n at an offset, if the strings of an entry are known
 abbrev pub entries_at : List ℕ → ListingStyle → ℕ → ℕ → (ℕ → Result (List ℕ) Refusal) → List ListingItem
 entries_at file style offset count strings = each (λ i. dynamic_row file style strings (dynamic_at offset i) i) 0 (dynamic_count file offset count)
 
@@ -90,7 +91,7 @@ pub empty_dynamic : (file : List ℕ) (style : ListingStyle) (index : ℕ) (a : 
 unfolding section_dynamic each dynamic_count
 empty_dynamic file style index a at has empty = rw (table_passes section_dynamic file style index at has (rw empty refl)) (rw empty (Whole-none a))
 
--- checks that refuse, behind others that pass and before more
+-- checks that refuse, after others that pass and before more
 among : (front checks back : List Check) (fault : Fault) → first_refusal front ≡ None → RefusedBy checks fault → RefusedBy (front ++ (checks ++ back)) fault
 among front checks back (Refused refusal) pass by = first_refusal-none front (checks ++ back) pass ∙ first_refusal-some checks back refusal by
 among front checks back (Source fault at) pass by = by
@@ -120,7 +121,7 @@ module _ (file : List ℕ) (at : ℕ) where
         let linked = passed_first (first_refusal (strings_checks file at)) (names_at file (section_at file (sh_link file at))) names h in
         (rw some (first_refusal-none (table_checks file at 16) (strings_checks file at) own.0 ∙ linked.0), λ style. rw (← own.1, ← linked.1) refl)
 
--- the dynamic entries of a segment: their strings are where the entries tell
+-- the dynamic entries of a segment: their strings are where the entries say
 strings_found : (file : List ℕ) (table : TableRange) (found : DynamicStrings) → AreStrings file table found
     → mapped_strings file table.at (dynamic_count file table.at table.count) ≡ (λ entry. strings_mapped file entry found.address found.size)
 unfolding mapped_strings

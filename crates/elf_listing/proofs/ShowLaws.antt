@@ -1,4 +1,4 @@
--- What one part written after another comes to.
+-- The result of writing one part after another.
 use Rattle.std.proofs.Common.{ℕ, ◌+◌, ◌≤◌, List, [], ◌++◌, Result, Ok, Err, refl, sym, ap, ◌∙◌, arith, append_assoc}
 use Rattle.elf_source.specs.Prelude.{CountedState, OutState, ReadsUpTo}
 use Rattle.elf_source.proofs.PutsLaws.{SinkTakes-nothing, SinkTakes-then, SinkTakesPrefix-then, SinkTakesPrefix-more}
@@ -45,23 +45,23 @@ WrotePrefix-more ys p = record {
   no_fault = p.no_fault;
 }
 
--- all of some items were written, and none of those behind them
+-- all of some items were written, and none of those after them
 pub WrotePrefix-all : {a b : OutState} {xs : List ListingItem} (ys : List ListingItem) → WroteItems a b xs → WrotePrefix a b (xs ++ ys)
 WrotePrefix-all {xs = xs} ys p = record { front = xs; rest = ys; split = refl; takes = p.takes; no_fault = p.no_fault }
 
--- a part was written whole, and the next stopped
+-- a part was written whole, and the next failed
 pub WroteUntilStop-then : (a b c : OutState) (stop : RunFault) (xs ys : List ListingItem) → WroteItems a b xs → WroteUntilStop b c stop ys → WroteUntilStop a c stop (xs ++ ys)
 unfolding WrotePrefix-then
 WroteUntilStop-then a b c (Refused refusal) xs ys p q = record { front = WrotePrefix-then p q.front; next = q.next }
 WroteUntilStop-then a b c (Source fault at) xs ys p q = WrotePrefix-then p q
 WroteUntilStop-then a b c (Out fault) xs ys p q = rw ((listings_append xs ys p.no_fault).0) (SinkTakesPrefix-then (lines_of xs) (lines_of ys) p.takes q)
 
--- a part was written whole, and then another was written so far
+-- a part was written whole, and then another was written up to here
 pub WroteSome-then : {X : Type 0} (a b c : OutState) (result : Result X RunFault) (xs ys : List ListingItem) → WroteItems a b xs → WroteSome b c result ys → WroteSome a c result (xs ++ ys)
 WroteSome-then a b c (Ok x) xs ys p q = Whole-then p q
 WroteSome-then a b c (Err stop) xs ys p q = WroteUntilStop-then a b c stop xs ys p q
 
--- a part stopped, and nothing behind it was written
+-- a part failed, and nothing after it was written
 pub WroteUntilStop-more : (a b : OutState) (stop : RunFault) (xs ys : List ListingItem) → WroteUntilStop a b stop xs → WroteUntilStop a b stop (xs ++ ys)
 unfolding WrotePrefix-more
 WroteUntilStop-more a b (Refused refusal) xs ys p = record {
@@ -72,20 +72,20 @@ WroteUntilStop-more a b (Source fault at) xs ys p = WrotePrefix-more ys p
 WroteUntilStop-more a b (Out fault) xs ys p =
     let more = lines_front xs ys in rw more.1 (SinkTakesPrefix-more (lines_of xs) more.0 p)
 
--- a read failed behind a part that was written whole
+-- a read failed after a part that was written whole
 pub WroteUntilStop-unread : (a b : OutState) (fault : Fault) (at : ℕ) (xs ys : List ListingItem) → IsAt at fault → WroteItems a b xs → WroteUntilStop a b (stop_of fault) (xs ++ ys)
 WroteUntilStop-unread a b (Refuses refusal) at xs ys is p =
     record { front = WrotePrefix-all ys p; next = λ other. absurd (other (ap (λ (r : Refusal). r.cause) is)) }
 WroteUntilStop-unread a b (Unread fault offset) at xs ys is p = WrotePrefix-all ys p
 
--- a stop after other calls, in a bound on all
+-- a fault after other calls, in a bound on all
 pub StopSays-then : (a b c : CountedState) (out : OutState) (stop : RunFault) (n m k : ℕ) → b.asked + m ≤ a.asked + k → ReadsUpTo a b n → StopSays b c out m stop → StopSays a c out k stop
 StopSays-then a b c out (Refused refusal) n m k within p q = λ is.
     let over = q is in (rw (sym p.keeps.same_size) over.0, ExceedsBudget-then n k within p over.1, over.2)
 StopSays-then a b c out (Source fault at) n m k within p q = (IsSourceFault-then a.seen b.seen c.seen fault p.keeps q.0, q.1)
 StopSays-then a b c out (Out fault) n m k within p q = q
 
--- a fault of a read is a stop
+-- a read fault is a fault
 pub StopSays-fault : (a b : CountedState) (out : OutState) (fault : Fault) (n k : ℕ) → n ≤ k → IsReadFault a b n fault → StopSays a b out k (stop_of fault)
 StopSays-fault a b out (Refuses refusal) n k within q = λ is. let over = q is in (over.0, ExceedsBudget-more within over.1, over.2)
 StopSays-fault a b out (Unread fault at) n k within q = q
@@ -99,12 +99,12 @@ ListingCosts-then a b c out (Err stop) n m k within p q = (ReadsUpTo-to (ReadsUp
 pub ListingCosts-fault : (a b : CountedState) (out : OutState) (fault : Fault) (n k : ℕ) → n ≤ k → ReadsUpTo a b n → IsReadFault a b n fault → ListingCosts {X = Unit {0}} a b out (Err (stop_of fault)) k
 ListingCosts-fault a b out fault n k within p q = (ReadsUpTo-to p (omega (arith, p.at_most)), StopSays-fault a b out fault n k within q)
 
--- a read that failed behind others
+-- a read that failed after others
 pub ListingCosts-later : (a b c : CountedState) (out : OutState) (fault : Fault) (n m k : ℕ) → b.asked + m ≤ a.asked + k → ReadsUpTo a b n → ReadsUpTo b c m → IsReadFault b c m fault
     → ListingCosts {X = Unit {0}} a c out (Err (stop_of fault)) k
 ListingCosts-later a b c out fault n m k within p q r = ListingCosts-then {X = Unit {0}} a b c out (Err (stop_of fault)) n m k within p (ListingCosts-fault b c out fault m m (omega arith) q r)
 
--- a stop, in a looser bound
+-- a fault, in a looser bound
 pub StopSays-more : (a b : CountedState) (out : OutState) (stop : RunFault) (n k : ℕ) → n ≤ k → StopSays a b out n stop → StopSays a b out k stop
 StopSays-more a b out (Refused refusal) n k within q = λ is. let over = q is in (over.0, ExceedsBudget-more within over.1, over.2)
 StopSays-more a b out (Source fault at) n k within q = q
@@ -115,19 +115,19 @@ pub SpentCredit-within : {X : Type 0} (a b : CountedState) (out : OutState) (x y
 SpentCredit-within a b out x y (Ok v) n k within p = (SpendsAtMost-to p.0 (omega (arith, p.0.account)), tt)
 SpentCredit-within a b out x y (Err stop) n k within p = (SpendsAtMost-to p.0 (omega (arith, p.0.account)), StopSays-more a b out stop (x + n) (x + k) (omega arith) p.1)
 
--- a call behind reads, in a bound on all
+-- a call after reads, in a bound on all
 pub SpentCredit-behind : {X : Type 0} (a b c : CountedState) (out : OutState) (x y : ℕ) (result : Result X RunFault) (n m k : ℕ) → n + m ≤ k → ReadsUpTo a b n → SpentCredit b c out x y result m → SpentCredit a c out x y result k
 SpentCredit-behind a b c out x y (Ok v) n m k within p q = (SpendsAtMost-to (SpendsAtMost-then (SpendsAtMost-reads x p) q.0) (omega (arith, p.at_most, q.0.account)), tt)
 SpentCredit-behind a b c out x y (Err stop) n m k within p q =
     (SpendsAtMost-to (SpendsAtMost-then (SpendsAtMost-reads x p) q.0) (omega (arith, p.at_most, q.0.account)), StopSays-then a b c out stop n (x + m) (x + k) (omega (arith, p.at_most)) p q.1)
 
--- a call behind one that has its own credit, in a bound on both
+-- a call after one that has its own credit, in a bound on both
 pub SpentCredit-then : {X : Type 0} (a b c : CountedState) (out : OutState) (x y z : ℕ) (result : Result X RunFault) (n m k : ℕ) → n + m ≤ k → ReadsOnCredit a b x y n → SpentCredit b c out y z result m → SpentCredit a c out x z result k
 SpentCredit-then a b c out x y z (Ok v) n m k within p q = (SpendsAtMost-to (SpendsAtMost-then p q.0) (omega (arith, p.account, q.0.account)), tt)
 SpentCredit-then a b c out x y z (Err stop) n m k within p q =
     (SpendsAtMost-to (SpendsAtMost-then p q.0) (omega (arith, p.account, q.0.account)), StopSays-then a b c out stop (x + n) (y + m) (x + k) (omega (arith, p.account)) p.reads q.1)
 
--- a read that failed and took nothing of the credit, in a looser bound
+-- a read that failed and used no credit, in a looser bound
 pub SpentCredit-fault : (a b : CountedState) (out : OutState) (x : ℕ) (fault : Fault) (n k : ℕ) → n ≤ k → ReadsUpTo a b n → IsReadFault a b n fault → SpentCredit {X = Unit {0}} a b out x x (Err (stop_of fault)) k
 SpentCredit-fault a b out x fault n k within p q = (SpendsAtMost-reads x (ReadsUpTo-to p (omega (arith, p.at_most))), StopSays-fault a b out fault n (x + k) (omega arith) q)
 

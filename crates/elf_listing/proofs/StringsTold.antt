@@ -1,4 +1,4 @@
--- The string of a dynamic entry, by whether it tells of one.
+-- The string of a dynamic entry, by whether it refers to one.
 use Rattle.elf_model.specs.Prelude.{DisplayedName, Fault as FaultItem, LinePrefix, ListingItem, ListingStyle, d_tag, d_un, dynamic_prefix, dynamic_row, first_refusal, is_string_tag, mapped_checks, mapped_place, named_row, no_name, shown, strings_at}
 use Rattle.elf_model.specs.declared.causes.Cause.{Cause}
 use Rattle.elf_model.specs.declared.causes.Refusal.{Refusal}
@@ -33,7 +33,7 @@ unfolding dynamic_row
 row_told file style strings at index =
     row_by_cases (is_string_tag (d_tag file at)) (strings at) (dynamic_prefix style.format style.gnu file at index) at (λ table. shown table (d_un file at) style.cap)
 
--- the row of an entry at its place, by its front
+-- the row of an entry at its place, by its prefix
 pub entry_is : (file : List ℕ) (front : LinePrefix) (style : ListingStyle) (at index place : ℕ) (strings : ℕ → Result (List ℕ) Refusal) → front ≡ dynamic_prefix style.format style.gnu file at index → at ≡ place
     → dynamic_row file style strings place index ≡ reported_row front at (string_told strings file style.cap at)
 entry_is file front style at index place strings same here =
@@ -48,7 +48,7 @@ WroteUntilStop-told a front at fault name (Err refusal) read =
     let P : Fault → Type 0 = λ f. WroteUntilStop a a (stop_of f) (FaultItem refusal ∷ []) in
     subst P (sym is) (Ends-first a refusal (FaultItem refusal ∷ []) (λ other. refl))
 
--- a string that was read is the one that is told
+-- a string that was read is the specified one
 pub told_shown : (at : ℕ) (end : NameEnd) (name : List ℕ) (told : Result (Result DisplayedName Cause) Refusal) → ToldRead at (Ok end) name told
     → (answer : Result DisplayedName Cause) × (told ≡ Ok answer) × NameRead at (Ok end) name answer
 told_shown at end name (Ok answer) read = (answer, refl, read)
@@ -57,7 +57,7 @@ told_shown at end name (Err refusal) read = cc
 abbrev name_at : List ℕ → ℕ → ℕ → List ℕ → Result DisplayedName Cause
 name_at file cap at table = shown table (d_un file at) cap
 
--- an entry that tells of no string
+-- an entry that refers to no string
 pub reported_none : (strings : ℕ → Result (List ℕ) Refusal) (file : List ℕ) (most at : ℕ) → is_string_tag (d_tag file at) ≡ false → string_told strings file most at ≡ Ok no_name
 reported_none strings file most at none = ap (λ tells. string_told_by tells (strings at) (name_at file most at)) none
 
@@ -75,7 +75,7 @@ told_read strings file name most at off names result (Ok table) same tells found
     let here : strings_in file names ≡ table = found in rw (tells, same, ← here, ← is) read
 told_read strings file name most at off names result (Err refusal) same tells found is read = absurd found
 
--- a string table that a segment loads is the one that is told
+-- a string table that a segment loads is the specified one
 found_by_cases : (file : List ℕ) (first : Option Refusal) (names : StringTableRange)
     → StringsFound file (answered first names) (elim first as (λ _. Result (List ℕ) Refusal) [ None ↦ Ok (strings_in file names) | Some refusal ↦ Err refusal ])
 found_by_cases file None names = refl

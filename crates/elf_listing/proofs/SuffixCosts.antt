@@ -1,4 +1,5 @@
--- What the rows of a table ask for with the versions behind their names, and what finds those.
+-- What the rows of a table read with the versions after their names, and what the version lookup
+-- reads.
 use Rattle.std.proofs.Common.{◌≡◌, ℕ, ◌+◌, ◌*◌, ◌/◌, ◌≤◌, ◌==◌, if◌then◌else◌, Bool, true, false, Option, None, Some, Result, Ok, refl, sym, ap, ◌∙◌, subst, arith}
 use Rattle.std.proofs.Math.Nat.{mul-add}
 use Rattle.std.specs.Prelude.{is_none}
@@ -8,7 +9,7 @@ use Rattle.elf_table.specs.Prelude.{StoreState, TableRange, row, rows, table_of}
 use Rattle.elf_listing.specs.Prelude.{store_sections, suffix_bytes, walks_asked}
 use Rattle.elf_listing.proofs.SectionCosts.{within_kind}
 
--- so many names cost what their rows do, a word and a name each, and what finds them
+-- n names cost what their rows do, an entry and a name each, and the version lookup
 pub asked_is : (headers : HeaderTable) (table names size cap each : ℕ)
     → walks_asked headers table names size + names * (each + suffix_bytes headers table cap) ≤ names * each + suffixes_cost headers table names size cap
 unfolding suffixes_cost
@@ -23,7 +24,8 @@ asked_is headers table names size cap each = by_found (first_numbers headers tab
     by_found (Some i) true = omega (arith, mul-add names each (2 + name_bytes cap))
     by_found (Some i) false = omega (arith, mul-add names each (2 + name_bytes cap))
 
--- a table of entries with versions, whose symbols' table has an index: what finds them, and the rows
+-- a table of entries with versions, whose symbols' table has an index: the version lookup, and the
+-- rows
 pub suffixed_within : (kind : TableKind) (store : StoreState) (i symbols size place cap entry each : ℕ) (table : TableRange) → kind.has_table (row store i) 0 ≡ true
     → kind.checks.own (row store i) 0 size ≡ table_checks_of (row store i) 0 size 0 entry
     → (let names : ℕ = sh_size (row store i) 0 / entry in
@@ -40,7 +42,7 @@ suffixed_within kind store i symbols size place cap entry each table has own ask
     (rows (sh_offset bytes 0) 0 entry) (rows (sh_offset bytes 0) (sh_size bytes 0 / entry) entry) table has
     (λ none. ap pass own ∙ (places_decide_nothing bytes 0 size 0 place entry ∙ ap is_none none)) (λ _. omega arith) (omega (arith, most, asks)) (sym h)
 
--- what finds the versions of some names costs what it does for others, and nothing for none
+-- the version lookup of some names costs what it does for others, and nothing for none
 pub walks_fewer : (headers : HeaderTable) (table names entries size : ℕ) → (entries == 0) ≡ false → walks_asked headers table names size ≤ walks_asked headers table entries size
 walks_fewer headers table names entries size some = rw some (by_empty (names == 0))
   where
@@ -50,7 +52,7 @@ walks_fewer headers table names entries size some = rw some (by_empty (names == 
     by_empty true = omega arith
     by_empty false = omega arith
 
--- fewer than a part of a sum, and with less beside it
+-- fewer than a part of a sum, and with less besides it
 less : (a b n k : ℕ) → b ≤ a → a + n ≤ k → b ≤ k
 less a b n k fewer within = omega arith
 
@@ -63,7 +65,7 @@ less_with a b count own name bytes behind k fewer within is =
     let more : a + count * (own + (name + behind)) ≤ k = subst (λ (n : ℕ). a + count * n ≤ k) same within in
     omega (arith, fewer, more)
 
--- what finds the versions of some names, alone, with rows that have none, and with rows that have them
+-- the version lookup of some names, alone, with rows that have none, and with rows that have them
 module _ (headers : HeaderTable) (table size cap own name names count k : ℕ) (fewer : walks_asked headers table names size ≤ walks_asked headers table count size)
     (within : walks_asked headers table count size + count * (own + name + suffix_bytes headers table cap) ≤ k) where
   pub walks_within : walks_asked headers table names size ≤ k

@@ -1,4 +1,5 @@
--- What finds the versions of a table's symbols, by the checks of its section of version numbers and the walks.
+-- The version lookup of a table's symbols, by the checks of its section of version indices and the
+-- walks.
 use Rattle.std.proofs.Common.{◌≡◌, ℕ, ◌+◌, ◌*◌, ◌/◌, ◌==◌, if◌then◌else◌, Bool, true, false, List, Option, None, Some, Result, Ok, Err, ◌⊎◌, inl, inr, refl, sym, ap, ◌∙◌}
 use Rattle.elf_model.specs.Prelude.{HeaderTable, all_checks, entry_count, first_numbers, first_refusal, name_bytes, or_refusal, section_at, sh_offset, suffixes_refusal, symbol_versions, version_numbers_of, walks_cost}
 use Rattle.elf_model.specs.declared.causes.Refusal.{Refusal}
@@ -9,7 +10,7 @@ use Rattle.elf_listing.specs.Prelude.{AreNumbered, AreSuffixes, NumberedOr, Suff
 use Rattle.elf_listing.specs.declared.suffixes.VersionLookup.{VersionLookup}
 use Rattle.elf_listing.proofs.FirstTaken.{or-none}
 
--- a table of no symbols, and one without version numbers
+-- a table of no symbols, and one without version indices
 pub no_symbols : (file : List ℕ) (table : ℕ) → entry_count file (section_at file table) 24 ≡ 0 → SuffixesOr file table (Ok None)
 unfolding suffixes_refusal
 no_symbols file table none = (rw none refl, inl none)
@@ -35,7 +36,7 @@ module _ (file : List ℕ) (table : ℕ) where
       either true = refl
       either false = refl
 
-  -- of a table with symbols: the checks of the numbers, then the walks
+  -- of a table with symbols: the checks of the version indices, then the walks
   module _ (section : ℕ) (some : (entry_count file (section_at file table) 24 == 0) ≡ false) (found : version_numbers_of file table ≡ Some section) where
     refused : suffixes_refusal file table ≡ or_refusal (first_refusal (all_checks symbol_versions.checks file (section_at file section))) (walks_refusal file)
     unfolding refusal_by
@@ -57,7 +58,7 @@ module _ (file : List ℕ) (table : ℕ) where
       record { section = section; found = found; here = here; placed = versioned.placed; counted = versioned.counted; numbered = numbered.1 },
     )
 
--- what the walks ask for, of a table with symbols
+-- what the walks read, for a table with symbols
 pub walks_of : (headers : HeaderTable) (table symbols size section : ℕ) → (symbols == 0) ≡ false → first_numbers headers table ≡ Some section
     → walks_asked headers table symbols size ≡ walks_cost headers size
 walks_of headers table symbols size section some found =

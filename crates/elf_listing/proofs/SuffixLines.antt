@@ -1,4 +1,4 @@
--- A line that was put in pieces ends in the name and its version.
+-- A line written in pieces ends in the name and its version.
 use Rattle.std.proofs.Common.{◌≡◌, ℕ, Bool, true, false, List, [], ◌∷◌, ◌++◌, Result, Ok, Err, refl, sym, ap, ◌∙◌, append_assoc, subst}
 use Rattle.std.specs.Prelude.{codes, if◌then◌else◌}
 use Rattle.elf_model.specs.Prelude.{DisplayedName, EveryRow, LinePrefix, Suffixed, closing, cut_mark, escaped, line_suffixed, lines_of, member_key, name_member, name_text, newline, quoted, string_text, suffix_members, suffix_text, suffixed_line, suffixed_row, version_member, version_sign}

@@ -1,4 +1,4 @@
--- The name of a version by its number, in the string table that holds it.
+-- The name of a version by its index, in the string table that holds it.
 use Rattle.std.proofs.Common.{◌≡◌, ℕ, ◌<◌, ◌==◌, nat_lt, Bool, true, false, List, [], ◌++◌, length, slice_index_or, Option, None, Some, Result, Ok, Err, refl, sym, ap, ◌∙◌, subst}
 use Rattle.elf_model.specs.Prelude.{DisplayedName, IsBudgetRefusal, SHT_GNU_VERDEF, SHT_GNU_VERNEED, Suffix, Suffixed, VisitedRecord, first_strings, first_versions, name_index, named_at, named_by, shown, suffix_of, version_named, version_of, version_strings}
 use Rattle.elf_model.specs.declared.causes.Cause.{Cause}
@@ -21,12 +21,12 @@ use Rattle.elf_listing.proofs.VersionedShown.{some-definitions, some-needs, stri
 abbrev records : List ℕ → List VisitedRecord
 records file = first_versions Definition SHT_GNU_VERDEF file ++ first_versions File SHT_GNU_VERNEED file
 
--- the record that names a number of 2 or more
+-- the record that names a version index of 2 or more
 named_is : (file : List ℕ) (number : ℕ) (found : Option VisitedRecord) → nat_lt number 2 ≡ false → named_by file number (records file) ≡ found → version_named file number ≡ found
 unfolding version_named version_of
 named_is file number found many is = rw many is
 
--- what was read of a name is told of the version
+-- what was read of a name is returned of the version
 read_reported : (file : List ℕ) (met : VisitedRecord) (at : ℕ) (result : Result NameEnd Fault) (version : List ℕ) (answer : Result DisplayedName Cause) → at ≡ named_at file met
     → NameRead at result version answer → SuffixNamed result version (λ default. suffix_of default (named_at file met) answer)
 read_reported file met at (Ok Whole) version answer here read = λ default. ap (suffix_of default (named_at file met)) read

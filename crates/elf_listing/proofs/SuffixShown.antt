@@ -23,7 +23,7 @@ use Rattle.elf_listing.proofs.ListsLaws.{SameFile-then}
 use Rattle.elf_listing.proofs.RowLaws.{Ends-first, WrotePrefix-none}
 use Rattle.elf_listing.proofs.SymbolNamed.{says_behind}
 
--- a call that reads behind another, in a bound on both
+-- a call that reads after another, in a bound on both
 pub ListingReads-then : {S W X Y : Type 0} {s : Sources S} {w : Sinks W} (a b c : Listing S W s w) (y : Y) (result : Result X Fault) (n m k : ℕ)
     → n + m ≤ k → ListingReads a b (Ok y) n → ListingReads b c result m → ListingReads a c result k
 ListingReads-then a b c y result n m k within p q =
@@ -53,7 +53,7 @@ read-shown : (at : ℕ) (end : NameEnd) (name : List ℕ) (answer : Result Displ
 read-shown at NameWhole name answer read = read
 read-shown at NameCut name answer read = read
 
--- the version behind it could not be
+-- the version after it could not be
 pub WroteUntilStop-suffix : (a : OutState) (choice : RowFilter) (front : LinePrefix) (at : ℕ) (end : NameEnd) (fault : Fault) (name version : List ℕ) (answer : Result DisplayedName Cause) (suffix : Result Suffix Refusal)
     → NameRead at (Ok end) name answer → SuffixRead (Err fault) version suffix → WroteUntilStop a a (stop_of fault) (suffixed_row choice front at answer suffix)
 WroteUntilStop-suffix a choice front at end (Refused refusal) name version answer suffix read behind =
@@ -67,7 +67,7 @@ read-behind : (suffix : Option VersionSuffixEnd) (version : List ℕ) (answer : 
 read-behind None version answer read = read
 read-behind (Some suffix) version answer read = read
 
--- the row is its line where it is shown, else nothing
+-- the row is its line if it is shown, otherwise nothing
 pub suffixed-shown : (choice : RowFilter) (front : LinePrefix) (at : ℕ) (end : NameEnd) (name version : List ℕ) (answer : Result DisplayedName Cause) (suffix : Option VersionSuffixEnd) (behind : Result Suffix Refusal)
     → NameRead at (Ok end) name answer → SuffixRead (Ok suffix) version behind → chooses choice (shown_by end name) (suffix_read suffix version) ≡ true
     → suffixed_row choice front at answer behind ≡ suffixed_row EveryRow front at answer (Ok (suffix_read suffix version))
@@ -95,7 +95,7 @@ suffixed_symbol_is file style section index at front table off same_front same_t
     let place : at ≡ entry_at file (section_at file section) 24 index = omega arith in
     rw (same_front, same_table, same_name, place) refl
 
--- the row of a name with nothing behind it, where every row is shown
+-- the row of a name with nothing after it, if every row is shown
 pub every-row : (front : LinePrefix) (at : ℕ) (answer : Result DisplayedName Cause) → suffixed_row EveryRow front at answer (Ok NoSuffix) ≡ named_row front at answer
 every-row front at (Ok name) = ap (λ (line : List ℕ). Line line ∷ []) (unsuffixed_line front name)
 every-row front at (Err cause) = refl

@@ -1,4 +1,5 @@
--- The rows of a table with versions behind the names of symbols: those of a plain table, the first refusal, or its own.
+-- The rows of a table with versions after the names of symbols: those of a plain table, the first
+-- refusal, or its own.
 use Rattle.std.proofs.Common.{◌≡◌, ℕ, ◌+◌, ◌*◌, ◌<◌, ◌≤◌, nat_lt, ◌==◌, ◌&&◌, not, if◌then◌else◌, Bool, true, false, List, [], ◌∷◌, Option, None, Some, Result, Ok, Err, ◌⊎◌, inl, inr, refl, sym, ap, ◌∙◌, arith}
 use Rattle.std.proofs.lemmas.Bool.{le-ltb, ne_eqb}
 use Rattle.elf_model.specs.Prelude.{DisplayedName, Fault as FaultItem, IsBudgetRefusal, LinePrefix, ListingItem, ListingStyle, NoSuffix, RowFilter, Suffix, after_refusal, all_checks, chosen_row, e_machine, each, entry_at, entry_count, first_refusal, has_symbols, is_symbol_table, linked_at, r_sym, refuse, relocation_prefix, relocation_row, relocation_row_with_version, relocation_table_checks, relocations, relocations_with_versions, section_at, sh_link, sh_type, suffixed_relocation_rows, suffixed_row, suffixed_symbol_rows, suffixed_symbols, suffixes_refusal, symbol_checks_of, symbol_named, symbol_row, symbol_row_with_version, symbol_suffix, symbol_table, symbols, table_rows, version_numbers_of}
@@ -31,7 +32,7 @@ ListingCalls-behind a b c y result n m k read within p q is = record {
   shows = is;
 }
 
--- what refuses the versions stands in the place of the rows
+-- what refuses the versions replaces the rows
 pub refused_rows : (a : OutState) (file : List ℕ) (table : ℕ) (fault : Fault) (all rows : List ListingItem) → all ≡ after_refusal (suffixes_refusal file table) rows
     → SuffixesOr file table (Err fault) → WroteUntilStop a a (stop_of fault) all
 refused_rows a file table (Refused refusal) all rows is or =
@@ -94,7 +95,7 @@ module _ (file : List ℕ) (at rela_at : ℕ) (unnamed : (has_symbols file at �
   unfolding symbol_named
   named_fails limit = named_by (symbol == 0) (first_refusal (symbol_checks_of file at rela_at symbol)) symbol_fails.0 _ _ some symbol_fails.1
 
--- a name that is refused stands before its version
+-- a name that is refused comes before its version
 refused_name : (choice : RowFilter) (front : LinePrefix) (named : ℕ × Result DisplayedName Cause) (at : ℕ) (cause : Cause) (suffix : Result Suffix Refusal) → named ≡ (at, Err cause)
     → suffixed_row choice front named.0 named.1 suffix ≡ chosen_row choice front named.0 named.1
 refused_name choice front named at cause suffix is = rw is refl

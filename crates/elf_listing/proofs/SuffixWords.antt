@@ -1,4 +1,4 @@
--- What the word of a symbol tells, by the cases of the definition.
+-- What the entry of a symbol gives, by the cases of the definition.
 use Rattle.std.proofs.Common.{◌≡◌, ℕ, ◌+◌, ◌*◌, ◌<◌, ◌≤◌, ◌==◌, ◌&&◌, nat_lt, not, if◌then◌else◌, Bool, true, false, List, Option, None, Some, Result, Ok, Err, refl, sym, ap, ◌∙◌, arith}
 use Rattle.std.proofs.lemmas.Bool.{eq-eqb, le-ltb, lt-ltb, ne_eqb}
 use Rattle.elf_model.specs.Prelude.{NoSuffix, Suffix, Suffixed, entry_at, entry_count, is_default, number_in, section_at, sh_offset, st_shndx, suffix_at, symbol_suffix, versym, word_suffix}
@@ -18,7 +18,7 @@ module _ (file : List ℕ) (table : ℕ) (suffixes : VersionLookup) (are : AreSu
   suffix_is =
       ap (λ (found : Option ℕ). elim found as (λ _. Result Suffix Refusal) [ None ↦ Ok NoSuffix | Some i ↦ suffix_at file cap (section_at file i) symbol_at index ]) are.found
 
-  -- no word for the symbol
+  -- no entry for the symbol
   pub suffix_cut : suffixes.words.count ≤ index → symbol_suffix file cap table symbol_at index ≡ Err (record { at = suffixes.at; cause = VersionCut })
   unfolding suffix_at
   suffix_cut far =
@@ -33,14 +33,14 @@ module _ (file : List ℕ) (table : ℕ) (suffixes : VersionLookup) (are : AreSu
         let place : entry_at file (section_at file are.section) 2 index ≡ word_at = omega (arith, here, are.placed) in
         suffix_is ∙ (rw few refl ∙ ap (λ (at : ℕ). word_suffix file cap at symbol_at) place)
 
-    -- a number of no version
+    -- a version index of no version
     pub suffix_none : number_in word < 2 → symbol_suffix file cap table symbol_at index ≡ Ok NoSuffix
     unfolding word_suffix
     suffix_none few =
         let low : nat_lt (number_in (versym file word_at)) 2 ≡ true = lt-ltb _ 2 (rw is at few) in
         word_is_at ∙ rw low refl
 
-    -- a number that a record names, or none
+    -- a version index that a record names, or none
     pub suffix_named : 2 ≤ number_in word
         → symbol_suffix file cap table symbol_at index ≡ number_reported file cap (number_in word) word_at (is_default file symbol_at word)
     unfolding word_suffix
@@ -58,7 +58,7 @@ pub named_failed : (fault : Fault) (version : List ℕ) (answer : Result Suffix 
 named_failed (Refused refusal) version answer told default is named = λ other. is ∙ named other default
 named_failed (Source fault at) version answer told default is named = tt
 
--- whether it is the default one, by the word and the symbol
+-- whether it is the default one, by the entry and the symbol
 pub default_of : (file : List ℕ) (symbol_at word : ℕ) (is_defined : Bool) → word ≡ number_in word → is_defined ≡ not (st_shndx file symbol_at == 0)
     → is_default file symbol_at word ≡ is_defined
 default_of file symbol_at word is_defined same defined =

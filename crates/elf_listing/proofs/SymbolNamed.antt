@@ -1,4 +1,4 @@
--- The symbol that a relocation entry names, by what the file's sections answer.
+-- The symbol that a relocation entry names, by what the file's sections give.
 use Rattle.std.proofs.Common.{◌≡◌, ℕ, ◌+◌, ◌*◌, ◌<◌, ◌≤◌, ◌==◌, nat_lt, true, false, List, Result, Ok, Err, IfErr, refl, sym, ap, ◌∙◌, subst, arith}
 use Rattle.std.proofs.lemmas.Bool.{lt-ltb, le-ltb}
 use Rattle.elf_model.specs.Prelude.{DisplayedName, entry_at, entry_count, has_symbols, linked_at, no_name, sh_offset, shown, slice, st_name, strings_of, symbol_named}
@@ -10,12 +10,12 @@ use Rattle.elf_table.specs.declared.fault.Fault.{Fault}
 use Rattle.elf_table.specs.declared.names.NameEnd.{NameEnd}
 use Rattle.elf_listing.proofs.VersionedCosts.{IsReadFault-account}
 
--- what a fault says where there is one, behind reads, in a bound on what is asked for by both
+-- what a fault says if there is one, after reads, in a bound on what both read
 pub says_behind : {X : Type 0} (a b c : CountedState) (result : Result X Fault) (n m k : ℕ) → b.asked + m ≤ a.asked + k → ReadsUpTo a b n → IfErr result (IsReadFault b c m) → IfErr result (IsReadFault a c k)
 says_behind a b c (Ok x) n m k within p q = tt
 says_behind a b c (Err fault) n m k within p q = IsReadFault-account a b c fault n m k within p q
 
--- what is read of a name, where another offset and name are the same
+-- what is read of a name, if another offset and name are the same
 pub read_as : (p q : ℕ × Result DisplayedName Cause) (result : Result NameEnd Fault) (name : List ℕ) → p ≡ q → NameRead q.0 result name q.1 → NameRead p.0 result name p.1
 read_as p q result name same read = let P : ℕ × Result DisplayedName Cause → Type 0 = λ s. NameRead s.0 result name s.1 in subst P (sym same) read
 

@@ -17,7 +17,7 @@ use Rattle.elf_listing.specs.Prelude.{SpentCredit, WroteItems, records_kind, ver
 use Rattle.elf_listing.proofs.SectionShown.{table_passes}
 use Rattle.elf_listing.proofs.ShowLaws.{StopSays-then, Whole-none}
 
--- a call behind reads, in a bound on what is asked for by both
+-- a call after reads, in a bound on what both read
 pub SpentCredit-account : {X : Type 0} (a b c : CountedState) (out : OutState) (x y : ℕ) (result : Result X RunFault) (n m k : ℕ) → b.asked + m ≤ a.asked + k → ReadsUpTo a b n
     → SpentCredit b c out x y result m → SpentCredit a c out x y result k
 SpentCredit-account a b c out x y (Ok v) n m k within p q = (SpendsAtMost-to (SpendsAtMost-then (SpendsAtMost-reads x p) q.0) (omega (arith, within, q.0.account)), tt)
@@ -87,7 +87,7 @@ pub none_are : (kind : VersionKind) (file : List ℕ) (style : ListingStyle) (se
 unfolding versions_rows versions_in visited_rows visited_from
 none_are kind file style section a at has empty = rw (table_passes (records_kind kind) file style section at has (rw empty refl)) (rw empty (Whole-none a))
 
--- what a section's records ask for: each itself, and its name
+-- what a section's records read: each itself, and its name
 pub none_asked : (kind : VersionKind) (each : ℕ) → 0 / record_size kind * each ≡ 0
 none_asked Definition each = omega arith
 none_asked File each = omega arith

@@ -1,4 +1,4 @@
--- What the rows of symbols' versions ask for, and what finds the names of their numbers.
+-- What the rows of symbols' versions read, and what finds the names of their version indices.
 use Rattle.std.proofs.Common.{◌≡◌, ℕ, ◌+◌, ◌*◌, ◌/◌, ◌<◌, ◌≤◌, ◌==◌, ◌&&◌, not, min, if◌then◌else◌, Bool, true, false, inl, inr, List, [], ◌∷◌, Option, None, Some, Result, Ok, Err, refl, sym, ap, ◌∙◌, arith}
 use Rattle.std.specs.Prelude.{is_none}
 use Rattle.elf_model.specs.Prelude.{HeaderTable, SHT_GNU_VERSYM, cost_where, first_typed, has_symbol_table, header_field, is_inside, is_outside, max_records, name_bytes, pass, record_size, refuse, sh_link, sh_offset, sh_size, sh_type, symbol_versions, table_checks_of, table_cost, versioned_cost, walk_cost, walks_cost}
@@ -26,7 +26,7 @@ versioned-within store i size place cap symbols table has held some linked count
     places_decide_nothing bytes 0 size 0 place 2 ∙ ap is_none (passed_first _ _ _ (rw (some, table_of) at held)).0 in
     rw (has, own, some, linked, count, counted) (omega arith)
 
--- what one walk over the first section of a type asks for
+-- what one walk over the first section of a type reads
 pub walk-is : (headers : HeaderTable) (file_size type size bytes i : ℕ) → Some i ≡ first_typed headers type → is_inside headers i file_size ≡ true
     → walk_cost headers file_size type size bytes ≡ header_field headers sh_size i / size * bytes
 unfolding walk_cost
@@ -36,7 +36,7 @@ walk-is headers file_size type size bytes i first inside =
       | Some i ↦ if is_inside headers i file_size then header_field headers sh_size i / size * bytes else 0
     ]) (sym first) ∙ rw inside refl
 
--- bytes that are answered are in the file
+-- bytes that are returned are in the file
 pub range-inside : (size offset n place : ℕ) (table : TableRange) → (n == 0) ≡ false → byte_rows size offset n place ≡ Ok table
     → (not (is_outside size offset n) ≡ true) × (rows offset n 1 ≡ table)
 range-inside size offset n place table some h = by_cases (is_outside size offset n) (rw (some, byte_rows) at h)
@@ -45,7 +45,7 @@ range-inside size offset n place table some h = by_cases (is_outside size offset
     by_cases true h = cc
     by_cases false h = (refl, cc)
 
--- what a fault says behind reads, in a bound on what is asked for by both
+-- what a fault says after reads, in a bound on what both read
 pub IsReadFault-account : (a b c : CountedState) (fault : Fault) (n m k : ℕ) → b.asked + m ≤ a.asked + k → ReadsUpTo a b n → IsReadFault b c m fault → IsReadFault a c k fault
 IsReadFault-account a b c (Refused refusal) n m k within p q = λ budget. let over = q budget in (rw (sym p.keeps.same_size) over.0, ExceedsBudget-then n k within p over.1, over.2)
 IsReadFault-account a b c (Source fault at) n m k within p q = (IsSourceFault-then a.seen b.seen c.seen fault p.keeps q.0, q.1)

@@ -1,4 +1,5 @@
--- The rows of symbols' versions are those of the numbers' names, where the names of all records are shown.
+-- The rows of symbols' versions are those of their version indices' names, if the names of all
+-- records are shown.
 use Rattle.std.proofs.Common.{◌≡◌, ℕ, zero, suc, ◌+◌, ◌*◌, ◌/◌, ◌<◌, ◌≤◌, ◌==◌, ◌&&◌, not, nat_lt, min, if◌then◌else◌, Bool, true, false, ◌⊎◌, inl, inr, List, [], ◌∷◌, ◌++◌, length, Option, None, Some, Result, Ok, Err, refl, sym, ap, ◌∙◌, subst, arith, append-nil}
 use Rattle.std.proofs.lemmas.Bool.{cases_Bool}
 use Rattle.std.proofs.lemmas.List.Elements.{All-nil}
@@ -84,7 +85,7 @@ first-kinds kind type file = by_found (first_of_type file type)
     by_found None = All-nil _
     by_found (Some i) = table-kinds kind file (section_at file i)
 
--- so a number that a definition names is not one of the needs, nor the other way round
+-- so a version index that a definition names is not one of the needs, nor the other way round
 pub some-definitions : (file : List ℕ) (number : ℕ) (definitions : List VisitedRecord) (met : VisitedRecord) → named_by file number (definitions ++ first_versions File SHT_GNU_VERNEED file) ≡ Some met
     → met.kind ≡ Definition → definitions ≡ [] → ⊥
 some-definitions file number definitions met named kind none =
@@ -177,7 +178,7 @@ rows-are file style numbered places are no_fault section at table symbols some p
     (sym (each-equal (λ i. reported_row file style numbered section (sh_offset file at + i * VERSYM_SIZE) i) (symbol_version_row file style section at) 0
     (min (entry_count file at VERSYM_SIZE) (versioned_symbols file at)) (entry-is file style numbered places are no_fault section at))))
 
--- a call that writes behind one that reads, in a bound on both
+-- a call that writes after one that reads, in a bound on both
 pub ListingCalls-behind : {S W X Y : Type 0} {s : Sources S} {w : Sinks W} (a b c : Listing S W s w) (y : Y) (result : Result X RunFault) (n m k : ℕ) (read shown : Type 0)
     → n + m ≤ k → ListingReads a b (Ok y) n → ListingCalls b c result m read → shown → ListingCalls a c result k shown
 ListingCalls-behind a b c y result n m k read shown within p q is = record {
@@ -187,7 +188,7 @@ ListingCalls-behind a b c y result n m k read shown within p q is = record {
   shows = is;
 }
 
--- a fault that is no check's stops before all items
+-- a fault that is not a check's stops before all items
 pub WroteUntilStop-no-check : (file : List ℕ) (places : List ℕ) (a : OutState) (fault : Fault) (all : List ListingItem) → walks_refusal file ≡ None
     → NumberedOr file places (Err fault) → WroteUntilStop a a (stop_of fault) all
 WroteUntilStop-no-check file places a (Refused refusal) all none is = Ends-first a refusal all (λ other. let some = is other in cc)
@@ -196,7 +197,7 @@ WroteUntilStop-no-check file places a (Source fault at) all none is = WrotePrefi
 pub walks-whole : (file : List ℕ) → AreRecordsWhole file Definition → AreRecordsWhole file File → walks_refusal file ≡ None
 walks-whole file definitions needs = or-none _ _ None definitions needs
 
--- the refusal behind rows that were written
+-- the refusal after rows that were written
 pub Ends-behind : (a b : OutState) (refusal : Refusal) (rows : List ListingItem) → WroteItems a b rows → WroteUntilRefusal a b refusal (rows ++ FaultItem refusal ∷ [])
 Ends-behind a b refusal rows wrote = record {
   front = record { front = rows; rest = FaultItem refusal ∷ []; split = refl; takes = wrote.takes; no_fault = wrote.no_fault };

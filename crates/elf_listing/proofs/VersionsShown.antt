@@ -15,7 +15,7 @@ use Rattle.elf_note.proofs.TakenLaws.{going-did, unread-fewer}
 use Rattle.elf_listing.specs.Prelude.{WrittenBefore, WroteItems, WrotePrefix, WroteUntilStop, versions_items}
 use Rattle.elf_listing.proofs.NotesShown.{before_more, before_stopped}
 
--- the row of a record as it is given
+-- the row of a record as returned
 pub record_is : (file : List ℕ) (style : ListingStyle) (section : ℕ) (strings : List ℕ) (met : VisitedRecord) (given : VersionRecord) → IsVersion file met given
     → version_row file style section strings met
     ≡ chosen_row style.choice (version_prefix style.format given.kind section given.number given.flags given.hash) given.named_at (shown strings given.name style.cap)
@@ -29,19 +29,19 @@ record_is file style section strings met given is =
     let name = is.name in
     rw (kind, number, flags, hash, place, name) refl
 
--- a record, and what is left behind it
+-- a record, and what is left after it
 pub record_left : (file : List ℕ) (style : ListingStyle) (section : ℕ) (strings : List ℕ) (met : VisitedRecord) (left : Versions)
     → versions_items file style section strings (with_visited met left)
     ≡ version_row file style section strings met ++ versions_items file style section strings left
 unfolding visited_rows
 record_left file style section strings met left = append_assoc (version_row file style section strings met) (visited_rows file style section strings left.met) (end_rows left.cut)
 
--- what is left where none is
+-- what is left if there is none
 none_left : (file : List ℕ) (style : ListingStyle) (section : ℕ) (strings : List ℕ) (cut : Option Refusal) → versions_items file style section strings (no_versions cut) ≡ end_rows cut
 unfolding visited_rows
 none_left file style section strings cut = refl
 
--- behind the last record
+-- after the last record
 pub records_end : {a b : OutState} (file : List ℕ) (style : ListingStyle) (section : ℕ) (strings : List ℕ) (all : List ListingItem) (left : Versions) → left ≡ no_versions None
     → WrittenBefore a b all (versions_items file style section strings left) → WroteItems a b all
 records_end file style section strings all left none before =
@@ -50,7 +50,7 @@ records_end file style section strings all left none before =
     ∙ append-nil before.done)
     before.whole
 
--- a step over the next record failed: at a read, or where there is no record
+-- a step over the next record failed: at a read, or if there is no record
 pub records_fault : (a b : OutState) (fault : Fault) (file : List ℕ) (style : ListingStyle) (section : ℕ) (strings : List ℕ) (all : List ListingItem) (left new : Versions)
     → ReturnsVersion file left new (Err fault) → WrittenBefore a b all (versions_items file style section strings left) → WroteUntilStop a b (stop_of fault) all
 records_fault a b (Refused refusal) file style section strings all left new tells before = record {
@@ -63,7 +63,8 @@ records_fault a b (Refused refusal) file style section strings all left new tell
 records_fault a b (Unread fault at) file style section strings all left new tells before =
     record { front = before.done; rest = versions_items file style section strings left; split = before.split; takes = before.whole.takes; no_fault = before.whole.no_fault }
 
--- a step of a cursor that gave a record: what it read, what may still be asked for, and in a known file the record that was next
+-- a step of a cursor that read a record: what it read, what may still be read, and in a known file
+-- the record that was next
 pub record Given (a b : CountedState) (old new : VersionCursorState) (given : VersionRecord) : Type 0 where
   pub reads : ReadsUpTo a b (unread old - unread new)
   pub account : b.asked + unread new ≤ a.asked + unread old
@@ -88,7 +89,7 @@ step_given a b old new given answer is going did keeps leaves =
       gives = λ file held agrees. rw is at ((did.known file held agrees).tells going);
     }
 
--- the record that was next was shown, and then what is left behind it
+-- the record that was next was shown, and then what is left after it
 pub record_more : (a b c : OutState) (file : List ℕ) (style now : Shape) (section : ℕ) (strings : List ℕ) (all : List ListingItem) (old new : Versions) (given : VersionRecord)
     → now ≡ style → GivesVersion file old new given → WrittenBefore a b all (versions_items file (style_of style) section strings old)
     → ((met : VisitedRecord) → IsVersion file met given → WroteItems b c (version_row file (style_of now) section strings met))
@@ -97,7 +98,7 @@ record_more a b c file style now section strings all old new given same gives be
     before_more _ _ _ _ (ap (versions_items file (style_of style) section strings) gives.first ∙ record_left file (style_of style) section strings gives.met new) before
     (rw same at (shown gives.met gives.is))
 
--- or its row stopped
+-- or its row failed
 pub record_stopped : (a b c : OutState) (stop : RunFault) (file : List ℕ) (style now : Shape) (section : ℕ) (strings : List ℕ) (all : List ListingItem) (old new : Versions) (given : VersionRecord)
     → now ≡ style → GivesVersion file old new given → WrittenBefore a b all (versions_items file (style_of style) section strings old)
     → ((met : VisitedRecord) → IsVersion file met given → WroteUntilStop b c stop (version_row file (style_of now) section strings met)) → WroteUntilStop a c stop all
@@ -105,13 +106,14 @@ record_stopped a b c stop file style now section strings all old new given same 
     before_stopped _ _ _ _ _ _ _ _ (ap (versions_items file (style_of style) section strings) gives.first ∙ record_left file (style_of style) section strings gives.met new) before
     (rw same at (shown gives.met gives.is))
 
--- the account of a walk: what was asked for, what the cursor may still ask for, and the names of the records that are left
+-- the account of a walk: what was read, what the cursor may still read, and the names of the
+-- records that are left
 pub records_account : (u0 u1 l0 l1 own before after credit later bound : ℕ) → l1 + 1 ≡ l0 → after + u1 ≤ before + u0 → later ≤ after + (credit + own)
     → before + credit + (u0 + l0 * own) ≤ bound → later + (u1 + l1 * own) ≤ bound
 records_account u0 u1 l0 l1 own before after credit later bound less step more within =
     let product = ap (λ (n : ℕ). n * own) less in omega arith
 
--- what a record's name may ask for is left in the bound
+-- what a record's name may read is left in the bound
 pub record_pays : (u0 u1 l0 l1 own before after credit bound : ℕ) → l1 + 1 ≡ l0 → after + u1 ≤ before + u0 → before + credit + (u0 + l0 * own) ≤ bound → after + credit + own ≤ bound
 record_pays u0 u1 l0 l1 own before after credit bound less step within =
     let product = ap (λ (n : ℕ). n * own) less in omega arith

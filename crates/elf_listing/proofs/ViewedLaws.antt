@@ -1,4 +1,5 @@
--- Program headers that are loaded stay those of a source that is read, and are checked where a style goes by them.
+-- Program headers that are loaded remain those of a source that is read, and are checked if a style
+-- uses them.
 use Rattle.std.proofs.Common.{◌≡◌, ℕ, ◌==◌, ◌&&◌, ◌||◌, Bool, true, false, List, [], None, if◌then◌else◌, refl, ap, ◌∙◌, sym, eq-eqb}
 use Rattle.elf_model.specs.Prelude.{DYNAMIC, ListingStyle, NOTES, SEGMENTS, e_shnum, first_refusal, has, needs_segments, overlap_checks, view_checks}
 use Rattle.elf_source.specs.Source.{CountedState, ReadsUpTo}
@@ -8,12 +9,12 @@ use Rattle.elf_listing.specs.Viewed.{IsViewed, needs_segment_view, viewed_header
 pub still_viewed : {a b : CountedState} {n : ℕ} (loaded : LoadedFile) (store : StoreState) → ReadsUpTo a b n → IsViewed a.seen.file loaded store → IsViewed b.seen.file loaded store
 still_viewed loaded store p viewed = record { all = viewed.all; held = λ file is. viewed.held file (sym p.keeps.same_file ∙ is) }
 
--- a style does not go by them
+-- a style does not use them
 pub not_by : (by : Bool) → by ≡ false → by ≡ true → ⊥
 not_by true n b = cc
 not_by false n b = cc
 
--- where the style goes by them the file has no sections, and where the parts need them they are loaded
+-- if the style uses them the file has no sections, and if the parts need them they are loaded
 needed : (file : List ℕ) (parts : ℕ) (loaded : LoadedFile) (store : StoreState) → HoldsSectionHeaders file loaded store → e_shnum file ≡ 0
     → needs_segments file parts ≡ needs_segment_view parts loaded
 needed file parts loaded store belongs none =

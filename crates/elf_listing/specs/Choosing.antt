@@ -2,6 +2,6 @@
 use Rattle.std.specs.Prelude.{◌≡◌, Bool}
 use Rattle.elf_options.specs.declared.caps.ListingStyle.{ListingStyle}
 
--- rows are chosen by their names, or every row is shown, as a style has it
+-- rows are selected by name, or every row is shown, as a style says
 abbrev pub ShowsRows : Bool → ListingStyle → Type 0
 ShowsRows by_name style = by_name ≡ style.choice.by_name

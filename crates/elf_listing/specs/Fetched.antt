@@ -1,4 +1,4 @@
--- What a call did that reads the name that an entry refers to.
+-- The effect of a call that reads the name that an entry refers to.
 use Rattle.std.specs.Prelude.{ℕ, ◌≡◌, ◌+◌, ◌==◌, not, false, List, Option, Some, Result, Ok, Err, IfOk}
 use Rattle.elf_model.specs.Prelude.{SHN_UNDEF, SYMBOL_SIZE, entry_at, linked_at, name_bytes, st_shndx, symbol_named}
 use Rattle.elf_source.specs.declared.source.Source.{Ghosts as Sources}
@@ -15,24 +15,25 @@ use Rattle.elf_listing.specs.declared.dynamic_row.DynamicStringTable.{DynamicStr
 use Rattle.elf_listing.specs.declared.listing.Listing.{Listing}
 use Rattle.elf_listing.specs.declared.suffixed_entries.RelocationName.{RelocationName}
 
--- the name at an index of a string table, for the entry at an offset; without a table it is empty
+-- the name at an index of a string table, for the entry at an offset; it is empty without a table
 pub record FetchesName {S W : Type 0} {s : Sources S} {w : Sinks W} (old new : Listing S W s w) (result : Result NameEnd Fault) (names : Option StringTableRange) (off at : ℕ) : Type 0 where
   pub fetches : ListingReads old new result (name_cost names old.style.cap.bytes)
   pub read : (file : List ℕ) → old.src.now.seen.file ≡ Some file → NameRead at result new.name (shown_in file names off old.style.cap.bytes)
 
--- the name of the symbol of an index, for the entry at an offset; symbol 0 has none, and for it nothing is read
+-- the name of the symbol at an index, for the entry at an offset; symbol 0 has none, and nothing is
+-- read for it
 pub record FetchesSymbol {S W : Type 0} {s : Sources S} {w : Sinks W} (old new : Listing S W s w) (result : Result NameEnd Fault) (linked : Option (TableRange × StringTableRange)) (symbol at : ℕ) : Type 0 where
   pub fetches : ListingReads old new result (SYMBOL_SIZE + name_bytes old.style.cap.bytes)
   pub unnamed : symbol ≡ 0 → new.src.now ≡ old.src.now
   pub read : (file : List ℕ) (header : ℕ) → old.src.now.seen.file ≡ Some file → RefersTo file header linked
       → NameRead (symbol_named file old.style.cap.bytes header at symbol).0 result new.name (symbol_named file old.style.cap.bytes header at symbol).1
 
--- how a name ends that was read with whether its symbol is defined
+-- how a name ends that was read along with whether its symbol is defined
 abbrev pub end_read : Result RelocationName Fault → Result NameEnd Fault
 end_read (Ok symbol) = Ok symbol.end
 end_read (Err fault) = Err fault
 
--- the name of the symbol of an index, and whether the symbol is defined; symbol 0 has none
+-- the name of the symbol at an index, and whether the symbol is defined; symbol 0 has none
 pub record FetchesLinked {S W : Type 0} {s : Sources S} {w : Sinks W} (old new : Listing S W s w) (result : Result RelocationName Fault) (linked : Option (TableRange × StringTableRange)) (symbol at : ℕ) : Type 0 where
   pub fetches : ListingReads old new result (SYMBOL_SIZE + name_bytes old.style.cap.bytes)
   pub read : (file : List ℕ) (header : ℕ) → old.src.now.seen.file ≡ Some file → RefersTo file header linked
@@ -40,7 +41,7 @@ pub record FetchesLinked {S W : Type 0} {s : Sources S} {w : Sinks W} (old new :
   pub defined : (file : List ℕ) (header : ℕ) → old.src.now.seen.file ≡ Some file → RefersTo file header linked → (symbol == 0) ≡ false
       → IfOk result (λ read. read.is_defined ≡ not (st_shndx file (entry_at file (linked_at file header) SYMBOL_SIZE symbol) == SHN_UNDEF))
 
--- the string of the dynamic entry at an offset; it is empty where the entry tells of none
+-- the string of the dynamic entry at an offset; it is empty if the entry refers to none
 pub record FetchesString {S W : Type 0} {s : Sources S} {w : Sinks W} (old new : Listing S W s w) (result : Result NameEnd Fault) (entry : Dyn) (strings : DynamicStringTable) (at : ℕ) : Type 0 where
   pub fetches : ListingReads old new result (name_bytes old.style.cap.bytes)
   pub read : (file : List ℕ) → old.src.now.seen.file ≡ Some file → AreOf file strings → IsDyn file at entry

@@ -1,4 +1,4 @@
--- What a call did that lists the tables of a file, part by part and header by header.
+-- The effect of a call that lists the tables of a file, part by part and header by header.
 use Rattle.std.specs.Prelude.{ℕ, ◌+◌, ◌++◌, List, Result}
 use Rattle.elf_model.specs.Prelude.{ListingItem, ListingStyle, SEGMENTS, e_phnum, each, segment_row, table_items, where_asked}
 use Rattle.elf_options.specs.Permitted.{style_of}
@@ -11,29 +11,29 @@ use Rattle.elf_listing.specs.Shows.{ListingCalls, ListingWrote}
 use Rattle.elf_listing.specs.declared.listing.Listing.{Listing}
 use Rattle.elf_listing.specs.declared.parts.Part.{Part}
 
--- a part of the header of an index
+-- one part of the header at an index
 abbrev pub ListsHeader : {S W X : Type 0} {s : Sources S} {w : Sinks W} → Part → Listing S W s w → Listing S W s w → Result X RunFault → ℕ → Type 0
 ListsHeader part old new result i =
     let listed = listed_by part in
     ListingCalls old new result (listed.cost old.file.loaded old.file.store.now old.style.cap.bytes i) (ListingWrote old new result (λ file. listed.items file (style_of old.style) i))
 
--- a part of each header
+-- one part of each header
 abbrev pub ListsPart : {S W X : Type 0} {s : Sources S} {w : Sinks W} → Part → Listing S W s w → Listing S W s w → Result X RunFault → Type 0
 ListsPart part old new result =
     ListingCalls old new result (part_cost part old.file.loaded old.file.store.now old.style.cap.bytes)
     (ListingWrote old new result (part_items part (style_of old.style) ((listed_by part).count old.file.store.now)))
 
--- the items of a part, where the parts have it
+-- the items of a part, if it is one of the given parts
 abbrev pub asked_items : ℕ → Part → StoreState → ListingStyle → List ℕ → List ListingItem
 asked_items parts part store style file = where_asked parts (listed_by part).bit (part_items part style ((listed_by part).count store) file)
 
--- a part, where the parts have it
+-- a part, if it is one of the given parts
 abbrev pub ListsAsked : {S W X : Type 0} {s : Sources S} {w : Sinks W} → ℕ → Part → Listing S W s w → Listing S W s w → Result X RunFault → Type 0
 ListsAsked parts part old new result =
     ListingCalls old new result (asked_cost parts part old.file.loaded old.file.store.now old.style.cap.bytes)
     (ListingWrote old new result (asked_items parts part old.file.store.now (style_of old.style)))
 
--- two parts, one behind the other
+-- two parts, one after the other
 abbrev pub ListsPair : {S W X : Type 0} {s : Sources S} {w : Sinks W} → ℕ → Part → Part → Listing S W s w → Listing S W s w → Result X RunFault → Type 0
 ListsPair parts first second old new result =
     let loaded = old.file.loaded in
@@ -43,13 +43,13 @@ ListsPair parts first second old new result =
     ListingCalls old new result (asked_cost parts first loaded store cap + asked_cost parts second loaded store cap)
     (ListingWrote old new result (λ file. asked_items parts first store style file ++ asked_items parts second store style file))
 
--- the program headers, where the parts have them
+-- the program headers, if they are among the parts
 abbrev pub ListsSegments : {S W X : Type 0} {s : Sources S} {w : Sinks W} → ℕ → Listing S W s w → Listing S W s w → Result X RunFault → Type 0
 ListsSegments parts old new result =
     ListingCalls old new result (segments_listed parts old.file.loaded)
     (ListingWrote old new result (λ file. where_asked parts SEGMENTS (each (segment_row file (style_of old.style)) 0 (e_phnum file))))
 
--- all tables that the parts have
+-- all tables among the parts
 abbrev pub ListsTables : {S W X : Type 0} {s : Sources S} {w : Sinks W} → ℕ → Listing S W s w → Listing S W s w → Result X RunFault → Type 0
 ListsTables parts old new result =
     ListingCalls old new result (tables_listed parts old.file.loaded old.file.store.now old.style.cap.bytes old.style.versions)

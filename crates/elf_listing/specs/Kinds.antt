@@ -26,7 +26,7 @@ row_size (Versions section numbered) = VERSYM_SIZE
 row_size (SuffixedSymbols section names suffixes) = SYMBOL_SIZE
 row_size (SuffixedRelocations section linked suffixes) = RELA_SIZE
 
--- how many bytes a row asks for at most beside its own
+-- how many bytes a row reads at most besides its own
 abbrev pub own_cost : RowLayout → ℕ → ℕ
 own_cost Segments cap = 0
 own_cost (Symbols section names) cap = name_bytes cap
@@ -36,11 +36,11 @@ own_cost (Versions section numbered) cap = name_bytes cap
 own_cost (SuffixedSymbols section names suffixes) cap = name_bytes cap + (VERSYM_SIZE + name_bytes cap)
 own_cost (SuffixedRelocations section linked suffixes) cap = SYMBOL_SIZE + name_bytes cap + (VERSYM_SIZE + name_bytes cap)
 
--- how many bytes the rows of a table ask for at most
+-- how many bytes the rows of a table read at most
 abbrev pub rows_cost : RowLayout → TableRange → ℕ → ℕ
 rows_cost kind table cap = table.count * (row_size kind + own_cost kind cap)
 
--- the items of the row of an index, in a table at an offset
+-- the items of the row at an index, in a table at an offset
 abbrev pub row_items : RowLayout → List ℕ → ListingStyle → ℕ → ℕ → List ListingItem
 row_items Segments file style table_at index = segment_row file style index
 row_items (Symbols section names) file style table_at index = symbol_row file style section (section_at file section) index
@@ -61,8 +61,8 @@ KindWithin size (Versions section numbered) = NumberedWithin size numbered.now
 KindWithin size (SuffixedSymbols section names suffixes) = StringsInBounds size names × SuffixesWithin size suffixes.now
 KindWithin size (SuffixedRelocations section linked suffixes) = IfSome linked (SymbolTableInBounds size) × SuffixesWithin size suffixes.now
 
--- a table at an offset is one of the file: it stands where the file's header or section tells, the tables that its names
--- are read from are those that the section refers to
+-- a table at an offset is one of the file: it is where the file's header or section says, and the
+-- tables that its names are read from are those that the section refers to
 abbrev pub KindOf : List ℕ → ℕ → RowLayout → Type 0
 KindOf file table_at Segments = table_at ≡ e_phoff file
 KindOf file table_at (Symbols section names) =
@@ -88,32 +88,35 @@ IndexFits (Versions section numbered) index = Unit {0}
 IndexFits (SuffixedSymbols section names suffixes) index = Unit {0}
 IndexFits (SuffixedRelocations section linked suffixes) index = Unit {0}
 
--- a table of the rows of a kind, which lies within a source of this size with what it refers to
+-- a table of rows of a kind, which lies within a source of this size together with the tables it
+-- refers to
 pub record IsTableOf (size : ℕ) (kind : RowLayout) (table : TableRange) : Type 0 where
   pub entry : table.entry ≡ row_size kind
   pub rows : TableInBounds size table
   pub names : KindWithin size kind
   pub fits : (index : ℕ) → index < table.count → IndexFits kind index
 
--- a row is the one of its index in a file's table at an offset
+-- a row is the one at its index in a file's table at an offset
 pub record IsRowOf (file : List ℕ) (table_at : ℕ) (kind : RowLayout) (row : Row) : Type 0 where
   pub bytes : row.bytes.now ≡ slice file row.at (row_size kind)
   pub here : row.at ≡ table_at + row.index * row_size kind
 
--- a row is one of a kind: it is whole, its index fits, and the tables that its names are read from lie within a source of this size
+-- a row is one of a kind: it is whole, its index fits, and the tables that its names are read from
+-- lie within a source of this size
 pub record RowFits (size : ℕ) (kind : RowLayout) (row : Row) : Type 0 where
   pub whole : length row.bytes.now ≡ row_size kind
   pub within : KindWithin size kind
   pub fits : IndexFits kind row.index
 
--- what a call did that shows a row: where the row is the file's, its items
+-- the effect of a call that shows a row: if the row is the file's, its items
 abbrev pub ListsRow : {S W X : Type 0} {s : Sources S} {w : Sinks W} → Listing S W s w → Listing S W s w → Result X RunFault → RowLayout → Row → Type 0
 ListsRow old new result kind row =
     ListingCalls old new result (own_cost kind old.style.cap.bytes)
     ((file : List ℕ) → old.src.now.seen.file ≡ Some file → (table_at : ℕ) → KindOf file table_at kind → IsRowOf file table_at kind row
     → WroteSome old.out.now new.out.now result (row_items kind file (style_of old.style) table_at row.index))
 
--- what a call did that shows the rows of a table: where the table is the file's, the items of all that are listed
+-- the effect of a call that shows the rows of a table: if the table is the file's, the items of all
+-- that are listed
 abbrev pub ListsRows : {S W X : Type 0} {s : Sources S} {w : Sinks W} → Listing S W s w → Listing S W s w → Result X RunFault → RowLayout → TableRange → Type 0
 ListsRows old new result kind table =
     ListingCalls old new result (rows_cost kind table old.style.cap.bytes)

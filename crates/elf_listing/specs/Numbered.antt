@@ -1,4 +1,4 @@
--- Where the names of the numbers of versions are.
+-- Where the names of version indices are.
 use Rattle.std.specs.Prelude.{ℕ, ◌≡◌, nat_lt, if◌then◌else◌, List, Some, Result, Err}
 use Rattle.elf_model.specs.Prelude.{DisplayedName, ListingItem, ListingStyle, chosen_row, name_bytes, no_name, number_in, shown, symbol_version_prefix, versym}
 use Rattle.elf_model.specs.declared.causes.Cause.{Cause}
@@ -18,7 +18,8 @@ use Rattle.elf_listing.specs.declared.numbered.VersionStrings.{VersionStrings}
 abbrev pub NumberedWithin : ℕ → VersionStrings → Type 0
 NumberedWithin size numbered = StringsInBounds size numbered.defined × StringsInBounds size numbered.needed
 
--- the name of a number, where it is told to be: 0 and 1 have none, and one that no record names is refused
+-- the name of a version index, at its given location: 0 and 1 have none, and one that no record
+-- names is refused
 unfoldable pub version_told : VersionStrings → List ℕ → (cap number : ℕ) → Result DisplayedName Cause
 version_told numbered file cap number =
     if nat_lt number 2 then no_name
@@ -28,13 +29,14 @@ version_told numbered file cap number =
       | Needed index ↦ shown (strings_in file numbered.needed) index cap
     ]
 
--- the row of the version of a symbol, whose entry stands at an offset, with that name: its fault is at the entry
+-- the row of the version of a symbol, whose entry is at an offset, with that name: its fault is at
+-- the entry
 unfoldable pub reported_row : List ℕ → ListingStyle → VersionStrings → (section entry_at index : ℕ) → List ListingItem
 reported_row file style numbered section entry_at index =
     let word = versym file entry_at in
     chosen_row style.choice (symbol_version_prefix style.format section index word) entry_at (version_told numbered file style.cap (number_in word))
 
--- what a call did that reads the name of a number, for the entry at an offset
+-- the effect of a call that reads the name of a version index, for the entry at an offset
 pub record FetchesVersion {S W : Type 0} {s : Sources S} {w : Sinks W} (old new : Listing S W s w) (result : Result NameEnd Fault) (numbered : VersionStrings) (number at : ℕ) : Type 0 where
   pub fetches : ListingReads old new result (name_bytes old.style.cap.bytes)
   pub read : (file : List ℕ) → old.src.now.seen.file ≡ Some file → NameRead at result new.name (version_told numbered file old.style.cap.bytes number)

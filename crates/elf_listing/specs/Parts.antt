@@ -1,4 +1,5 @@
--- The parts of a listing behind the file header: what is listed of each section, and what it asks for.
+-- The parts of a listing after the file header: what is listed of each section, and how much is
+-- read.
 use Rattle.std.specs.Prelude.{ℕ, ◌+◌, ◌*◌, ◌==◌, ◌&&◌, ◌≡◌, not, Bool, true, false, List, Option, None, Some, Result}
 use Rattle.elf_model.specs.Prelude.{DYNAMIC, DisplayedName, HeaderTable, ListingItem, ListingStyle, NOTES, RELOCS, SECTIONS, SEGMENTS, SYMBOLS, TableKind, cost_where, each, fault_of, has, held_headers, name_bytes, no_name, records_rows, relocations, relocations_with_versions, section_at, section_dynamic, section_notes, section_row, segment_at, segment_dynamic, segment_notes, segment_row, shown, suffixed_symbols, sum_over, symbol_versions, symbols, table_cost, table_rows, version_definitions, version_needs}
 use Rattle.elf_model.specs.declared.causes.Cause.{Cause}
@@ -6,8 +7,9 @@ use Rattle.elf_table.specs.Prelude.{LoadedFile, StoreState, StringTableRange, ro
 use Rattle.elf_listing.specs.declared.parts.Part.{Part}
 use Rattle.elf_listing.specs.declared.parts.Part.TheVariants.{Headers, Segments, Symbols, Relocations, SectionNotes, SegmentNotes, SectionDynamic, SegmentDynamic, Definitions, Needs, SymbolVersions, SuffixedSymbols, SuffixedRelocations}
 
--- WHAT A PART LISTS: its bit among the parts of a listing; how many headers it goes over, those in the store; the items of the
--- header of an index, in a file; and how many bytes it asks for at most with its table, by the store
+-- WHAT A PART LISTS: its bit among the parts of a listing; how many headers it iterates over, those
+-- in the store; the items of the header at an index, in a file; and how many bytes it reads at most
+-- with its table, by the store
 pub record PartListed : Type 0 where
   pub bit : ℕ
   pub count : StoreState → ℕ
@@ -38,7 +40,7 @@ of_segments kind = record {
   cost = λ loaded store cap i. table_cost kind (store_segments store) i loaded.size cap;
 }
 
--- the section headers, each with its name; and the program headers, which ask for nothing more
+-- the section headers, each with its name; and the program headers, which read nothing more
 abbrev pub part_of_section_headers : PartListed
 part_of_section_headers = record {
   bit = SECTIONS;
@@ -71,51 +73,52 @@ listed_by SymbolVersions = of_sections symbol_versions
 listed_by SuffixedSymbols = of_sections suffixed_symbols
 listed_by SuffixedRelocations = of_sections relocations_with_versions
 
--- the symbols of sections and their relocation entries, with or without versions behind the names of symbols
+-- the symbols of sections and their relocation entries, with or without versions after the names of
+-- symbols
 abbrev pub symbols_part : Bool → Part
 symbols_part versions = elim versions [ true ↦ SuffixedSymbols | false ↦ Symbols ]
 
 abbrev pub relocations_part : Bool → Part
 relocations_part versions = elim versions [ true ↦ SuffixedRelocations | false ↦ Relocations ]
 
--- what is so before a part is listed of a file that is known, in a style: the versions of symbols are named by definitions and
--- needs whose own rows had no fault
+-- what holds before a part of a known file is listed, in a style: the versions of symbols are named
+-- by definitions and needs whose own rows had no fault
 abbrev pub Awaits : Part → Option (List ℕ) → ListingStyle → Type 0
 Awaits SymbolVersions seen style = (file : List ℕ) → seen ≡ Some file → fault_of (records_rows file style) ≡ None
 Awaits part seen style = Unit {0}
 
--- and before it is listed where some parts have it
+-- the same, if the part is one of the given parts
 abbrev pub AwaitsAsked : ℕ → Part → Option (List ℕ) → ListingStyle → Type 0
 AwaitsAsked parts part seen style = has parts (listed_by part).bit ≡ true → Awaits part seen style
 
--- the items of so many headers
+-- the items of n headers
 abbrev pub part_items : Part → ListingStyle → ℕ → List ℕ → List ListingItem
 part_items part style count file = each ((listed_by part).items file style) 0 count
 
--- the name that an index gives in a string table of the file, as it is shown; empty without a string table
+-- the name at an index in a string table of the file, as shown; empty without a string table
 abbrev pub shown_in : List ℕ → Option StringTableRange → ℕ → ℕ → Result DisplayedName Cause
 shown_in file None off cap = no_name
 shown_in file (Some names) off cap = shown (strings_in file names) off cap
 
--- how many bytes a name in a string table asks for at most: none without one
+-- how many bytes a name in a string table reads at most: none without one
 abbrev pub name_cost : Option StringTableRange → ℕ → ℕ
 name_cost None cap = 0
 name_cost (Some names) cap = name_bytes cap
 
--- how many bytes all headers of a part ask for at most
+-- how many bytes all headers of a part read at most
 abbrev pub part_cost : Part → LoadedFile → StoreState → ℕ → ℕ
 part_cost part loaded store cap = sum_over ((listed_by part).cost loaded store cap) 0 ((listed_by part).count store)
 
--- how many bytes a part asks for, where the parts have it
+-- how many bytes a part reads at most, if it is one of the given parts
 abbrev pub asked_cost : ℕ → Part → LoadedFile → StoreState → ℕ → ℕ
 asked_cost parts part loaded store cap = cost_where (has parts (listed_by part).bit) (part_cost part loaded store cap)
 
--- how many bytes the program headers ask for where they are listed: those in the store none
+-- how many bytes the program headers read if they are listed: none if they are in the store
 abbrev pub segments_listed : ℕ → LoadedFile → ℕ
 segments_listed parts loaded = cost_where (has parts SEGMENTS && not (loaded.header.e_shnum == 0)) (56 * loaded.header.e_phnum)
 
--- how many bytes the tables of a loaded file ask for at most, as far as the parts have them, with or without versions behind
--- the names of symbols
+-- how many bytes the tables of a loaded file read at most, those among the parts, with or without
+-- versions after the names of symbols
 abbrev pub tables_listed : ℕ → LoadedFile → StoreState → (cap : ℕ) → (versions : Bool) → ℕ
 tables_listed parts loaded store cap versions =
     asked_cost parts Headers loaded store cap

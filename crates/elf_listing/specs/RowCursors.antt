@@ -1,4 +1,4 @@
--- What a cursor over the rows of a table that are listed gives, row by row.
+-- What a cursor over the listed rows of a table gives, row by row.
 use Rattle.std.specs.Prelude.{ℕ, suc, ◌≡◌, Bool, true, false, List, [], Option, None, Some, Result, Ok, Err}
 use Rattle.elf_model.specs.Dynamic.{dynamic_count}
 use Rattle.elf_note.specs.DynCursors.{entries_left}
@@ -14,7 +14,7 @@ abbrev pub reading : RowCursor → CursorState
 reading (All cursor) = cursor
 reading (Entries entries) = entries.cursor
 
--- how many rows of a file it still gives
+-- how many rows of a file are left
 abbrev pub rows_to_give : List ℕ → RowCursor → ℕ
 rows_to_give file (All cursor) = cursor.left
 rows_to_give file (Entries entries) = entries_left file entries
@@ -39,18 +39,18 @@ pub record BeginsTable (kind : RowLayout) (table : TableRange) (cursor : RowCurs
   pub failed : (reading cursor).failed ≡ None
   pub rows : (file : List ℕ) → rows_to_give file cursor ≡ rows_listed kind file table
 
--- a step that gives the next row that is listed
+-- a step that reads the next listed row
 pub record GivesListed (file : Option (List ℕ)) (old new : RowCursor) : Type 0 where
   pub gives : GivesRow file (reading old) (reading new)
   pub one_less : (bytes : List ℕ) → file ≡ Some bytes → HoldsRows bytes (reading old) → rows_to_give bytes old ≡ suc (rows_to_give bytes new)
 
--- a step behind the last of them
+-- a step after the last row
 pub record EndsListed (old new : RowCursor) : Type 0 where
   pub unchanged : new ≡ old
   pub not_failed : (reading old).failed ≡ None
   pub none_left : (bytes : List ℕ) → rows_to_give bytes old ≡ 0
 
--- a step of a cursor, where it answers whether it gave a row
+-- a step of a cursor that returns whether there was a row
 abbrev pub AdvancesRows : Option (List ℕ) → RowCursor → RowCursor → Result Bool Fault → Type 0
 AdvancesRows file old new (Ok true) = GivesListed file old new
 AdvancesRows file old new (Ok false) = EndsListed old new

@@ -1,4 +1,4 @@
--- What a call that writes a part of a listing did.
+-- The effect of a call that writes a part of a listing.
 use Rattle.std.specs.Prelude.{ℕ, ◌≡◌, ◌+◌, Bool, true, false, List, ◌∷◌, ◌++◌, None, Some, Result, Ok, Err, IfErr}
 use Rattle.elf_model.specs.Prelude.{DisplayedName, Fault, IsBudgetRefusal, LinePrefix, ListingItem, fault_of, lines_of, named_row}
 use Rattle.elf_model.specs.declared.causes.Cause.{Cause}
@@ -21,7 +21,7 @@ pub record WroteItems (old new : OutState) (items : List ListingItem) : Type 0 w
   pub takes : SinkTakes old new (lines_of items)
   pub no_fault : fault_of items ≡ None
 
--- the lines of a front of the items were written, each whole, and none of the rest
+-- the lines of a prefix of the items were written, each in full, and none of the rest
 pub record WrotePrefix (old new : OutState) (items : List ListingItem) : Type 0 where
   pub front : List ListingItem
   pub rest : List ListingItem
@@ -34,12 +34,13 @@ pub record IsNext (refusal : Refusal) (items : List ListingItem) : Type 0 where
   pub behind : List ListingItem
   pub is_next : items ≡ Fault refusal ∷ behind
 
--- the lines before the first fault were written, and this is the fault; where it is for want of budget, the lines of a front
+-- the lines before the first fault were written, and this is the fault; if it is for lack of
+-- budget, the lines of a prefix
 pub record WroteUntilRefusal (old new : OutState) (refusal : Refusal) (items : List ListingItem) : Type 0 where
   pub front : WrotePrefix old new items
   pub next : (IsBudgetRefusal refusal → ⊥) → IsNext refusal front.rest
 
--- what was written where a listing stops
+-- what was written when a listing stops
 abbrev pub WroteUntilStop : OutState → OutState → RunFault → List ListingItem → Type 0
 WroteUntilStop old new (Refused refusal) items = WroteUntilRefusal old new refusal items
 WroteUntilStop old new (Source fault at) items = WrotePrefix old new items
@@ -50,50 +51,50 @@ abbrev pub WroteSome : {X : Type 0} → OutState → OutState → Result X RunFa
 WroteSome old new (Ok x) items = WroteItems old new items
 WroteSome old new (Err stop) items = WroteUntilStop old new stop items
 
--- what a stop says of the source and the output
+-- what a fault that stops a listing implies for the source and the output
 abbrev pub StopSays : CountedState → CountedState → OutState → ℕ → RunFault → Type 0
 StopSays old new out n (Refused refusal) = IsReadRefusal old new n refusal
 StopSays old new out n (Source fault at) = IsSourceFault old.seen new.seen fault × (at ≡ new.stopped)
 StopSays old new out n (Out fault) = IsOutFault out fault
 
--- a stop is a fault of the output
+-- the fault is one of the output
 abbrev pub IsOfOutput : OutState → RunFault → Type 0
 IsOfOutput out (Refused refusal) = ⊥
 IsOfOutput out (Source fault at) = ⊥
 IsOfOutput out (Out fault) = IsOutFault out fault
 
--- WHAT A CALL COSTS: it asked for at most n bytes, and a stop says what is so
+-- WHAT A CALL COSTS: it requested at most n bytes, and a fault satisfies `StopSays`
 abbrev pub ListingCosts : {X : Type 0} → CountedState → CountedState → OutState → Result X RunFault → ℕ → Type 0
 ListingCosts old new out result n = ReadsUpTo old new n × IfErr result (StopSays old new out n)
 
--- what the calls of a listing keep
+-- what the calls of a listing preserve
 pub record SameFile {S W : Type 0} {s : Sources S} {w : Sinks W} (old new : Listing S W s w) : Type 0 where
   pub same_src : new.src.ghost_name ≡ old.src.ghost_name
   pub same_out : new.out.ghost_name ≡ old.out.ghost_name
   pub same_file : new.file ≡ old.file
   pub same_style : new.style ≡ old.style
 
--- what a call costs that has some credit before it, and some after it: it asked for no more than n bytes and what it took of
--- the credit, and a stop says what is so
+-- what a call costs that has some credit before it, and some after it: it requested at most n bytes
+-- plus the credit it used, and a fault satisfies `StopSays`
 abbrev pub SpentCredit : {X : Type 0} → CountedState → CountedState → OutState → ℕ → ℕ → Result X RunFault → ℕ → Type 0
 SpentCredit old new out before after result n = ReadsOnCredit old new before after n × IfErr result (StopSays old new out (before + n))
 
--- WHAT A CALL OF A LISTING DID. For every source: what was written stays, the listing is still of the same file, and no more than
--- n bytes were asked for. And what it showed
+-- THE EFFECT OF A CALL OF A LISTING. For any source: what was written is kept, the listing is still
+-- of the same file, and at most n bytes were requested. And what it showed
 pub record ListingCalls {S W X : Type 0} {s : Sources S} {w : Sinks W} (old new : Listing S W s w) (result : Result X RunFault) (n : ℕ) (shown : Type 0) : Type 0 where
   pub grows : OutGrows old.out.now new.out.now
   pub keeps : SameFile old new
   pub spent : SpentCredit old.src.now new.src.now new.out.now old.ahead.credit new.ahead.credit result n
   pub shows : shown
 
--- WHAT A CALL THAT WRITES NOTHING DID, for every source: the listing is still of the same file, no more than n bytes were asked
--- for, and a fault says what is so
+-- THE EFFECT OF A CALL THAT WRITES NOTHING, for any source: the listing is still of the same file,
+-- at most n bytes were requested, and a fault satisfies `IsReadFault`
 abbrev pub ListingReads : {S W X : Type 0} {s : Sources S} {w : Sinks W} → Listing S W s w → Listing S W s w → Result X Failure → ℕ → Type 0
 ListingReads old new result n =
     SameFile old new × (new.out.now ≡ old.out.now) × ReadsOnCredit old.src.now new.src.now old.ahead.credit new.ahead.credit n
     × IfErr result (IsReadFault old.src.now new.src.now (old.ahead.credit + n))
 
--- WHAT IT WROTE: where the file of the source is known, its items
+-- WHAT IT WROTE: if the file of the source is known, its items
 abbrev pub ListingWrote : {S W X : Type 0} {s : Sources S} {w : Sinks W} → Listing S W s w → Listing S W s w → Result X RunFault → (List ℕ → List ListingItem) → Type 0
 ListingWrote old new result items = (file : List ℕ) → old.src.now.seen.file ≡ Some file → WroteSome old.out.now new.out.now result (items file)
 
@@ -102,7 +103,8 @@ abbrev pub cut_of : NameEnd → Bool
 cut_of NameWhole = false
 cut_of NameCut = true
 
--- what a call did that writes a line that ends in the name that was read: the line with what is shown of the name
+-- the effect of a call that writes a line that ends in the name that was read: the line with the
+-- shown part of the name
 abbrev pub ListsLine : {S W X : Type 0} {s : Sources S} {w : Sinks W} → Listing S W s w → Listing S W s w → Result X RunFault → LinePrefix → NameEnd → Type 0
 ListsLine old new result front end =
     ListingCalls old new result 0 ((at : ℕ) (answer : Result DisplayedName Cause) → NameRead at (Ok end) old.name answer → WroteSome old.out.now new.out.now result (named_row front at answer))

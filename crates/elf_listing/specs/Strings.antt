@@ -1,4 +1,4 @@
--- The strings that dynamic entries tell of.
+-- The strings that dynamic entries refer to.
 use Rattle.std.specs.Prelude.{ℕ, ◌≡◌, Bool, true, false, List, Result, Ok, Err, IfOk, IfErr}
 use Rattle.elf_model.specs.Prelude.{DisplayedName, d_tag, d_un, is_string_tag, no_name, shown, strings_at}
 use Rattle.elf_model.specs.declared.causes.Cause.{Cause}
@@ -10,36 +10,36 @@ use Rattle.elf_table.specs.declared.fault.Fault.TheVariants.{Refused}
 use Rattle.elf_listing.specs.declared.dynamic_row.DynamicStringTable.{DynamicStringTable}
 use Rattle.elf_listing.specs.declared.dynamic_row.DynamicStringTable.TheVariants.{LinkedSymbolTable, Mapped}
 
--- the string table of the entry at an offset of a file, or the refusal where there is none
+-- the string table of the entry at an offset of a file, or the refusal if there is none
 abbrev pub strings_reported : DynamicStringTable → List ℕ → ℕ → Result (List ℕ) Refusal
 strings_reported (LinkedSymbolTable names) file entry_at = Ok (strings_in file names)
 strings_reported (Mapped view told) file entry_at = strings_at file entry_at told.address told.size
 
--- what the strings are looked for in lies within a source of this size
+-- the tables in which the strings are looked up lie within a source of this size
 abbrev pub AreWithin : ℕ → DynamicStringTable → Type 0
 AreWithin size (LinkedSymbolTable names) = StringsInBounds size names
 AreWithin size (Mapped view told) = view.loaded.size ≡ size
 
--- what the strings are looked for in is of this file
+-- the tables in which the strings are looked up are of this file
 abbrev pub AreOf : List ℕ → DynamicStringTable → Type 0
 AreOf file (LinkedSymbolTable names) = Unit {0}
 AreOf file (Mapped view told) = HoldsProgramHeaders file view.loaded view.store.now
 
--- a string table was found as it is told, or refused
+-- a string table was found as specified, or refused
 abbrev pub StringsFound : List ℕ → Result StringTableRange Failure → Result (List ℕ) Refusal → Type 0
 StringsFound file (Ok names) (Ok table) = strings_in file names ≡ table
 StringsFound file (Ok names) (Err refusal) = ⊥
 StringsFound file (Err fault) (Ok table) = ⊥
 StringsFound file (Err fault) (Err refusal) = fault ≡ Refused refusal
 
--- THE STRING TABLE OF AN ENTRY, which was looked for at its offset: the one that is told, or its refusal; it lies within the source,
--- and a refusal is a check's
+-- THE STRING TABLE OF AN ENTRY, as looked up for its offset: the specified one, or its refusal; it
+-- lies within the source, and a refusal is a check's
 pub record FindsStrings (strings : DynamicStringTable) (at : ℕ) (result : Result StringTableRange Failure) : Type 0 where
   pub told : (file : List ℕ) → AreOf file strings → StringsFound file result (strings_reported strings file at)
   pub within : (size : ℕ) → AreWithin size strings → IfOk result (StringsInBounds size)
   pub refusal : IfErr result IsOfCheck
 
--- the string of the entry at an offset, as it is shown; the refusal where its string table is refused
+-- the string of the entry at an offset, as shown; the refusal if its string table is refused
 abbrev pub string_told_by : Bool → Result (List ℕ) Refusal → (List ℕ → Result DisplayedName Cause) → Result (Result DisplayedName Cause) Refusal
 string_told_by false table name = Ok no_name
 string_told_by true (Err refusal) name = Err refusal

@@ -1,14 +1,14 @@
--- What stands around a version behind a name.
+-- What surrounds a version after a name.
 use Rattle.std.specs.Prelude.{if◌then◌else◌, Bool, List, ℕ, ◌++◌, codes}
 use Rattle.elf_model.specs.declared.formats.Format.TheVariants.{Columns, Object}
 use Rattle.elf_model.specs.declared.formats.Format.{Format}
 
--- what stands between a name and its version
+-- what separates a name and its version
 unfoldable pub before_version : Format → (is_default : Bool) → List ℕ
 before_version Columns is_default = if is_default then codes "@@" else codes "@"
 before_version Object is_default = codes ",\"version\":\""
 
--- what stands behind a version, with the line's end
+-- what follows a version, with the end of the line
 unfoldable pub after_version : Format → (is_cut is_default : Bool) → List ℕ
 after_version Columns is_cut is_default = if is_cut then codes "\\+\n" else codes "\n"
 after_version Object is_cut is_default =

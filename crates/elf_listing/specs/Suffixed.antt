@@ -1,4 +1,5 @@
--- The versions behind the names of symbols: what finds them, and what a call did that reads one.
+-- The versions after the names of symbols: how they are found, and the effect of a call that reads
+-- one.
 use Rattle.std.specs.Prelude.{ℕ, ◌≡◌, ◌+◌, ◌==◌, not, if◌then◌else◌, Bool, false, List, Option, None, Some, Result, Ok, Err, IfOk, IfSome, length, ◌⊎◌}
 use Rattle.elf_model.specs.Prelude.{DisplayedName, EveryRow, HeaderTable, IsBudgetRefusal, LinePrefix, NoSuffix, SHN_UNDEF, SYMBOL_SIZE, Suffix, Suffixed, VERSION_NUMBERS, VERSYM_SIZE, entry_count, first_numbers, name_bytes, section_at, sh_offset, st_shndx, suffixed_row, suffixes_refusal, symbol_suffix, version_numbers_of, walks_cost}
 use Rattle.elf_model.specs.declared.causes.Cause.{Cause}
@@ -18,8 +19,8 @@ use Rattle.elf_listing.specs.declared.listing.Listing.{Listing}
 use Rattle.elf_listing.specs.declared.read_suffix.VersionSuffixEnd.{VersionSuffixEnd}
 use Rattle.elf_listing.specs.declared.suffixes.VersionLookup.{VersionLookup}
 
--- what finds the versions of the symbols of the table of an index: its section of version numbers, and where the names of all
--- numbers are
+-- the version lookup for the symbols of the table at an index: its section of version indices, and
+-- where the names of all indices are
 pub record AreSuffixes (file : List ℕ) (table : ℕ) (suffixes : VersionLookup) : Type 0 where
   pub section : ℕ
   pub found : version_numbers_of file table ≡ Some section
@@ -28,14 +29,14 @@ pub record AreSuffixes (file : List ℕ) (table : ℕ) (suffixes : VersionLookup
   pub counted : suffixes.words.count ≡ entry_count file (section_at file section) VERSYM_SIZE
   pub numbered : AreNumbered file suffixes.numbered suffixes.places
 
--- it lies within a source of this size, and keeps a place for each number
+-- it lies within a source of this size, and keeps a location for each version index
 pub record SuffixesWithin (size : ℕ) (suffixes : VersionLookup) : Type 0 where
   pub entry : suffixes.words.entry ≡ VERSYM_SIZE
   pub words : TableInBounds size suffixes.words
   pub names : NumberedWithin size suffixes.numbered
   pub places : length suffixes.places ≡ VERSION_NUMBERS
 
--- so many bytes are asked for before the first row of a table of so many symbols, and so many for each name
+-- how many bytes are read before the first row of a table of n symbols, and how many for each name
 abbrev pub walks_asked : HeaderTable → (table symbols size : ℕ) → ℕ
 walks_asked headers table symbols size =
     if symbols == 0 then 0 else elim (first_numbers headers table) [ None ↦ 0 | Some i ↦ walks_cost headers size ]
@@ -43,7 +44,7 @@ walks_asked headers table symbols size =
 abbrev pub suffix_bytes : HeaderTable → (table cap : ℕ) → ℕ
 suffix_bytes headers table cap = elim (first_numbers headers table) [ None ↦ 0 | Some i ↦ VERSYM_SIZE + name_bytes cap ]
 
--- what was looked for: it is found, or there is none, or it is refused
+-- the result of the search: the lookup is found, or there is none, or it is refused
 abbrev pub SuffixesOr : List ℕ → ℕ → Result (Option VersionLookup) Fault → Type 0
 SuffixesOr file table (Ok None) =
     (suffixes_refusal file table ≡ None) × ((entry_count file (section_at file table) SYMBOL_SIZE ≡ 0) ⊎ (version_numbers_of file table ≡ None))
@@ -51,46 +52,48 @@ SuffixesOr file table (Ok (Some suffixes)) = (suffixes_refusal file table ≡ No
 SuffixesOr file table (Err (Refused refusal)) = (IsBudgetRefusal refusal → ⊥) → suffixes_refusal file table ≡ Some refusal
 SuffixesOr file table (Err (Source fault at)) = Unit {0}
 
--- what a call did that looks for it, of a table of so many symbols
+-- the effect of a call that looks for it, for a table of n symbols
 pub record FetchesSuffixes {S W : Type 0} {s : Sources S} {w : Sinks W} (old new : Listing S W s w) (result : Result (Option VersionLookup) Fault) (table symbols : ℕ) : Type 0 where
   pub fetches : ListingReads old new result (walks_asked (store_sections old.file.store.now) table symbols old.file.loaded.size)
   pub within : IfOk result (λ found. IfSome found (SuffixesWithin old.src.now.seen.size))
   pub pays : IfOk result (λ found. IfSome found (λ suffixes. (cap : ℕ) → suffix_bytes (store_sections old.file.store.now) table cap ≡ VERSYM_SIZE + name_bytes cap))
   pub read : (file : List ℕ) → old.src.now.seen.file ≡ Some file → symbols ≡ entry_count file (section_at file table) SYMBOL_SIZE → SuffixesOr file table result
 
--- a version was read: nothing, or its name; or it is refused
+-- the result of reading a version: none, its name, or a refusal
 abbrev pub SuffixRead : Result (Option VersionSuffixEnd) Fault → List ℕ → Result Suffix Refusal → Type 0
 SuffixRead (Ok None) version answer = answer ≡ Ok NoSuffix
 SuffixRead (Ok (Some suffix)) version answer = answer ≡ Ok (Suffixed suffix.is_default (shown_by suffix.end version))
 SuffixRead (Err (Refused refusal)) version answer = (IsBudgetRefusal refusal → ⊥) → answer ≡ Err refusal
 SuffixRead (Err (Source fault at)) version answer = Unit {0}
 
--- the name of a number was read, whose word stands at an offset
+-- the name of a version index was read, whose entry is at an offset
 abbrev pub SuffixNamed : Result NameEnd Fault → List ℕ → (Bool → Result Suffix Refusal) → Type 0
 SuffixNamed (Ok end) version answer = (default : Bool) → answer default ≡ Ok (Suffixed default (shown_by end version))
 SuffixNamed (Err (Refused refusal)) version answer = (IsBudgetRefusal refusal → ⊥) → (default : Bool) → answer default ≡ Err refusal
 SuffixNamed (Err (Source fault at)) version answer = Unit {0}
 
--- what a call did that reads the version of the symbol of an index, which is defined or not; the name that was read stays
+-- the effect of a call that reads the version of the symbol at an index, which is defined or not;
+-- the name read before is kept
 pub record FetchesSuffix {S W : Type 0} {s : Sources S} {w : Sinks W} (old new : Listing S W s w) (version : List ℕ) (result : Result (Option VersionSuffixEnd) Fault) (suffixes : VersionLookup) (index : ℕ) (is_defined : Bool) : Type 0 where
   pub fetches : ListingReads old new result (VERSYM_SIZE + name_bytes old.style.cap.bytes)
   pub kept : new.name ≡ old.name
   pub read : (file : List ℕ) → old.src.now.seen.file ≡ Some file → (table symbol_at : ℕ) → AreSuffixes file table suffixes
       → is_defined ≡ not (st_shndx file symbol_at == SHN_UNDEF) → SuffixRead result version (symbol_suffix file old.style.cap.bytes table symbol_at index)
 
--- what stands behind a name, as it was read
+-- what follows a name, as read
 abbrev pub suffix_read : Option VersionSuffixEnd → List ℕ → Suffix
 suffix_read None version = NoSuffix
 suffix_read (Some suffix) version = Suffixed suffix.is_default (shown_by suffix.end version)
 
--- what a call did that writes a line that ends in the name that was read, with what stands behind it
+-- the effect of a call that writes a line that ends in the name that was read, with what follows it
 abbrev pub ListsSuffixed : {S W X : Type 0} {s : Sources S} {w : Sinks W} → Listing S W s w → Listing S W s w → Result X RunFault → LinePrefix → NameEnd → Suffix → Type 0
 ListsSuffixed old new result front end suffix =
     ListingCalls old new result 0
     ((at : ℕ) (answer : Result DisplayedName Cause) → NameRead at (Ok end) old.name answer
     → WroteSome old.out.now new.out.now result (suffixed_row EveryRow front at answer (Ok suffix)))
 
--- what a call did that reads the version of the symbol that a relocation entry names; symbol 0 has none
+-- the effect of a call that reads the version of the symbol that a relocation entry names; symbol 0
+-- has none
 pub record FetchesOfEntry {S W : Type 0} {s : Sources S} {w : Sinks W} (old new : Listing S W s w) (version : List ℕ) (result : Result (Option VersionSuffixEnd) Fault) (suffixes : VersionLookup) (symbol : ℕ) (is_defined : Bool) : Type 0 where
   pub fetches : ListingReads old new result (VERSYM_SIZE + name_bytes old.style.cap.bytes)
   pub kept : new.name ≡ old.name
@@ -98,7 +101,8 @@ pub record FetchesOfEntry {S W : Type 0} {s : Sources S} {w : Sinks W} (old new 
       → ((symbol == 0) ≡ false → is_defined ≡ not (st_shndx file symbol_at == SHN_UNDEF))
       → SuffixRead result version (if symbol == 0 then Ok NoSuffix else symbol_suffix file old.style.cap.bytes table symbol_at symbol)
 
--- what a call did that looks for what finds the versions of the symbols that relocation entries refer to, if they refer to some
+-- the effect of a call that looks for the version lookup of the symbols that relocation entries
+-- refer to, if they refer to any
 abbrev pub linked_count : Option (TableRange × StringTableRange) → ℕ
 linked_count None = 0
 linked_count (Some found) = found.0.count

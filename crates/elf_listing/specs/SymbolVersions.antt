@@ -1,4 +1,4 @@
--- The versions of symbols, shown one after another, and the names of their numbers.
+-- The listing of the versions of symbols, and the names of their version indices.
 use Rattle.std.specs.Prelude.{ℕ, ◌≡◌, ◌+◌, ◌*◌, min, nat_lt, if◌then◌else◌, List, [], ◌++◌, Option, None, Some, Result, Ok, Err, IfOk}
 use Rattle.elf_model.specs.Prelude.{IsBudgetRefusal, ListingItem, ListingStyle, SHT_GNU_VERDEF, SHT_GNU_VERNEED, VERSYM_SIZE, VisitedRecord, all_checks, each, first_of_type, first_refusal, first_strings, first_versions, name_bytes, or_refusal, record_size, refused_row, section_at, section_versions, version_table, walk_cost, walk_refusal, walks_cost}
 use Rattle.elf_model.specs.declared.versions.VersionKind.TheVariants.{Definition, File}
@@ -21,28 +21,30 @@ use Rattle.elf_listing.specs.Versions.{kind_type}
 use Rattle.elf_listing.specs.declared.listing.Listing.{Listing}
 use Rattle.elf_listing.specs.declared.numbered.VersionStrings.{VersionStrings}
 
--- the rows of so many entries of a table, for so many symbols: where a symbol has no entry any more the refusal stands at a place
+-- the rows of n entries of a table, for a number of symbols: if a symbol has no entry, the refusal
+-- is at a place
 unfoldable pub versioned_items : List ℕ → ListingStyle → VersionStrings → (section : ℕ) → TableRange → (symbols place : ℕ) → List ListingItem
 versioned_items file style numbered section table symbols place =
     each (λ i. reported_row file style numbered section (table.at + i * VERSYM_SIZE) i) 0 (min table.count symbols)
     ++ (if nat_lt table.count symbols then refused_row place VersionCut else [])
 
--- what a call did that shows them
+-- the effect of a call that shows them
 abbrev pub ListsVersioned : {S W X : Type 0} {s : Sources S} {w : Sinks W} → Listing S W s w → Listing S W s w → Result X RunFault → ℕ → TableRange → ℕ → VersionStrings → Type 0
 ListsVersioned old new result section table symbols numbered =
     ListingCalls old new result (min table.count symbols * (VERSYM_SIZE + name_bytes old.style.cap.bytes))
     ((file : List ℕ) → old.src.now.seen.file ≡ Some file
     → WroteSome old.out.now new.out.now result (versioned_items file (style_of old.style) numbered section table symbols (section_place old.file.loaded.header section)))
 
--- the checks of the first section that holds records of a kind pass, and no record of it is refused
+-- the checks of the first section that holds records of a kind pass, and none of its records is
+-- refused
 abbrev pub AreRecordsWhole : List ℕ → VersionKind → Type 0
 AreRecordsWhole file kind = walk_refusal kind (kind_type kind) file ≡ None
 
--- the names and the places of some records
+-- the names and the locations of some records
 abbrev pub NumbersTaken : List VersionNameRef → List ℕ → List ℕ → List VisitedRecord → Type 0
 NumbersTaken names places file records = NamesNumbers file records names places
 
--- the records of that section were taken in behind others, and their names are in these strings
+-- the records of that section were added after others, and their names are in these strings
 pub record TakenIn (file : List ℕ) (kind : VersionKind) (records : List VisitedRecord) (after : List ℕ → List VisitedRecord → Type 0) (strings : StringTableRange) : Type 0 where
   pub whole : AreRecordsWhole file kind
   pub names : after file (records ++ first_versions kind (kind_type kind) file)
@@ -53,19 +55,20 @@ TakenOr file kind records after (Ok strings) = TakenIn file kind records after s
 TakenOr file kind records after (Err (Refused refusal)) = (IsBudgetRefusal refusal → ⊥) → walk_refusal kind (kind_type kind) file ≡ Some refusal
 TakenOr file kind records after (Err (Source fault at)) = Unit {0}
 
--- what a call did that takes them in: they are taken in, or what refuses them is told, unless a read fails
+-- the effect of a call that adds them: they are added, or what refuses them is returned, unless a
+-- read fails
 pub record TakesRecords {S W : Type 0} {s : Sources S} {w : Sinks W} (old new : Listing S W s w) (before after : List ℕ → List VisitedRecord → Type 0) (result : Result StringTableRange Fault) (kind : VersionKind) : Type 0 where
   pub fetches : ListingReads old new result (walk_cost (store_sections old.file.store.now) old.file.loaded.size (kind_type kind) (record_size kind) (bytes_each kind))
   pub within : IfOk result (StringsInBounds old.src.now.seen.size)
   pub taken : (file : List ℕ) → old.src.now.seen.file ≡ Some file → (records : List VisitedRecord) → before file records → TakenOr file kind records after result
 
--- the names of all numbers of a file
+-- the names of all version indices of a file
 pub record AreNumbered (file : List ℕ) (numbered : VersionStrings) (places : List ℕ) : Type 0 where
   pub names : NamesNumbers file (first_versions Definition SHT_GNU_VERDEF file ++ first_versions File SHT_GNU_VERNEED file) numbered.names places
   pub defined : (first_versions Definition SHT_GNU_VERDEF file ≡ [] → ⊥) → strings_in file numbered.defined ≡ first_strings SHT_GNU_VERDEF file
   pub needed : (first_versions File SHT_GNU_VERNEED file ≡ [] → ⊥) → strings_in file numbered.needed ≡ first_strings SHT_GNU_VERNEED file
 
--- what refuses them, if anything does: the definitions, else the needs
+-- what refuses them, if anything does: the definitions, otherwise the needs
 abbrev pub walks_refusal : List ℕ → Option Refusal
 walks_refusal file = or_refusal (walk_refusal Definition SHT_GNU_VERDEF file) (walk_refusal File SHT_GNU_VERNEED file)
 
@@ -74,7 +77,7 @@ NumberedOr file places (Ok numbered) = (walks_refusal file ≡ None) × AreNumbe
 NumberedOr file places (Err (Refused refusal)) = (IsBudgetRefusal refusal → ⊥) → walks_refusal file ≡ Some refusal
 NumberedOr file places (Err (Source fault at)) = Unit {0}
 
--- what a call did that finds them
+-- the effect of a call that finds them
 pub record FetchesNumbers {S W : Type 0} {s : Sources S} {w : Sinks W} (old new : Listing S W s w) (places : List ℕ) (result : Result VersionStrings Fault) : Type 0 where
   pub fetches : ListingReads old new result (walks_cost (store_sections old.file.store.now) old.file.loaded.size)
   pub within : IfOk result (NumberedWithin old.src.now.seen.size)

@@ -1,4 +1,5 @@
--- The program headers that are loaded beside a file: where they describe its tables.
+-- The program headers that are loaded besides a file's section headers: where they describe its
+-- tables.
 use Rattle.std.specs.Prelude.{ℕ, ◌≡◌, ◌*◌, ◌<◌, ◌≤◌, ◌==◌, ◌&&◌, ◌||◌, Bool, List, Option, None, Some, Result, Ok, Err, if◌then◌else◌}
 use Rattle.elf_model.specs.Prelude.{Check, DYNAMIC, IsBudgetRefusal, NOTES, SEGMENTS, cost_where, first_refusal, has}
 use Rattle.elf_source.specs.Source.{CountedState}
@@ -14,29 +15,32 @@ needs_segment_view parts loaded = loaded.header.e_shnum == 0 && (has parts SEGME
 abbrev pub viewed_headers : ℕ → LoadedFile → ℕ
 viewed_headers parts loaded = if needs_segment_view parts loaded then loaded.header.e_phnum else 0
 
--- how many bytes that asks for
+-- how many bytes that reads
 abbrev pub view_cost : ℕ → LoadedFile → ℕ
 view_cost parts loaded = cost_where (needs_segment_view parts loaded) (56 * loaded.header.e_phnum)
 
--- where program headers are loaded all are, and they are those of the source's file
+-- if program headers are loaded, all of them are, and they are those of the source's file
 pub record IsViewed (file : Option (List ℕ)) (loaded : LoadedFile) (store : StoreState) : Type 0 where
   pub all : 0 < store.segments → store.segments ≡ loaded.header.e_phnum
   pub held : (bytes : List ℕ) → file ≡ Some bytes → HoldsSegments bytes store
 
--- THE PROGRAM HEADERS WERE READ AND CHECKED: all checks pass; or a read failed, or the refusal is the first of them that fails
+-- THE PROGRAM HEADERS WERE READ AND CHECKED: all checks pass; or a read failed, or the refusal is
+-- the first check that fails
 abbrev pub ChecksView : List Check → Result (Unit {0}) Fault → Type 0
 ChecksView checks (Ok passed) = first_refusal checks ≡ None
 ChecksView checks (Err (Refused refusal)) = (IsBudgetRefusal refusal → ⊥) → first_refusal checks ≡ Some refusal
 ChecksView checks (Err (Source fault at)) = Unit {0}
 
--- what is so before the program headers of a file are loaded: its section headers are in the store, which has room
+-- what holds before the program headers of a file are loaded: its section headers are in the store,
+-- which has a slot for each program header
 pub record AwaitsView (size : ℕ) (loaded : LoadedFile) (store : StoreState) : Type 0 where
   pub whole : store.loaded ≡ loaded.header.e_shnum
   pub none : store.segments ≡ 0
   pub room : loaded.header.e_phnum ≤ store.slots
   pub within : SegmentsInBounds size loaded.header
 
--- what is so where the tables of a file are listed: what was loaded is its source's, with the program headers where the parts need them
+-- what holds when the tables of a file are listed: what was loaded is its source's, with the
+-- program headers if the parts need them
 pub record IsReady (parts : ℕ) (src : CountedState) (loaded : LoadedFile) (store : StoreState) : Type 0 where
   pub opened : IsOpen src loaded store
   pub whole : store.loaded ≡ loaded.header.e_shnum

@@ -1,25 +1,25 @@
-//! The fixed buffers that a listing takes.
+//! The fixed-size buffers of a listing.
 
-/// The size in bytes of all fixed buffers that [`crate::show`] holds, each once, at most 16,384:
-/// those of reading a file, of reading names and symbols ahead, of a note, and of putting a line
-/// together.
+/// The total size in bytes of the fixed-size buffers that [`crate::show`] holds, each counted once,
+/// at most 16,384: those for reading a file, for reading names and symbols ahead, for a note, and
+/// for composing a line.
 pub const FIXED_BYTES: usize = elf_table::TABLE_BUFFER_BYTES
     + elf_note::NAMES_BUFFER_BYTES
     + elf_note::NOTES_BUFFER_BYTES
     + elf_format::LINES_BUFFER_BYTES
     + DESCRIPTOR_TEXT_BYTES;
 
-/// The size in bytes of the digits of a note's descriptor, two for each byte that is shown.
+/// The size in bytes of the hexadecimal digits of a note's descriptor, two per byte shown.
 const DESCRIPTOR_TEXT_BYTES: usize = 64;
 
-/// The size in bytes of what [`crate::show`] holds beside where it lists the versions of symbols: the
-/// place of the name of each number, 8,192 at most. The bytes of a table of records are held where
-/// those of a table's rows are else.
+/// The size in bytes of what [`crate::show`] also holds if it lists symbol versions: the location
+/// of the name of each version index, at most 8,192. The bytes of a table of version records are
+/// held in the buffer that other tables use for their rows.
 pub const VERSION_BYTES: usize = elf_note::NUMBER_NAMES_BYTES;
 
-/// The size in bytes of what [`crate::show`] holds beside these where versions stand behind the names
-/// of symbols: where the file tells of each number's name, and the bytes of a version's name.
+/// The size in bytes of what [`crate::show`] also holds if versions follow the names of symbols:
+/// the location of the record that names each version index, and the bytes of a version's name.
 pub const SUFFIX_BYTES: usize = 8 * elf_note::ALL_PLACES + SUFFIX_NAME_BYTES;
 
-/// The size in bytes of the buffer of a version's name.
+/// The size in bytes of the buffer for a version's name.
 const SUFFIX_NAME_BYTES: usize = 4_096;

@@ -1,4 +1,4 @@
-//! The row of a dynamic entry, shown.
+//! The row of a dynamic entry.
 ghost use Rattle.std.specs.Prelude.{◌≡◌, ℕ, List};
 ghost use Rattle.elf_model.specs.Prelude.{d_tag, is_string_tag};
 ghost use Rattle.elf_record.specs.Dyn.{IsDyn};
@@ -16,16 +16,16 @@ use elf_record::{Cause, Dyn};
 use elf_source::{Sink, Source};
 use elf_table::{ExecutionView, Fault, NameEnd, Names, Row, RunFault, refused};
 
-/// Where the strings of dynamic entries are looked for.
+/// Where to look up the strings of dynamic entries.
 #[derive(Clone, Copy)]
 pub enum DynamicStringTable<'f> {
     /// In the string table that their section links to.
     LinkedSymbolTable(Names),
-    /// Where a segment loads them, at the address that the entries tell.
+    /// Where a segment loads them, at the address that the entries give.
     Mapped {
         /// The file with its program headers.
         view: ExecutionView<'f>,
-        /// The address and the size that the entries tell.
+        /// The address and the size that the entries give.
         told: DynamicStrings,
     },
 }
@@ -50,9 +50,8 @@ impl<S: Source, W: Sink> Listing<'_, '_, '_, '_, S, W> {
         self.named_line(front, end)
     }
 
-    /// Reads the string that an entry at the file offset `at` tells of, which is empty where it
-    /// tells of none: only for one that does the string table is looked for (gABI 5, Dynamic
-    /// Section).
+    /// Reads the string that the entry at file offset `at` refers to, empty if it refers to none.
+    /// The string table is looked up only if it refers to one (gABI 5, Dynamic Section).
     fn read_string(
         &mut self,
         entry: &Dyn,
@@ -72,7 +71,7 @@ impl<S: Source, W: Sink> Listing<'_, '_, '_, '_, S, W> {
     }
 }
 
-/// The string table of the entry at the file offset `at`.
+/// Returns the string table of the entry at file offset `at`.
 fn strings_for(strings: &DynamicStringTable<'_>, at: u64) -> Result<Names, Fault>
     ensures { FindsStrings strings.now at result }
 {
@@ -82,7 +81,8 @@ fn strings_for(strings: &DynamicStringTable<'_>, at: u64) -> Result<Names, Fault
     }
 }
 
-/// The string table at the address that entries tell, for the entry at the file offset `at`.
+/// Returns the string table at the address that the entries give, for the entry at file offset
+/// `at`.
 fn strings_mapped(view: &ExecutionView<'_>, told: &DynamicStrings, at: u64) -> Result<Names, Fault>
     ensures { FindsStrings (Mapped view.now told.now) at result }
 {
@@ -95,7 +95,7 @@ fn strings_mapped(view: &ExecutionView<'_>, told: &DynamicStrings, at: u64) -> R
     view.mapped(address, size, at)
 }
 
-/// Whether the value of an entry is the index of a string (gABI 5, Dynamic Section).
+/// Returns `true` if the value of an entry is the index of a string (gABI 5, Dynamic Section).
 fn tells_of_string(entry: &Dyn) -> bool
     ensures { (file : List ℕ) (at : ℕ) → IsDyn file at entry.now →
         result ≡ is_string_tag (d_tag file at) }

@@ -1,4 +1,4 @@
-//! The line that tells why a call stopped.
+//! The line that says why a call stopped.
 ghost use Rattle.elf_source.specs.Growth.{OutGrows};
 ghost use Rattle.elf_listing.specs.Reports.{ReturnsStop};
 
@@ -7,8 +7,10 @@ use elf_model::Format;
 use elf_source::{Out, Sink};
 use elf_table::RunFault;
 
-/// Writes the line of a refusal that stopped a call, and of any other stop nothing. Answers the
-/// stop; or the output's fault where the line could not be written, with a front of it written.
+/// Writes the line of a refusal that stopped a call, and nothing for any other fault.
+///
+/// Returns the fault; or the output's fault if the line could not be written in full, with a prefix
+/// of it written.
 pub fn show_stop<W: Sink>(stop: RunFault, format: Format, out: &mut Out<W>) -> RunFault
     ensures grows { OutGrows out.old out.new }
     ensures tells { ReturnsStop format out.old out.new stop result }

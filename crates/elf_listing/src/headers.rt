@@ -1,4 +1,4 @@
-//! What is listed of each header, one header after another.
+//! What is listed of each header, in order.
 ghost use Rattle.std.specs.Prelude.{◌≡◌, ◌<◌};
 ghost use Rattle.elf_listing.specs.HeadersListed.{ListsHeader, ListsPart};
 ghost use Rattle.elf_options.specs.Permitted.{style_of};
@@ -10,7 +10,7 @@ use elf_source::{Sink, Source};
 use elf_table::RunFault;
 
 impl<S: Source, W: Sink> Listing<'_, '_, '_, '_, S, W> {
-    /// Shows a part of each header in the order of the headers, up to the first that is refused.
+    /// Shows one part of each header, in the order of the headers, up to the first refusal.
     pub(crate) fn headers(&mut self, part: Part) -> Result<(), RunFault>
         requires { Awaits part self.old.src.now.seen.file (style_of self.old.style) }
         ensures { ListsPart part self.old self.new result }
@@ -24,7 +24,7 @@ impl<S: Source, W: Sink> Listing<'_, '_, '_, '_, S, W> {
         Ok(())
     }
 
-    /// How many headers a part goes over.
+    /// Returns the number of headers that a part iterates over.
     fn header_count(&self, part: Part) -> u16
         ensures { result ≡ (listed_by part).count self.now.file.store.now }
     {
@@ -36,8 +36,8 @@ impl<S: Source, W: Sink> Listing<'_, '_, '_, '_, S, W> {
         }
     }
 
-    /// Shows a part of one header. A table is a call of its own, so that its windows leave the stack
-    /// with it.
+    /// Shows one part of one header. Each table is shown by a separate call, so that its windows
+    /// are dropped from the stack when it returns.
     fn header(&mut self, part: Part, index: u16) -> Result<(), RunFault>
         requires awaits { Awaits part self.old.src.now.seen.file (style_of self.old.style) }
         requires below { index < (listed_by part).count self.old.file.store.now }

@@ -1,4 +1,4 @@
-//! The listing of an ELF64 file: its rows one after another, and the call that writes them.
+//! The listing of an ELF64 file: its rows in order, and the call that writes them.
 #![tactic(auto)]
 
 mod buffers;

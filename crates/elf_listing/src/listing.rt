@@ -1,4 +1,4 @@
-//! What a listing is written with.
+//! The state of a listing.
 ghost use Rattle.std.specs.Prelude.{◌≡◌, ℕ, List, Some};
 ghost use Rattle.elf_model.specs.Records.{e_machine};
 ghost use Rattle.elf_note.specs.Ahead.{AgreesWith};
@@ -10,9 +10,9 @@ use elf_note::ReadAhead;
 use elf_source::{Counted, Out, Sink, Source};
 use elf_table::{ListingStyle, NameBuf, SectionView};
 
-/// A source that is read, an output that is written, the file that was loaded, how its rows are
-/// shown, a buffer for a name, and the names and symbols that were read ahead. What shows
-/// a part of the file is a method.
+/// The source that is read, the output that is written, the file that was loaded, how its rows are
+/// shown, a buffer for a name, and the names and symbols read ahead. Its methods show the parts of
+/// a file.
 #[derive(Drop)]
 pub struct Listing<'s, 'o, 'f, 'n, S: Source, W: Sink> {
     /// The source that is read.
@@ -25,7 +25,7 @@ pub struct Listing<'s, 'o, 'f, 'n, S: Source, W: Sink> {
     pub style: ListingStyle<'n>,
     /// The last name that was read.
     pub name: NameBuf,
-    /// The names and symbols that were read ahead.
+    /// The names and symbols read ahead.
     pub ahead: ReadAhead,
     pub ghost loaded: { IsOpen src.now file.loaded file.store.now },
     pub ghost viewed: { IsViewed src.now.seen.file file.loaded file.store.now },
@@ -33,7 +33,7 @@ pub struct Listing<'s, 'o, 'f, 'n, S: Source, W: Sink> {
 }
 
 impl<S: Source, W: Sink> Listing<'_, '_, '_, '_, S, W> {
-    /// How numbers are named in the file's lines.
+    /// Returns how numbers are named in the file's lines.
     pub(crate) fn naming(&self) -> ConstantNames
         ensures gnu { result.gnu ≡ self.now.style.gnu }
         ensures machine { (file : List ℕ) → self.now.src.now.seen.file ≡ Some file →

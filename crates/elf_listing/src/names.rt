@@ -1,4 +1,4 @@
-//! The names that rows refer to, read.
+//! The names that rows refer to.
 ghost use Rattle.std.specs.Prelude.{Some, IfSome};
 ghost use Rattle.elf_table.specs.Tables.{StringsInBounds};
 ghost use Rattle.elf_listing.specs.Fetched.{FetchesName};
@@ -22,8 +22,8 @@ impl<S: Source, W: Sink> Listing<'_, '_, '_, '_, S, W> {
             .name(self.src, index, self.style.cap, &mut self.name)
     }
 
-    /// Reads the name of a section at the index `off`; without a string table it is empty. A
-    /// refusal names `at`.
+    /// Reads the name of a section at the index `off`; it is empty if there is no string table. A
+    /// refusal is reported at the offset `at`.
     pub(crate) fn read_section_name(
         &mut self,
         names: Option<Names>,

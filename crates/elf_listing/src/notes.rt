@@ -1,4 +1,4 @@
-//! The notes of a table, shown one after another.
+//! The listing of the notes of a table.
 ghost use Rattle.std.specs.Prelude.{◌≡◌, ◌≤◌, length};
 ghost use Rattle.elf_table.specs.Tables.{TableInBounds};
 ghost use Rattle.elf_listing.specs.Notes.{ListsNote, ListsNotes};
@@ -12,9 +12,9 @@ use elf_source::{Sink, Source};
 use elf_table::{RunFault, Table};
 
 impl<S: Source, W: Sink> Listing<'_, '_, '_, '_, S, W> {
-    /// Shows the notes of a table of single bytes, an `N` line each, up to the place where no note
-    /// stands. `align` is the alignment that the table's header tells, and `index` is the header's
-    /// (gABI 5, Note Section).
+    /// Shows the notes of a table of single bytes, an `N` line each, up to the first offset that
+    /// holds no valid note. `align` is the alignment in the table's header, and `index` is that
+    /// header's index (gABI 5, Note Section).
     pub(crate) fn notes(&mut self, table: Table, align: u64, index: u16) -> Result<(), RunFault>
         requires bytes { table.entry ≡ 1 }
         requires within { TableInBounds self.old.src.now.seen.size table }
@@ -27,7 +27,7 @@ impl<S: Source, W: Sink> Listing<'_, '_, '_, '_, S, W> {
         Ok(())
     }
 
-    /// Shows a note, whose name was read: its `N` line.
+    /// Shows a note whose name was read: its `N` line.
     fn note_row(&mut self, row: &NoteRow<'_>, index: u16) -> Result<(), RunFault>
         requires { length row.now.desc.now ≤ 32 }
         ensures { ListsNote self.old self.new result row.now index }
@@ -38,7 +38,7 @@ impl<S: Source, W: Sink> Listing<'_, '_, '_, '_, S, W> {
         }
     }
 
-    /// Shows it in the rendering of the style.
+    /// Shows a note in the rendering of the style.
     fn note_line<R: Render>(&mut self, row: &NoteRow<'_>, index: u16) -> Result<(), RunFault>
         requires format { R.FORMAT ≡ self.old.style.format }
         requires few { length row.now.desc.now ≤ 32 }

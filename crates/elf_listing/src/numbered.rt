@@ -1,4 +1,4 @@
-//! The name of a symbol's version, by its number.
+//! The line of the version of a symbol, by its version index.
 ghost use Rattle.std.specs.Prelude.{◌≡◌};
 ghost use Rattle.elf_listing.specs.Choosing.{ShowsRows};
 ghost use Rattle.elf_listing.specs.Kinds.{ListsRow, RowFits};
@@ -13,20 +13,20 @@ use elf_record::{Cause, u16_at, version_number};
 use elf_source::{Sink, Source};
 use elf_table::{Fault, NameEnd, Names, Row, RunFault, refused};
 
-/// Where the names of the numbers of versions are.
+/// Where the names of version indices are.
 #[derive(Drop)]
 pub struct VersionStrings {
-    /// The index of each number's name in one of the string tables.
+    /// For each version index, the index of its name in one of the string tables.
     pub names: VersionNames,
-    /// The string table of the definitions; empty where there are none.
+    /// The string table of the version definitions; empty if there are none.
     pub defined: Names,
-    /// The string table of the needs; empty where there are none.
+    /// The string table of the version needs; empty if there are none.
     pub needed: Names,
 }
 
 impl<S: Source, W: Sink> Listing<'_, '_, '_, '_, S, W> {
-    /// Shows the row of the version of a symbol: its `X` line with the name of its number, where it is
-    /// one of the rows that are shown, or the refusal of a number that has none at the entry (Linux
+    /// Shows the row of the version of a symbol: its `X` line with the name of its version index,
+    /// if the row is selected, or, at the entry, the refusal of an index that has no name (Linux
     /// Standard Base Core, Symbol Versioning).
     pub(crate) fn version_number<R: Render, C: RowSelection>(
         &mut self,
@@ -50,7 +50,8 @@ impl<S: Source, W: Sink> Listing<'_, '_, '_, '_, S, W> {
         self.named_line(front, end)
     }
 
-    /// Reads the name of a number, which is empty for 0 and 1. A refusal names `at`.
+    /// Reads the name of a version index, which is empty for 0 and 1. A refusal is reported at the
+    /// offset `at`.
     #[tactic(auto, unfolding(crate::specs::Numbered::version_told))]
     fn read_version(
         &mut self,

@@ -1,4 +1,4 @@
-//! The parts of a listing behind the file header, one after another.
+//! The parts of a listing after the file header, in order.
 ghost use Rattle.std.specs.Prelude.{◌≡◌};
 ghost use Rattle.elf_listing.specs.HeadersListed.{ListsAsked, ListsPair};
 ghost use Rattle.elf_listing.specs.HeadersListed.{ListsSegments, ListsTables};
@@ -14,8 +14,8 @@ use elf_record::Parts;
 use elf_source::{Sink, Source};
 use elf_table::RunFault;
 
-/// A part of a listing that goes through the headers in the store: through the section headers, or
-/// through the program headers of a file that has none.
+/// A part of a listing that iterates over the headers in the store: over the section headers, or
+/// over the program headers of a file that has no section headers.
 #[derive(Clone, Copy)]
 pub enum Part {
     /// The section headers.
@@ -47,8 +47,7 @@ pub enum Part {
 }
 
 impl<S: Source, W: Sink> Listing<'_, '_, '_, '_, S, W> {
-    /// Shows the tables of the file in their order, as far as the parts have them, up to the first
-    /// refusal.
+    /// Shows the tables of the file in order, those that `parts` has, up to the first refusal.
     pub(crate) fn tables(&mut self, parts: Parts) -> Result<(), RunFault>
         requires { self.old.file.store.now.segments ≡ viewed_headers parts.0 self.old.file.loaded }
         ensures { ListsTables parts.0 self.old self.new result }
@@ -62,8 +61,8 @@ impl<S: Source, W: Sink> Listing<'_, '_, '_, '_, S, W> {
         self.part(parts, Part::SymbolVersions)
     }
 
-    /// Shows the symbols of sections and the relocation entries, with or without the versions of
-    /// symbols as the style has it.
+    /// Shows the symbols of sections and the relocation entries, with or without symbol versions as
+    /// the style says.
     fn named(&mut self, parts: Parts) -> Result<(), RunFault>
         ensures { let versions = self.old.style.versions in
             ListsPair parts.0 (symbols_part versions) (relocations_part versions)
@@ -75,7 +74,7 @@ impl<S: Source, W: Sink> Listing<'_, '_, '_, '_, S, W> {
         self.pair(parts, Part::Symbols, Part::Relocations)
     }
 
-    /// Shows two parts, one behind the other.
+    /// Shows two parts, one after the other.
     fn pair(&mut self, parts: Parts, first: Part, second: Part) -> Result<(), RunFault>
         requires first { AwaitsAsked parts.0 first self.old.src.now.seen.file
             (style_of self.old.style) }
@@ -87,7 +86,7 @@ impl<S: Source, W: Sink> Listing<'_, '_, '_, '_, S, W> {
         self.part(parts, second)
     }
 
-    /// Shows a part of each header, where the parts have it.
+    /// Shows one part of each header, if `parts` has it.
     fn part(&mut self, parts: Parts, part: Part) -> Result<(), RunFault>
         requires { AwaitsAsked parts.0 part self.old.src.now.seen.file (style_of self.old.style) }
         ensures { ListsAsked parts.0 part self.old self.new result }
@@ -98,8 +97,8 @@ impl<S: Source, W: Sink> Listing<'_, '_, '_, '_, S, W> {
         self.headers(part)
     }
 
-    /// Shows the program headers, where the parts have them: a `P` line each (gABI 5, Program
-    /// Header). Those of a file without sections are in the store.
+    /// Shows the program headers, if `parts` has them: a `P` line each (gABI 5, Program Header).
+    /// Those of a file without sections are in the store.
     fn segments(&mut self, parts: Parts) -> Result<(), RunFault>
         requires { self.old.file.store.now.segments ≡ viewed_headers parts.0 self.old.file.loaded }
         ensures { ListsSegments parts.0 self.old self.new result }
@@ -115,7 +114,7 @@ impl<S: Source, W: Sink> Listing<'_, '_, '_, '_, S, W> {
     }
 }
 
-/// The bit of a part.
+/// Returns the bit of a part.
 #[tactic(auto, unfolding(elf_model::proofs::OnLiterals::on_literals))]
 fn bit(part: Part) -> Parts
     ensures { result.0 ≡ (listed_by part).bit }

@@ -1,4 +1,4 @@
-//! The version behind the name of a symbol, read.
+//! The version after the name of a symbol.
 ghost use Rattle.std.specs.Prelude.{◌≡◌, ◌==◌, ◌<◌, ◌≤◌, ◌+◌, not, length};
 ghost use Rattle.elf_listing.specs.Suffixed.{FetchesSuffix, SuffixesWithin};
 ghost use Rattle.elf_listing.specs.SuffixNames.{FetchesNamed, FetchesWord, FetchesInto};
@@ -11,23 +11,24 @@ use elf_record::{Cause, u16_at, version_number};
 use elf_source::{Sink, Source};
 use elf_table::{Fault, NameBuf, NameEnd, fill, refused};
 
-/// The version behind a name, which was read.
+/// The version after a name, as read.
 #[derive(Clone, Copy)]
 pub struct VersionSuffixEnd {
-    /// Whether it is the default one of the name.
+    /// Whether it is the default version of the name.
     pub is_default: bool,
-    /// How its name ends.
+    /// How the version's name ends.
     pub end: NameEnd,
 }
 
 impl<S: Source, W: Sink> Listing<'_, '_, '_, '_, S, W> {
-    /// Reads the name of the version of the symbol of an index, which is defined or not, into
-    /// `version`; none for the numbers 0 and 1. The name that was read before stays.
+    /// Reads into `version` the name of the version of the symbol at an index, which is defined or
+    /// not; returns `None` for version indices 0 and 1. The name read before is kept.
     ///
     /// # Errors
-    /// `VersionCut` at the section of the numbers where there is no word for the symbol,
-    /// `VersionIndex` at the word where no record names its number; the fault of the name, at the
-    /// record that holds it; a fault of a read.
+    /// - `VersionCut` at the section of version indices if it has no entry for the symbol.
+    /// - `VersionIndex` at the entry if no record names its index.
+    /// - The fault of the name, at the record that holds it.
+    /// - A read fault.
     pub(crate) fn read_suffix(
         &mut self,
         suffixes: &VersionLookup,
@@ -52,7 +53,7 @@ impl<S: Source, W: Sink> Listing<'_, '_, '_, '_, S, W> {
         Ok(Some(VersionSuffixEnd { is_default, end }))
     }
 
-    /// Reads the word at an offset.
+    /// Reads the entry at a file offset.
     fn read_word(&mut self, at: u64) -> Result<u16, Fault>
         requires { at + 2 ≤ self.old.src.now.seen.size }
         ensures { FetchesWord self.old self.new result at }
@@ -62,7 +63,7 @@ impl<S: Source, W: Sink> Listing<'_, '_, '_, '_, S, W> {
         Ok(u16_at(&bytes, 0))
     }
 
-    /// Reads the name of a number, whose word stands at an offset.
+    /// Reads the name of a version index, whose entry is at a file offset.
     fn read_number(
         &mut self,
         suffixes: &VersionLookup,

@@ -1,4 +1,4 @@
-//! The row of a relocation entry, shown.
+//! The row of a relocation entry.
 ghost use Rattle.std.specs.Prelude.{◌≡◌, IfSome};
 ghost use Rattle.elf_table.specs.Tables.{SymbolTableInBounds};
 ghost use Rattle.elf_listing.specs.Choosing.{ShowsRows};
@@ -19,8 +19,8 @@ type LinkedSymbolTable = Option<(Table, Names)>;
 
 impl<S: Source, W: Sink> Listing<'_, '_, '_, '_, S, W> {
     /// Shows the row of a relocation entry of a section: its `R` line with the name of its symbol,
-    /// where it is one of the rows that are shown, or the refusal of its symbol at the entry's offset,
-    /// or of the name at the symbol's.
+    /// if the row is selected; or the refusal of its symbol at the entry's offset, or of the name
+    /// at the symbol's offset.
     pub(crate) fn relocation_row<R: Render, C: RowSelection>(
         &mut self,
         front: &mut LinePrefix,
@@ -45,8 +45,8 @@ impl<S: Source, W: Sink> Listing<'_, '_, '_, '_, S, W> {
         self.named_line(front, end)
     }
 
-    /// Reads the name of the symbol of an index, which is empty for symbol 0 (gABI 4, Symbol
-    /// Table). Where there is no such symbol the refusal names `at`, and where the name is refused
+    /// Reads the name of the symbol at an index, which is empty for symbol 0 (gABI 4, Symbol
+    /// Table). If there is no such symbol, the refusal is at `at`; if the name is refused, it is at
     /// the symbol.
     fn read_symbol(
         &mut self,

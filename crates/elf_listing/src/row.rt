@@ -1,4 +1,4 @@
-//! The row of a table, shown.
+//! The row of a table.
 ghost use Rattle.std.specs.Prelude.{◌≡◌, ◌≤◌, length};
 ghost use Rattle.elf_format.specs.Fronts.{front_of};
 ghost use Rattle.elf_listing.specs.Choosing.{ShowsRows};
@@ -26,8 +26,8 @@ impl<S: Source, W: Sink> Listing<'_, '_, '_, '_, S, W> {
         Ok(())
     }
 
-    /// Shows the row of a symbol of a section: its `Y` line with its name, where it is one of the
-    /// rows that are shown, or the name's refusal at the symbol's offset.
+    /// Shows the row of a symbol of a section: its `Y` line with its name, if the row is selected,
+    /// or the name's refusal at the symbol's offset.
     pub(crate) fn symbol_row<R: Render, C: RowSelection>(
         &mut self,
         front: &mut LinePrefix,
@@ -55,7 +55,7 @@ impl<S: Source, W: Sink> Listing<'_, '_, '_, '_, S, W> {
         self.named_line(front, end)
     }
 
-    /// Writes a line that ends in the name that was read. Its front is used on the way.
+    /// Writes a line that ends in the name that was read. Consumes its prefix.
     pub(crate) fn named_line(
         &mut self,
         front: &mut LinePrefix,
@@ -69,7 +69,7 @@ impl<S: Source, W: Sink> Listing<'_, '_, '_, '_, S, W> {
     }
 }
 
-/// Whether a name is cut.
+/// Returns `true` if a name is cut.
 pub(crate) fn is_cut(end: NameEnd) -> bool
     ensures { result ≡ cut_of end }
 {

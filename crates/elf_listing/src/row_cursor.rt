@@ -15,12 +15,12 @@ use elf_table::{Cursor, Fault, Row, Table};
 pub enum RowCursor {
     /// Over all rows.
     All(Cursor),
-    /// Over dynamic entries, which end sooner where one of them says so.
+    /// Over dynamic entries, which end early at a terminating entry.
     Entries(DynCursor),
 }
 
 impl RowCursor {
-    /// A cursor before the first row of a table of a kind.
+    /// Creates a cursor before the first row of a table of the given kind.
     pub(crate) fn new(table: Table, kind: &RowLayout<'_>) -> RowCursor
         requires { table.entry ≡ row_size kind.now }
         ensures { BeginsTable kind.now table result }
@@ -31,7 +31,7 @@ impl RowCursor {
         }
     }
 
-    /// Goes to the next row, and answers whether there is one.
+    /// Advances to the next row, and returns whether there is one.
     ///
     /// # Errors
     /// As for `Cursor::advance`.
@@ -50,7 +50,7 @@ impl RowCursor {
         }
     }
 
-    /// The row that the last step gave.
+    /// Returns the row that the last step read.
     pub(crate) fn row(&self) -> Row<'_>
         requires { 0 < (reading self.now).index }
         ensures { ShowsRow (reading self.now) result }

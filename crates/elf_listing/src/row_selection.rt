@@ -1,4 +1,4 @@
-//! Which rows that end in the name of a symbol or of a version are shown.
+//! The selection of rows that end in the name of a symbol or of a version.
 ghost use Rattle.std.specs.Prelude.{◌≡◌, Bool, false as No, true as Yes};
 ghost use Rattle.elf_model.specs.Choice.{NoSuffix, chooses};
 ghost use Rattle.elf_table.specs.NamesRead.{shown_by};
@@ -13,13 +13,13 @@ use elf_options::VersionSuffix;
 use elf_source::{Sink, Source};
 use elf_table::{NameBuf, NameEnd};
 
-/// Whether rows are chosen by their names, which is known where the code is made: where every row is
-/// shown, no name is looked for.
+/// Whether rows are selected by name, known at compile time: if every row is shown, no name is
+/// looked up.
 pub trait RowSelection {
-    /// Whether they are.
+    /// Whether rows are selected by name.
     const BY_NAME: bool;
 
-    /// Whether they are.
+    /// Whether rows are selected by name.
     ghost BY_NAME: { Bool };
 }
 
@@ -32,7 +32,7 @@ impl RowSelection for AllRows {
     ghost BY_NAME = { No };
 }
 
-/// The rows of some names.
+/// The rows with one of the given names.
 pub struct NamedRows;
 
 impl RowSelection for NamedRows {
@@ -42,7 +42,7 @@ impl RowSelection for NamedRows {
 }
 
 impl<S: Source, W: Sink> Listing<'_, '_, '_, '_, S, W> {
-    /// Whether the row of the name that was read is shown.
+    /// Returns `true` if the row with the name that was read is shown.
     pub(crate) fn is_shown<C: RowSelection>(&self, end: NameEnd) -> bool
         requires { ShowsRows C.BY_NAME self.now.style }
         ensures { result ≡ chooses (choice_of self.now.style.choice)
@@ -51,7 +51,8 @@ impl<S: Source, W: Sink> Listing<'_, '_, '_, '_, S, W> {
         !C::BY_NAME || self.style.choice.shows(self.name.bytes(), is_cut(end))
     }
 
-    /// Whether the row of the name that was read is shown, with the version behind it, if there is one.
+    /// Returns `true` if the row with the name that was read is shown, with the version after it,
+    /// if there is one.
     pub(crate) fn is_versioned_row_shown<C: RowSelection>(
         &self,
         end: NameEnd,

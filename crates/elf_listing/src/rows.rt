@@ -1,4 +1,4 @@
-//! The rows of a table, shown one after another.
+//! The listing of the rows of a table.
 ghost use Rattle.std.specs.Prelude.{◌≡◌};
 ghost use Rattle.elf_listing.specs.Choosing.{ShowsRows};
 ghost use Rattle.elf_listing.specs.Kinds.{IsTableOf, ListsRow, ListsRows, RowFits};
@@ -35,14 +35,14 @@ pub enum RowLayout<'f> {
     },
     /// Dynamic entries, a `D` line each.
     Dynamic {
-        /// Where their strings are looked for.
+        /// Where to look up their strings.
         strings: DynamicStringTable<'f>,
     },
     /// The versions of symbols of a section, an `X` line each.
     Versions {
         /// The index of the section.
         section: u16,
-        /// Where the names of their numbers are.
+        /// Where the names of their version indices are.
         numbered: &'f VersionStrings,
     },
     /// The symbols of a section, a `Y` line each, with their versions.
@@ -51,7 +51,7 @@ pub enum RowLayout<'f> {
         section: u16,
         /// The string table of their names.
         names: Names,
-        /// What finds their versions.
+        /// The lookup of their versions.
         suffixes: &'f VersionLookup,
     },
     /// The relocation entries of a section, an `R` line each, with the versions of their symbols.
@@ -60,14 +60,13 @@ pub enum RowLayout<'f> {
         section: u16,
         /// The symbols that they refer to, with their names.
         linked: Option<(Table, Names)>,
-        /// What finds their versions.
+        /// The lookup of their versions.
         suffixes: &'f VersionLookup,
     },
 }
 
 impl<S: Source, W: Sink> Listing<'_, '_, '_, '_, S, W> {
-    /// Shows the rows of a table that are listed one after another, up to the first that is
-    /// refused.
+    /// Shows the listed rows of a table in order, up to the first refusal.
     pub(crate) fn rows(&mut self, table: Table, kind: &RowLayout<'_>) -> Result<(), RunFault>
         requires { IsTableOf self.old.src.now.seen.size kind.now table }
         ensures { ListsRows self.old self.new result kind.now table }
@@ -78,7 +77,7 @@ impl<S: Source, W: Sink> Listing<'_, '_, '_, '_, S, W> {
         }
     }
 
-    /// Shows them in the rendering of the style.
+    /// Shows the rows in the rendering of the style.
     fn rows_of<R: Render>(&mut self, table: Table, kind: &RowLayout<'_>) -> Result<(), RunFault>
         requires format { R.FORMAT ≡ self.old.style.format }
         requires table { IsTableOf self.old.src.now.seen.size kind.now table }
@@ -90,7 +89,7 @@ impl<S: Source, W: Sink> Listing<'_, '_, '_, '_, S, W> {
         self.rows_in::<R, AllRows>(table, kind)
     }
 
-    /// Shows those that the style chooses, one front of a line for all.
+    /// Shows the rows that the style selects, with one line prefix reused for all.
     fn rows_in<R: Render, C: RowSelection>(
         &mut self,
         table: Table,

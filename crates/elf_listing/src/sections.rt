@@ -28,7 +28,7 @@ impl<S: Source, W: Sink> Listing<'_, '_, '_, '_, S, W> {
         }
     }
 
-    /// Shows it in the rendering of the style.
+    /// Shows the row in the rendering of the style.
     fn section_line<R: Render>(&mut self, section: u16) -> Result<(), RunFault>
         requires format { R.FORMAT ≡ self.old.style.format }
         requires below { section < self.old.file.store.now.loaded }
@@ -45,8 +45,8 @@ impl<S: Source, W: Sink> Listing<'_, '_, '_, '_, S, W> {
         self.named_line(&mut front, end)
     }
 
-    /// Shows the symbols of a section, where it holds symbols: a `Y` line each, or the first
-    /// refusal of its table, of its string table or of a name (gABI 4, Symbol Table).
+    /// Shows the symbols of a section, if it holds symbols: a `Y` line each, or the first refusal
+    /// of its table, of its string table or of a name (gABI 4, Symbol Table).
     #[inline(never)]
     pub(crate) fn symbols(&mut self, section: u16) -> Result<(), RunFault>
         requires { section < self.old.file.store.now.loaded }
@@ -60,9 +60,8 @@ impl<S: Source, W: Sink> Listing<'_, '_, '_, '_, S, W> {
         self.rows(table, &RowLayout::Symbols { section, names })
     }
 
-    /// Shows the relocation entries of a section, where it holds them: an `R` line each, or the
-    /// first refusal of its table, of the symbols that they refer to or of an entry (gABI 4,
-    /// Relocation).
+    /// Shows the relocation entries of a section, if it holds them: an `R` line each, or the first
+    /// refusal of its table, of the symbols that they refer to or of an entry (gABI 4, Relocation).
     #[inline(never)]
     pub(crate) fn relocations(&mut self, section: u16) -> Result<(), RunFault>
         requires { section < self.old.file.store.now.loaded }
@@ -76,8 +75,8 @@ impl<S: Source, W: Sink> Listing<'_, '_, '_, '_, S, W> {
         self.rows(table, &RowLayout::Relocations { section, linked })
     }
 
-    /// Shows the notes of a section, where it holds notes: an `N` line each, or the refusal of its
-    /// table or of what stands in the place of a note (gABI 5, Note Section).
+    /// Shows the notes of a section, if it holds notes: an `N` line each, or the refusal of its
+    /// table or of what is in the place of a note (gABI 5, Note Section).
     #[inline(never)]
     pub(crate) fn section_notes(&mut self, section: u16) -> Result<(), RunFault>
         requires { section < self.old.file.store.now.loaded }
@@ -92,9 +91,9 @@ impl<S: Source, W: Sink> Listing<'_, '_, '_, '_, S, W> {
         self.notes(table, header.sh_addralign, section)
     }
 
-    /// Shows the dynamic entries of a section, where it holds them: a `D` line each up to and with
-    /// the first DT_NULL, or the first refusal of its table, of its string table or of a string
-    /// (gABI 5, Dynamic Section).
+    /// Shows the dynamic entries of a section, if it holds them: a `D` line each up to and
+    /// including the first DT_NULL, or the first refusal of its table, of its string table or of a
+    /// string (gABI 5, Dynamic Section).
     #[inline(never)]
     pub(crate) fn section_dynamic(&mut self, section: u16) -> Result<(), RunFault>
         requires { section < self.old.file.store.now.loaded }

@@ -15,7 +15,7 @@ use elf_source::{Sink, Source};
 use elf_table::{ExecutionView, RunFault};
 
 impl<'f, S: Source, W: Sink> Listing<'_, '_, 'f, '_, S, W> {
-    /// The file with its program headers, where they are loaded.
+    /// Returns the file with its program headers, if they are loaded.
     fn view(&self) -> ExecutionView<'f>
         requires { 0 < self.now.file.store.now.segments }
         ensures loaded { result.loaded ≡ self.now.file.loaded }
@@ -27,8 +27,7 @@ impl<'f, S: Source, W: Sink> Listing<'_, '_, 'f, '_, S, W> {
         }
     }
 
-    /// Shows the row of a program header that is in the store: its `P` line (gABI 5, Program
-    /// Header).
+    /// Shows the row of a program header in the store: its `P` line (gABI 5, Program Header).
     pub(crate) fn segment_header(&mut self, segment: u16) -> Result<(), RunFault>
         requires { segment < self.old.file.store.now.segments }
         ensures { ListsHeader Segments self.old self.new result segment }
@@ -39,7 +38,7 @@ impl<'f, S: Source, W: Sink> Listing<'_, '_, 'f, '_, S, W> {
         }
     }
 
-    /// Shows it in the rendering of the style.
+    /// Shows the row in the rendering of the style.
     fn segment_line<R: Render>(&mut self, segment: u16) -> Result<(), RunFault>
         requires format { R.FORMAT ≡ self.old.style.format }
         requires below { segment < self.old.file.store.now.segments }
@@ -51,7 +50,7 @@ impl<'f, S: Source, W: Sink> Listing<'_, '_, 'f, '_, S, W> {
         Ok(())
     }
 
-    /// Shows the notes of a segment, where it holds notes, as those of a section (gABI 5, Note
+    /// Shows the notes of a segment, if it holds notes, like those of a section (gABI 5, Note
     /// Section).
     #[inline(never)]
     pub(crate) fn segment_notes(&mut self, segment: u16) -> Result<(), RunFault>
@@ -67,9 +66,9 @@ impl<'f, S: Source, W: Sink> Listing<'_, '_, 'f, '_, S, W> {
         self.notes(table, header.p_align, segment)
     }
 
-    /// Shows the dynamic entries of a segment, where it holds them, as those of a section. Their
-    /// strings are where a segment loads them: the entries are gone through once for the address
-    /// and the size, and once more to be shown (gABI 5, Dynamic Section).
+    /// Shows the dynamic entries of a segment, if it holds them, like those of a section. Their
+    /// strings are where a segment loads them: the entries are read once for the string table's
+    /// address and size, and once more to be shown (gABI 5, Dynamic Section).
     #[inline(never)]
     pub(crate) fn segment_dynamic(&mut self, segment: u16) -> Result<(), RunFault>
         requires { segment < self.old.file.store.now.segments }

@@ -25,24 +25,28 @@ use elf_table::{
     Caps, HeaderStore, ListingStyle, Loaded, NameBuf, RunFault, SectionView, header, load,
 };
 
-/// All parts but the file header's.
+/// All parts except the file header.
 const TABLES: Parts = Parts(254);
 
-/// Writes the listing of a file, as far as `parts` has it: the file header, the section headers,
-/// the program headers, the symbols, the relocation entries, the notes, the dynamic entries and, in
-/// a style with the names of the GNU system, the symbol versions; at the first fault its line ends
-/// the listing. Notes and dynamic entries are those of the sections, and
-/// in a file without sections those of the segments; by a style that finds tables by the program
-/// headers all files are listed as if their file header gave no section headers. The store has a slot
-/// for each header that the caps permit, and is loaded with the file's section headers, or with the
-/// program headers of a file without any. At most 2^127 bytes were asked of the source before. Where the caps have a
-/// budget no more is read, and the line of a refusal for want of budget may end the listing sooner;
-/// afterwards no limit is set.
+/// Writes the listing of a file, the parts that `parts` has.
+///
+/// The parts are the file header, the section headers, the program headers, the symbols, the
+/// relocation entries, the notes, the dynamic entries and, if the style uses GNU names, the symbol
+/// versions. The line of the first fault ends the listing.
+///
+/// Notes and dynamic entries are those of the sections, and in a file without sections those of the
+/// segments. If the style finds tables by the program headers, every file is listed as if its file
+/// header had no section headers.
+///
+/// The store has a slot for each header that the caps allow, and is loaded with the file's section
+/// headers, or with the program headers of a file without any. At most 2^127 bytes were requested
+/// from the source before. If the caps have a budget, no more is read, and the line of a refusal
+/// for lack of budget may end the listing early; on return no limit is set.
 ///
 /// # Errors
-/// A refusal of the file, or for want of budget: its line was written, as the last one. A fault of
-/// the source, with the offset that was asked for, or of the output, with the number of bytes that
-/// it took: what went out is a front of the listing. The store may be loaded again.
+/// A refusal of the file, or for lack of budget: its line was written, as the last one. A fault of
+/// the source, with the offset that was requested, or of the output, with the number of bytes it
+/// took: a prefix of the listing was written. The store may be loaded again.
 pub fn show<S: Source, W: Sink>(
     src: &mut Counted<S>,
     store: &mut HeaderStore,
@@ -60,7 +64,7 @@ pub fn show<S: Source, W: Sink>(
     ensures cost { (file : List ℕ) → src.old.seen.file ≡ Some file →
         src.new.asked ≤ src.old.asked
         + listing_cost file caps.entry.limits.headers (style_of caps.entry.style) parts.0 }
-    // For every source.
+    // For any source.
     ensures asks { AsksWithin caps.entry parts.0 src.old src.new result }
 {
     src.limit(caps.limits.budget);
@@ -72,13 +76,14 @@ pub fn show<S: Source, W: Sink>(
     }
 }
 
-/// Writes the lines of a listing as [`show`] does, within the limit that is set on the source, and
-/// leaves it to the caller to tell why it stopped: no line of a refusal is written. The store is
-/// loaded as by `show`, for as many headers as it has slots.
+/// Writes the lines of a listing as [`show`] does, within the limit set on the source, and leaves
+/// it to the caller to report why it stopped: no line of a refusal is written.
+///
+/// The store is loaded as by `show`, for as many headers as it has slots.
 ///
 /// # Errors
-/// A refusal of the file, or for want of budget: the lines before it were written. A fault of the
-/// source or of the output, as of `show`.
+/// A refusal of the file, or for lack of budget: the lines before it were written. A fault of the
+/// source or of the output, as for `show`.
 pub fn list<S: Source, W: Sink>(
     src: &mut Counted<S>,
     store: &mut HeaderStore,
@@ -106,7 +111,7 @@ pub fn list<S: Source, W: Sink>(
     list_by_segments(src, store, &header, style, parts.known(style.gnu), out)
 }
 
-/// Lists the file header, where the parts have it: its `H` line (gABI 4, ELF Header).
+/// Lists the file header, if `parts` has it: its `H` line (gABI 4, ELF Header).
 fn list_header<W: Sink>(
     header: &Ehdr,
     format: Format,
@@ -129,8 +134,8 @@ fn list_header<W: Sink>(
     Ok(())
 }
 
-/// Lists what stands behind the file header, of the file that the style looks at: where tables are
-/// found by the program headers, what the file header tells of section headers is hidden meanwhile.
+/// Lists what follows the file header, for the view of the file that the style uses: if tables are
+/// found by the program headers, the section header fields of the file header are masked meanwhile.
 /// `header` is the file's header.
 fn list_by_segments<S: Source, W: Sink>(
     src: &mut Counted<S>,
@@ -166,9 +171,8 @@ fn list_by_segments<S: Source, W: Sink>(
     listed
 }
 
-/// Loads the headers and lists the tables, where the parts have more than the file header.
-/// `header` is the file's header, which tells of no sections where the style finds tables by the
-/// program headers.
+/// Loads the headers and lists the tables, if `parts` has more than the file header. `header` is
+/// the file's header, which has no sections if the style finds tables by the program headers.
 fn list_by_sections<S: Source, W: Sink>(
     src: &mut Counted<S>,
     store: &mut HeaderStore,

@@ -1,4 +1,4 @@
-//! Relocation entries with the versions of their symbols, shown.
+//! The rows of relocation entries with the versions of their symbols.
 ghost use Rattle.std.specs.Prelude.{◌≡◌, IfSome};
 ghost use Rattle.elf_table.specs.Tables.{SymbolTableInBounds};
 ghost use Rattle.elf_listing.specs.Choosing.{ShowsRows};
@@ -17,7 +17,7 @@ use elf_record::{Cause, Rela};
 use elf_source::{Sink, Source};
 use elf_table::{Fault, NameBuf, NameEnd, Names, Row, RunFault, Table, refused};
 
-/// The name of the symbol of an entry, which was read, and whether the symbol is defined.
+/// The name of an entry's symbol, as read, and whether the symbol is defined.
 #[derive(Clone, Copy)]
 pub struct RelocationName {
     /// How the name ends.
@@ -27,9 +27,9 @@ pub struct RelocationName {
 }
 
 impl<S: Source, W: Sink> Listing<'_, '_, '_, '_, S, W> {
-    /// Shows the row of a relocation entry of a section: its `R` line with the name of its symbol and
-    /// the version behind it, where it is one of the rows that are shown; or the refusal of its symbol
-    /// at the entry's offset, of the name at the symbol's, or the version's.
+    /// Shows the row of a relocation entry of a section: its `R` line with the name of its symbol
+    /// and the version after it, if the row is selected; or the refusal of its symbol at the
+    /// entry's offset, of the name at the symbol's offset, or of the version.
     pub(crate) fn relocation_row_with_version<R: Render, C: RowSelection>(
         &mut self,
         front: &mut LinePrefix,
@@ -58,7 +58,7 @@ impl<S: Source, W: Sink> Listing<'_, '_, '_, '_, S, W> {
         self.suffixed_line(front, read.end, suffix, &version)
     }
 
-    /// Reads the version of the symbol of an index; none for symbol 0.
+    /// Reads the version of the symbol at an index; returns `None` for symbol 0.
     fn read_entry(
         &mut self,
         suffixes: &VersionLookup,
@@ -76,8 +76,8 @@ impl<S: Source, W: Sink> Listing<'_, '_, '_, '_, S, W> {
         self.read_suffix(suffixes, u64::from(symbol), is_defined, version)
     }
 
-    /// Reads the name of the symbol of an index as a plain row does, and tells whether the symbol is
-    /// defined; symbol 0 is not.
+    /// Reads the name of the symbol at an index as a plain row does, and returns whether the symbol
+    /// is defined; symbol 0 is not.
     fn read_linked(
         &mut self,
         linked: Option<(Table, Names)>,

@@ -14,8 +14,8 @@ use elf_source::{Sink, Source};
 use elf_table::{NameBuf, NameEnd, RunFault};
 
 impl<S: Source, W: Sink> Listing<'_, '_, '_, '_, S, W> {
-    /// Writes a line that ends in the name that was read, with the version behind it. Its front is
-    /// used on the way.
+    /// Writes a line that ends in the name that was read, with the version after it. Consumes its
+    /// prefix.
     pub(crate) fn suffixed_line(
         &mut self,
         front: &mut LinePrefix,
@@ -33,7 +33,7 @@ impl<S: Source, W: Sink> Listing<'_, '_, '_, '_, S, W> {
         self.versioned_line(front, end, suffix, version)
     }
 
-    /// Writes it where there is one.
+    /// Writes the line if there is a version.
     fn versioned_line(
         &mut self,
         front: &mut LinePrefix,
@@ -61,7 +61,7 @@ impl<S: Source, W: Sink> Listing<'_, '_, '_, '_, S, W> {
     }
 }
 
-/// What stands between a name and its version.
+/// Returns what separates a name and its version.
 #[tactic(auto, unfolding(crate::specs::SuffixTexts::before_version))]
 fn before_version(format: Format, is_default: bool) -> &'static [u8]
     ensures text { result.now ≡ before_version format is_default }
@@ -74,7 +74,7 @@ fn before_version(format: Format, is_default: bool) -> &'static [u8]
     }
 }
 
-/// What stands behind a version, with the line's end.
+/// Returns what follows a version, with the end of the line.
 #[tactic(auto, unfolding(crate::specs::SuffixTexts::after_version))]
 fn after_version(format: Format, is_cut: bool, is_default: bool) -> &'static [u8]
     ensures text { result.now ≡ after_version format is_cut is_default }

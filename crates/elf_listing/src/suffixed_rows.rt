@@ -1,4 +1,4 @@
-//! Rows that end in the name of a symbol with its version, shown.
+//! Rows that end in the name of a symbol with its version.
 ghost use Rattle.std.specs.Prelude.{◌≡◌};
 ghost use Rattle.elf_listing.specs.Choosing.{ShowsRows};
 ghost use Rattle.elf_listing.specs.Kinds.{ListsRow, RowFits};
@@ -14,9 +14,8 @@ use elf_source::{Sink, Source};
 use elf_table::{NameBuf, Names, Row, RunFault};
 
 impl<S: Source, W: Sink> Listing<'_, '_, '_, '_, S, W> {
-    /// Shows the row of a symbol of a section: its `Y` line with its name and the version behind it,
-    /// where it is one of the rows that are shown; or the name's refusal at the symbol's offset, or
-    /// the version's.
+    /// Shows the row of a symbol of a section: its `Y` line with its name and the version after it,
+    /// if the row is selected; or the name's refusal at the symbol's offset, or the version's.
     pub(crate) fn symbol_row_with_version<R: Render, C: RowSelection>(
         &mut self,
         front: &mut LinePrefix,

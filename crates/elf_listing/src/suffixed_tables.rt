@@ -13,9 +13,9 @@ use elf_source::{Sink, Source};
 use elf_table::{Fault, Names, RunFault, Table, holds_symbols};
 
 impl<S: Source, W: Sink> Listing<'_, '_, '_, '_, S, W> {
-    /// Shows the symbols of a section with their versions, where it holds symbols: a `Y` line each, or
-    /// the first refusal of its table, of its string table, of what finds the versions, of a name or
-    /// of a version (gABI 4, Symbol Table).
+    /// Shows the symbols of a section with their versions, if it holds symbols: a `Y` line each, or
+    /// the first refusal of its table, of its string table, of the version lookup, of a name or of
+    /// a version (gABI 4, Symbol Table).
     #[inline(never)]
     pub(crate) fn suffixed_symbols(&mut self, section: u16) -> Result<(), RunFault>
         requires { section < self.old.file.store.now.loaded }
@@ -40,9 +40,9 @@ impl<S: Source, W: Sink> Listing<'_, '_, '_, '_, S, W> {
         }
     }
 
-    /// Shows the relocation entries of a section with the versions of their symbols, where it holds
-    /// them: an `R` line each, or the first refusal of its table, of the symbols that they refer to,
-    /// of what finds the versions or of an entry (gABI 4, Relocation).
+    /// Shows the relocation entries of a section with the versions of their symbols, if it holds
+    /// them: an `R` line each, or the first refusal of its table, of the symbols that they refer
+    /// to, of the version lookup or of an entry (gABI 4, Relocation).
     #[inline(never)]
     pub(crate) fn relocations_with_versions(&mut self, section: u16) -> Result<(), RunFault>
         requires { section < self.old.file.store.now.loaded }
@@ -71,7 +71,7 @@ impl<S: Source, W: Sink> Listing<'_, '_, '_, '_, S, W> {
         }
     }
 
-    /// What finds the versions of the symbols that entries refer to, if there are some.
+    /// Finds the versions of the symbols that entries refer to, if there are any.
     fn linked_suffixes(
         &mut self,
         table: u32,

@@ -1,4 +1,4 @@
-//! What finds the versions behind the names of symbols.
+//! The lookup of the versions after the names of symbols.
 ghost use Rattle.elf_listing.specs.Suffixed.{FetchesSuffixes};
 
 use crate::listing::Listing;
@@ -7,26 +7,27 @@ use elf_note::ALL_PLACES;
 use elf_source::{Sink, Source};
 use elf_table::{Fault, Table};
 
-/// What finds the versions of the symbols of a table (Linux Standard Base Core, Symbol Versioning).
+/// The lookup of the versions of the symbols of a table (Linux Standard Base Core, Symbol
+/// Versioning).
 #[derive(Drop)]
 pub struct VersionLookup {
-    /// The version numbers, a word for each symbol.
+    /// The version indices, one entry per symbol.
     pub words: Table,
-    /// The file offset of the section header of the version numbers.
+    /// The file offset of the section header of the version indices.
     pub at: u64,
-    /// Where the names of the numbers are.
+    /// Where the names of the version indices are.
     pub numbered: VersionStrings,
-    /// Where the file tells of the name of each number.
+    /// The file offset of the record that names each version index.
     pub places: [u64; ALL_PLACES],
 }
 
 impl<S: Source, W: Sink> Listing<'_, '_, '_, '_, S, W> {
-    /// What finds the versions of so many symbols, in the table of a section: none without a symbol,
-    /// or where no section of version numbers links to it.
+    /// Finds the versions of the given number of symbols, in the table of a section; returns `None`
+    /// if there is no symbol, or if no section of version indices links to the table.
     ///
     /// # Errors
-    /// The first check that fails of the section of version numbers; then of the first section of
-    /// definitions or what is no definition, and the same of the needs. A fault of a read.
+    /// The first check that fails of the section of version indices; then of the first section of
+    /// definitions, or an invalid definition, and the same for the needs. A read fault.
     pub(crate) fn suffixes(
         &mut self,
         table: u32,

@@ -1,4 +1,4 @@
-//! The versions of symbols, shown one after another.
+//! The listing of the versions of symbols.
 ghost use Rattle.std.specs.Prelude.{◌≡◌, ◌<◌, length, min};
 ghost use Rattle.elf_options.specs.Permitted.{style_of};
 ghost use Rattle.elf_model.specs.declared.versions.VersionKind.TheVariants.{Need};
@@ -21,10 +21,10 @@ use elf_source::{Sink, Source};
 use elf_table::{Fault, Names, RunFault, Table};
 
 impl<S: Source, W: Sink> Listing<'_, '_, '_, '_, S, W> {
-    /// Shows the versions of the symbols of a section, where it holds them: an `X` line each, or the
-    /// first refusal of its table, of the symbols that it links to or of a number; last the section's
-    /// refusal where a symbol has no entry any more (Linux Standard Base Core, Symbol Versioning).
-    /// The rows of all definitions and needs have come without a fault.
+    /// Shows the versions of the symbols of a section, if it holds them: an `X` line each, or the
+    /// first refusal of its table, of the symbols that it links to or of a version index; finally
+    /// the section's refusal if a symbol has no entry (Linux Standard Base Core, Symbol
+    /// Versioning). The rows of all definitions and needs were shown without a fault.
     #[inline(never)]
     pub(crate) fn symbol_versions(&mut self, section: u16) -> Result<(), RunFault>
         requires awaits { Awaits SymbolVersions self.old.src.now.seen.file
@@ -46,8 +46,8 @@ impl<S: Source, W: Sink> Listing<'_, '_, '_, '_, S, W> {
         self.versioned(section, table, symbols, &numbered)
     }
 
-    /// Shows the versions of so many symbols, and behind them the section's refusal where one has no
-    /// entry any more.
+    /// Shows the versions of the given number of symbols, and after them the section's refusal if a
+    /// symbol has no entry.
     fn versioned(
         &mut self,
         section: u16,
@@ -73,9 +73,9 @@ impl<S: Source, W: Sink> Listing<'_, '_, '_, '_, S, W> {
         Ok(())
     }
 
-    /// Where the names of all numbers are: by the first section of definitions, else by the first of
-    /// needs. Of the first numbers, as many as there are `places`, it keeps where the file tells of
-    /// the name.
+    /// Finds the names of all version indices: by the first section of definitions, then by the
+    /// first section of needs. For the first indices, as many as there are `places`, it keeps the
+    /// offset of the record that gives the name.
     pub(crate) fn numbered(&mut self, places: &mut [u64]) -> Result<VersionStrings, Fault>
         ensures count { length places.new ≡ length places.old }
         ensures numbers { FetchesNumbers self.old self.new places.new result }
@@ -90,8 +90,8 @@ impl<S: Source, W: Sink> Listing<'_, '_, '_, '_, S, W> {
         })
     }
 
-    /// Takes in the records of the first section that holds records of a kind, and answers the string
-    /// table of their names; an empty one where there is no record.
+    /// Adds the records of the first section that holds records of the given kind, and returns the
+    /// string table of their names; an empty one if there is no record.
     fn take_first(
         &mut self,
         names: &mut VersionNames,
@@ -120,7 +120,7 @@ impl<S: Source, W: Sink> Listing<'_, '_, '_, '_, S, W> {
     }
 }
 
-/// The first entries of a table of symbols' versions, as many as there are symbols.
+/// Returns the first entries of a table of symbol versions, as many as there are symbols.
 fn first_entries(table: &Table, symbols: u64) -> Table
     requires { table.now.entry ≡ 2 }
     ensures { result ≡ record {

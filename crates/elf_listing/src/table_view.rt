@@ -11,13 +11,13 @@ use elf_record::Parts;
 use elf_source::{Counted, Source};
 use elf_table::{ExecutionView, Fault, HeaderStore, ListingStyle, Loaded};
 
-/// Loads the program headers of a file without sections, where the parts need them: to be shown, or
-/// because they tell where its notes and its dynamic entries are. Where the style finds tables by
-/// them, no LOAD segment lies over another.
+/// Loads the program headers of a file without sections, if the parts need them: to be shown, or to
+/// find its notes and its dynamic entries. If the style finds tables by them, no LOAD segment
+/// overlaps another.
 ///
 /// # Errors
-/// A fault of a read, or a refusal for want of budget; behind that the check of
-/// [`ExecutionView::check_overlaps`], where the style calls for it.
+/// A read fault, or a refusal for lack of budget; then the check of
+/// [`ExecutionView::check_overlaps`], if the style requires it.
 pub(crate) fn load_view<S: Source>(
     src: &mut Counted<S>,
     store: &mut HeaderStore,
@@ -43,7 +43,7 @@ pub(crate) fn load_view<S: Source>(
     check_view(store, loaded, style, parts)
 }
 
-/// Checks the program headers in the store, where the style finds tables by them.
+/// Checks the program headers in the store, if the style finds tables by them.
 ///
 /// # Errors
 /// That of [`ExecutionView::check_overlaps`].
@@ -66,14 +66,14 @@ fn check_view(
     ExecutionView { loaded, store }.check_overlaps()
 }
 
-/// Whether the style finds tables by the program headers, and the parts need these.
+/// Returns `true` if the style finds tables by the program headers, and the parts need them.
 fn is_checked(loaded: &Loaded, style: ListingStyle, parts: Parts) -> bool
     ensures { result ≡ (style.entry.by_segments && needs_segment_view parts.0 loaded.now) }
 {
     style.by_segments && loaded.header().e_shnum == 0 && needs_segment_view(parts)
 }
 
-/// Loads the program headers of a file without sections, where the parts need them.
+/// Loads the program headers of a file without sections, if the parts need them.
 fn read_view<S: Source>(
     src: &mut Counted<S>,
     store: &mut HeaderStore,
@@ -97,7 +97,7 @@ fn read_view<S: Source>(
     loaded.load_segments(src, store)
 }
 
-/// Whether the parts of a file without sections need its program headers.
+/// Returns `true` if the parts of a file without sections need its program headers.
 fn needs_segment_view(parts: Parts) -> bool
     ensures { result ≡ (has parts.0 SEGMENTS || (has parts.0 NOTES || has parts.0 DYNAMIC)) }
 {

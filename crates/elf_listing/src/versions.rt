@@ -1,4 +1,4 @@
-//! The records of symbol versions, shown one after another.
+//! The listing of the records of symbol versions.
 ghost use Rattle.std.specs.Prelude.{◌≡◌, ◌<◌, None};
 ghost use Rattle.elf_model.specs.declared.versions.VersionKind.TheVariants.{Need};
 ghost use Rattle.elf_table.specs.Tables.{TableInBounds, StringsInBounds};
@@ -18,9 +18,9 @@ use elf_source::{Sink, Source};
 use elf_table::{Names, RunFault};
 
 impl<S: Source, W: Sink> Listing<'_, '_, '_, '_, S, W> {
-    /// Shows the version definitions of a section, where it holds them: a `V` line each, or the
-    /// first refusal of its table, of its string table or of a name, or of what stands in the place
-    /// of a definition (Linux Standard Base Core, Symbol Versioning).
+    /// Shows the version definitions of a section, if it holds them: a `V` line each, or the first
+    /// refusal of its table, of its string table or of a name, or of what is in the place of a
+    /// definition (Linux Standard Base Core, Symbol Versioning).
     #[tactic(auto, unfolding(elf_model::specs::VersionRows::version_definitions))]
     #[inline(never)]
     pub(crate) fn definitions(&mut self, section: u16) -> Result<(), RunFault>
@@ -30,8 +30,8 @@ impl<S: Source, W: Sink> Listing<'_, '_, '_, '_, S, W> {
         self.versions(section, VersionKind::Definition)
     }
 
-    /// Shows the needed files of a section and the versions that are needed of each, where it holds
-    /// them, as definitions.
+    /// Shows the needed files of a section and the versions needed of each, if it holds them, like
+    /// definitions.
     #[tactic(auto, unfolding(elf_model::specs::VersionRows::version_needs))]
     #[inline(never)]
     pub(crate) fn needs(&mut self, section: u16) -> Result<(), RunFault>
@@ -41,7 +41,7 @@ impl<S: Source, W: Sink> Listing<'_, '_, '_, '_, S, W> {
         self.versions(section, VersionKind::File)
     }
 
-    /// Shows the records of a section, where it holds records of a kind.
+    /// Shows the records of a section, if it holds records of the given kind.
     fn versions(&mut self, section: u16, kind: VersionKind) -> Result<(), RunFault>
         requires below { section < self.old.file.store.now.loaded }
         requires kind { kind ≡ Need → ⊥ }
@@ -61,8 +61,8 @@ impl<S: Source, W: Sink> Listing<'_, '_, '_, '_, S, W> {
         self.version_rows(&mut cursor, section, names)
     }
 
-    /// Shows the records that a cursor still gives, a `V` line with its name for each that is shown,
-    /// up to the first name that is refused, or to what is no record.
+    /// Shows the remaining records of a cursor, a `V` line with its name for each that is selected,
+    /// up to the first refused name or invalid record.
     fn version_rows(
         &mut self,
         cursor: &mut VersionCursor,
@@ -80,7 +80,7 @@ impl<S: Source, W: Sink> Listing<'_, '_, '_, '_, S, W> {
         self.version_rows_in::<AllRows>(cursor, section, names)
     }
 
-    /// Shows them, as the style chooses rows.
+    /// Shows the records that the style selects.
     fn version_rows_in<C: RowSelection>(
         &mut self,
         cursor: &mut VersionCursor,
@@ -99,8 +99,8 @@ impl<S: Source, W: Sink> Listing<'_, '_, '_, '_, S, W> {
         Ok(())
     }
 
-    /// Shows a record: its `V` line with its name, where it is one of the rows that are shown, or the
-    /// name's refusal at what holds its index (Linux Standard Base Core, Symbol Versioning).
+    /// Shows a record: its `V` line with its name, if the row is selected, or the name's refusal at
+    /// the structure that holds its index (Linux Standard Base Core, Symbol Versioning).
     fn version_row<C: RowSelection>(
         &mut self,
         given: &VersionRecord,
@@ -117,7 +117,7 @@ impl<S: Source, W: Sink> Listing<'_, '_, '_, '_, S, W> {
         }
     }
 
-    /// Shows it in the rendering of the style.
+    /// Shows the record in the rendering of the style.
     fn version_line<R: Render, C: RowSelection>(
         &mut self,
         given: &VersionRecord,
@@ -150,7 +150,7 @@ impl<S: Source, W: Sink> Listing<'_, '_, '_, '_, S, W> {
     }
 }
 
-/// The type of the sections that hold records of a kind.
+/// Returns the type of the sections that hold records of the given kind.
 pub(crate) fn section_type(kind: VersionKind) -> u32
     ensures { result ≡ kind_type kind }
 {

@@ -1,8 +1,6 @@
-//! The lookup of a name in a file as GNU's dynamic loader does it: by the symbol's record, its name
-//! and its version. No call allocates.
-//!
-//! How a file is hardened, as GNU's dynamic loader sees it: by its program headers, its dynamic
-//! entries, the properties in its notes and its dynamic symbols. No call allocates.
+//! What GNU's dynamic loader sees of a file: the lookup of a symbol by its name and version, and
+//! how the file is hardened, by its program headers, its dynamic entries, the properties in its
+//! notes and its dynamic symbols. No call allocates.
 #![tactic(auto)]
 
 mod exported;

@@ -32,7 +32,7 @@ const FEATURE_IBT: u64 = 0x1;
 const FEATURE_SHSTK: u64 = 0x2;
 
 /// Returns the traits of a file, by its x86 feature bits and the traits of its symbols.
-#[tactic(auto, unfolding(elf_model::specs::Hardening::traits_with))]
+#[tactic(auto, unfolding(elf_model::specs::Traits::traits_with))]
 pub(crate) fn traits_with(
     view: &ExecutionView<'_>,
     entries: &TraitTags,
@@ -54,7 +54,7 @@ pub(crate) fn traits_with(
 }
 
 /// Returns the kind of a file, by its type (gABI 4, ELF Header).
-#[tactic(auto, unfolding(elf_model::specs::Hardening::program_kind))]
+#[tactic(auto, unfolding(elf_model::specs::Traits::program_kind))]
 fn program_kind(view: &ExecutionView<'_>, entries: &TraitTags) -> ProgramKind
     ensures { (file : List ℕ) → HoldsProgramHeaders file view.now.loaded view.now.store.now →
         AreTraitEntries file entries.now → result ≡ program_kind file }
@@ -79,7 +79,7 @@ fn program_kind(view: &ExecutionView<'_>, entries: &TraitTags) -> ProgramKind
 
 /// Returns the kind of a position-independent file: a library if it has a DT_SONAME; otherwise a
 /// program if it requests an interpreter, or if DT_FLAGS_1 says so.
-#[tactic(auto, unfolding(elf_model::specs::Hardening::kind_of_shared))]
+#[tactic(auto, unfolding(elf_model::specs::Traits::kind_of_shared))]
 fn kind_of_shared(view: &ExecutionView<'_>, entries: &TraitTags) -> ProgramKind
     ensures { (file : List ℕ) → HoldsProgramHeaders file view.now.loaded view.now.store.now →
         AreTraitEntries file entries.now → result ≡ kind_of_shared file }
@@ -97,7 +97,7 @@ fn kind_of_shared(view: &ExecutionView<'_>, entries: &TraitTags) -> ProgramKind
 }
 
 /// Returns the traits by program headers, if there are any.
-#[tactic(auto, unfolding(elf_model::specs::Hardening::segment_traits))]
+#[tactic(auto, unfolding(elf_model::specs::Traits::segment_traits))]
 fn segment_traits(view: &ExecutionView<'_>, entries: &TraitTags) -> Option<SegmentTraits>
     ensures { (file : List ℕ) → HoldsProgramHeaders file view.now.loaded view.now.store.now →
         AreTraitEntries file entries.now → result ≡ segment_traits file }
@@ -114,7 +114,7 @@ fn segment_traits(view: &ExecutionView<'_>, entries: &TraitTags) -> Option<Segme
 }
 
 /// Returns how much is read-only after relocation.
-#[tactic(auto, unfolding(elf_model::specs::Hardening::relro_of))]
+#[tactic(auto, unfolding(elf_model::specs::Traits::relro_of))]
 fn relro_of(view: &ExecutionView<'_>, entries: &TraitTags) -> Relro
     ensures { (file : List ℕ) → HoldsProgramHeaders file view.now.loaded view.now.store.now →
         AreTraitEntries file entries.now → result ≡ relro_of file }
@@ -129,7 +129,7 @@ fn relro_of(view: &ExecutionView<'_>, entries: &TraitTags) -> Relro
 }
 
 /// Returns `true` if all symbols are bound before the program begins.
-#[tactic(auto, unfolding(elf_model::specs::Hardening::binds_now))]
+#[tactic(auto, unfolding(elf_model::specs::Traits::binds_now))]
 fn binds_now(entries: &TraitTags) -> bool
     ensures { (file : List ℕ) → AreTraitEntries file entries.now → result ≡ binds_now file }
 {
@@ -139,7 +139,7 @@ fn binds_now(entries: &TraitTags) -> bool
 }
 
 /// Returns `true` if relocations change a segment that is not writable.
-#[tactic(auto, unfolding(elf_model::specs::Hardening::has_text_relocations))]
+#[tactic(auto, unfolding(elf_model::specs::Traits::has_text_relocations))]
 fn has_text_relocations(entries: &TraitTags) -> bool
     ensures { (file : List ℕ) → AreTraitEntries file entries.now →
         result ≡ has_text_relocations file }
@@ -148,7 +148,7 @@ fn has_text_relocations(entries: &TraitTags) -> bool
 }
 
 /// Returns where libraries are searched first.
-#[tactic(auto, unfolding(elf_model::specs::Hardening::path_of))]
+#[tactic(auto, unfolding(elf_model::specs::Traits::path_of))]
 fn path_of(entries: &TraitTags) -> SearchPath
     ensures { (file : List ℕ) → AreTraitEntries file entries.now → result ≡ path_of file }
 {

@@ -58,7 +58,8 @@ binding_fields object symbol found = record {
 unfoldable pub binding_front : Format → (object symbol : ℕ) → BindingState → LinePrefix
 binding_front format object symbol found = front format (codes "name") (binding_fields object symbol found)
 
--- a line that ends in a name, with `@` and the version that is asked for; in an object that is a member of its own
+-- a line that ends in a name, followed by `@` and the requested version; in an object that is a
+-- member of its own
 unfoldable pub line_requested : Format → (key text name version : List ℕ) → List ℕ
 line_requested Columns key text name version = text ++ (escaped name ++ codes "@" ++ escaped version ++ newline)
 line_requested Object key text name version = text ++ (name_member key (Whole name) ++ version_member (Whole version) ++ closing Object)
@@ -67,6 +68,6 @@ abbrev pub requested_line : LinePrefix → (name : List ℕ) → (version : Opti
 requested_line front name None = named_line front (Whole name)
 requested_line front name (Some version) = line_requested front.format front.key front.text name version
 
--- THE LINE OF A SYMBOL that an object asks others for, with its name and the version that it asks for
+-- THE LINE OF A SYMBOL that an object references, with its name and the requested version
 abbrev pub binding_line : Format → (object symbol : ℕ) → BindingState → (name : List ℕ) → (version : Option (List ℕ)) → List ℕ
 binding_line format object symbol found name version = requested_line (binding_front format object symbol found) name version

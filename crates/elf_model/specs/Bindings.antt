@@ -107,8 +107,8 @@ bound_from index headers wanted (file ∷ files) =
 abbrev pub bound_in : (headers : ℕ) → SymbolQuery → List (List ℕ) → Binding
 bound_in headers wanted files = bound_from 0 headers wanted files
 
--- WHAT A SYMBOL ASKS OTHERS FOR. It is undefined, global, weak or unique, and has a name (gABI 4, Symbol Table: an index of 0 is
--- none), of one byte or more
+-- A SYMBOL IS A REFERENCE. It is undefined, global, weak or unique, and has a name (gABI 4, Symbol
+-- Table: an index of 0 is none), of one byte or more
 unfoldable pub is_reference : List ℕ → ℕ → Bool
 is_reference file at =
     (st_shndx file at == SHN_UNDEF)
@@ -160,7 +160,8 @@ reference_version file symbols y = elim symbols.words [
       else reference_by_index file symbols.records number (versym_at words y))
 ]
 
--- nothing, also where the name is empty; or its name and the version; a fault of the name is at the symbol
+-- nothing, also if the name is empty; or its name and the version; a fault of the name is at the
+-- symbol
 unfoldable pub reference_at : List ℕ → DynamicSymbols → ℕ → Result (Option SymbolQuery) Refusal
 reference_at file symbols y =
     let at = symbol_offset symbols y in

@@ -127,8 +127,9 @@ abbrev pub state_in : BoundObjects → List ℕ → DynamicSymbols → ℕ → S
 state_in objects file symbols y wanted =
     state_by objects file symbols y wanted (bound_in objects.headers wanted objects.files)
 
--- WHAT IS LISTED OF AN OBJECT: what binds a symbol of it, which has an index there, under the name that it asks for and with the
--- version, if it asks for one; or the refusal of its own symbol, name or version, with which it ends
+-- WHAT IS LISTED OF AN OBJECT: what binds a symbol of it, which has an index there, under its
+-- requested name and with the requested version, if there is one; or the refusal of its own symbol,
+-- name or version, with which it ends
 pub data BoundItem : Type 0 where
   Told : (object symbol : ℕ) → BindingState → (name : List ℕ) → (version : Option (List ℕ)) → BoundItem
   Faulty : Refusal → BoundItem

@@ -22,18 +22,19 @@ abbrev pub is_not_elf : Cause → Bool
 is_not_elf NotElf = true
 is_not_elf _ = false
 
--- the state that the fault of a listing gives: a file without the magic number is of another kind
+-- the state by the fault of a listing: a file without the magic number is not ELF
 abbrev pub listed_state : Option Refusal → FileStatus
 listed_state None = state.Ok
 listed_state (Some refusal) = if is_not_elf refusal.cause then state.NoElf else state.Refused refusal
 
--- the state of a file of so few bytes that it has no room for a file header, by what it is
+-- the state of a file that is too short for a file header, by what it is
 abbrev pub short_state : ℕ → FileMagic → FileStatus
 short_state size sort.Elf = state.Refused (record { at = size; cause = Short })
 short_state size sort.Undecided = state.Refused undecided
 short_state size _ = state.NoElf
 
--- THE STATE of a file within a budget, by the fault of its listing, or where it is so short by what it is
+-- THE STATE of a file within a budget, by the fault of its listing, or if it is too short for a
+-- file header by what it is
 abbrev pub state_of : Option ℕ → List ℕ → Option Refusal → FileStatus
 state_of budget file fault =
     if nat_lt (length file) FILE_HEADER_SIZE then short_state (length file) (file_magic false budget file) else listed_state fault

@@ -60,8 +60,8 @@ may_read_bytes (Some budget) n = not (nat_lt budget n)
 abbrev begins_with : ℕ → List ℕ → Bool
 begins_with magic file = nat_le MAGIC_SIZE (length file) && field file 0 8 == magic
 
--- WHAT A FILE IS, by its first bytes. One that has fewer than a magic number is of another kind; what one is whose first bytes
--- the budget has no room for is not decided
+-- WHAT A FILE IS, by its first bytes. One that has fewer than a magic number is not ELF; if its
+-- first bytes exceed the budget it is not decided
 unfoldable pub file_magic : (members : Bool) → Option ℕ → List ℕ → FileMagic
 file_magic members budget file =
     if nat_lt (length file) ELF_MAGIC_SIZE then sort.Foreign

@@ -156,8 +156,9 @@ unfoldable pub links_ceiling : (size headers : ℕ) → ℕ
 links_ceiling size headers =
     FILE_HEADER_SIZE + headers * PROGRAM_HEADER_SIZE + 3 * size + size / DYNAMIC_SIZE * name_bytes LINK_TEXT_BYTES
 
--- WHICH MACHINE A FILE IS FOR, so that a loader of that machine takes it as a library: one of 64 bits that is little-endian. None of
--- any other file (gABI 4, ELF Identification: the magic number, the class and the encoding; ELF Header, e_machine)
+-- WHICH MACHINE A FILE IS FOR, so that a loader of that machine takes it as a library: a file of 64
+-- bits that is little-endian. None for any other file (gABI 4, ELF Identification: the magic
+-- number, the class and the encoding; ELF Header, e_machine)
 abbrev pub MACHINE_END : ℕ
 MACHINE_END = 20
 

@@ -25,9 +25,9 @@ pub enum FileMagic {
     Elf,
     /// An archive, if archives are read.
     Archive,
-    /// An archive whose members are in other files, where archives are gone into.
+    /// An archive whose members are in other files, if archives are read.
     Thin,
-    /// A file of another type.
+    /// A file of any other type.
     Foreign,
     /// The budget ends before the bytes that decide it.
     Undecided,

@@ -1,4 +1,4 @@
--- What objects were asked for, one call after another.
+-- What was requested from objects, one call after another.
 use Rattle.std.proofs.Common.{◌≡◌, ℕ, zero, suc, ◌+◌, ◌<◌, ◌≤◌, ◌-◌, ◌^◌, ◌⊎◌, min, List, [], ◌∷◌, length, length-set, get_or, get_or-set_other, get_or-set_same, set, inl, inr, Option, None, Some, Result, Err, refl, sym, ap, subst, ◌∙◌, arith}
 use Rattle.std.proofs.lemmas.Bool.{cases_eq, cases_lt}
 use Rattle.std.proofs.lemmas.List.Sums.{sum_by-set}
@@ -32,7 +32,7 @@ pays_one (Some l0) (Some l1) one more all next p same = omega (arith, p, same)
 pays_one None (Some l1) one more all next p same = absurd p
 pays_one (Some l0) None one more all next p same = absurd p
 
--- nothing was asked for
+-- nothing was requested
 pub asks_none : (objects : List LookupObjectState) (left : Option ℕ) → AsksAll objects objects left left
 asks_none objects left = record { objects = record { same_length = refl; each = λ k d less. same_none (get_or objects k d) }; pays = pays_none left (asked_of_all objects) }
 
@@ -53,7 +53,7 @@ asks_then {a} {b} {c} {l0} {l1} {l2} p q = record {
   pays = pays_then l0 l1 l2 _ _ _ p.pays q.pays;
 }
 
--- one object was asked
+-- one object was read
 module _ (objects : List LookupObjectState) (n : ℕ) (d new : LookupObjectState) (less : n < length objects) where
   one_same : SameObject (get_or objects n d) new → (k : ℕ) (e : LookupObjectState) → k < length objects → (k ≡ n) ⊎ (k ≡ n → ⊥) → SameObject (get_or objects k e) (get_or (set objects n new) k e)
   one_same same k e low (inl at) = rw (at, get_or-set_same objects n new e less, same_element objects n e d less) same
@@ -69,7 +69,7 @@ module _ (objects : List LookupObjectState) (n : ℕ) (d new : LookupObjectState
 pub spends_same : {old new : LookupObjectState} {left : Option ℕ} {stop : Option Fault} {n : ℕ} → SpendsAtMost old.src new.src left stop n → new.headers ≡ old.headers → SameObject old new
 spends_same spends headers = record { same_file = spends.keeps.same_file; same_headers = headers; grows = spends.grows }
 
--- some were looked in
+-- some were searched
 module _ (wanted : SymbolQuery) (old new : List LookupObjectState) (n : ℕ) (first : AskedFirst wanted old new n) where
   first_same : (k : ℕ) (d : LookupObjectState) → (k < n) ⊎ (n ≤ k) → SameObject (get_or old k d) (get_or new k d)
   first_same k d (inl low) = let asked = first.asked k d low in record { same_file = asked.keeps.same_file; same_headers = asked.same_headers; grows = asked.grows }
@@ -100,7 +100,7 @@ used_up old new l0 l1 n refusal says budget pays size =
     let used = used_by new.src.asked old.src.asked over.bytes l1 (subst (λ (l : Option ℕ). SpendsBudget l l1 old.src.asked new.src.asked) over.is_left pays) over.late in
     record { inside = omega (arith, inside, size); bytes = used.0; is_left = used.1; few = used.2 }
 
--- of an object that was asked, among others
+-- of an object that was read, among others
 pub short_one : (objects : List LookupObjectState) (n : ℕ) (d new : LookupObjectState) {l0 l1 : Option ℕ} {most : ℕ} (fault : Fault) → n < length objects → SpendsAtMost (get_or objects n d).src new.src l0 (Some fault) most
     → SpendsBudget l0 l1 (get_or objects n d).src.asked new.src.asked → OnlyShort (set objects n new) l1 fault
 short_one objects n d new {l0} {l1} {most} (Refused refusal) less spends pays = λ budget.

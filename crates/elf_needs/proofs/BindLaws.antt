@@ -1,4 +1,4 @@
--- What lookups in one file after another come to.
+-- The result of lookups in one file after another.
 use Rattle.std.proofs.Common.{◌≡◌, ℕ, zero, suc, ◌+◌, ◌<◌, ◌≤◌, ◌⊎◌, List, [], ◌∷◌, length, length-set, get_or, get_or-set_other, get_or-set_same, set, drop, inl, inr, Option, None, Some, Result, Ok, Err, refl, ap, subst, ◌∙◌, arith}
 use Rattle.std.proofs.lemmas.Bool.{cases_lt}
 use Rattle.std.proofs.lemmas.List.Sums.{sum_by-set}
@@ -10,7 +10,7 @@ use Rattle.elf_table.specs.declared.fault.Fault.TheVariants.{Refused, Source}
 use Rattle.elf_needs.specs.Prelude.{AreObjectFiles, AskedFirst, AskedOf, BindsAcross, FailsIn, LooksInObject, LookupObjectState, ReturnsBinding, ReturnsDefiner, SpendsBudget, asked_of_all}
 use Rattle.elf_needs.specs.declared.bind_name.BindResult.TheVariants.{Bound, Unbound}
 
--- so many were looked in, and none of them answers
+-- n were searched, and none of them defines the name
 pub record BindsSoFar (wanted : SymbolQuery) (old now : List LookupObjectState) (left_old left_now : Option ℕ) (n : ℕ) : Type 0 where
   pub asked : AskedFirst wanted old now n
   pub pays : SpendsBudget left_old left_now (asked_of_all old) (asked_of_all now)
@@ -25,7 +25,7 @@ pays_then None (Some l1) l2 all now next one more p q same = absurd p
 pays_then (Some l0) None l2 all now next one more p q same = absurd p
 pays_then (Some l0) (Some l1) None all now next one more p q same = absurd q
 
--- what one lookup asked for
+-- what one lookup requested
 asked_by : (wanted : SymbolQuery) (old new : LookupObjectState) (left_old left_new : Option ℕ) (result : Result (Option ℕ) Fault) → LooksInObject wanted old new left_old left_new result → AskedOf wanted old new
 asked_by wanted old new left_old left_new result looks = record {
   keeps = looks.costs.keeps;
@@ -36,13 +36,13 @@ asked_by wanted old new left_old left_new result looks = record {
   known = λ file held. (looks.known file held).costs.at_most;
 }
 
--- an element is the same whatever stands for none
+-- an element is the same whatever replaces none
 same_element : (xs : List LookupObjectState) (n : ℕ) (d e : LookupObjectState) → n < length xs → get_or xs n d ≡ get_or xs n e
 same_element [] n d e less = absurd (omega (arith, less))
 same_element (x ∷ xs) zero d e less = refl
 same_element (x ∷ xs) (suc n) d e less = same_element xs n d e (omega (arith, less))
 
--- one more was asked
+-- one more was read
 module _ (wanted : SymbolQuery) (old now : List LookupObjectState) (n : ℕ) (d new : LookupObjectState) (less : n < length now) (before : AskedFirst wanted old now n) (asked : AskedOf wanted (get_or now n d) new) where
   at_it : (e : LookupObjectState) → AskedOf wanted (get_or old n e) (get_or (set now n new) n e)
   at_it e =
@@ -92,7 +92,7 @@ unbound_by index answer others e = rw e refl
 stopped_by : (index : ℕ) (answer : Result (Option ℕ) Refusal) (others : model.Binding) (refusal : Refusal) → answer ≡ Err refusal → bound_or index answer others ≡ StoppedIn index refusal
 stopped_by index answer others refusal e = rw e refl
 
--- ONE MORE FILE: what the lookup in it comes to
+-- ONE MORE FILE: the result of the lookup in it
 module _ (wanted : SymbolQuery) (old now : List LookupObjectState) (left_old left_now left_new : Option ℕ) (n : ℕ) (d new : LookupObjectState) (so_far : BindsSoFar wanted old now left_old left_now n) (less : n < length old) where
   within : n < length now
   within = omega (arith, so_far.asked.same_length, less)

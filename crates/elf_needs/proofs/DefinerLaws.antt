@@ -1,4 +1,4 @@
--- What looking for the symbol that defines a name gives, stage by stage.
+-- What looking up the symbol that defines a name gives, stage by stage.
 use mathlib.Core.Path.{fun_ext}
 use Rattle.std.proofs.Common.{◌≡◌, ℕ, ◌+◌, ◌*◌, ◌≤◌, ◌==◌, if◌then◌else◌, not, Bool, true, false, List, [], ◌∷◌, Option, None, Some, Result, Ok, Err, refl, sym, ap, subst, ◌∙◌, arith}
 use Rattle.elf_model.specs.Prelude.{ChainResult as NoteScan, CompareResult, DefinerLookup, LookupTables as IsScopeOf, SHN_UNDEF, SymbolQuery, answers, counts_check, definer_by, definer_walk, defines, definition_cost, definition_in, first_refusal, is_among, record_cost, st_shndx, symbol_offset, unwalked, version_indices}
@@ -19,7 +19,7 @@ use Rattle.elf_hash.specs.declared.hash_style.HashStyle.TheVariants.{Gnu, Sysv}
 use Rattle.elf_loader.specs.Prelude.{CollectsNumbers, IsSymbolWithVersym, has_number, match_bytes}
 use Rattle.elf_needs.specs.Definers.{DefinesAfter, SaysDefines, ReturnsDefiner, definer_with, the_defined}
 
--- A TRIAL that passes over what is undefined
+-- A MATCHER that skips what is undefined
 module _ (file : List ℕ) (symbols : DynamicSymbols) (wanted : SymbolQuery) (is_wanted : ℕ → Bool) (says : ℕ → Result Bool Refusal) (index : ℕ) (is : SaysDefines file symbols wanted is_wanted says) where
   said : says index ≡ defines file is.told wanted is_wanted index
   said = ap (λ (s : ℕ → Result Bool Refusal). s index) is.says_so
@@ -59,7 +59,7 @@ module _ (file : List ℕ) (symbols : DynamicSymbols) (wanted : SymbolQuery) (is
       go true e = defined true e
       go false e = (defined false e, tries.1)
 
--- one call behind another
+-- one call after another
 pub defines_then :
     {wanted : SymbolQuery} {looked : DefinerLookup} {a b c : CountedState} {result : Result (Option ℕ) Fault} (n few before few_behind before_behind : ℕ)
     → before + n + few_behind ≤ before_behind + few → CallReads a b None n → DefinesAfter wanted few_behind before_behind looked b c result
@@ -77,7 +77,7 @@ asks_are : (wanted : SymbolQuery) (looked : DefinerLookup)
 unfolding definition_cost
 asks_are wanted looked = refl
 
--- the walk is that of the trial
+-- the walk is that of the matcher
 definer_walk_is : (file : List ℕ) (scope : IsScopeOf) (wanted : SymbolQuery) (is_wanted : ℕ → Bool)
     → definer_walk file scope wanted is_wanted ≡ walked_in file scope wanted.name (defines file scope.symbols wanted is_wanted)
 unfolding definer_walk
@@ -88,7 +88,7 @@ pub definer_walks :
     → WalksChain stands 12 cost (walked_in file scope wanted.name (defines file scope.symbols wanted is_wanted)) a b result → WalksChain stands 12 cost (definer_walk file scope wanted is_wanted) a b result
 definer_walks file scope wanted is_wanted cost result walks = rw (definer_walk_is file scope wanted is_wanted) walks
 
--- THE WALK, before which so many records were read
+-- THE WALK, before which n records were read
 module _ (wanted : SymbolQuery) (before : ℕ) (walk : NoteScan) where
   spends : before * record_cost wanted.asked + walk_bytes 12 walk.read walk.tried (match_bytes wanted) ≤ 12 + definition_cost wanted (definer_by before walk)
   spends = let are = asks_are wanted (definer_by before walk) in omega (arith, are)
@@ -115,7 +115,7 @@ module _ (wanted : SymbolQuery) (before : ℕ) (walk : NoteScan) where
     tells = ap (λ (w : NoteScan). w.answer) walks.gives.0;
   }
 
--- few bytes, and where the table is
+-- few bytes, and the location of the table
 pub few_counts : (kind : HashStyle) → counts_bytes kind ≤ 16
 few_counts Gnu = omega arith
 few_counts Sysv = omega arith
@@ -152,7 +152,7 @@ module _ (file : List ℕ) (told : IsScopeOf) (wanted : SymbolQuery) where
       let same = ap (λ (n : ℕ). n * record_cost wanted.asked) (reads compared.refused refl) in
       omega (arith, are, same)
 
-  -- THE NUMBERS of the version that is asked for
+  -- THE INDICES of the wanted version
   pub defines_unnumbered : {a b : CountedState} (fault : Fault) → CollectsNumbers a b (record_cost wanted.asked) compared (Err fault)
       → DefinesAfter wanted 12 0 (definer_with file told wanted compared) a b (Err fault)
   defines_unnumbered (Refused refusal) collects =

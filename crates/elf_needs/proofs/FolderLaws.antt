@@ -1,4 +1,4 @@
--- Folders put behind others, and the paths in them.
+-- Directories appended to others, and the paths in them.
 use Rattle.std.proofs.Common.{◌≡◌, ℕ, suc, ◌+◌, ◌<◌, ◌≤◌, List, [], ◌∷◌, ◌++◌, length, drop, drop-cons, get_or, Option, None, Some, refl, ap, sym, ◌∙◌, append_assoc, add-one}
 use Rattle.std.proofs.Math.ListN.{drop_of_length-le}
 use Rattle.std.specs.List.{cons_option}
@@ -15,12 +15,12 @@ pub append_none : {A : Type 0} (xs : List A) → xs ++ [] ≡ xs
 append_none [] = refl
 append_none (x ∷ xs) = ap (λ l. x ∷ l) (append_none xs)
 
--- some folders, if there are such, in the middle
+-- some directories, if there are any, in the middle
 pub before_others : (xs : List SearchPathText) (some : Option SearchPathText) (others : List SearchPathText) → (xs ++ cons_option some []) ++ others ≡ xs ++ cons_option some others
 before_others xs None others = ap (λ l. l ++ others) (append_none xs)
 before_others xs (Some x) others = append_assoc xs (x ∷ []) others
 
--- one object more is gone by
+-- one more object is processed
 pub rpath_more : (needers : List BorrowedNeeder) (d : BorrowedNeeder) (i : ℕ) (before after : List SearchPathText) (all : List SearchPathText) → i < length needers
     → before ++ rpath_dirs (needers_of (drop i needers)) ≡ all
     → after ≡ before ++ cons_option (rpath_of (needer_of (get_or needers i d))) []

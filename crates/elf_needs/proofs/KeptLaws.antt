@@ -21,7 +21,7 @@ kept_of old new headers scope n did lies = record {
   ready_in = λ file held told is. tt;
 }
 
--- what is told where the source is given back
+-- what holds if the source is returned
 pub back_tells : (file : List ℕ) (headers : ℕ) (src : CountedState) (fault : Fault) → FindsLookupTables file (lookup_tables_of file headers) (Err fault) → ReturnsKept file headers (Err (src, fault))
 back_tells file headers src (Refused refusal) finds = finds
 back_tells file headers src (Source fault at) finds = tt

@@ -29,7 +29,7 @@ abbrev definition_tables : List VersionRecordTable → List VersionRecordTable
 definition_tables [] = []
 definition_tables (table ∷ tables) = if is_definition table.kind then table ∷ definition_tables tables else definition_tables tables
 
--- they are no more
+-- they are not more
 fewer_if : (records : Option VersionRecordTable) → max_records_of (definition_if records) ≤ max_records_of records
 fewer_if None = omega arith
 fewer_if (Some table) = go (is_definition table.kind) refl
@@ -124,7 +124,7 @@ module _ (file : List ℕ) where
         let are = (are_definitions told symbols is).records in
         without told.words refl (none_told (definitions_among told.records) (rw (first, second) at are))
 
-    -- where there are some, they are compared
+    -- if there are any, they are compared
     abbrev compared_lacks : CompareResult → Result Bool Refusal
     compared_lacks compared = elim compared.refused [ Some refusal ↦ Err refusal | None ↦ Ok (is_none_of compared.numbers) ]
 
@@ -158,7 +158,7 @@ module _ (file : List ℕ) where
         → lacks_version file told version ≡ compared_lacks (compared_with file version (readings file (definitions_among told.records)))
     lacks_as wide some = lacks_worded told.words refl is.words wide some
 
-  -- a number is among some, and none is among none
+  -- an index is among some, and none is among none
   first_among : (number : ℕ) (numbers : List ℕ) → is_among number (number ∷ numbers) ≡ true
   first_among number numbers = let same : (number == number) ≡ true = grind (arith, nat_tests) in
       let less : nat_lt 0 (length (number ∷ numbers)) ≡ true = grind (arith, nat_tests) in rw same (rw less refl)

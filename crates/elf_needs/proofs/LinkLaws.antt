@@ -1,4 +1,4 @@
--- What an entry tells of how a file is linked, and what is kept of it.
+-- What an entry gives about how a file is linked, and what is stored of it.
 use Rattle.std.proofs.Common.{◌≡◌, ℕ, zero, suc, ◌<◌, ◌==◌, Bool, true, false, List, [], ◌∷◌, ◌++◌, length, slice_index_or, Option, None, Some, Result, Ok, Err, refl, sym, ap, ◌∙◌, arith, length-append, append_assoc}
 use Rattle.std.proofs.lemmas.Bool.Decides.{nat_tests}
 use Rattle.elf_model.specs.Prelude.{LinkState, NeededName, TextRoom, d_tag, d_un, first_refusal, first_text, is_link, link_text, linked_by, linked_with, mapped_bytes, mapped_checks, mapped_place, room_after, shown, strings_at}
@@ -41,7 +41,7 @@ module _ (file : List ℕ) (at : ℕ) where
             let r : result ≡ Err (Refused refusal) = is ∙ rw (e, strings_mapped) refl in
             rw r (strings_fail refusal e)
 
--- TEXTS that are held stay where they are, with others behind them
+-- TEXTS that are stored stay where they are, with others after them
 kept_at : (xs ys : List (List ℕ)) (i : ℕ) → i < length xs → slice_index_or (xs ++ ys) i [] ≡ slice_index_or xs i []
 kept_at [] ys i below = absurd (omega (arith, below))
 kept_at (x ∷ xs) ys zero below = refl
@@ -127,7 +127,7 @@ module _ (file : List ℕ) (address size : Option ℕ) (at : ℕ) where
           ∙ tells other)
       text_stops strings room before old new (Source fault offset) e same off stands tells = tt
 
-      -- its text is kept
+      -- its text is stored
       module _ (strings : List ℕ) (before old mid : LinkInfoState) (index : ℕ) (links : LinkInfo) (e : strings_at file at address size ≡ Ok strings)
           (off : ℕ) (stands : off ≡ d_un file at) (k : KeepsText (text_by old.held.room at (shown strings off 4096)) old mid index) (l : KeepsLinks before old links state) where
         told : linked_with file address size at state ≡ Ok (record { links = linked_by (d_tag file at) at k.text state.links; room = room_after state.room k.text })

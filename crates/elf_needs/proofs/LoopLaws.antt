@@ -1,4 +1,5 @@
--- A loop over dynamic entries that tell how a file is linked: what it asks for, and what the entries that are left tell.
+-- A loop over dynamic entries that give how a file is linked: what it reads, and what the entries
+-- that are left give.
 use Rattle.std.proofs.Common.{◌≡◌, ℕ, suc, ◌+◌, ◌-◌, ◌*◌, ◌≤◌, List, [], Option, None, Result, Ok, Err, refl, sym, ap, ◌∙◌, arith, append-nil}
 use Rattle.elf_model.specs.Prelude.{LinkState, dynamic_count, linked_from, linked_with, no_link_info}
 use Rattle.elf_model.specs.declared.causes.Refusal.{Refusal}
@@ -12,7 +13,7 @@ use Rattle.elf_note.specs.DynCursors.{DynCursorState, StartsEntries, entries_lef
 use Rattle.elf_needs.specs.Prelude.{KeepsLinks, LinkInfoState, ReturnsLinks}
 use Rattle.elf_needs.specs.declared.links.LinkInfo.{LinkInfo}
 
--- a call behind reads that leave so much of what all may ask for
+-- a call after reads that leave this much of what all may read
 pub charges_after : {a b c : CountedState} {stop : Option Fault} {n m : ℕ} (k : ℕ) → ReadsUpTo a b n → b.asked + m ≤ a.asked + k → CallReads b c stop m → CallReads a c stop k
 charges_after {a} {b} k reads within costs =
     CallReads-then k (omega (arith, reads.grows, within))
@@ -29,7 +30,7 @@ pub account_start : (c : CursorState) (table : TableRange) → c.failed ≡ None
     → unread_bytes c + c.left * 4160 ≡ size_of table + table.count * 4160
 account_start c table none unread left = rw (none, unread, left) refl
 
--- nothing is kept yet
+-- nothing is stored yet
 pub keeps_none : (held : LinkInfoState) (links : LinkInfo) → links ≡ record { soname = None; rpath = None; runpath = None }
     → KeepsLinks held held links (record { links = no_link_info; room = held.held.room })
 keeps_none held links is = rw is (record {
@@ -44,7 +45,7 @@ keeps_none held links is = rw is (record {
   room = refl;
 })
 
--- the entries that are left tell what all do
+-- the entries that are left give what all do
 pub record LeftLinks (told : Result LinkState Refusal) (file : List ℕ) (address size : Option ℕ) (at left : ℕ) (old now : LinkInfoState) (links : LinkInfo) : Type 0 where
   pub state : LinkState
   pub keeps : KeepsLinks old now links state
@@ -106,7 +107,7 @@ module _ (file : List ℕ) (address size : Option ℕ) where
     pub links_end : left ≡ 0 → ReturnsLinks told old now (Ok links)
     links_end none = (l.state, l.rest ∙ ap (linked_from file address size at l.state) none ∙ from_none at l.state, l.keeps)
 
--- a fault of a read tells nothing
+-- a read fault gives nothing
 pub read_links_stop : (told : Result LinkState Refusal) (old new : LinkInfoState) (fault : Fault) → IsOfRead fault → ReturnsLinks told old new (Err fault)
 read_links_stop told old new (Refused refusal) budget = λ other. absurd (other budget)
 read_links_stop told old new (Source fault at) budget = tt

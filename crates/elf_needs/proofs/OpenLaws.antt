@@ -1,4 +1,4 @@
--- What is left of a budget where an object is opened and kept.
+-- What is left of a budget when an object is opened and kept.
 use Rattle.std.proofs.Common.{◌≡◌, ℕ, ◌+◌, ◌-◌, ◌≤◌, List, inl, inr, Option, None, Some, IfSome, option_map, ap, ◌∙◌, arith}
 use Rattle.std.proofs.lemmas.List.Sums.{sum_by_push}
 use Rattle.elf_source.specs.Source.{CountedState, ReadsUpTo, SetsLimit}
@@ -19,7 +19,7 @@ at_least (Some l0) (Some l1) a b c d pays within = omega (arith, pays, within)
 at_least None (Some l1) a b c d pays within = absurd pays
 at_least (Some l0) None a b c d pays within = absurd pays
 
--- what was asked where it was opened
+-- what was requested when it was opened
 pays_off : (left left_new : Option ℕ) (d : ℕ) → left_new ≡ option_map (λ bytes. bytes - d) left → IfSome left (λ bytes. d ≤ 0 + bytes) → SpendsBudget left left_new 0 d
 pays_off None left_new d is within = rw is tt
 pays_off (Some bytes) left_new d is within = rw is (omega (arith, within))

@@ -1,4 +1,4 @@
--- Texts put behind a path, one after another, and the paths of entries.
+-- Texts appended to a path, one after another, and the paths of entries.
 use Rattle.std.proofs.Common.{◌≡◌, ℕ, ◌+◌, ◌<◌, ◌≤◌, true, false, Bool, nat_lt, List, [], ◌∷◌, ◌++◌, length, length-append, Option, None, Some, refl, ap, sym, ◌∙◌, append_assoc, arith}
 use Rattle.std.proofs.lemmas.Bool.Decides.{nat_tests}
 use Rattle.std.specs.List.{cons_option}
@@ -7,7 +7,7 @@ use Rattle.elf_needs.specs.Prelude.{IsMade, MOST_PATH_BYTES, PutsText, after_dir
 some_same : {x y : List ℕ} → Some x ≡ Some y → x ≡ y
 some_same e = cc e
 
--- two texts, one behind the other
+-- two texts, one after the other
 pub puts_both : (old mid new first second : List ℕ) (r : Bool) → PutsText old mid (Some first) true → PutsText mid new (Some second) r → PutsText old new (Some (first ++ second)) r
 puts_both old mid new first second true (f, is, put) (g, is2, put2) =
     (first ++ second, refl, put2 ∙ rw (put, ← some_same is, ← some_same is2) (append_assoc old first second))
@@ -45,7 +45,7 @@ made_of new text true short (t, is, put) =
     rw (← e) (is_short new (short refl))
 made_of new text false short long = is_long text (behind_none (length text) (long text refl))
 
--- by the folder that an entry names
+-- by the directory that an entry names
 by_folder : (root name : List ℕ) (origin : Option (List ℕ)) (entry folder : List ℕ) → dir_of_entry origin entry ≡ Some folder
     → entry_path root name origin entry ≡ if_short (path_in (root_before root entry ++ folder) name)
 unfolding entry_path

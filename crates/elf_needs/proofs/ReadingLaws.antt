@@ -1,4 +1,5 @@
--- How a file is linked, stage by stage: what a lookup is made in, the first segment of dynamic entries, the headers.
+-- How a file is linked, stage by stage: the lookup tables, the first segment of dynamic entries,
+-- the headers.
 use Rattle.std.proofs.Common.{◌≡◌, ℕ, ◌+◌, ◌*◌, ◌/◌, ◌≤◌, Bool, true, false, List, ◌++◌, None, Some, Result, Ok, Err, refl, sym, ap, subst, ◌∙◌, arith}
 use Rattle.elf_model.specs.Prelude.{DT_STRSZ, DT_STRTAB, IsBudgetRefusal, LinkState, LookupTables as IsScopeOf, TextRoom, dynamic_count, dynamic_segment_index, e_shnum, first_refusal, has_none, header_checks, linked_from, linked_in, links_by_segments, links_ceiling, links_of, listed_value, load_checks, loaded_links, lookup_refusal, lookup_tables_by_segments, no_link_info, p_filesz, p_offset, segment_at, segment_dynamic_checks, without_sections}
 use Rattle.elf_model.specs.declared.causes.Refusal.{Refusal}
@@ -16,7 +17,7 @@ use Rattle.elf_needs.proofs.LoopLaws.{keeps_none}
 use Rattle.elf_needs.specs.Prelude.{LinkInfoState, ReturnsLinks, ReturnsLookupRefusal, linked_in_segments, lookup_passed}
 use Rattle.elf_needs.specs.declared.links.LinkInfo.{LinkInfo}
 
--- A LOOKUP: a file without a hash table is passed over, so that a call did not stop
+-- A LOOKUP: a file without a hash table is skipped, so that a call did not stop
 pub passed_did : {a b : CountedState} {n : ℕ} {P : List ℕ → Type 0} (fault : Fault) → CallDid a b (Some fault) n P → CallDid a b (fault_of_result (lookup_passed fault)) n P
 passed_did (Source fault at) did = did
 passed_did {a} {b} {n} {P} (Refused refusal) did = go (has_none refusal.cause) refl
@@ -103,7 +104,7 @@ module _ (file : List ℕ) where
 pub links_as : (told other : Result LinkState Refusal) (old new : LinkInfoState) (result : Result LinkInfo Fault) → told ≡ other → ReturnsLinks told old new result → ReturnsLinks other old new result
 links_as told other old new result same tells = subst (λ t. ReturnsLinks t old new result) same tells
 
--- so many rows of 16 bytes lie within a source of a size
+-- n rows of 16 bytes lie within a source of a size
 pub rows_most : (table : TableRange) (size : ℕ) → table.entry ≡ 16 → table.count * table.entry ≤ size → table.count * 4160 ≤ size / 16 * 4160
 rows_most table size entry within =
     let is = ap (λ (n : ℕ). table.count * n) entry in
@@ -128,7 +129,7 @@ module _ (file : List ℕ) (headers : ℕ) (room : TextRoom) where
   load_stops old new (Refused refusal) store loads = λ other. refused refusal (loads other)
   load_stops old new (Source fault at) store loads = tt
 
--- what the file header tells of section headers is hidden meanwhile
+-- the section header fields of the file header are masked meanwhile
 links_are : (file : List ℕ) (headers : ℕ) (room : TextRoom) → links_by_segments (without_sections file) headers room ≡ links_of file headers room
 unfolding links_of
 links_are file headers room = refl

@@ -1,4 +1,5 @@
--- Where the records of versions are such that the empty version is not refused, and their strings end in a NUL, none is refused.
+-- If the records of versions are such that the empty version is not refused, and their strings end
+-- in a NUL, none is refused.
 use Rattle.std.proofs.Common.{◌≡◌, ℕ, zero, suc, ◌+◌, ◌-◌, ◌*◌, ◌/◌, ◌<◌, ◌≤◌, mul-le-mul_right, IsTrue, ◌==◌, ◌||◌, nat_lt, Bool, true, false, List, [], ◌∷◌, ◌++◌, length, drop, Option, None, Some, Result, Ok, Err, IfSome, refl, sym, ap, subst, ◌∙◌, arith}
 use Rattle.elf_model.specs.Prelude.{CompareResult, LookupTables as IsScopeOf, Meets, Misses, Refuses, Version, VersionQuery, VersionRecordRead, VersionRecordTable as IsTableOf, VersymTable, VisitedRecord, asked_name, begins, compared_with, counts_check, end_reading, first_refusal, is_empty_at_zero, meetings, name_index, named_at, names_version, pad64, readings, readings_of, record_cost, same, version_indices}
 use Rattle.elf_model.specs.declared.causes.Cause.{Cause}
@@ -51,7 +52,7 @@ module _ where
   unfolding begins
   begun bytes = refl
 
--- bytes that end in a NUL begin with a text without one, and the NUL behind it, or don't
+-- bytes that end in a NUL begin with a text without one, and the NUL after it, or do not
 begins_answers : (bytes wanted : List ℕ) → EndsInZero bytes → has_zero wanted ≡ false → Answers (begins bytes (wanted ++ 0 ∷ []))
 begins_answers [] wanted ends none = absurd ends
 begins_answers (b ∷ bytes) [] ends none = go (b == 0) refl
@@ -67,7 +68,7 @@ begins_answers (b ∷ c ∷ bytes) (w ∷ wanted) ends none = go (b == w) refl (
     go true e rest = (rest.0, alike b w (c ∷ bytes) (wanted ++ 0 ∷ []) e ∙ rest.1)
     go false e rest = (false, unlike b w (c ∷ bytes) (wanted ++ 0 ∷ []) e)
 
--- a name at an index that is none of another fault is told
+-- a name at an index that has no other fault is read
 ends_from : (strings : List ℕ) (index : ℕ) → EndsInZero strings → index < length strings → EndsInZero (drop index strings)
 ends_from [] index ends less = absurd ends
 ends_from (b ∷ strings) zero ends less = ends
@@ -118,7 +119,7 @@ ends_in_zero bytes (last, is, said) = go (is_empty_at_zero bytes last) refl (nat
     go false e true within = zero_at bytes last is (sym (same_in bytes last [] e within) ∙ said)
     go false e false out = let isnt = same_out bytes last [] e out in let so = said in cc
 
--- the strings of all records that are met end in a NUL
+-- the strings of all visited records end in a NUL
 abbrev StringsEnd : List VersionRecordRead → Type 0
 StringsEnd [] = Unit {0}
 StringsEnd (Meets strings met ∷ others) = EndsInZero strings × StringsEnd others
@@ -153,7 +154,7 @@ module _ (file version : List ℕ) where
     unfolding compared_with
     compared said e told = rw (e, compared_with) (rw told refl)
 
--- where the empty version is not refused, none is
+-- if the empty version is not refused, none is
 none_refused : (file version : List ℕ) → has_zero version ≡ false → (records : List VersionRecordRead) → StringsEnd records → (compared_with file [] records).refused ≡ None
     → (compared_with file version records).refused ≡ None
 none_refused file version plain [] ends fine = ap (λ (c : CompareResult). c.refused) (no_more file version)
@@ -206,7 +207,8 @@ all_end file (t ∷ told) (table ∷ tables) are ends =
     (subst EndsInZero (are.0.names ends.0.0) (ends_in_zero (strings_in file table.names) ends.0.1))
     (all_end file told tables are.1 ends.1)
 
--- THE LAW: where the empty version is not refused, and the strings of both tables end in a NUL, no version is
+-- THE LAW: if the empty version is not refused, and the strings of both tables end in a NUL, no
+-- version is
 module _ (file : List ℕ) (scope : IsScopeOf) where
   unasked : (asked : VersionQuery) → asked_name asked ≡ None → (version_indices file scope asked).refused ≡ None
   unfolding version_indices
@@ -235,7 +237,7 @@ module _ (file : List ℕ) (scope : IsScopeOf) where
             collected asked version words e w
             ∙ none_refused file version p (readings file scope.symbols.records) ends (sym (collected (Version []) [] words refl w) ∙ fine)
 
--- A TABLE OF RECORDS whose strings were looked at
+-- A TABLE OF RECORDS whose strings were checked
 pub nul_ends : (file : List ℕ) (records : VersionRecordTable) (at : ℕ) (ends : Bool) → 0 < records.table.count → 0 < records.names.size
     → records.names.at + records.names.size ≤ length file → ComparesName at (Ok ends) (same (strings_in file records.names) (records.names.size - 1) [])
     → IsTrue ends → NamesEnd file records
@@ -244,7 +246,7 @@ nul_ends file records at true some bytes within compares so =
     (some, (records.names.size - 1, omega (arith, size, bytes), compares))
 nul_ends file records at false some bytes within compares so = let no : false ≡ true = so in cc
 
--- THE TABLE IS READY where both of its tables of records end so
+-- THE TABLE IS READY if both of its tables of records end so
 module _ (file : List ℕ) (told : IsScopeOf) (scope : LookupTables) (table : HashTable) (is : IsLookupTables file told scope) where
   pub ready_where : (one other : Bool) → first_refusal (counts_check file told ∷ []) ≡ None → IsTable file told table → (version_indices file told (Version [])).refused ≡ None
       → (IsTrue one → IfSome scope.symbols.definitions (NamesEnd file)) → (IsTrue other → IfSome scope.symbols.needs (NamesEnd file))
@@ -254,7 +256,7 @@ module _ (file : List ℕ) (told : IsScopeOf) (scope : LookupTables) (table : Ha
   ready_where true false counts is_table fine definitions needs = tt
   ready_where false other counts is_table fine definitions needs = tt
 
--- how many bytes that asks for
+-- how many bytes that reads
 pub ready_within : (size few records : ℕ) → few ≤ 16 → records ≤ size / 8 → few + (records * (28 + pad64 (0 + 1)) + (64 + 64)) ≤ ready_bytes size
 ready_within size few records low less =
     let most = mul-le-mul_right (record_cost (Version [])) less in

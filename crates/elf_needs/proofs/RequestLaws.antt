@@ -1,4 +1,4 @@
--- A line that was put in pieces ends in the name and the version that is asked for.
+-- A line written in pieces ends in the name and the referenced version.
 use Rattle.std.proofs.Common.{◌≡◌, ℕ, List, ◌++◌, refl, sym, ap, ◌∙◌, append_assoc}
 use Rattle.std.specs.Prelude.{codes}
 use Rattle.elf_model.specs.BindingLines.{line_requested}

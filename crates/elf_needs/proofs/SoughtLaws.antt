@@ -1,4 +1,4 @@
--- What a symbol asks others for, by what is read of it.
+-- What a symbol references, by what is read of it.
 use Rattle.std.proofs.Common.{◌≡◌, ℕ, ◌<◌, ◌≤◌, ◌%◌, ◌^◌, min, nat_lt, ◌==◌, length, Bool, true, false, List, [], ◌∷◌, Option, None, Some, Result, Ok, Err, refl, sym, subst, ◌∙◌, arith}
 use Rattle.std.proofs.lemmas.Bool.Decides.{nat_tests}
 use Rattle.elf_model.specs.Prelude.{Cut as ShownCut, DynamicSymbols as AreSymbolsOf, LookupTables as IsScopeOf, NoVersion, NumberNameSource, SOUGHT_BYTES, Version, VersionQuery, VersymTable as AreWordsOf, VisitedRecord, counts_check, field, file_before, file_of_version, first_refusal, hashed_symbol_count, is_reference, name_index, named_at, naming_of, number_in, readings, reference_at, reference_by_index, reference_version, shown, st_name, symbol_offset, symbols_hashed, versym, versym_at, whole_name}
@@ -37,7 +37,7 @@ module _ (strings : List ℕ) (index at : ℕ) where
       rw (e, ← here, whole_name) refl
   whole_fault (Source fault offset) tells = tt
 
--- THE VERSION OF A NUMBER
+-- THE VERSION WITH AN INDEX
 module _ (file : List ℕ) (told : AreSymbolsOf) (number at : ℕ) where
   abbrev naming : NumberNameSource
   naming = naming_of file number (readings file told.records)
@@ -87,7 +87,7 @@ module _ (file : List ℕ) (told : AreSymbolsOf) (number at : ℕ) where
       fault_by (strings_in file by.names) p.0 refusal p.1 (rw (name, place) at (tells unless))
   unspelt_by a b left by version (Source fault offset) p tells = tt
 
--- WHETHER A SYMBOL ASKS FOR A VERSION
+-- WHETHER A SYMBOL NEEDS A VERSION
 module _ (file : List ℕ) (told : AreSymbolsOf) (symbols : DynamicSymbols) (y : ℕ) (is : IsDynamicSymbols file told symbols) where
   no_words : (words : Option AreWordsOf) → told.words ≡ words → AreVersymTable words None → reference_version file told y ≡ Ok NoVersion
   unfolding reference_version
@@ -173,7 +173,7 @@ module _ (file : List ℕ) (told : AreSymbolsOf) (symbols : DynamicSymbols) (y :
     pub of_numbered : 2 ≤ word % 2 ^ 15 → file_of_version file told y ≡ file_before file (word % 2 ^ 15) None (readings file told.records)
     of_numbered many = of_numbered_at told.words refl (rw some at is.words) many
 
--- what is told by the number is what is told of the symbol
+-- what is found by the index is what is found of the symbol
 pub versioned_as : (told by : Result VersionQuery Refusal) (fault : Fault) → told ≡ by → RefusesAs by fault → RefusesAs told fault
 versioned_as told by (Refused refusal) e tells = λ unless. e ∙ tells unless
 versioned_as told by (Source fault at) e tells = tt

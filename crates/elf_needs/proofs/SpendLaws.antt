@@ -1,4 +1,4 @@
--- What a lookup costs between the call that sets a limit and the call that takes it away.
+-- What a lookup costs between the call that sets a limit and the call that removes it.
 use Rattle.std.proofs.Common.{◌≡◌, ℕ, ◌+◌, ◌-◌, ◌≤◌, List, Option, None, Some, Result, Ok, Err, IfOk, IfSome, option_map, refl, sym, ap, subst, ◌∙◌, arith}
 use Rattle.elf_model.specs.Prelude.{LookupTables as IsScopeOf, SymbolQuery, definition_in, definition_lookup, lookup_tables_of}
 use Rattle.elf_source.specs.Source.{CountedState, SetsLimit, ExceedsBudget, SourceState, counted}
@@ -53,7 +53,7 @@ SpendsAtMost-of {a} {b} {c} {d} {left} {stop} {n} set charges free = record {
   says = fault_says n left stop set charges.says free;
 }
 
--- a lookup once what it is made in is known
+-- a lookup once the lookup tables are known
 pub scoped : (file : List ℕ) (headers : ℕ) (wanted : SymbolQuery) (told : IsScopeOf) → lookup_tables_of file headers ≡ Ok told → definition_lookup file headers wanted ≡ definition_in file told wanted
 unfolding definition_lookup
 scoped file headers wanted told found = rw (found, definition_lookup) refl
@@ -87,7 +87,7 @@ module _ (a b c d : CountedState) (headers : ℕ) (scope : LookupTables) (ready 
             looks_in file in_file.told in_file.found set (did.known file (rw set.seen held) in_file.told in_file.is (kept.ready_in file held in_file.told in_file.is)) free;
       }
 
--- THE LAW: what is charged between the two is taken off
+-- THE LAW: what is charged between the two is subtracted
 pub spent_off : {a b c d : CountedState} {stop : Option Fault} {n : ℕ} (left left_new : Option ℕ) → SetsLimit a b left → CallReads b c stop n → SetsLimit c d None
     → left_new ≡ option_map (λ bytes. bytes - (d.asked - a.asked)) left → (SpendsAtMost a d left stop n) × SpendsBudget left left_new a.asked d.asked
 spent_off {a} {b} {c} {d} left left_new set charges free is =
@@ -126,7 +126,7 @@ ready_of : (file : List ℕ) (told : IsScopeOf) (result : Result (Option HashTab
 ready_of file told (Ok ready) tells = tells
 ready_of file told (Err fault) tells = tt
 
--- THE LAW: what is kept stays so, with the table that was read
+-- THE LAW: what is kept remains so, with the table that was read
 pub kept_prepared :
     {a b c d : CountedState} {left : Option ℕ} {stop : Option Fault} {n : ℕ} (headers : ℕ) (scope : LookupTables) (before : Option HashTable) (result : Result (Option HashTable) Fault)
     → IsKept a.seen headers scope before → SetsLimit a b left

@@ -47,7 +47,7 @@ module _ (objects : BoundObjects) (file : List ℕ) (symbols : DynamicSymbols) (
   state_fault (Refused refusal) e l = λ unless. let r = l unless in rw (e, state_by) (rw r refl)
   state_fault (Source fault at) e l = tt
 
--- a fault that is told alone is no answer
+-- a fault that is reported alone is no result
 pub alone_refuses : {X : Type 0} (told : Result X Refusal) (fault : Fault) → IsReportedAlone fault → RefusesAs told fault
 alone_refuses told (Refused refusal) alone = λ unless. absurd (unless alone)
 alone_refuses told (Source fault at) alone = tt
@@ -147,7 +147,7 @@ module _ (objects : BoundObjects) (name version : List ℕ) where
         lacks_refused (Refused refusal) alone tells = there low ∙ refused_by scope found refusal (tells alone)
         lacks_refused (Source fault at) alone tells = absurd (alone tt)
 
--- WHAT IS TOLD OF A SYMBOL
+-- WHAT IS FOUND FOR A SYMBOL
 module _ (objects : BoundObjects) (place : ℕ) (file : List ℕ) (symbols : DynamicSymbols) (y : ℕ) where
   pub item_fault : (weak : Bool) (name version shown : List ℕ) (under : Option (List ℕ)) (object : ℕ) (fault : Fault) → ReturnsSought (reference_at file symbols y) weak name version (Err fault)
       → ReturnsItem (bound_item objects place file symbols y) object y shown under (Err fault)

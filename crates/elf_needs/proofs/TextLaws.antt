@@ -1,4 +1,4 @@
--- Texts that are held in bytes, with more bytes behind them.
+-- Texts that are stored in bytes, with more bytes after them.
 use Rattle.std.proofs.Common.{◌≡◌, ℕ, ◌+◌, ◌≤◌, List, [], ◌∷◌, ◌++◌, length, take, drop, map, refl, ap, ◌∙◌, arith}
 use Rattle.std.proofs.Math.Seq.{drop-append_seam}
 use Rattle.std.proofs.lemmas.List.{drop-append-le, length-drop, map-append, take-append-le, take_all}
@@ -22,7 +22,7 @@ module _ {X : Type 0} (start len : X → ℕ) where
       ap (λ l. l ∷ map (λ q. slice (xs ++ ys) (start q) (len q)) ps) (piece_of (start p) (len p) xs ys (All-head (λ q. start q + len q ≤ length xs) p ps all))
       ∙ ap (λ l. slice xs (start p) (len p) ∷ l) (pieces_of ps xs ys (All-tail (λ q. start q + len q ≤ length xs) p ps all))
 
-  -- bytes with a text behind them hold one text more
+  -- bytes with a text after them hold one more text
   pub one_more : (ps : List X) (p : X) (xs ys : List ℕ) → All (λ q. start q + len q ≤ length xs) ps → start p ≡ length xs → len p ≡ length ys
       → map (λ q. slice (xs ++ ys) (start q) (len q)) (ps ++ p ∷ []) ≡ map (λ q. slice xs (start q) (len q)) ps ++ ys ∷ []
   one_more ps p xs ys all begins ends =
@@ -30,7 +30,7 @@ module _ {X : Type 0} (start len : X → ℕ) where
       ∙ ap (λ l. l ++ slice (xs ++ ys) (start p) (len p) ∷ []) (pieces_of ps xs ys all)
       ∙ ap (λ l. map (λ q. slice xs (start q) (len q)) ps ++ l ∷ []) (ap (λ n. slice (xs ++ ys) n (len p)) begins ∙ ap (λ n. slice (xs ++ ys) (length xs) n) ends ∙ last_piece xs ys)
 
--- texts that are held, in other words
+-- texts that are stored, in other words
 abbrev pub held_of : List (List ℕ) → (bytes texts : ℕ) → HeldTexts
 held_of texts bytes count = record { texts = texts; room = record { bytes = bytes; texts = count } }
 

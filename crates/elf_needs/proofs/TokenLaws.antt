@@ -1,10 +1,10 @@
--- A text with what stands for its tokens, from a place on.
+-- A text with its tokens replaced, starting at an index.
 use Rattle.std.proofs.Common.{◌≡◌, ℕ, zero, suc, ◌+◌, ◌<◌, ◌≤◌, ◌==◌, true, false, List, [], ◌∷◌, ◌++◌, length, length-append, drop, drop-cons, drop-drop, get_or, Option, None, Some, option_map, refl, ap, sym, ◌∙◌, append_assoc, add-one, arith}
 use Rattle.std.proofs.lemmas.Bool.Decides.{nat_tests}
 use Rattle.std.proofs.Math.ListN.{drop_of_length-le}
 use Rattle.elf_needs.specs.Prelude.{DOLLAR, MOST_PATH_BYTES, PutsText, Token, expanded, token_in}
 
--- what was put so far, with what is left, comes to what is wanted
+-- what was written so far, with what is left, is what is wanted
 abbrev pub IsWalkAlive : (old now : List ℕ) (found rest : Option (List ℕ)) → Type 0
 IsWalkAlive old now found rest = option_map (λ text. old ++ text) found ≡ option_map (λ text. now ++ text) rest
 
@@ -30,7 +30,7 @@ goes_short old now new (Some found) (Some left) goes long text is =
     let more = long left refl in
     rw (← it) (omega (arith, lengths, more))
 
--- the first bytes are passed over
+-- the first bytes are skipped
 pub skipped : (origin : List ℕ) (k : ℕ) (text : List ℕ) → expanded origin k text ≡ expanded origin 0 (drop k text)
 unfolding expanded
 skipped origin zero [] = refl
@@ -84,7 +84,7 @@ pub at_none : (origin text : List ℕ) (at : ℕ) → at < length text → get_o
     → token_in origin (drop (at + 1) text) ≡ None → expanded origin 0 (drop at text) ≡ None
 at_none origin text at below sign is = at_sign origin text at below sign ∙ behind_none origin (drop (at + 1) text) is
 
--- more is put
+-- more is written
 pub goes_on : (old now more : List ℕ) (found rest left : Option (List ℕ)) → IsWalkAlive old now found rest → rest ≡ option_map (λ text. more ++ text) left
     → IsWalkAlive old (now ++ more) found left
 goes_on old now more found rest None goes is = goes ∙ rw is refl
@@ -97,7 +97,7 @@ longer more rest (Some left) is text some =
     let n = length-append more left in
     rw (← e) (omega (arith, n))
 
--- after more was put, and where there is no room for it
+-- after more was written, and if it does not fit
 pub goes_put : (old now new more : List ℕ) (found rest left : Option (List ℕ)) → IsWalkAlive old now found rest → rest ≡ option_map (λ text. more ++ text) left
     → PutsText now new (Some more) true → IsWalkAlive old new found left
 goes_put old now new more found rest left goes is (text, same, put) =

@@ -24,7 +24,7 @@ some_is a b e = cc
 none_not : (a : Bool) → ◌≡◌ {A = Option Bool} None (Some a) → ⊥
 none_not a e = cc
 
--- the text of items behind others, and whether they tell that something is missing
+-- the text of items after others, and whether they report that something is missing
 text_then : (format : Format) (a b : List BoundItem) → bound_text format (a ++ b) ≡ bound_text format a ++ bound_text format b
 text_then format [] b = refl
 text_then format (item ∷ a) b = ap (λ (text : List ℕ). item_line format item ++ text) (text_then format a b) ∙ sym (append_assoc (item_line format item) (bound_text format a) (bound_text format b))
@@ -66,7 +66,7 @@ so_far_all {format} {all} {a} {b} {fails} short before =
     let whole : all ≡ before.front = before.split ∙ append-nil before.front in
     (subst (λ (l : List BoundItem). SinkTakes a b (bound_text format l)) (sym whole) before.takes, before.fails_is ∙ ap any_unbound (sym whole))
 
--- a text that is cut, behind lines and before others
+-- a text that is cut, after lines and before others
 cut_after : {format : Format} {items : List BoundItem} {short : Refusal → Type 0} {text : List ℕ} (all front rest : List BoundItem) → all ≡ front ++ (items ++ rest) → IsCutText format items short text
     → IsCutText format all short (bound_text format front ++ text)
 cut_after {format} {items} {short} {text} all front rest split cut = record {
@@ -84,7 +84,7 @@ cut_after {format} {items} {short} {text} all front rest split cut = record {
 whole_of : {format : Format} {all left : List BoundItem} {a b : OutState} {fails : Bool} (items rest : List BoundItem) (before : WritesSoFar format all left a b fails) → left ≡ items ++ rest → all ≡ before.front ++ (items ++ rest)
 whole_of items rest before parts = before.split ∙ ap (λ (l : List BoundItem). before.front ++ l) parts
 
--- THEY END where some more come to an end
+-- THEY END if some more come to an end
 module _ {format : Format} {all : List BoundItem} (left items rest : List BoundItem) {a b : OutState} (c : OutState) {fails : Bool} (short : Refusal → Type 0) (before : WritesSoFar format all left a b fails) (parts : left ≡ items ++ rest) where
   pub ends_cut : WritesLines format items short b c (Ok Cut) → WritesLines format all short a c (Ok Cut)
   ends_cut writes =
@@ -109,7 +109,7 @@ module _ {format : Format} {all : List BoundItem} (left items rest : List BoundI
       go (inr cut) =
           (bound_text format before.front ++ writes.0, inr (cut_after all before.front rest (whole_of items rest before parts) cut), SinkTakesPrefix-then _ _ before.takes writes.2, writes.3)
 
--- a fault's line is the last of an object, behind which none is left
+-- a fault's line is the last of an object, after which none is left
 pub ends_last : {format : Format} {all : List BoundItem} (left items : List BoundItem) {a b : OutState} (c : OutState) {fails : Bool} (inner outer : Refusal → Type 0) → WritesSoFar format all left a b fails → left ≡ items
     → WritesLines format items inner b c (Ok Ended) → WritesLines format all outer a c (Ok Ended)
 ends_last {format} {all} left items {a} {b} c {fails} inner outer before same writes =
@@ -118,7 +118,7 @@ ends_last {format} {all} left items {a} {b} c {fails} inner outer before same wr
       ap any_unbound whole ∙ fail_then before.front items ∙ ap (λ (e : Bool). any_unbound before.front || e) writes.1 ∙ or_true (any_unbound before.front),
     )
 
--- what lines tell that are all written
+-- what lines report that are all written
 pub failing_some : (format : Format) (items : List BoundItem) (short : Refusal → Type 0) (b c : OutState) (came : WriteEnd) (more : Bool) → WritesLines format items short b c (Ok came) → failing_of came ≡ Some more
     → SinkTakes b c (bound_text format items) × (more ≡ any_unbound items)
 failing_some format items short b c (Whole fails) more writes e = let same : fails ≡ more = some_is fails more e in (writes.0, sym same ∙ writes.1)
@@ -276,7 +276,7 @@ pub objects_none : (objects : BoundObjects) (place : ℕ) (files : List (List �
 unfolding objects_items
 objects_none objects place files past = let none = no_file place files past in rw (none, objects_items) refl
 
--- what is left behind one symbol's items, whatever they are
+-- what is left after one symbol's items, whichever they are
 pub parts_of : (item : Option BoundItem) (rest : List BoundItem) → (behind : List BoundItem) × (before_items item rest ≡ before_items item [] ++ behind)
 parts_of None rest = (rest, refl)
 parts_of (Some (Faulty refusal)) rest = ([], refl)
@@ -300,7 +300,7 @@ module _ {format : Format} {all : List BoundItem} {a b : OutState} {fails : Bool
   item_ends short (Ok Cut) end wrote = let parts = parts_of item rest in ends_cut left (before_items item []) parts.0 c short before (next ∙ parts.1) wrote.writes
   item_ends short (Err fault) end wrote = let parts = parts_of item rest in ends_fault left (before_items item []) parts.0 c short before (next ∙ parts.1) fault wrote.writes
 
--- how many symbols an object has, whose scope is found in its file
+-- how many symbols an object has, whose lookup tables are found in its file
 pub record SymbolsIn (file : List ℕ) (headers count : ℕ) : Type 0 where
   pub told : IsScopeOf
   pub scope : lookup_tables_of file headers ≡ Ok told

@@ -1,4 +1,4 @@
--- What binding the symbols of a program's objects did, over files that are kept open.
+-- The effect of binding the symbols of a program's objects, over files that are kept open.
 use Rattle.std.specs.Prelude.{ℕ, ◌≡◌, ◌<◌, ◌≤◌, ◌⊎◌, Bool, true, false, List, [], ◌++◌, length, get_or, Option, None, Some, Result, Ok, Err}
 use Rattle.elf_model.specs.Prelude.{BoundItem, BoundObjects, Faulty, IsBudgetRefusal, LookupTables as IsScopeOf, Told, any_unbound, before_items, bound_text, file_of_version, is_weak, lookup_tables_of, refusal_line, symbol_offset}
 use Rattle.elf_model.specs.declared.states.BindingState.{BindingState}
@@ -21,14 +21,15 @@ use Rattle.elf_needs.specs.declared.known_object.ObjectList.{ObjectList}
 use Rattle.elf_needs.specs.declared.walk.NeedsFault.{NeedsFault}
 use Rattle.elf_needs.specs.declared.walk.NeedsFault.TheVariants.{Out, Read}
 
--- the objects whose files these are, with so many headers permitted in each, their indexes among all objects, and all objects
+-- the objects whose files these are, with a given number of headers allowed in each, their indices
+-- among all objects, and all objects
 abbrev pub bound_of : (headers : ℕ) → (files : List (List ℕ)) → (indexes : List ℕ) → ObjectList → BoundObjects
 bound_of headers files indexes known = record { files = files; indexes = indexes; headers = headers; called = called_by known }
 
 abbrev pub bound_among : (headers : ℕ) → List (List ℕ) → SearchScope → BoundObjects
 bound_among headers files among = bound_of headers files among.indexes.now among.known.now
 
--- an object is as it was, but for how many bytes it was asked for; and each of some
+-- an object is unchanged, except how many bytes were requested from it; and each of some
 pub record SameObject (old new : LookupObjectState) : Type 0 where
   pub same_file : new.src.seen.file ≡ old.src.seen.file
   pub same_headers : new.headers ≡ old.headers
@@ -38,43 +39,45 @@ pub record SameObjects (old new : List LookupObjectState) : Type 0 where
   pub same_length : length new ≡ length old
   pub each : (k : ℕ) (d : LookupObjectState) → k < length old → SameObject (get_or old k d) (get_or new k d)
 
--- WHAT OBJECTS WERE ASKED FOR, for all sources: what is left of the budget falls by what all of them were asked for
+-- WHAT WAS REQUESTED FROM OBJECTS, for any sources: what is left of the budget decreases by what
+-- was requested from all of them
 pub record AsksAll (old new : List LookupObjectState) (left_old left_new : Option ℕ) : Type 0 where
   pub objects : SameObjects old new
   pub pays : SpendsBudget left_old left_new (asked_of_all old) (asked_of_all new)
 
--- a budget is used up at a place of a file: what is left of it, counted on from what the file was asked for, is fewer than 4,096
--- bytes
+-- a budget is exhausted at an offset of a file: what is left of it, counted from what was requested
+-- from the file, is fewer than 4,096 bytes
 pub record UsesUp (object : LookupObjectState) (left : Option ℕ) (refusal : Refusal) : Type 0 where
   pub inside : refusal.at < object.src.seen.size
   pub bytes : ℕ
   pub is_left : left ≡ Some bytes
   pub few : counted object.src.asked bytes < object.src.asked + 4096
 
--- it is, at a place of the file of one of the objects
+-- it is, at an offset of the file of one of the objects
 abbrev pub IsBudgetShort : List LookupObjectState → Option ℕ → Refusal → Type 0
 IsBudgetShort objects left refusal = (k : ℕ) × ((d : LookupObjectState) → UsesUp (get_or objects k d) left refusal)
 
--- a fault is for want of budget only where that is short
+-- a fault is for lack of budget only if that is short
 abbrev pub OnlyShort : List LookupObjectState → Option ℕ → Fault → Type 0
 OnlyShort objects left (Refused refusal) = IsBudgetRefusal refusal → IsBudgetShort objects left refusal
 OnlyShort objects left (Source fault at) = Unit {0}
 
--- what is told over known files of a symbol of the object at a place, of which this was read
+-- what is found over known files for a symbol of the object at a position, of which this was read
 abbrev pub OfSought : List LookupObjectState → (place symbol : ℕ) → SymbolReference → (ℕ → List (List ℕ) → IsScopeOf → Type 0) → Type 0
 OfSought objects place symbol sought tells =
     (headers : ℕ) (files : List (List ℕ)) (told : IsScopeOf) → AreObjectFiles headers objects files → lookup_tables_of (get_or files place []) headers ≡ Ok told
     → 0 < told.table.symbols → sought.weak ≡ is_weak (get_or files place []) (symbol_offset told.symbols symbol)
     → IsFileIf (get_or files place []) (file_of_version (get_or files place []) told.symbols symbol) sought.file → tells headers files told
 
--- what is told of a symbol of an object, under a name and with a version
+-- what is found for a symbol of an object, under a name and with a version
 abbrev pub ReturnsItem : Option BoundItem → (object symbol : ℕ) → (name : List ℕ) → (version : Option (List ℕ)) → Result (Option BindingState) Fault → Type 0
 ReturnsItem told object symbol name version (Ok None) = told ≡ None
 ReturnsItem told object symbol name version (Ok (Some found)) = told ≡ Some (Told object symbol found name version)
 ReturnsItem told object symbol name version (Err (Refused refusal)) = (IsBudgetRefusal refusal → ⊥) → told ≡ Some (Faulty refusal)
 ReturnsItem told object symbol name version (Err (Source fault at)) = Unit {0}
 
--- a text is a front of the lines, each whole, and then that of a refusal for want of budget, which is short there
+-- a text is a prefix of the lines, each whole, and then that of a refusal for lack of budget, which
+-- is short there
 pub record IsCutText (format : Format) (all : List BoundItem) (short : Refusal → Type 0) (text : List ℕ) : Type 0 where
   pub front : List BoundItem
   pub rest : List BoundItem
@@ -84,15 +87,16 @@ pub record IsCutText (format : Format) (all : List BoundItem) (short : Refusal �
   pub is_short : short refusal
   pub text_is : text ≡ bound_text format front ++ refusal_line format refusal
 
--- front lines alone were written
+-- only the first lines were written
 pub record WritesFront (format : Format) (all : List BoundItem) (old new : OutState) : Type 0 where
   pub front : List BoundItem
   pub rest : List BoundItem
   pub split : all ≡ front ++ rest
   pub takes : SinkTakes old new (bound_text format front)
 
--- WHAT WRITING THE LINES DID: all of them are written; or, only where the budget is short, a front of them and the line that tells
--- so; or a read failed behind a front; or the output failed in one of these texts
+-- THE EFFECT OF WRITING THE LINES: all of them are written; or, only if the budget is short, a
+-- prefix of them and the line that reports it; or a read failed after a prefix; or the output
+-- failed in one of these texts
 abbrev pub WritesLines : Format → List BoundItem → (short : Refusal → Type 0) → OutState → OutState → Result WriteEnd NeedsFault → Type 0
 WritesLines format all short old new (Ok (Whole fails)) = SinkTakes old new (bound_text format all) × (fails ≡ any_unbound all)
 WritesLines format all short old new (Ok Ended) = SinkTakes old new (bound_text format all) × (any_unbound all ≡ true)
@@ -101,19 +105,20 @@ WritesLines format all short old new (Err Read) = WritesFront format all old new
 WritesLines format all short old new (Err (Out fault)) =
     (text : List ℕ) × ((text ≡ bound_text format all) ⊎ (IsCutText format all short text)) × SinkTakesPrefix old new text × IsOutFault new fault
 
--- how the items of an object go on behind those of one symbol: a fault is the last
+-- how the items of an object go on after those of one symbol: a fault is the last
 abbrev pub LeadsItems : Option BoundItem → Result WriteEnd NeedsFault → Type 0
 LeadsItems item (Ok (Whole fails)) = (rest : List BoundItem) → before_items item rest ≡ before_items item [] ++ rest
 LeadsItems item (Ok Ended) = (rest : List BoundItem) → before_items item rest ≡ before_items item []
 LeadsItems item (Ok Cut) = Unit {0}
 LeadsItems item (Err fault) = Unit {0}
 
--- WHAT WRITING THE LINE OF A SYMBOL DID
+-- THE EFFECT OF WRITING THE LINE OF A SYMBOL
 pub record WritesSymbol (format : Format) (item : Option BoundItem) (short : Refusal → Type 0) (old new : OutState) (result : Result WriteEnd NeedsFault) : Type 0 where
   pub writes : WritesLines format (before_items item []) short old new result
   pub leads : LeadsItems item result
 
--- what writing the line of a fault did: that of a refusal, which ends the lines of an object, or all of them for want of budget
+-- the effect of writing the line of a fault: that of a refusal, which ends the lines of an object,
+-- or all of them for lack of budget
 abbrev pub ReturnsFault : Format → Fault → OutState → OutState → Result WriteEnd NeedsFault → Type 0
 ReturnsFault format (Refused refusal) old new (Ok (Whole fails)) = ⊥
 ReturnsFault format (Refused refusal) old new (Ok Ended) = (IsBudgetRefusal refusal → ⊥) × SinkTakes old new (refusal_line format refusal)
@@ -122,27 +127,28 @@ ReturnsFault format (Refused refusal) old new (Err Read) = ⊥
 ReturnsFault format (Refused refusal) old new (Err (Out fault)) = SinkTakesPrefix old new (refusal_line format refusal) × IsOutFault new fault
 ReturnsFault format (Source fault at) old new result = (result ≡ Err Read) × (new ≡ old)
 
--- whether lines tell that something is missing, where all are written
+-- whether lines report that something is missing, if all are written
 abbrev pub failing_of : WriteEnd → Option Bool
 failing_of (Whole fails) = Some fails
 failing_of Ended = Some true
 failing_of Cut = None
 
--- so many of the items are written, and the others are left
+-- n of the items are written, and the others are left
 pub record WritesSoFar (format : Format) (all left : List BoundItem) (old new : OutState) (fails : Bool) : Type 0 where
   pub front : List BoundItem
   pub split : all ≡ front ++ left
   pub takes : SinkTakes old new (bound_text format front)
   pub fails_is : fails ≡ any_unbound front
 
--- the exit status behind lines: 1 where they tell that a symbol is missing, or cannot be told, or where they are cut; else as before
+-- the exit status after lines: 1 if they report that a symbol is missing, or its state cannot be
+-- determined, or if they are cut; otherwise as before
 abbrev pub status_after : WriteEnd → ℕ → ℕ
 status_after (Whole false) status = status
 status_after (Whole true) status = 1
 status_after Ended status = 1
 status_after Cut status = 1
 
--- WHAT WRITING THE BINDINGS OF ALL OBJECTS DID
+-- THE EFFECT OF WRITING THE BINDINGS OF ALL OBJECTS
 abbrev pub WritesBindings : Format → List BoundItem → (short : Refusal → Type 0) → OutState → OutState → (status : ℕ) → Result ℕ NeedsFault → Type 0
 WritesBindings format all short old new before (Ok status) =
     (came : WriteEnd) × WritesLines format all short old new (Ok came) × (status ≡ status_after came before)

@@ -1,4 +1,5 @@
--- What files are asked for while objects are looked for, and what that leaves of a budget that is for all of them.
+-- What is requested from files in a search for objects, and what that leaves of a budget that is
+-- for all of them.
 use Rattle.std.specs.Prelude.{ℕ, ◌≡◌, ◌+◌, ◌≤◌, List, Option, None, Some, Result, Ok, Err}
 use Rattle.elf_source.specs.Source.{CountedState}
 use Rattle.elf_needs.specs.Binds.{asked_of_all}
@@ -7,26 +8,30 @@ use Rattle.elf_needs.specs.Looks.{SpendsBudget}
 use Rattle.elf_needs.specs.Opens.{SpendsBudgetAtLeast}
 use Rattle.elf_needs.specs.declared.object_file.ReadAccount.{ReadAccount}
 
--- WHAT A CALL ASKED A FILE FOR, for every source: what is left of the budget falls by it, and no file is closed
+-- WHAT A CALL REQUESTED FROM A FILE, for any source: what is left of the budget decreases by it,
+-- and no file is closed
 pub record AsksFile (old new : CountedState) (before after : ReadAccount) : Type 0 where
   pub grows : old.asked ≤ new.asked
   pub pays : SpendsBudget before.left after.left old.asked new.asked
   pub same_spent : after.spent ≡ before.spent
 
--- how many bytes a file was asked for that is found; none is found, and a search that fails gives none
+-- how many bytes were requested from a file that is found; none is found, and a search that fails
+-- gives none
 abbrev pub asked_of_found : {E : Type 0} → Result (Option CountedState) E → ℕ
 asked_of_found (Ok (Some file)) = file.asked
 asked_of_found (Ok None) = 0
 asked_of_found (Err fault) = 0
 
--- WHAT A SEARCH FOR A FILE ASKED FOR, for all sources: what is left of the budget falls by no less than what the files that are
--- passed over, and are closed, and the one that is found were asked for
+-- WHAT A SEARCH FOR A FILE REQUESTED, for any sources: what is left of the budget decreases by at
+-- least what was requested from the files that are skipped and closed, and from the one that is
+-- found
 pub record AsksFound {E : Type 0} (before after : ReadAccount) (result : Result (Option CountedState) E) : Type 0 where
   pub spends : before.spent ≤ after.spent
   pub pays : SpendsBudgetAtLeast before.left after.left before.spent (after.spent + asked_of_found result)
 
--- WHAT THE FILES OF OBJECTS WERE ASKED FOR, for all sources: what is left of the budget falls by no less than what all files that
--- were closed since, and all that are kept, were asked for, but for so many bytes that one of these was asked for before
+-- WHAT WAS REQUESTED FROM THE FILES OF OBJECTS, for any sources: what is left of the budget
+-- decreases by at least what was requested from all files closed since, and from all that are kept,
+-- except n bytes that were read from one of these before
 pub record AsksFiles (old new : List LookupObjectState) (asked : ℕ) (before after : ReadAccount) : Type 0 where
   pub spends : before.spent ≤ after.spent
   pub grows : asked_of_all old ≤ asked_of_all new

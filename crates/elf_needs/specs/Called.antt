@@ -4,7 +4,7 @@ use Rattle.std.specs.Str.{bytes_eq}
 use Rattle.elf_needs.specs.declared.known_object.KnownObject.{KnownObject}
 use Rattle.elf_needs.specs.declared.known_object.ObjectList.{ObjectList}
 
--- the text of an index, where one is told; and a text that is told is a name
+-- the text at an index, if one is given; and a text that is given equals a name
 abbrev pub text_told : List (List ℕ) → Option ℕ → Option (List ℕ)
 text_told texts index = option_map (λ i. slice_index_or texts i []) index
 
@@ -12,7 +12,7 @@ abbrev pub is_text : Option (List ℕ) → List ℕ → Bool
 is_text None name = false
 is_text (Some text) name = bytes_eq text name
 
--- an object has a name: it was needed by that, or calls itself so (gABI 5, DT_SONAME)
+-- an object has a name: it was needed by it, or it is its DT_SONAME (gABI 5, DT_SONAME)
 abbrev pub is_called : List (List ℕ) → List ℕ → KnownObject → Bool
 is_called texts name known = is_text (text_told texts known.name) name || is_text (text_told texts known.links.soname) name
 

@@ -1,4 +1,4 @@
--- What dynamic entries tell of how a file is linked, and what is kept of it.
+-- What dynamic entries give about how a file is linked, and what is stored of it.
 use Rattle.std.specs.Prelude.{ℕ, ◌≡◌, ◌<◌, ◌==◌, Bool, true, false, List, [], ◌∷◌, ◌++◌, length, slice_index_or, Option, None, Some, Result, Ok, Err}
 use Rattle.elf_model.specs.Prelude.{Cut, DT_RPATH, DT_RUNPATH, DT_SONAME, DisplayedName, IsBudgetRefusal, LinkState, NeededName, TextRoom, has_room}
 use Rattle.elf_model.specs.declared.causes.Cause.{Cause}
@@ -23,7 +23,7 @@ text_by room at text = elim text [
   ]
 ]
 
--- a text is kept behind the others
+-- a text is stored after the others
 pub record KeepsText (told : Result (List ℕ) Refusal) (old new : LinkInfoState) (index : ℕ) : Type 0 where
   pub text : List ℕ
   pub reported_text : told ≡ Ok text
@@ -31,25 +31,25 @@ pub record KeepsText (told : Result (List ℕ) Refusal) (old new : LinkInfoState
   pub its_index : index ≡ length old.held.texts
   pub few : length new.needs < length new.held.texts
 
--- a text that is told is kept, or it is refused, unless that is for want of budget
+-- a text that is given is stored, or it is refused, except for lack of budget
 abbrev pub ReturnsText : Result (List ℕ) Refusal → LinkInfoState → LinkInfoState → Result ℕ Fault → Type 0
 ReturnsText told old new (Ok index) = KeepsText told old new index
 ReturnsText told old new (Err (Refused refusal)) = (IsBudgetRefusal refusal → ⊥) → told ≡ Err refusal
 ReturnsText told old new (Err (Source fault at)) = Unit {0}
 
--- a string table is the one that is told, or its refusal
+-- a string table is the specified one, or its refusal
 abbrev pub ReturnsStrings : List ℕ → Result (List ℕ) Refusal → Result StringTableRange Fault → Type 0
 ReturnsStrings file told (Ok names) = told ≡ Ok (strings_in file names)
 ReturnsStrings file told (Err (Refused refusal)) = told ≡ Err refusal
 ReturnsStrings file told (Err (Source fault at)) = ⊥
 
--- an index that was told, or one where an entry has a tag
+-- an index that was given before, or one if an entry has a tag
 abbrev pub first_index : Option ℕ → Bool → ℕ → Option ℕ
 first_index (Some told) is index = Some told
 first_index None true index = Some index
 first_index None false index = None
 
--- with the text of an entry of a tag
+-- with the text of an entry with a tag
 abbrev pub with_index : LinkInfo → (tag index : ℕ) → LinkInfo
 with_index links tag index = record {
   soname = first_index links.soname (tag == DT_SONAME) index;
@@ -57,12 +57,12 @@ with_index links tag index = record {
   runpath = first_index links.runpath (tag == DT_RUNPATH) index;
 }
 
--- a text of an index, if there is one, is a text that is told
+-- a text at an index, if there is one, is a given text
 abbrev pub IsHeldText : List (List ℕ) → Option ℕ → Option (List ℕ) → Type 0
 IsHeldText texts None told = told ≡ None
 IsHeldText texts (Some index) told = (index < length texts) × (told ≡ Some (slice_index_or texts index []))
 
--- a need, whose name is of an index
+-- a need, whose name has an index
 pub record IsNeed (texts : List (List ℕ)) (need : NeededLibrary) (told : NeededName) : Type 0 where
   pub at : need.at ≡ told.at
   pub below : need.name < length texts
@@ -74,7 +74,8 @@ AreNeeds texts (need ∷ needs) (told ∷ others) = IsNeed texts need told × Ar
 AreNeeds texts [] (told ∷ others) = ⊥
 AreNeeds texts (need ∷ needs) [] = ⊥
 
--- WHAT IS KEPT OF A FILE, behind what is held already: its needs and its texts are those that are told
+-- WHAT IS STORED OF A FILE, after what is there already: its needs and its texts are those that are
+-- given
 pub record KeepsLinks (old new : LinkInfoState) (links : LinkInfo) (state : LinkState) : Type 0 where
   pub more : List (List ℕ)
   pub texts : new.held.texts ≡ old.held.texts ++ more
@@ -86,7 +87,7 @@ pub record KeepsLinks (old new : LinkInfoState) (links : LinkInfo) (state : Link
   pub runpath : IsHeldText new.held.texts links.runpath state.links.runpath
   pub room : new.held.room ≡ state.room
 
--- what is told is kept, or it is refused, unless that is for want of budget
+-- what is given is stored, or it is refused, except for lack of budget
 abbrev pub ReturnsLinks : Result LinkState Refusal → LinkInfoState → LinkInfoState → Result LinkInfo Fault → Type 0
 ReturnsLinks told old new (Ok links) = (state : LinkState) × (told ≡ Ok state) × KeepsLinks old new links state
 ReturnsLinks told old new (Err (Refused refusal)) = (IsBudgetRefusal refusal → ⊥) → told ≡ Err refusal

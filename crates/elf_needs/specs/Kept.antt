@@ -10,29 +10,30 @@ use Rattle.elf_hash.specs.declared.table.HashTable.{HashTable}
 use Rattle.elf_hash.specs.declared.lookup_tables.LookupTables.{LookupTables}
 use Rattle.elf_needs.specs.Ready.{IsReadyIf}
 
--- its source, and how many headers were permitted where what a lookup is made in was found
+-- its source, and how many headers were allowed when the lookup tables were found
 pub record LookupObjectState : Type 0 where
   pub src : CountedState
   pub headers : ℕ
 
--- what a lookup is made in is what the definitions find in a file
+-- the lookup tables are those that the definitions find in a file
 pub record IsScopeIn (file : List ℕ) (headers : ℕ) (scope : LookupTables) : Type 0 where
   pub told : IsScopeOf
   pub found : lookup_tables_of file headers ≡ Ok told
   pub is : IsLookupTables file told scope
 
--- the table of a scope, if there is one, is ready for lookups in a file
+-- the hash table, if there is one, is ready for lookups in a file
 abbrev pub IsReadyIn : List ℕ → LookupTables → Option HashTable → Type 0
 IsReadyIn file scope ready = (told : IsScopeOf) → IsLookupTables file told scope → IsReadyIf file told ready
 
--- WHAT IS KEPT is what a lookup in the source's file is made in, and lies within the source; and its table, where that is ready
+-- WHAT IS KEPT is the lookup tables of the source's file, which lie within the source; and its hash
+-- table, if that is ready
 pub record IsKept (seen : SourceState) (headers : ℕ) (scope : LookupTables) (ready : Option HashTable) : Type 0 where
   pub lies : LookupTablesInBounds seen.size scope
   pub known : (file : List ℕ) → seen.file ≡ Some file → IsScopeIn file headers scope
   pub placed : IfSome ready (λ table. place_of_table table ≡ scope.hash)
   pub ready_in : (file : List ℕ) → seen.file ≡ Some file → IsReadyIn file scope ready
 
--- the source, kept or given back, and why it is given back
+-- the source, kept or returned, and why it is returned
 abbrev pub source_of : Result LookupObjectState (CountedState × Fault) → CountedState
 source_of (Ok kept) = kept.src
 source_of (Err back) = back.0
@@ -41,13 +42,13 @@ abbrev pub why_back : Result LookupObjectState (CountedState × Fault) → Optio
 why_back (Ok kept) = None
 why_back (Err back) = Some back.1
 
--- where it is given back it is for the definition's refusal, unless that is for want of budget
+-- if it is returned it is for the definition's refusal, except one for lack of budget
 abbrev pub ReturnsKept : List ℕ → (headers : ℕ) → Result LookupObjectState (CountedState × Fault) → Type 0
 ReturnsKept file headers (Ok kept) = kept.headers ≡ headers
 ReturnsKept file headers (Err (src, Refused refusal)) = (IsBudgetRefusal refusal → ⊥) → lookup_tables_of file headers ≡ Err refusal
 ReturnsKept file headers (Err (src, Source fault at)) = Unit {0}
 
--- WHAT A LOOKUP IS MADE IN IS FOUND ONCE, in a known file
+-- THE LOOKUP TABLES ARE FOUND ONCE, in a known file
 pub record KeepsScope (file : List ℕ) (headers : ℕ) (old : CountedState) (result : Result LookupObjectState (CountedState × Fault)) : Type 0 where
   pub costs : CallReads old (source_of result) (why_back result) (scope_cost file headers)
   pub tells : ReturnsKept file headers result

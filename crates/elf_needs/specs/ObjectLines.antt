@@ -14,7 +14,7 @@ object_state_name state.Found = codes "found"
 object_state_name state.Missing = codes "missing"
 object_state_name (state.Refused refusal) = codes "refused"
 
--- a file that is at fault where an object is refused
+-- a malformed file, if an object is refused
 abbrev pub file_state : ObjectState → FileStatus
 file_state (state.Refused refusal) = file.Refused refusal
 file_state state.Found = file.Ok
@@ -40,7 +40,8 @@ object_front format index needer found = front format (codes "path") (object_fie
 abbrev pub object_line : Format → ℕ → Option ℕ → ObjectState → List ℕ → List ℕ
 object_line format index needer found path = named_line (object_front format index needer found) (Whole path)
 
--- the line that ends the objects where there are more than are listed: the place of the dynamic entry that needs one more
+-- the line that ends the objects if there are more than are listed: the place of the dynamic entry
+-- that needs one more
 unfoldable pub too_many_line : Format → ℕ → List ℕ
 too_many_line format place =
     closed_line format (record { letter = codes "!"; fields = Hexadecimal (codes "place") 16 place ∷ [] }) (ArgSpec (codes "cause") 0 (codes "too-many-objects"))

@@ -3,18 +3,19 @@ use Rattle.std.specs.Prelude.{ℕ, ◌≡◌, ◌+◌, ◌≤◌, ◌⊎◌, ◌
 use Rattle.elf_needs.specs.Binds.{asked_of_all}
 use Rattle.elf_needs.specs.Kept.{LookupObjectState}
 
--- what is left of a budget falls by what is asked for, or by more
+-- what is left of a budget decreases by what is requested, or by more
 abbrev pub SpendsBudgetAtLeast : (left_old left_new : Option ℕ) → (asked_old asked_new : ℕ) → Type 0
 SpendsBudgetAtLeast None None asked_old asked_new = Unit {0}
 SpendsBudgetAtLeast (Some left_old) (Some left_new) asked_old asked_new = left_new + asked_new ≤ left_old + asked_old
 SpendsBudgetAtLeast None (Some left_new) asked_old asked_new = ⊥
 SpendsBudgetAtLeast (Some left_old) None asked_old asked_new = ⊥
 
--- an object is kept behind the others, or not
+-- an object is kept after the others, or not
 abbrev pub KeepsOne : (old new : List LookupObjectState) → LookupObjectState → Type 0
 KeepsOne old new object = (new ≡ old) ⊎ (new ≡ old ++ object ∷ [])
 
--- what keeping an object asked for, for every source: what is left of the budget falls by no less than what it was asked for
+-- what keeping an object requested, for any source: what is left of the budget decreases by at
+-- least what was requested from it
 pub record AsksKept (old new : List LookupObjectState) (left_old left_new : Option ℕ) : Type 0 where
   pub grows : asked_of_all old ≤ asked_of_all new
   pub pays : SpendsBudgetAtLeast left_old left_new (asked_of_all old) (asked_of_all new)

@@ -1,9 +1,9 @@
--- Pages of a file that are held, and what they give.
+-- Pages of a file that are held, and what they contain.
 use Rattle.std.specs.Prelude.{ℕ, ◌≡◌, Bool, true, false, List, length, take, drop, Some, All}
 use Rattle.elf_model.specs.Bytes.{slice}
 use Rattle.elf_source.specs.Source.{SourceState}
 
--- bytes that are held of a file, from an offset on
+-- bytes that are held of a file, at an offset
 pub record HeldBytes : Type 0 where
   pub at : ℕ
   pub bytes : List ℕ
@@ -12,17 +12,18 @@ pub record HeldBytes : Type 0 where
 abbrev pub IsPageOf : List ℕ → HeldBytes → Type 0
 IsPageOf file held = held.bytes ≡ slice file held.at (length held.bytes)
 
--- of a source whose file is known all pages that are held are the file's
+-- all pages that are held are the file's, for a source whose file is known
 abbrev pub AreHeld : SourceState → List HeldBytes → Type 0
 AreHeld seen pages = (file : List ℕ) → seen.file ≡ Some file → All (IsPageOf file) pages
 
--- the bytes at an offset are given by what is held, where that has all of them; else nothing is
+-- the bytes at an offset are copied from what is held, if that has all of them; otherwise nothing
+-- is
 abbrev pub GivesHeld : HeldBytes → (at : ℕ) → (old new : List ℕ) → Bool → Type 0
 GivesHeld held at old new true =
     (file : List ℕ) → IsPageOf file held → new ≡ take (length old) (drop at file)
 GivesHeld held at old new false = new ≡ old
 
--- the same of all pages of a source
+-- the same for all pages of a source
 abbrev pub GivesOf : SourceState → (at : ℕ) → (old new : List ℕ) → Bool → Type 0
 GivesOf seen at old new true = (file : List ℕ) → seen.file ≡ Some file → new ≡ take (length old) (drop at file)
 GivesOf seen at old new false = new ≡ old

@@ -1,4 +1,5 @@
--- What the lookups in one file have in common: the counts of its hash table, and that no record of versions is refused.
+-- What the lookups in one file have in common: the counts of its hash table, and that no record of
+-- versions is refused.
 use Rattle.std.specs.Prelude.{ℕ, ◌≡◌, ◌+◌, ◌*◌, ◌/◌, ◌<◌, ◌==◌, ◌&&◌, if◌then◌else◌, Bool, true, false, List, [], ◌∷◌, length, Option, None, Some, Result, Ok, Err, IfSome}
 use Rattle.std.specs.List.{list_any}
 use Rattle.elf_model.specs.Prelude.{LookupTables as IsScopeOf, Version, VersionQuery, asked_name, counts_check, first_refusal, record_cost, same, version_indices}
@@ -12,7 +13,7 @@ use Rattle.elf_hash.specs.declared.symbols.VersionRecordTable.{VersionRecordTabl
 abbrev pub has_zero : List ℕ → Bool
 has_zero bytes = list_any (λ b. b == 0) bytes
 
--- the name of the version that is asked for has no NUL
+-- the name of the wanted version has no NUL
 abbrev pub HasNoNul : VersionQuery → Type 0
 HasNoNul asked = IfSome (asked_name asked) (λ version. has_zero version ≡ false)
 
@@ -20,17 +21,18 @@ HasNoNul asked = IfSome (asked_name asked) (λ version. has_zero version ≡ fal
 abbrev pub EndsInNul : List ℕ → Type 0
 EndsInNul bytes = (last : ℕ) × (length bytes ≡ last + 1) × (same bytes last [] ≡ Ok true)
 
--- a table of records has a byte, and the strings of its names end in a NUL
+-- a table of records is not empty, and its string table ends in a NUL
 abbrev pub NamesEnd : List ℕ → VersionRecordTable → Type 0
 NamesEnd file records = (0 < records.table.count) × EndsInNul (strings_in file records.names)
 
--- THE TABLE IS READY for lookups in a file: its counts pass their check, and no version that has no NUL in its name is refused
+-- THE TABLE IS READY for lookups in a file: its counts pass their check, and no version without a
+-- NUL in its name is refused
 pub record IsReadyTable (file : List ℕ) (told : IsScopeOf) (table : HashTable) : Type 0 where
   pub counts : first_refusal (counts_check file told ∷ []) ≡ None
   pub is : IsTable file told table
   pub versions : (asked : VersionQuery) → HasNoNul asked → (version_indices file told asked).refused ≡ None
 
--- the same of the table, if there is one
+-- the same for the table, if there is one
 abbrev pub IsReadyIf : List ℕ → IsScopeOf → Option HashTable → Type 0
 IsReadyIf file told None = Unit {0}
 IsReadyIf file told (Some table) = IsReadyTable file told table
@@ -39,11 +41,11 @@ abbrev pub ReturnsReady : List ℕ → IsScopeOf → Result (Option HashTable) F
 ReturnsReady file told (Ok ready) = IsReadyIf file told ready
 ReturnsReady file told (Err fault) = Unit {0}
 
--- a table, where both are so
+-- a table, if both hold
 abbrev pub table_where : (one other : Bool) → HashTable → Option HashTable
 table_where one other table = if one && other then Some table else None
 
--- how many bytes that asks for in a source of this size, whatever its bytes are: the counts, the records of versions with a
--- byte of the name of each, and the ends of two tables of strings
+-- how many bytes that reads in a source of this size, for any bytes: the counts, the records of
+-- versions with a byte of the name of each, and the ends of two string tables
 abbrev pub ready_bytes : ℕ → ℕ
 ready_bytes size = 16 + size / 8 * record_cost (Version []) + 128

@@ -1,9 +1,9 @@
--- Where a loader of the GNU system looks for a library that a program needs: the paths that are tried for its name, in order, by
--- texts alone (gABI 5, Shared Object Dependencies; ld.so(8)).
+-- Where glibc's dynamic loader searches for a library that a program needs: the paths that are
+-- tried for its name, in order, by texts alone (gABI 5, Shared Object Dependencies; ld.so(8)).
 use Rattle.std.specs.Prelude.{◌≡◌, ◌≢◌, ◌<◌, ◌⊎◌, take, ℕ, zero, suc, ◌==◌, ◌&&◌, ◌||◌, nat_eq, nat_lt, not, Bool, true, false, if◌then◌else◌, List, [], ◌∷◌, ◌++◌, length, slice_index, codes, Option, None, Some, option_map}
 use Rattle.std.specs.List.{cons_option, list_any, starts_with}
 
--- `:` parts folders, `/` the names of a path, `$` begins a token
+-- `:` separates directories, `/` the names of a path, `$` begins a token
 abbrev pub COLON : ℕ
 COLON = 58
 
@@ -13,7 +13,7 @@ PATH_SLASH = 47
 abbrev pub DOLLAR : ℕ
 DOLLAR = 36
 
--- how many bytes a path has at most: no longer one can be opened
+-- the maximum number of bytes of a path: no longer one can be opened
 abbrev pub MOST_PATH_BYTES : ℕ
 MOST_PATH_BYTES = 4095
 
@@ -21,31 +21,32 @@ MOST_PATH_BYTES = 4095
 unfoldable pub is_name_byte : ℕ → Bool
 is_name_byte b = (not (nat_lt b 48) && nat_lt b 58) || (not (nat_lt b 65) && nat_lt b 91) || (not (nat_lt b 97) && nat_lt b 123) || b == 95
 
--- a token: what stands for it, and how many bytes it has behind its `$`
+-- a token: its replacement, and how many bytes it has after its `$`
 pub record Token : Type 0 where
   pub value : List ℕ
   pub size : ℕ
 
--- bytes begin with a name that ends there, or with the name in braces; if so that is how many bytes it has
+-- bytes begin with a name that ends there, or with the name in braces; if so that is how many bytes
+-- it has
 unfoldable pub token_size : (bytes name braced : List ℕ) → Option ℕ
 token_size bytes name braced =
     if starts_with nat_eq bytes braced then Some (length braced)
     else if starts_with nat_eq bytes name && not (is_name_byte (slice_index bytes (length name))) then Some (length name)
     else None
 
--- the token of a name, else another
+-- the token of a name, otherwise another
 abbrev pub token_or : Option ℕ → List ℕ → Option Token → Option Token
 token_or (Some size) value other = Some (record { value = value; size = size })
 token_or None value other = other
 
--- the token behind a `$`: the folder of the object that has it, and the two names of the platform
+-- the token after a `$`: the directory of the object that has it, and the two names of the platform
 unfoldable pub token_in : (origin bytes : List ℕ) → Option Token
 token_in origin bytes =
     token_or (token_size bytes (codes "ORIGIN") (codes "{ORIGIN}")) origin
     (token_or (token_size bytes (codes "LIB") (codes "{LIB}")) (codes "lib/x86_64-linux-gnu")
     (token_or (token_size bytes (codes "PLATFORM") (codes "{PLATFORM}")) (codes "x86_64") None))
 
--- a text behind its first bytes, with what stands for its tokens; none where a `$` begins none
+-- a text after its first bytes, with its tokens replaced; none if a `$` begins none
 unfoldable pub expanded : (origin : List ℕ) (skip : ℕ) (text : List ℕ) → Option (List ℕ)
 expanded origin skip [] = Some []
 expanded origin (suc skip) (b ∷ text) = expanded origin skip text
@@ -57,12 +58,13 @@ expanded origin zero (b ∷ text) = elim (b == DOLLAR) [
   ]
 ]
 
--- FOLDERS. A text of folders, and the folder that stands for `$ORIGIN`: where there is none a `$` is a byte like others
+-- DIRECTORIES. A list of directories, and the directory that replaces `$ORIGIN`: if there is none a
+-- `$` is a byte like any other
 pub record SearchPathText : Type 0 where
   pub text : List ℕ
   pub origin : Option (List ℕ)
 
--- the entries of a text, which colons part
+-- the entries of a list, separated by colons
 unfoldable pub parted : (entry text : List ℕ) → List (List ℕ)
 parted entry [] = entry ∷ []
 parted entry (b ∷ text) = elim (b == COLON) [
@@ -75,24 +77,25 @@ unfoldable pub entries_of : List ℕ → List (List ℕ)
 entries_of [] = []
 entries_of (b ∷ text) = parted [] (b ∷ text)
 
--- the folder that an entry names
+-- the directory that an entry names
 unfoldable pub dir_of_entry : Option (List ℕ) → List ℕ → Option (List ℕ)
 dir_of_entry None entry = Some entry
 dir_of_entry (Some origin) entry = expanded origin 0 entry
 
--- PATHS. What is written with a slash at its front stands below another root
+-- PATHS. What begins with a slash is below another root
 abbrev pub is_rooted : List ℕ → Bool
 is_rooted text = slice_index text 0 == PATH_SLASH
 
 abbrev pub root_before : (root text : List ℕ) → List ℕ
 root_before root text = if is_rooted text then root else []
 
--- what stands between a folder and a name in it: a slash, whatever the folder ends in; the empty folder is the current one
+-- what separates a directory and a name in it: a slash, even if the directory ends in one; the
+-- empty directory is the current one
 unfoldable pub after_dir : List ℕ → List ℕ
 after_dir folder =
     if length folder == 0 then codes "./" else codes "/"
 
--- the path of a name in a folder
+-- the path of a name in a directory
 abbrev pub path_in : (folder name : List ℕ) → List ℕ
 path_in folder name = folder ++ (after_dir folder ++ name)
 
@@ -100,61 +103,63 @@ path_in folder name = folder ++ (after_dir folder ++ name)
 abbrev pub if_short : List ℕ → Option (List ℕ)
 if_short path = if nat_lt MOST_PATH_BYTES (length path) then None else Some path
 
--- the path of a name in the folder that an entry names: none where a `$` begins no token, or where it is too long
+-- the path of a name in the directory that an entry names: none if a `$` begins no token, or if it
+-- is too long
 unfoldable pub entry_path : (root name : List ℕ) (origin : Option (List ℕ)) (entry : List ℕ) → Option (List ℕ)
 entry_path root name origin entry = elim (dir_of_entry origin entry) [
   | None ↦ None
   | Some folder ↦ if_short (path_in (root_before root entry ++ folder) name)
 ]
 
--- the paths of a name in the folders that entries name
+-- the paths of a name in the directories that entries name
 unfoldable pub entry_paths : (root name : List ℕ) (origin : Option (List ℕ)) → List (List ℕ) → List (List ℕ)
 entry_paths root name origin [] = []
 entry_paths root name origin (entry ∷ entries) = cons_option (entry_path root name origin entry) (entry_paths root name origin entries)
 
--- the paths of a name in the folders of a text
+-- the paths of a name in a list of directories
 abbrev pub dir_paths : (root name : List ℕ) → SearchPathText → List (List ℕ)
 dir_paths root name folders = entry_paths root name folders.origin (entries_of folders.text)
 
--- THE ORDER. An object that needs others: its DT_RPATH and its DT_RUNPATH, if it has such, and the folder that it is in
+-- THE ORDER. An object that needs others: its DT_RPATH and its DT_RUNPATH, if it has them, and the
+-- directory that it is in
 pub record NeedingObject : Type 0 where
   pub rpath : Option (List ℕ)
   pub runpath : Option (List ℕ)
   pub folder : List ℕ
 
--- what an object's own DT_RPATH names: nothing where it has DT_RUNPATH
+-- what an object's own DT_RPATH gives: nothing if it has DT_RUNPATH
 abbrev pub rpath_of : NeedingObject → Option SearchPathText
 rpath_of needer = elim needer.runpath [
   | Some text ↦ None
   | None ↦ option_map (λ text. record { text = text; origin = Some needer.folder }) needer.rpath
 ]
 
--- what its DT_RUNPATH names
+-- what its DT_RUNPATH gives
 abbrev pub runpath_of : NeedingObject → Option SearchPathText
 runpath_of needer = option_map (λ text. record { text = text; origin = Some needer.folder }) needer.runpath
 
--- what DT_RPATH names of an object, of the one that first needed it, and so on
+-- what DT_RPATH gives of an object, of the one that first needed it, and so on
 unfoldable pub rpath_dirs : List NeedingObject → List SearchPathText
 rpath_dirs [] = []
 rpath_dirs (needer ∷ above) = cons_option (rpath_of needer) (rpath_dirs above)
 
--- what DT_RUNPATH of the first names
+-- what DT_RUNPATH of the first gives
 unfoldable pub first_runpath : List NeedingObject → Option SearchPathText
 first_runpath [] = None
 first_runpath (needer ∷ above) = runpath_of needer
 
--- DT_RPATH counts only where the object that needs the library has no DT_RUNPATH
+-- DT_RPATH counts only if the object that needs the library has no DT_RUNPATH
 abbrev pub unless_runpath : Option SearchPathText → List SearchPathText → List SearchPathText
 unless_runpath None folders = folders
 unless_runpath (Some runpath) folders = []
 
--- folders that a command line tells
+-- directories given on a command line
 abbrev pub given_dirs : List ℕ → SearchPathText
 given_dirs text = record { text = text; origin = None }
 
--- THE FOLDERS in which a library is looked for that an object needs, the first of these; behind it stands the object that first
--- needed it, and so on. Its DT_RPATH and theirs, unless it has DT_RUNPATH; the path of libraries that is given; its DT_RUNPATH;
--- the default folders
+-- THE DIRECTORIES in which a library is searched that an object needs, the first of these; after it
+-- comes the object that first needed it, and so on. Its DT_RPATH and theirs, unless it has
+-- DT_RUNPATH; the given library path; its DT_RUNPATH; the default directories
 abbrev pub search_dirs : (library default : List ℕ) → List NeedingObject → List SearchPathText
 search_dirs library default needers =
     unless_runpath (first_runpath needers) (rpath_dirs needers) ++ (given_dirs library ∷ cons_option (first_runpath needers) (given_dirs default ∷ []))
@@ -164,14 +169,15 @@ unfoldable pub searched_paths : (root name : List ℕ) → List SearchPathText �
 searched_paths root name [] = []
 searched_paths root name (folders ∷ others) = dir_paths root name folders ++ searched_paths root name others
 
--- THE PATHS THAT ARE TRIED for a name: where there is a slash in it that path alone
+-- THE PATHS THAT ARE TRIED for a name: if it has a slash that path alone
 unfoldable pub paths_tried : (root library default : List ℕ) → List NeedingObject → (name : List ℕ) → List (List ℕ)
 paths_tried root library default needers name = elim (list_any (λ b. b == PATH_SLASH) name) [
   | true ↦ cons_option (if_short (root_before root name ++ name)) []
   | false ↦ searched_paths root name (search_dirs library default needers)
 ]
 
--- THE FOLDER of a path: what stands before its last slash, `/` where nothing does, and the current folder where there is none
+-- THE DIRECTORY of a path: what is before its last slash, `/` if nothing is, and the current
+-- directory if there is no slash
 pub record LastSlash (path : List ℕ) (place : ℕ) : Type 0 where
   pub below : place < length path
   pub is_slash : slice_index path place ≡ PATH_SLASH

@@ -1,4 +1,4 @@
--- What calls did to a path that is made.
+-- The effect of calls on a path that is composed.
 use Rattle.std.specs.Prelude.{ℕ, ◌≡◌, ◌+◌, ◌<◌, Bool, true, false, List, [], ◌++◌, length, map, Option, None, Some}
 use Rattle.std.specs.Borrow.{Bor}
 use Rattle.elf_needs.specs.Searching.{SearchPathText, MOST_PATH_BYTES, NeedingObject, Token, parted}
@@ -6,21 +6,21 @@ use Rattle.elf_needs.specs.declared.folders.SearchPathList.{SearchPathList}
 use Rattle.elf_needs.specs.declared.needers.NeedingObject.{NeedingObject as BorrowedNeeder}
 use Rattle.elf_needs.specs.declared.tokens.StringToken.{StringToken}
 
--- a text was put behind a path; or there is no such text, or no room for it
+-- a text was appended to a path; or there is no such text, or it does not fit
 abbrev pub PutsText : (old new : List ℕ) → Option (List ℕ) → Bool → Type 0
 PutsText old new found true = (text : List ℕ) × (found ≡ Some text) × (new ≡ old ++ text)
 PutsText old new found false = (text : List ℕ) → found ≡ Some text → MOST_PATH_BYTES < length old + length text
 
--- a path was made, or there is none
+-- a path was composed, or there is none
 abbrev pub IsMade : List ℕ → Option (List ℕ) → Bool → Type 0
 IsMade path wanted true = wanted ≡ Some path
 IsMade path wanted false = wanted ≡ None
 
--- a token by bytes that are borrowed
+-- a token by borrowed bytes
 abbrev pub token_of : StringToken → Token
 token_of token = record { value = token.value.now; size = token.size }
 
--- folders by texts that are borrowed
+-- directories by borrowed texts
 abbrev pub origin_of : Option (Bor (List ℕ)) → Option (List ℕ)
 origin_of None = None
 origin_of (Some origin) = Some origin.now
@@ -31,14 +31,14 @@ dirs_of folders = record { text = folders.text.now; origin = origin_of folders.o
 abbrev pub dirs_in : List SearchPathList → List SearchPathText
 dirs_in lists = map dirs_of lists
 
--- objects by texts that are borrowed
+-- objects by borrowed texts
 abbrev pub needer_of : BorrowedNeeder → NeedingObject
 needer_of needer = record { rpath = origin_of needer.rpath; runpath = origin_of needer.runpath; folder = needer.folder.now }
 
 abbrev pub needers_of : List BorrowedNeeder → List NeedingObject
 needers_of needers = map needer_of needers
 
--- the entries of what is left of a text; where none is left there is none
+-- the entries of what is left of a text; if none is left there is none
 abbrev pub left_entries : Option (Bor (List ℕ)) → List (List ℕ)
 left_entries None = []
 left_entries (Some text) = parted [] text.now

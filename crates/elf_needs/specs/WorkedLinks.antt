@@ -1,9 +1,9 @@
--- How files are linked that are written out.
+-- How files that are written out are linked.
 use Rattle.std.specs.Prelude.{ℕ, ◌≡◌, List, [], ◌∷◌, ◌++◌, codes, None, Some, Ok, Err}
 use Rattle.elf_model.specs.Prelude.{library_without_sections, links_of, loaded, needed_with, tagged}
 use Rattle.elf_model.specs.declared.causes.Cause.TheVariants.{NameOutside, TooLong, Unmapped}
 
--- a file that four dynamic entries are of, at 0xb0, and 11 bytes of strings at the address 0x4000f0
+-- a file with four dynamic entries, at 0xb0, and 11 bytes of strings at the address 0x4000f0
 abbrev pub four_entries : List ℕ → List ℕ
 four_entries entries = loaded 0xfb 0x40 entries
 
@@ -23,7 +23,7 @@ NeedsLibc =
       room = record { bytes = 0; texts = 0 };
     })
 
--- a name as a library; of two texts of a tag the first; none behind the first DT_NULL
+-- a name as a library; of two texts with a tag the first; none after the first DT_NULL
 abbrev pub FirstTextsCount : Type 0
 FirstTextsCount =
     (links_of (four_entries (needed_with (tagged 5 0x4000f0) (tagged 10 11))) 2 (record { bytes = 99; texts = 9 })
@@ -42,7 +42,8 @@ FirstTextsCount =
       room = record { bytes = 90; texts = 8 };
     }))
 
--- a refusal is at the entry: of a text without room, of its place among the strings, of the place of these
+-- a refusal is at the entry: of a text without room, of its place among the strings, of the place
+-- of these
 abbrev pub EntriesAreRefused : Type 0
 EntriesAreRefused =
     (links_of library_without_sections 2 (record { bytes = 8; texts = 1 }) ≡ Err (record { at = 0xb0; cause = TooLong }))

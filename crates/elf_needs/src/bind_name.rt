@@ -1,4 +1,4 @@
-//! A name looked for over several files in order.
+//! The lookup of a name in several files in order.
 ghost use Rattle.elf_needs.specs.Binds.{BindsAcross};
 ghost use Rattle.elf_loader.specs.Lookups.{AreShort};
 ghost use Rattle.elf_options.specs.Wants.{query_of};
@@ -8,7 +8,7 @@ use elf_options::SymbolQuery;
 use elf_source::Source;
 use elf_table::Fault;
 
-/// What looking for a name over several files answers.
+/// The result of looking up a name in several files.
 #[derive(Clone, Copy)]
 pub enum BindResult {
     /// The first file that defines the name.
@@ -22,24 +22,25 @@ pub enum BindResult {
     Unbound,
 }
 
-/// Why looking over several files stopped, and in which.
+/// Why a lookup over several files stopped, and in which file.
 #[derive(Clone, Copy)]
 pub struct BindFault {
     /// The file's index.
     pub object: usize,
-    /// Why.
+    /// The fault.
     pub fault: Fault,
 }
 
-/// Looks for a name over files in order, and answers by the first that defines it: of the symbols that
-/// have the name there is one that is offered to others ([`elf_loader::is_exported`]), is not undefined,
-/// and whose version fits. No more is asked for, of all of them together, than what is left of a
-/// budget, where there is one; what was asked for is taken off. The files behind the one that answers
-/// are not asked.
+/// Looks up a name in files in order, and returns the first file that defines it.
+///
+/// In that file a symbol with the name is exported ([`elf_loader::is_exported`]), is not undefined,
+/// and its version matches. Requests at most the bytes left of the budget, if there is one, from
+/// all of them together; those requested are subtracted. The files after the one that defines the
+/// name are not read.
 ///
 /// # Errors
-/// That of the first file in which the lookup fails, as [`elf_loader::look_up`] has it behind what it is
-/// made in; the name of the symbol's version is not told.
+/// That of the first file in which the lookup fails, as [`elf_loader::look_up`] has it after
+/// finding the lookup tables; the name of the symbol's version is not returned.
 pub fn bind<S: Source>(
     objects: &mut [LookupObject<S>],
     left: &mut Option<u64>,

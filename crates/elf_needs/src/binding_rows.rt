@@ -1,4 +1,4 @@
-//! The lines of the symbols that the objects of a program ask others for.
+//! The lines of the symbols that the objects of a program reference.
 ghost use Rattle.std.specs.Prelude.{◌≡◌, ◌≤◌, length};
 ghost use Rattle.arrayvec.specs.ArrayVec.{array_vec_len};
 ghost use Rattle.elf_model.specs.Prelude.{binding_front, binding_line, binding_state_name, definer_fields, with_fields};
@@ -17,7 +17,7 @@ use elf_model::{BindingState, Format};
 use elf_options::SymbolQuery;
 use elf_source::{Out, OutFault, Sink};
 
-/// The `B` line of a symbol up to its name.
+/// Writes the `B` line of a symbol up to its name.
 #[tactic(auto, unfolding(elf_model::specs::BindingLines::binding_front))]
 fn binding_row<R: Render>(front: &mut LinePrefix, object: u16, symbol: u64, state: BindingState)
     ensures front { front_of front.new ≡ binding_front R.FORMAT object symbol state }
@@ -37,8 +37,8 @@ fn binding_row<R: Render>(front: &mut LinePrefix, object: u16, symbol: u64, stat
     put_definer::<R>(line, state);
 }
 
-/// Puts the object that defines a symbol, or in which the lookup is refused, and the symbol there;
-/// hyphens for what there is not.
+/// Writes the object that defines a symbol, or in which the lookup is refused, and the symbol
+/// there; hyphens for what there is none of.
 #[tactic(auto, unfolding(elf_model::specs::Fields::with_field))]
 fn put_definer<R: Render>(line: &mut LineBuf, state: BindingState)
     requires { array_vec_len line.old ≤ 150 }
@@ -60,7 +60,7 @@ fn put_definer<R: Render>(line: &mut LineBuf, state: BindingState)
     }
 }
 
-/// The word of a state in a symbol's line.
+/// Returns the word of a state in a symbol's line.
 #[tactic(auto, unfolding(elf_model::specs::BindingLines::binding_state_name))]
 fn binding_state_name(state: BindingState) -> &'static str
     ensures word { result.now ≡ binding_state_name state }
@@ -75,12 +75,14 @@ fn binding_state_name(state: BindingState) -> &'static str
     }
 }
 
-/// Writes the line of a symbol that an object asks others for: the object's index and the symbol's, its
-/// state, the index of the object that defines it, or in which the lookup is refused, the index of the
-/// symbol there, and its name, with the version that it asks for, spelt as names are.
+/// Writes the line of a symbol that an object references.
+///
+/// Its fields are the object's index and the symbol's, its state, the index of the object that
+/// defines it, or in which the lookup is refused, the index of the symbol there, and its name, with
+/// the referenced version, escaped as names are.
 ///
 /// # Errors
-/// A fault of the output, with a front of the line written.
+/// A fault of the output, with a prefix of the line written.
 pub fn show_binding<W: Sink>(
     object: u16,
     symbol: u64,
@@ -103,11 +105,11 @@ pub fn show_binding<W: Sink>(
     }
 }
 
-/// Writes a line that ends in a name and the version that is asked for: in columns after `@`, in an object
-/// as a member.
+/// Writes a line that ends in a name and the referenced version: in columns after `@`, in a JSON
+/// object as a member.
 ///
 /// # Errors
-/// A fault of the output, with a front of the line written.
+/// A fault of the output, with a prefix of the line written.
 #[tactic(auto, using(crate::proofs::RequestLaws::requested_is))]
 fn show_requested<W: Sink>(
     front: &mut LinePrefix,
@@ -133,7 +135,7 @@ fn show_requested<W: Sink>(
     shown
 }
 
-/// Returns what is between a name and the version that is asked for.
+/// Returns what separates a name and the referenced version.
 #[tactic(auto, unfolding(crate::specs::Requests::before_request))]
 fn before_request(format: Format) -> &'static [u8]
     ensures text { result.now ≡ before_request format }
@@ -145,7 +147,7 @@ fn before_request(format: Format) -> &'static [u8]
     }
 }
 
-/// Returns what is after a version that is asked for, with the line's end.
+/// Returns what follows a referenced version, with the end of the line.
 #[tactic(auto, unfolding(crate::specs::Requests::after_request))]
 fn after_request(format: Format) -> &'static [u8]
     ensures text { result.now ≡ after_request format }

@@ -1,11 +1,11 @@
-//! The state of a symbol that a file asks others for.
+//! The state of a symbol that a file references.
 ghost use Rattle.std.specs.Prelude.{◌≡◌};
 ghost use Rattle.elf_model.specs.BindingLines.{is_unbound, unbound_state};
 
 use elf_model::BindingState;
 
-/// The state of a symbol that no object defines, where the object of which it asks for a version lacks that
-/// one, or not.
+/// Returns the state of a symbol that no object defines, by whether the object from which it needs
+/// a version lacks that version.
 pub fn unbound_state(weak: bool, lacks: bool) -> BindingState
     ensures { result ≡ unbound_state weak lacks }
 {
@@ -16,7 +16,7 @@ pub fn unbound_state(weak: bool, lacks: bool) -> BindingState
     }
 }
 
-/// Whether a symbol is missing, or can't be told.
+/// Returns `true` if a symbol is missing, or its state cannot be determined.
 pub fn is_unbound(state: BindingState) -> bool
     ensures { result ≡ is_unbound state }
 {

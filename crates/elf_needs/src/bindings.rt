@@ -1,4 +1,4 @@
-//! From where the symbols come that the objects of a program ask others for.
+//! The bindings of the symbols that the objects of a program reference.
 ghost use Rattle.std.specs.Prelude.{◌≡◌, ◌<◌, ℕ, [], List, Ok, get_or, length};
 ghost use Rattle.elf_needs.specs.Binds.{AreObjectFiles};
 ghost use Rattle.elf_model.specs.BoundSymbols.{before_items, bound_item, bound_items, object_items};
@@ -20,11 +20,13 @@ use elf_source::{Out, Sink, Source};
 use elf_table::Fault;
 
 impl<W: Sink> DependencyWalk<'_, '_, W> {
-    /// Writes a line for each symbol that the listed objects ask others for, in their order: the object
-    /// that defines it is the first, of all in order, in which a loader's lookup by segments finds the name
-    /// among its defined symbols. Answers the exit status: 1 where one is missing, or a lookup is refused,
-    /// too. A fault of an object's own symbol, name or version ends its lines. No more is asked for, of all
-    /// files together, than what is left of the budget.
+    /// Writes a line for each symbol that the listed objects reference, in their order: the object
+    /// that defines it is the first, of all in order, in which a loader's lookup by segments finds
+    /// the name among its defined symbols.
+    ///
+    /// Returns the exit status: 1 also if one is missing, or a lookup is refused. A fault of an
+    /// object's own symbol, name or version ends its lines. Requests at most the bytes left of the
+    /// budget from all files together.
     ///
     /// # Errors
     /// A read or the output failed.
@@ -52,7 +54,7 @@ impl<W: Sink> DependencyWalk<'_, '_, W> {
     }
 }
 
-/// The exit status behind lines.
+/// Returns the exit status after lines.
 fn status_after(came: WriteEnd, status: u8) -> u8
     ensures { result ≡ status_after came status }
 {
@@ -62,7 +64,7 @@ fn status_after(came: WriteEnd, status: u8) -> u8
     }
 }
 
-/// Writes the lines of all objects that are looked in.
+/// Writes the lines of all objects that are searched.
 ///
 /// # Errors
 /// A read or the output failed.
@@ -90,7 +92,7 @@ fn bind_all<S: Source, W: Sink>(
     Ok(WriteEnd::Whole { fails })
 }
 
-/// Writes the lines of the object at a place.
+/// Writes the lines of the object at an index.
 ///
 /// # Errors
 /// A read or the output failed.
@@ -126,7 +128,7 @@ fn bind_object<S: Source, W: Sink>(
     Ok(WriteEnd::Whole { fails })
 }
 
-/// Looks for what a symbol asks for, and writes its line, if it asks for something.
+/// Looks up what a symbol references, and writes its line, if it references something.
 ///
 /// # Errors
 /// A read or the output failed.
@@ -163,7 +165,7 @@ fn bind_symbol<S: Source, W: Sink>(
     }
 }
 
-/// Writes the line of a fault of an object's own symbols, or that the budget is used up.
+/// Writes the line of a fault of an object's own symbols, or that the budget is exhausted.
 ///
 /// # Errors
 /// A read or the output failed.

@@ -1,4 +1,4 @@
-//! What binds a symbol that an object of a program asks others for.
+//! What binds a symbol that an object of a program references.
 ghost use Rattle.std.specs.Prelude.{◌≡◌, ◌<◌, ◌≤◌, ℕ, [], List, Option, None, Some, Ok, IfErr, get_or, length};
 ghost use Rattle.elf_needs.specs.Binds.{AreObjectFiles};
 ghost use Rattle.elf_needs.specs.Sought.{ReturnsAs, asked_if};
@@ -18,15 +18,16 @@ use elf_model::BindingState;
 use elf_source::Source;
 use elf_table::Fault;
 
-/// A symbol of an object that is looked in: the place of the object, and the symbol's index there.
+/// A symbol of an object that is searched: the position of the object, and the symbol's index
+/// there.
 #[derive(Clone, Copy)]
 pub(crate) struct DefinitionAt {
     pub place: usize,
     pub symbol: u64,
 }
 
-/// Finds what binds a symbol, and reads the name and the version that it asks for into `names`; None if it
-/// asks for nothing.
+/// Returns what binds a symbol, and reads the name and version that it references into `names`;
+/// returns `None` if it references nothing.
 ///
 /// # Errors
 /// Those of [`LookupObject::sought`], and of [`state_of`].
@@ -59,10 +60,10 @@ pub(crate) fn item_of<S: Source>(
     Ok(Some(state))
 }
 
-/// What binds a symbol that asks for the name and the version that were read.
+/// Returns what binds a symbol that references the name and the version that were read.
 ///
 /// # Errors
-/// A read failed, or the budget is used up; or a fault of the name of the needed file.
+/// A read failed, or the budget is exhausted; or a fault of the name of the needed file.
 fn state_of<S: Source>(
     objects: &mut [LookupObject<S>],
     among: &SearchScope<'_>,
@@ -106,11 +107,11 @@ fn state_of<S: Source>(
     }
 }
 
-/// Whether the object of which a symbol that is not weak asks for a version lacks that one. It does not
-/// where its records are at fault.
+/// Checks whether the object from which a symbol that is not weak needs a version lacks that
+/// version. It does not if its records are malformed.
 ///
 /// # Errors
-/// A fault of the name of the needed file; a read failed; or the budget is used up.
+/// A fault of the name of the needed file; a read failed; or the budget is exhausted.
 fn lacks_version<S: Source>(
     objects: &mut [LookupObject<S>],
     among: &SearchScope<'_>,
@@ -150,11 +151,11 @@ fn lacks_version<S: Source>(
     )
 }
 
-/// Whether the object of a name is looked in and lacks a version of at most 4,096 bytes. It does not where
-/// its records are at fault.
+/// Checks whether the object with a name is searched and lacks a version of at most 4,096 bytes. It
+/// does not if its records are malformed.
 ///
 /// # Errors
-/// A read failed; or the budget is used up.
+/// A read failed; or the budget is exhausted.
 fn lacks_in<S: Source>(
     objects: &mut [LookupObject<S>],
     among: &SearchScope<'_>,

@@ -2,18 +2,18 @@
 use crate::known_object::ObjectList;
 use std::alloc::{AllocError, Global};
 
-/// What a walk over a program's objects needs, taken once.
+/// What a walk over a program's objects needs, allocated once.
 #[derive(Drop)]
 pub struct NeedsBuffers {
     pub(crate) objects: ObjectList,
 }
 
 impl NeedsBuffers {
-    /// Room for 512 objects. All memory that it needs is taken here, some 7 MB, of which what is not used
-    /// is never touched.
+    /// Creates room for 512 objects. Allocates all memory that it needs, some 7 MB, of which unused
+    /// pages are never touched.
     ///
     /// # Errors
-    /// Where memory is refused.
+    /// Out of memory.
     pub fn new(alloc: Global) -> Result<NeedsBuffers, AllocError> {
         Ok(NeedsBuffers {
             objects: ObjectList::new(alloc)?,

@@ -1,4 +1,4 @@
-//! A source over another, of which some pages are kept.
+//! A source over another, of which some pages are cached.
 ghost use Rattle.std.specs.Prelude.{◌≡◌, ℕ, ◌+◌, ◌≤◌, List, length, take, drop, Some, IfErr, OnOk, ⊤};
 ghost use Rattle.elf_needs.specs.Pages.{GivesOf};
 ghost use Rattle.elf_source.specs.Source.{KeepsSource, IsSourceFault};
@@ -7,16 +7,16 @@ use crate::page::{PAGE_BYTES, Page};
 use elf_source::{Source, SourceFault};
 use std::marker::Model;
 
-/// How many pages are kept.
+/// How many pages are cached.
 pub const PAGES: usize = 8;
 
-/// A source over another of which the last eight pages that were read are kept, 1,024 bytes each. Its
-/// file, its length and its failures are the other's.
+/// A source over another of which the last eight pages read are cached, 1,024 bytes each. Its file,
+/// its length and its failures are the other's.
 #[derive(Drop)]
 pub struct CachedSource<S: Source> {
     source: S,
     keeps: bool,
-    // The place of the page that was read first.
+    // The index of the page that was read first.
     next: usize,
     pages: [Page; PAGES],
 }
@@ -33,7 +33,7 @@ impl<S: Source> Model for CachedSource<S> {
 }
 
 impl<S: Source> CachedSource<S> {
-    /// A source over another, of which no page is kept yet, and with `keeps` false none ever.
+    /// Creates a source over another, with no page cached yet, and if `keeps` is false none ever.
     pub fn new(source: S, keeps: bool) -> Self
         ensures { result ≡ S.seen source }
     {
@@ -54,7 +54,7 @@ impl<S: Source> CachedSource<S> {
         }
     }
 
-    /// Fills `out` with the bytes from the offset `at` on, if one page that is kept has all of them.
+    /// Fills `out` with the bytes at the offset `at`, if one cached page has all of them.
     fn give(&self, at: u64, out: &mut [u8]) -> bool
         ensures { GivesOf self.now at out.old out.new result }
     {
@@ -76,9 +76,9 @@ impl<S: Source> Source for CachedSource<S> {
         self.source.length()
     }
 
-    /// Fills `out` from a page that is kept, or from the other source: where the bytes stand in one page,
-    /// that is read and kept in place of the one that was read first. Where that fails, and for other
-    /// bytes, these alone are read.
+    /// Fills `out` from a cached page, or from the other source: if the bytes lie in one page, that
+    /// is read and replaces the one that was read first. If that fails, and for other bytes, only
+    /// these are read.
     ///
     /// # Errors
     /// Those of the other source.
@@ -104,7 +104,7 @@ impl<S: Source> Source for CachedSource<S> {
     }
 }
 
-/// Whether so many bytes from a file offset on stand in one page.
+/// Returns `true` if `count` bytes at a file offset lie in one page.
 fn stands_in_one(at: u64, count: usize) -> bool {
     count as u64 <= PAGE_BYTES as u64 - at % PAGE_BYTES as u64
 }

@@ -1,4 +1,4 @@
-//! Files that may be the one that is looked for.
+//! Files that may be the one that is searched for.
 ghost use Rattle.std.specs.Prelude.{◌≡◌, IfOk, IfSome};
 ghost use Rattle.elf_needs.specs.Budget.{AsksFile, AsksFound};
 
@@ -13,9 +13,9 @@ use std::{fs, str};
 /// A file of the system, read at offsets.
 pub(crate) type FileSource<F> = StreamSource<FileReader<F>>;
 
-/// Opens the file at a path, if it is a regular one that can be opened, of 64 bits, little-endian and of
-/// this machine. No more is asked for than what is left of the budget, where there is one; what was asked
-/// for is taken off. A file that is passed over is closed.
+/// Opens the file at a path, if it is a regular one that can be opened, 64-bit, little-endian and
+/// for this machine. Requests at most the bytes left of the budget, if there is one; those
+/// requested are subtracted. A file that is skipped is closed.
 ///
 /// # Errors
 /// A read failed.
@@ -43,8 +43,8 @@ where
     }
 }
 
-/// Whether a file is of 64 bits, little-endian and of this machine. No more is asked for than what is left
-/// of the budget, where there is one; what was asked for is taken off.
+/// Checks whether a file is 64-bit, little-endian and for this machine. Requests at most the bytes
+/// left of the budget, if there is one; those requested are subtracted.
 ///
 /// # Errors
 /// A read failed.
@@ -58,7 +58,7 @@ fn fits<S: Source>(
     match file.machine(account) {
         Ok(Some(found)) => Ok(found == machine),
         Ok(None) => Ok(false),
-        // The budget has no room for it: that is told of the file where it is read.
+        // The budget has no room for it: that is reported when the file is read.
         Err(Fault::Refused(_)) => Ok(true),
         Err(Fault::Source { .. }) => Err(NeedsFault::Read),
     }
@@ -67,7 +67,7 @@ fn fits<S: Source>(
 /// Opens the file at a path, if it is a regular one that can be opened.
 ///
 /// # Errors
-/// Its length can't be found.
+/// Its length cannot be determined.
 fn opened<R: Files>(
     rt: &R,
     path: &[u8],

@@ -17,10 +17,10 @@ use elf_record::numbers::SHN_UNDEF;
 use elf_source::{Counted, Source};
 use elf_table::Fault;
 
-/// The trial of symbols by what is wanted of them, of which those that are undefined don't answer.
+/// A matcher for the symbols that match a query and are not undefined.
 #[derive(Clone, Copy)]
 struct DefinitionMatcher<'a> {
-    /// The trial of all.
+    /// The matcher that ignores whether symbols are defined.
     offered: VersionMatcher<'a>,
 }
 
@@ -48,7 +48,7 @@ impl<'a> Matcher for DefinitionMatcher<'a> {
     }
 }
 
-/// The answer of a trial, unless its symbol is undefined.
+/// Returns the result of a matcher, unless its symbol is undefined.
 fn if_defined(answer: Option<SymbolMatch>) -> Option<SymbolMatch>
     ensures { result ≡ the_defined answer }
 {
@@ -58,13 +58,13 @@ fn if_defined(answer: Option<SymbolMatch>) -> Option<SymbolMatch>
     }
 }
 
-/// Looks for the symbol that defines what is wanted, in what a lookup is made in, as a loader of the
-/// GNU system does: the first of the name's chain that has the name, is offered to others, is not
-/// undefined and whose version fits. Answers its index.
+/// Looks up the symbol that defines what is wanted, in the lookup tables, as glibc's dynamic loader
+/// does: the first of the name's chain that has the name, is exported, is not undefined and whose
+/// version matches. Returns its index.
 ///
 /// # Errors
-/// Those of [`elf_loader::look_up`] behind what it is made in, but for those of telling the name of the
-/// symbol's version, which is not told.
+/// Those of [`elf_loader::look_up`] after finding the lookup tables, except those of reading the
+/// name of the symbol's version, which is not read.
 pub(crate) fn find_definer<S: Source>(
     src: &mut Counted<S>,
     scope: &LookupTables,
@@ -83,7 +83,7 @@ pub(crate) fn find_definer<S: Source>(
     }
 }
 
-/// Reads the counts of the hash table, and looks in it.
+/// Reads the counts of the hash table, and searches it.
 ///
 /// # Errors
 /// Those of [`counts`], and of [`definition_in_table`].
@@ -101,8 +101,8 @@ fn definition_counted<S: Source>(
     definition_in_table(src, scope, &table, wanted)
 }
 
-/// Looks in a hash table whose counts, and whose file's records of versions, have no fault, unless the
-/// table excludes the name.
+/// Searches a hash table whose counts, and whose file's records of versions, have no fault, unless
+/// the table excludes the name.
 ///
 /// # Errors
 /// Those of [`definition_in_table`].
@@ -126,8 +126,8 @@ fn definition_unless<S: Source>(
     definition_in_table(src, scope, table, wanted)
 }
 
-/// Looks in a hash table with its counts: tells the numbers of the version that is asked for, and goes
-/// along the chain.
+/// Searches a hash table with its counts: finds the indices of the wanted version, and walks the
+/// chain.
 ///
 /// # Errors
 /// Those of [`version_indices`], and of [`definition_along`].
@@ -148,7 +148,7 @@ fn definition_in_table<S: Source>(
     definition_along(src, scope, table, wanted, &numbers)
 }
 
-/// Goes along the chain of the wanted name for the symbol that defines it.
+/// Walks the chain of the wanted name to the symbol that defines it.
 ///
 /// # Errors
 /// Those of [`walk`].
@@ -179,7 +179,7 @@ fn definition_along<S: Source>(
     Ok(index_found(&walked))
 }
 
-/// The index of the symbol that a walk finds.
+/// Returns the index of the symbol that a walk finds.
 fn index_found(walked: &ChainResult) -> Option<u64>
     ensures { result ≡ index_of walked.now.found }
 {

@@ -1,4 +1,4 @@
-//! The dynamic entries that tell how a file is linked.
+//! The dynamic entries that say how a file is linked.
 ghost use Rattle.std.specs.Prelude.{◌≡◌, ◌+◌, ◌*◌, ◌==◌, ℕ, List, None, Some, IfErr, IfOk, if◌then◌else◌};
 ghost use Rattle.elf_table.specs.Prelude.{CallDid, HoldsProgramHeaders, IsOfCheck, StringsInBounds, TableInBounds, fault_of_result, size_of};
 ghost use Rattle.elf_model.specs.Prelude.{LinkState, d_tag, dynamic_count, is_link, linked_from, linked_with, no_link_info, strings_at};
@@ -13,22 +13,23 @@ use elf_record::{Cause, Dyn};
 use elf_source::{Counted, Source};
 use elf_table::{ExecutionView, Fault, Names, Table, refused};
 
-/// Where the texts of dynamic entries are: at the address that the entries tell, where a segment loads them.
+/// Where the texts of dynamic entries are: at the address that the entries give, where a segment
+/// loads them.
 #[derive(Clone, Copy)]
 pub(crate) struct DynamicTexts<'v, 'f> {
     /// The file with its program headers.
     pub view: &'v ExecutionView<'f>,
-    /// The address and the size that the entries tell.
+    /// The address and the size that the entries give.
     pub told: DynamicStrings,
 }
 
-/// What the listed entries of a table tell of how a file is linked. Each of its bytes is asked for at most
+/// Reads from the listed entries of a table how a file is linked. Each of its bytes is read at most
 /// once.
 ///
 /// # Errors
-/// At an entry: `Unmapped` and `TableOutside` as [`ExecutionView::mapped`] has them, a fault of its text, and
-/// `TooLong` where that has more than 4,096 bytes or finds no room. Else a fault of a read, or a refusal for
-/// want of budget.
+/// - At an entry: `Unmapped` and `TableOutside` as for [`ExecutionView::mapped`], a fault of its
+///   text, and `TooLong` if that has more than 4,096 bytes or there is no room for it.
+/// - Otherwise a read fault, or a refusal for lack of budget.
 pub(crate) fn list_link_info<S: Source>(
     src: &mut Counted<S>,
     strings: &DynamicTexts<'_, '_>,
@@ -55,7 +56,7 @@ pub(crate) fn list_link_info<S: Source>(
     Ok(links)
 }
 
-/// What no entry tells.
+/// Returns the link information of no entries.
 pub(crate) fn no_link_info() -> LinkInfo
     ensures { result ≡ record { soname = None; rpath = None; runpath = None } }
 {
@@ -66,7 +67,7 @@ pub(crate) fn no_link_info() -> LinkInfo
     }
 }
 
-/// What entries tell, with one more, at a file offset.
+/// Returns the link information with one more entry, at a file offset.
 ///
 /// # Errors
 /// Those of [`list_link_info`].
@@ -102,25 +103,25 @@ fn with_entry<S: Source>(
     refused(at, Cause::TooLong)
 }
 
-/// The tag of an entry.
+/// Returns the tag of an entry.
 fn tag_of(entry: &Dyn) -> u64
     ensures { (file : List ℕ) (at : ℕ) → IsDyn file at entry.now → result ≡ d_tag file at }
 {
     entry.d_tag.cast_unsigned()
 }
 
-/// Whether entries of a tag have a text here.
+/// Returns `true` if entries with a tag have a text here.
 fn is_link(tag: u64) -> bool
     ensures { result ≡ is_link tag }
 {
     tag == DT_NEEDED || tag == DT_SONAME || tag == DT_RPATH || tag == DT_RUNPATH
 }
 
-/// The string table that entries tell of, for the entry at a file offset.
+/// Returns the string table that entries locate, for the entry at a file offset.
 ///
 /// # Errors
-/// `Unmapped` and `TableOutside` as [`ExecutionView::mapped`] has them; `Unmapped` at the entry where no
-/// address or no size is told.
+/// `Unmapped` and `TableOutside` as for [`ExecutionView::mapped`]; `Unmapped` at the entry if no
+/// address or no size is given.
 fn mapped_strings(strings: &DynamicTexts<'_, '_>, at: u64) -> Result<Names, Fault>
     ensures within { IfOk result (StringsInBounds strings.now.view.now.loaded.size) }
     ensures refusal { IfErr result IsOfCheck }
@@ -138,7 +139,7 @@ fn mapped_strings(strings: &DynamicTexts<'_, '_>, at: u64) -> Result<Names, Faul
     strings.view.mapped(address, size, at)
 }
 
-/// The links with a text, unless an entry before told of one.
+/// Returns the links with a text, unless an earlier entry gave one.
 fn with_text(links: LinkInfo, tag: u64, text: u32) -> LinkInfo
     ensures { result ≡ with_index links tag text }
 {
@@ -149,7 +150,7 @@ fn with_text(links: LinkInfo, tag: u64, text: u32) -> LinkInfo
     }
 }
 
-/// A text, where the tag is this one.
+/// Returns a text, if the tag is this one.
 fn text_of(tag: u64, wanted: u64, text: u32) -> Option<u32>
     ensures { result ≡ (if tag == wanted then Some text else None) }
 {

@@ -1,4 +1,4 @@
-//! Faults that are told of no file alone.
+//! Faults that are not reported for a file.
 ghost use Rattle.std.specs.Prelude.{MatchBool};
 ghost use Rattle.elf_needs.specs.Sought.{IsReportedAlone};
 ghost use Rattle.elf_model.specs.Budget.{IsBudgetRefusal};
@@ -6,7 +6,8 @@ ghost use Rattle.elf_model.specs.Budget.{IsBudgetRefusal};
 use elf_record::{Cause, Refusal};
 use elf_table::Fault;
 
-/// Whether a fault of a lookup is no refusal of the file: a read failed, or the budget is used up.
+/// Returns `true` if a fault of a lookup is not a refusal of the file: a read failed, or the budget
+/// is exhausted.
 pub fn is_reported_alone(fault: Fault) -> bool
     ensures { MatchBool result (IsReportedAlone fault) (IsReportedAlone fault → ⊥) }
 {
@@ -16,7 +17,7 @@ pub fn is_reported_alone(fault: Fault) -> bool
     }
 }
 
-/// Whether a refusal is that the budget is used up.
+/// Returns `true` if a refusal is for lack of budget.
 pub fn is_budget_fault(refusal: Refusal) -> bool
     ensures { MatchBool result (IsBudgetRefusal refusal) (IsBudgetRefusal refusal → ⊥) }
 {

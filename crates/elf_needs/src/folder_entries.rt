@@ -1,20 +1,20 @@
-//! The entries of a text of folders.
+//! The entries of a list of directories.
 ghost use Rattle.std.specs.Prelude.{◌≡◌, ◌<◌, ◌+◌, ◌∷◌, [], length};
 ghost use Rattle.elf_needs.specs.Searching.{parted};
 ghost use Rattle.elf_needs.specs.Steps.{left_bytes, left_entries};
 
 use memchr::memchr;
 
-/// An entry, and what stands behind the colon that ends it, if one does.
+/// An entry, and what follows the colon that ends it, if there is one.
 #[derive(Clone, Copy)]
 pub(crate) struct PathElement<'a> {
     /// The entry.
     pub text: &'a [u8],
-    /// What stands behind it.
+    /// What follows it.
     pub behind: Option<&'a [u8]>,
 }
 
-/// The first entry of a text.
+/// Returns the first entry of a text.
 pub(crate) fn first_entry(text: &[u8]) -> PathElement<'_>
     ensures parted { parted [] text.now ≡ result.text.now ∷ left_entries result.behind }
     ensures less { left_bytes result.behind < length text.now + 1 }

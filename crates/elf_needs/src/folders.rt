@@ -1,13 +1,13 @@
-//! Texts of folders.
+//! Lists of directories.
 ghost use Rattle.std.specs.Prelude.{◌≡◌, []};
 
-/// A text of folders, which colons part, and the folder that stands for `$ORIGIN` in it; where there is
-/// none a `$` is a byte like others.
+/// A colon-separated list of directories, and the directory that replaces `$ORIGIN` in it; if there
+/// is none, a `$` is a byte like any other.
 #[derive(Clone, Copy)]
 pub struct SearchPathList<'a> {
     /// The text.
     pub text: &'a [u8],
-    /// The folder of the object that has the text.
+    /// The directory of the object that has the text.
     pub origin: Option<&'a [u8]>,
 }
 

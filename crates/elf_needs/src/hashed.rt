@@ -1,4 +1,4 @@
-//! How many symbols a file has.
+//! The number of symbols of a file.
 ghost use Rattle.std.specs.Prelude.{◌≡◌, ◌+◌, ◌≤◌, List};
 ghost use Rattle.elf_needs.specs.Sought.{ReturnsAs};
 ghost use Rattle.elf_table.specs.Ledger.{CallDid, fault_of_result};
@@ -9,10 +9,10 @@ use elf_hash::{LookupTables, counts};
 use elf_source::{Counted, Source};
 use elf_table::Fault;
 
-/// How many symbols a file has, by its hash table, of those that there is room for.
+/// Returns the number of symbols of a file, by its hash table, of those that there is room for.
 ///
 /// # Errors
-/// Those of [`counts`], and of [`elf_hash::Symbols::extent`].
+/// Those of [`counts`], and of [`elf_hash::DynamicSymbols::extent`].
 pub(crate) fn hashed_symbols<S: Source>(
     src: &mut Counted<S>,
     scope: &LookupTables,

@@ -7,13 +7,13 @@ use crate::paths::dir_of_path;
 use crate::texts::StringArena;
 use std::alloc::{AllocError, Global};
 
-/// The most objects of a program.
+/// The maximum number of objects of a program.
 pub const MOST_OBJECTS: usize = 512;
 
 /// How many bytes of paths there is room for: 4,096 for each object.
 const PATH_ROOM: u32 = 2_097_152;
-/// How many bytes of texts, and how many texts, there is room for, which all objects share: 8,192 and 64 for
-/// each.
+/// How many bytes of texts, and how many texts, there is room for, shared by all objects: 8,192 and
+/// 64 for each.
 const TEXT_ROOM: u32 = 4_194_304;
 
 const MOST_TEXTS: u32 = 32_768;
@@ -23,32 +23,33 @@ const MOST_TEXTS: u32 = 32_768;
 pub(crate) struct KnownObject {
     /// The index of the object that first needed it.
     pub needer: Option<u16>,
-    /// The index of the name that it was first needed by.
+    /// The index of the name by which it was first needed.
     pub name: Option<u32>,
-    /// The index of its path, whose folder stands for `$ORIGIN`.
+    /// The index of its path, whose directory replaces `$ORIGIN`.
     pub path: Option<u32>,
-    /// What its dynamic entries tell.
+    /// What its dynamic entries give.
     pub links: LinkInfo,
-    /// The first of its needs, and the one behind its last.
+    /// The first of its needs, and the one after its last.
     pub needs: usize,
     pub needs_end: usize,
 }
 
-/// The objects that are known, with their texts, in memory that is taken once.
+/// The objects that are known, with their texts, in memory that is allocated once.
 #[derive(Drop)]
 pub struct ObjectList {
-    /// What their dynamic entries tell.
+    /// What their dynamic entries give.
     pub(crate) links: LinkInfoStore,
     paths: StringArena,
     known: Vec<KnownObject>,
 }
 
 impl ObjectList {
-    /// No object. The memory is taken from `alloc` here: for each of 512 objects 4,096 bytes of paths,
-    /// 8,192 of texts, 1,544 for where texts and needs are, and its record.
+    /// Creates an empty list of objects. Allocates its memory from `alloc`: for each of 512 objects
+    /// 4,096 bytes of paths, 8,192 of texts, 1,544 for the locations of texts and needs, and its
+    /// record.
     ///
     /// # Errors
-    /// Where memory is refused.
+    /// Out of memory.
     pub(crate) fn new(alloc: Global) -> Result<ObjectList, AllocError> {
         Ok(ObjectList {
             links: LinkInfoStore::new(alloc, TEXT_ROOM, MOST_TEXTS)?,
@@ -57,12 +58,12 @@ impl ObjectList {
         })
     }
 
-    /// How many there are.
+    /// Returns the number of objects.
     pub(crate) fn len(&self) -> usize {
         self.known.len()
     }
 
-    /// The object of an index, if there is one.
+    /// Returns the object at an index, if there is one.
     pub(crate) fn get(&self, index: usize) -> Option<KnownObject> {
         match self.known.get(index) {
             Some(known) => Some(*known),
@@ -70,12 +71,12 @@ impl ObjectList {
         }
     }
 
-    /// Keeps a path, and answers its index. None where there is no room for it.
+    /// Stores a path, and returns its index, or `None` if there is no room for it.
     pub(crate) fn keep_path(&mut self, path: &[u8]) -> Option<u32> {
         self.paths.push(path)
     }
 
-    /// Adds an object behind the others. Answers its index; None where there are 512.
+    /// Adds an object after the others. Returns its index, or `None` if there are 512.
     pub(crate) fn add(&mut self, known: KnownObject) -> Option<u16> {
         if self.known.len() >= MOST_OBJECTS {
             return None;
@@ -89,12 +90,12 @@ impl ObjectList {
         Some(index)
     }
 
-    /// The need of an index, if there is one.
+    /// Returns the need at an index, if there is one.
     pub(crate) fn need(&self, index: usize) -> Option<NeededLibrary> {
         self.links.need(index)
     }
 
-    /// The text of an index, if one is told.
+    /// Returns the text at an index, if one is given.
     pub(crate) fn text(&self, index: Option<u32>) -> Option<&[u8]>
         ensures { option_map (λ t. t.now) result
             ≡ text_told self.now.links.held.texts index }
@@ -105,7 +106,7 @@ impl ObjectList {
         }
     }
 
-    /// The folder of an object, which stands for `$ORIGIN`.
+    /// Returns the directory of an object, which replaces `$ORIGIN`.
     pub(crate) fn folder(&self, known: &KnownObject) -> &[u8] {
         match known.path {
             Some(path) => dir_of_path(self.paths.get(path)),
@@ -113,7 +114,7 @@ impl ObjectList {
         }
     }
 
-    /// Whether an object has a name: it was needed by it, or calls itself so.
+    /// Returns `true` if an object has a name: it was needed by it, or it is its DT_SONAME.
     pub(crate) fn has_name(&self, name: &[u8]) -> bool
         ensures { result
             ≡ is_some (position (is_called self.now.links.held.texts name.now)
@@ -122,14 +123,14 @@ impl ObjectList {
         self.first_called(name).is_some()
     }
 
-    /// The index of the first object that has a name.
+    /// Returns the index of the first object that has a name.
     pub(crate) fn called(&self, name: &[u8]) -> Option<u16>
         ensures { result ≡ called_by self.now name.now }
     {
         index_by_short_name(self.first_called(name))
     }
 
-    /// The place of the first object that has a name.
+    /// Returns the position of the first object that has a name.
     fn first_called(&self, name: &[u8]) -> Option<usize>
         ensures { result
             ≡ position (is_called self.now.links.held.texts name.now) self.now.known.items }
@@ -139,7 +140,7 @@ impl ObjectList {
             .position(|known| self.is_called(known, name))
     }
 
-    /// Whether one object has a name.
+    /// Returns `true` if one object has a name.
     fn is_called(&self, known: &KnownObject, name: &[u8]) -> bool
         ensures { result ≡ is_called self.now.links.held.texts name.now known.now }
     {
@@ -147,7 +148,7 @@ impl ObjectList {
     }
 }
 
-/// An index of 16 bits, if it is one.
+/// Returns an index of 16 bits, if it is one.
 fn index_by_short_name(found: Option<usize>) -> Option<u16>
     ensures { result ≡ index_by_short_name found }
 {
@@ -157,7 +158,7 @@ fn index_by_short_name(found: Option<usize>) -> Option<u16>
     }
 }
 
-/// Whether a text is told, and is a name.
+/// Returns `true` if a text is given, and equals a name.
 fn is_text(text: Option<&[u8]>, name: &[u8]) -> bool
     ensures { result ≡ is_text (option_map (λ t. t.now) text.entry) name.now }
 {

@@ -1,16 +1,7 @@
-//! The libraries of a program, as a loader of the GNU system sees them: what a file needs, by its program headers
-//! and its first segment of dynamic entries, and the paths that are tried for a name, one after another.
-//! Texts are kept in memory that is taken once; nothing is opened here.
-//!
-//! From where the symbols come that a file asks others for: names looked for over several files in
-//! order, as a loader of the GNU system does, and the line of each. What a lookup in each file is made in
-//! is found once and kept. Files that stay open for that are read by pages, of which some are kept. Memory
-//! is taken where room for objects is made, and nowhere else.
-//!
-//! What a program needs: its objects in the order of a loader of the GNU system, each looked for in the
-//! folders that the loader would search, and a line for each; and from where each symbol comes that they ask
-//! others for. Nothing is run or loaded. The memory is taken
-//! once.
+//! What a program needs, as GNU's dynamic loader sees it: [`DependencyWalk`] finds its objects in
+//! the order of the loader, along the paths that the loader would try for each library, and writes
+//! a line for each; and which object defines each symbol that they reference. Nothing is run or
+//! loaded. Memory is allocated once, before the first file.
 #![tactic(auto)]
 
 mod bind_name;

@@ -1,4 +1,4 @@
-//! The paths that are tried in all folders.
+//! The paths that are tried in all directories.
 ghost use Rattle.std.specs.Prelude.{◌≡◌, ◌∷◌, [], true, false};
 ghost use Rattle.elf_needs.specs.Searching.{searched_paths};
 ghost use Rattle.elf_needs.specs.Steps.{dirs_in};
@@ -8,13 +8,13 @@ use crate::paths::CandidatePath;
 use crate::tries::CandidatePaths;
 use std::marker::Model;
 
-/// The paths of a name in texts of folders that were not tried yet.
+/// The paths of a name in lists of directories that were not tried yet.
 #[derive(Drop)]
 pub struct LibrarySearch<'a> {
     root: &'a [u8],
     name: &'a [u8],
     lists: &'a [SearchPathList<'a>],
-    /// The index of the next text.
+    /// The index of the next list.
     at: usize,
     /// What is left of the one before it.
     tries: CandidatePaths<'a>,
@@ -32,8 +32,8 @@ impl<'a> Model for LibrarySearch<'a> {
 }
 
 impl<'a> LibrarySearch<'a> {
-    /// The paths of a name in texts of folders, below a root: what stands before each folder that is written
-    /// with a slash at its front.
+    /// Creates the paths of a name in lists of directories, below a root, which precedes each
+    /// directory that begins with a slash.
     pub fn new(root: &'a [u8], name: &'a [u8], lists: &'a [SearchPathList<'a>]) -> LibrarySearch<'a>
         ensures { result ≡ searched_paths root.now name.now (dirs_in lists.now) }
     {
@@ -46,7 +46,8 @@ impl<'a> LibrarySearch<'a> {
         }
     }
 
-    /// Makes the next path. Answers whether there is one; else what the path holds means nothing.
+    /// Composes the next path. Returns whether there is one; otherwise the contents of the path are
+    /// unspecified.
     pub fn next(&mut self, path: &mut CandidatePath) -> bool
         ensures next { result ≡ true → self.old ≡ path.new.items ∷ self.new }
         ensures none { result ≡ false → self.old ≡ [] }

@@ -15,19 +15,19 @@ use elf_record::{Cause, Refusal, u16_at, word};
 use elf_source::{Counted, Source};
 use elf_table::{ExecutionView, Fault, HeaderStore, fill};
 
-/// How many bytes of a file tell its class, its encoding and its machine (gABI 4, ELF Header).
+/// How many bytes of a file give its class, its encoding and its machine (gABI 4, ELF Header).
 const FRONT_BYTES: usize = 20;
-/// The number of the magic number's four bytes (gABI 4, ELF Identification).
+/// The value of the four magic bytes (gABI 4, ELF Identification).
 const MAGIC: u32 = 0x464c_457f;
-/// The class of files of 64 bits, at byte 4, and the encoding that is little-endian, at byte 5.
+/// The class of 64-bit files, at byte 4, and the little-endian encoding, at byte 5.
 const CLASS_64: u8 = 2;
 
 const LITTLE_ENDIAN: u8 = 1;
 
-/// The machine of a file of 64 bits that is little-endian; None of any other file.
+/// Returns the machine of a 64-bit little-endian file, or `None` for any other file.
 ///
 /// # Errors
-/// A fault of a read, or a refusal for want of budget.
+/// A read fault, or a refusal for lack of budget.
 pub fn machine_of<S: Source>(src: &mut Counted<S>) -> Result<Option<u16>, Fault>
     ensures { ReadsUpTo src.old src.new 20 }
 {
@@ -45,17 +45,22 @@ pub fn machine_of<S: Source>(src: &mut Counted<S>) -> Result<Option<u16>, Fault>
     Ok(Some(u16_at(&front, 18)))
 }
 
-/// How a file is linked, as a loader sees it: by its program headers, whatever its section headers are. The
-/// texts and the needs are kept in the store of links, behind those that are there; where this fails some
-/// may stand there that nothing tells of.
+/// Reads how a file is linked, as a loader sees it: by its program headers, ignoring its section
+/// headers.
 ///
-/// Where the source's file is known what is told and kept is the file's own, and so is the refusal.
+/// The texts and the needs are added to the store of links; on failure some may be left there that
+/// nothing refers to. If the source's file is known, what is returned and stored is the file's own,
+/// and so is the refusal.
 ///
 /// # Errors
-/// The first that fails: those of [`load_by_segments`]; of [`find_in_segments`], but `NoHash`;
-/// of the first segment of dynamic entries; of each entry with a text, at the entry: its string table, its
-/// text, and `TooLong` where that has more than 4,096 bytes or finds no room. Else a fault of a read, or a
-/// refusal for want of budget.
+/// The first that fails:
+///
+/// - Those of [`load_by_segments`].
+/// - Those of [`find_in_segments`], except `NoHash`.
+/// - Those of the first segment of dynamic entries.
+/// - For each entry with a text, at the entry: those of its string table and of its text, and
+///   `TooLong` if that has more than 4,096 bytes or there is no room for it.
+/// - Otherwise a read fault, or a refusal for lack of budget.
 pub fn read_link_info<S: Source>(
     src: &mut Counted<S>,
     store: &mut HeaderStore,
@@ -74,7 +79,7 @@ pub fn read_link_info<S: Source>(
     found
 }
 
-/// The same of the file that the source shows, whose header locates no section headers.
+/// Reads the same for the file as the source shows it, whose header locates no section headers.
 ///
 /// # Errors
 /// Those of [`read_link_info`].
@@ -94,10 +99,10 @@ fn shown_links<S: Source>(
     link_info_by_segments(src, &ExecutionView { loaded, store }, links)
 }
 
-/// The same of a file whose program headers are loaded.
+/// Reads the same for a file whose program headers are loaded.
 ///
 /// # Errors
-/// Those of [`read_link_info`] behind the load.
+/// Those of [`read_link_info`] after the load.
 fn link_info_by_segments<S: Source>(
     src: &mut Counted<S>,
     view: &ExecutionView<'_>,
@@ -114,7 +119,7 @@ fn link_info_by_segments<S: Source>(
     entry_links(src, view, links)
 }
 
-/// What the first segment of dynamic entries tells; nothing where there is none.
+/// Returns what the first segment of dynamic entries gives; nothing if there is none.
 ///
 /// # Errors
 /// Those of [`ExecutionView::dynamic`], and those of the entries.
@@ -138,10 +143,10 @@ fn entry_links<S: Source>(
     list_link_info(src, &strings, table, links)
 }
 
-/// Checks what a lookup is made in; a file without a hash table has none.
+/// Checks the lookup tables; a file without a hash table has none.
 ///
 /// # Errors
-/// Those of [`find_in_segments`] but `NoHash`.
+/// Those of [`find_in_segments`] except `NoHash`.
 fn check_lookup<S: Source>(src: &mut Counted<S>, view: &ExecutionView<'_>) -> Result<(), Fault>
     requires size { view.now.loaded.size ≡ src.old.seen.size }
     requires small { view.now.loaded.size < 2 ^ 63 }
@@ -155,7 +160,7 @@ fn check_lookup<S: Source>(src: &mut Counted<S>, view: &ExecutionView<'_>) -> Re
     }
 }
 
-/// No fault where there is no hash table, else the fault.
+/// Returns no fault if there is no hash table, otherwise the fault.
 fn without_hash(fault: Fault) -> Result<(), Fault>
     ensures { result ≡ lookup_passed fault }
 {

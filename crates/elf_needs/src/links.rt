@@ -1,4 +1,4 @@
-//! What a file needs, and where that is kept.
+//! What a file needs, and where that is stored.
 ghost use Rattle.std.specs.Prelude.{◌≡◌, ◌<◌, ◌++◌, ◌∷◌, [], ◌&&◌, ℕ, List, IfOk, IfSome, IsNone, is_some, nat_lt, length, slice_get, slice_index_or, if◌then◌else◌};
 ghost use Rattle.elf_table.specs.Prelude.{CallDid, StringsInBounds, fault_of_result, strings_in};
 ghost use Rattle.elf_model.specs.Prelude.{LINK_TEXT_BYTES, shown};
@@ -18,30 +18,31 @@ const TEXT_CAP: NameLimit = NameLimit { bytes: 4096 };
 /// A library that a file needs.
 #[derive(Clone, Copy)]
 pub struct NeededLibrary {
-    /// The file offset of the dynamic entry that tells of it.
+    /// The file offset of the dynamic entry for it.
     pub at: u64,
     /// The index of its name.
     pub name: u32,
 }
 
-/// What the dynamic entries of a file tell of how it is linked (gABI 5, Dynamic Section). A text is told by
-/// its index.
+/// What the dynamic entries of a file say of how it is linked (gABI 5, Dynamic Section). A text is
+/// given by its index.
 #[derive(Clone, Copy)]
 pub struct LinkInfo {
     /// DT_SONAME: its name as a library.
     pub soname: Option<u32>,
-    /// DT_RPATH: where libraries are looked for.
+    /// DT_RPATH: where libraries are searched.
     pub rpath: Option<u32>,
     /// DT_RUNPATH: the same, in its place.
     pub runpath: Option<u32>,
 }
 
-/// The texts of many files, and what they need, one behind the other, in memory that is taken once.
+/// The texts of many files, and what they need, one after the other, in memory that is allocated
+/// once.
 #[derive(Drop)]
 pub struct LinkInfoStore {
     texts: StringArena,
     needs: Vec<NeededLibrary>,
-    /// The text that is read.
+    /// The text as read.
     name: NameBuf,
 }
 
@@ -58,11 +59,11 @@ impl Model for LinkInfoStore {
 }
 
 impl LinkInfoStore {
-    /// Room for so many texts of so many bytes together, and as many needs. The memory is taken from
-    /// `alloc` here: `bytes`, and 24 for each text.
+    /// Creates room for the given number of texts with the given total of bytes, and as many needs.
+    /// Allocates its memory from `alloc`: `bytes`, and 24 for each text.
     ///
     /// # Errors
-    /// Where memory is refused.
+    /// Out of memory.
     pub fn new(alloc: Global, bytes: u32, texts: u32) -> Result<LinkInfoStore, AllocError>
         ensures { IfOk result (λ store. store ≡ record {
           held = record { texts = []; room = record { bytes = bytes; texts = texts } };
@@ -76,21 +77,21 @@ impl LinkInfoStore {
         })
     }
 
-    /// The text of an index; where there is none of that index the empty text.
+    /// Returns the text at an index, or the empty text if there is none.
     pub fn text(&self, index: u32) -> &[u8]
         ensures { result.now ≡ slice_index_or self.now.held.texts index [] }
     {
         self.texts.get(index)
     }
 
-    /// How many needs there are, of all files.
+    /// Returns the number of needs of all files.
     pub fn needs(&self) -> usize
         ensures { result ≡ length self.now.needs }
     {
         self.needs.len()
     }
 
-    /// The need of an index, if there is one.
+    /// Returns the need at an index, if there is one.
     pub fn need(&self, index: usize) -> Option<NeededLibrary>
         ensures { result ≡ slice_get self.now.needs index }
     {
@@ -100,12 +101,12 @@ impl LinkInfoStore {
         }
     }
 
-    /// Reads the text at an index of a string table, for the entry at a file offset, and keeps it. Answers
-    /// its index.
+    /// Reads the text at an index of a string table, for the entry at a file offset, and stores it.
+    /// Returns its index.
     ///
     /// # Errors
-    /// Those of [`Names::read`], and `TooLong` at the entry where it has more than 4,096 bytes or finds no
-    /// room.
+    /// Those of [`Names::read`], and `TooLong` at the entry if it has more than 4,096 bytes or
+    /// there is no room for it.
     pub(crate) fn read<S: Source>(
         &mut self,
         src: &mut Counted<S>,
@@ -127,7 +128,8 @@ impl LinkInfoStore {
         }
     }
 
-    /// Keeps a need, whose name is the text that was kept last. Answers whether there is room for it.
+    /// Stores a need, whose name is the text that was stored last. Returns whether there is room
+    /// for it.
     pub(crate) fn push_needed(&mut self, need: NeededLibrary) -> bool
         ensures kept { result ≡ nat_lt (length self.old.needs) (length self.old.held.texts) }
         ensures need { self.new ≡ (if result then record {

@@ -14,7 +14,7 @@ use elf_record::VersionKind;
 use elf_source::{Counted, Source};
 use elf_table::Fault;
 
-/// Whether a file defines versions, and none by a name of at most 4,096 bytes.
+/// Checks whether a file defines versions, and none with a name of at most 4,096 bytes.
 ///
 /// # Errors
 /// Those of [`version_indices`], of the definitions.
@@ -41,14 +41,14 @@ pub(crate) fn lacks_version<S: Source>(
     Ok(numbers.is_empty())
 }
 
-/// Whether symbols have no table of records.
+/// Returns `true` if symbols have no table of records.
 fn is_bare(symbols: &DynamicSymbols) -> bool
     ensures { MatchBool result (HasNoTable symbols.now) (HasNoTable symbols.now → ⊥) }
 {
     symbols.definitions.is_none() && symbols.needs.is_none()
 }
 
-/// The symbols with those of their tables of records alone that are definitions.
+/// Returns the symbols with only those of their tables of records that are definitions.
 fn definitions_of(symbols: &DynamicSymbols) -> DynamicSymbols
     ensures { result ≡ definitions_of symbols.now }
 {
@@ -62,7 +62,7 @@ fn definitions_of(symbols: &DynamicSymbols) -> DynamicSymbols
     }
 }
 
-/// A table of records, if there is one and it is of definitions.
+/// Returns a table of records, if there is one and it is of definitions.
 fn definition_if(records: Option<VersionRecordTable>) -> Option<VersionRecordTable>
     ensures { result ≡ definition_if records }
 {

@@ -1,4 +1,4 @@
-//! The folders in which a library is looked for that an object needs.
+//! The directories in which a library that an object needs is searched.
 ghost use Rattle.std.specs.Prelude.{◌≡◌, ◌<◌, ◌≤◌, ◌+◌, ◌++◌, [], length, option_map};
 ghost use Rattle.std.specs.List.{cons_option};
 ghost use Rattle.elf_needs.specs.Searching.{first_runpath, given_dirs, rpath_dirs, rpath_of, runpath_of, search_dirs};
@@ -7,15 +7,15 @@ ghost use Rattle.elf_needs.specs.Steps.{dirs_in, dirs_of, needer_of, needers_of}
 use crate::folders::SearchPathList;
 use arrayvec::ArrayVec;
 
-/// An object that needs others: its DT_RPATH and its DT_RUNPATH, if it has such, and the folder that it is
-/// in (gABI 5, Shared Object Dependencies).
+/// An object that needs others: its DT_RPATH and its DT_RUNPATH, if it has them, and the directory
+/// that it is in (gABI 5, Shared Object Dependencies).
 #[derive(Clone, Copy)]
 pub struct NeedingObject<'a> {
     /// Its DT_RPATH.
     pub rpath: Option<&'a [u8]>,
     /// Its DT_RUNPATH.
     pub runpath: Option<&'a [u8]>,
-    /// The folder that it is in.
+    /// The directory that it is in.
     pub folder: &'a [u8],
 }
 
@@ -31,10 +31,10 @@ impl<'a> Default for NeedingObject<'a> {
     }
 }
 
-/// Texts of folders, in the order in which they are searched.
+/// Lists of directories, in the order in which they are searched.
 pub type SearchPaths<'a> = ArrayVec<SearchPathList<'a>, 515>;
 
-/// What an object's own DT_RPATH names: nothing where it has DT_RUNPATH.
+/// Returns what an object's own DT_RPATH gives: nothing if it has DT_RUNPATH.
 fn rpath_of<'a>(needer: &NeedingObject<'a>) -> Option<SearchPathList<'a>>
     ensures { option_map dirs_of result ≡ rpath_of (needer_of needer.now) }
 {
@@ -50,7 +50,7 @@ fn rpath_of<'a>(needer: &NeedingObject<'a>) -> Option<SearchPathList<'a>>
     }
 }
 
-/// What an object's DT_RUNPATH names.
+/// Returns what an object's DT_RUNPATH gives.
 fn runpath_of<'a>(needer: &NeedingObject<'a>) -> Option<SearchPathList<'a>>
     ensures { option_map dirs_of result ≡ runpath_of (needer_of needer.now) }
 {
@@ -63,14 +63,14 @@ fn runpath_of<'a>(needer: &NeedingObject<'a>) -> Option<SearchPathList<'a>>
     }
 }
 
-/// Folders that a command line tells.
+/// Returns directories given on a command line.
 fn given_dirs(text: &[u8]) -> SearchPathList<'_>
     ensures { dirs_of result ≡ given_dirs text.now }
 {
     SearchPathList { text, origin: None }
 }
 
-/// What DT_RUNPATH of the first of some objects names.
+/// Returns what DT_RUNPATH of the first of some objects gives.
 #[tactic(auto, unfolding(crate::specs::Searching::first_runpath))]
 fn first_runpath<'a>(needers: &[NeedingObject<'a>]) -> Option<SearchPathList<'a>>
     ensures { option_map dirs_of result ≡ first_runpath (needers_of needers.now) }
@@ -81,7 +81,7 @@ fn first_runpath<'a>(needers: &[NeedingObject<'a>]) -> Option<SearchPathList<'a>
     }
 }
 
-/// Puts folders, if there are such, behind others.
+/// Appends directories, if there are any.
 fn put_dirs<'a>(lists: &mut SearchPaths<'a>, folders: Option<SearchPathList<'a>>)
     requires { length lists.old.items < 515 }
     ensures folders { dirs_in lists.new.items
@@ -93,8 +93,8 @@ fn put_dirs<'a>(lists: &mut SearchPaths<'a>, folders: Option<SearchPathList<'a>>
     }
 }
 
-/// Puts the texts of the folders in which a library is looked for that an object needs, the first of at most
-/// 512; behind it stands the object that first needed it, and so on.
+/// Appends the lists of the directories in which a library is searched that an object needs, the
+/// first of at most 512; after it comes the object that first needed it, and so on.
 pub fn gather_dirs<'a>(
     needers: &[NeedingObject<'a>],
     library: &'a [u8],
@@ -115,7 +115,7 @@ pub fn gather_dirs<'a>(
     put_dirs(lists, Some(given_dirs(default)));
 }
 
-/// Puts what DT_RPATH names of objects behind no folders.
+/// Appends what DT_RPATH of objects gives to no directories.
 fn gather_rpaths<'a>(needers: &[NeedingObject<'a>], lists: &mut SearchPaths<'a>)
     requires few { length needers.now ≤ 512 }
     requires none { lists.old.items ≡ [] }

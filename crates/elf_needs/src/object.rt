@@ -1,4 +1,4 @@
-//! A file that names are looked for in.
+//! A file in which names are looked up.
 ghost use Rattle.std.specs.Prelude.{◌≡◌, ◌≤◌, ◌+◌, ◌*◌, length, true};
 ghost use Rattle.elf_table.specs.Ledger.{CallDid};
 ghost use Rattle.elf_needs.specs.Kept.{KeepsScope, source_of, why_back};
@@ -20,13 +20,13 @@ use elf_source::{Counted, Source};
 use elf_table::{Fault, HeaderStore, NameBuf};
 use std::marker::Model;
 
-/// A file that names are looked for in: its source, and what a lookup in it is made in.
+/// A file in which names are looked up: its source, and its lookup tables.
 #[derive(Drop)]
 pub struct LookupObject<S: Source> {
     source: Counted<S>,
     scope: LookupTables,
     headers: u16,
-    // The hash table with its counts, where no lookup is refused before its walk, once that is known.
+    // The hash table with its counts, if no lookup is refused before its walk, once that is known.
     ready: Option<HashTable>,
 }
 
@@ -41,12 +41,13 @@ impl<S: Source> Model for LookupObject<S> {
 }
 
 impl<S: Source> LookupObject<S> {
-    /// Finds what a lookup in a file is made in, as [`find_lookup_tables`] does, once, and keeps it: by its program
-    /// headers, since the source hides where section headers are. The headers are loaded into the store, which
-    /// is free again afterwards.
+    /// Finds the lookup tables of a file, as [`find_lookup_tables`] does, once, and keeps them.
+    ///
+    /// They are found by its program headers, since the source masks its section headers. The
+    /// headers are loaded into the store, which is free again afterwards.
     ///
     /// # Errors
-    /// Those of [`find_lookup_tables`]; the source is given back.
+    /// Those of [`find_lookup_tables`]; the source is returned.
     pub fn open(
         source: Counted<S>,
         store: &mut HeaderStore,
@@ -69,10 +70,12 @@ impl<S: Source> LookupObject<S> {
         }
     }
 
-    /// Reads once what its lookups have in common: the counts of the hash table, and whether the records
-    /// of versions have no fault. What is refused or fails is passed over, and each lookup tells it. No
-    /// more is asked for than what is left of a budget, where there is one; what was asked for is taken
-    /// off. Afterwards no limit is set.
+    /// Reads once what its lookups have in common: the counts of the hash table, and whether the
+    /// records of versions have no fault.
+    ///
+    /// What is refused or fails is skipped, and each lookup reports it. Requests at most the bytes
+    /// left of the budget, if there is one; those requested are subtracted. On return no limit is
+    /// set.
     pub fn prepare(&mut self, left: &mut Option<u64>)
         ensures { Prepares self.old self.new left.old left.new }
     {
@@ -84,15 +87,15 @@ impl<S: Source> LookupObject<S> {
         self.ready = ready.unwrap_or(None);
     }
 
-    /// How many bytes were asked of its source.
+    /// Returns the number of bytes that were requested from its source.
     pub fn asked(&self) -> u128
         ensures { result ≡ self.now.src.asked }
     {
         self.source.asked()
     }
 
-    /// Looks for the symbol that defines a name, and asks for no more than what is left of a budget,
-    /// where there is one. What was asked for is taken off. Afterwards no limit is set.
+    /// Looks up the symbol that defines a name. Requests at most the bytes left of the budget, if
+    /// there is one; those requested are subtracted. On return no limit is set.
     ///
     /// # Errors
     /// Those of [`find_definer`].
@@ -112,9 +115,11 @@ impl<S: Source> LookupObject<S> {
         found
     }
 
-    /// How many symbols it has, by its hash table, of those that there is room for: the first is none (gABI
-    /// 4, Symbol Table). No more is asked for than what is left of a budget, where there is one; what was
-    /// asked for is taken off. Afterwards no limit is set.
+    /// Returns the number of its symbols, by its hash table, of those that there is room for: the
+    /// first is none (gABI 4, Symbol Table).
+    ///
+    /// Requests at most the bytes left of the budget, if there is one; those requested are
+    /// subtracted. On return no limit is set.
     ///
     /// # Errors
     /// Those of [`hashed_symbols`].
@@ -129,10 +134,12 @@ impl<S: Source> LookupObject<S> {
         count
     }
 
-    /// What the symbol of an index asks others for: its name, into `name`, and the version that it asks
-    /// for, into `version`; None where it asks for nothing, and behind the last symbol that there is room
-    /// for. No more is asked for than what is left of a budget, where there is one; what was asked for is
-    /// taken off. Afterwards no limit is set.
+    /// Reads what the symbol at an index references: its name, into `name`, and the version that it
+    /// needs, into `version`.
+    ///
+    /// Returns `None` if it references nothing, and after the last symbol that there is room for.
+    /// Requests at most the bytes left of the budget, if there is one; those requested are
+    /// subtracted. On return no limit is set.
     ///
     /// # Errors
     /// Those of [`reference_symbol`].
@@ -153,13 +160,15 @@ impl<S: Source> LookupObject<S> {
         sought
     }
 
-    /// Reads the name of the needed file whose record is told by [`LookupObject::sought`]. No more is asked for
-    /// than what is left of a budget, where there is one; what was asked for is taken off. Afterwards no
-    /// limit is set.
+    /// Reads the name of the needed file whose record is returned by [`LookupObject::sought`].
+    ///
+    /// Requests at most the bytes left of the budget, if there is one; those requested are
+    /// subtracted. On return no limit is set.
     ///
     /// # Errors
-    /// Those of the name, at the record: `NameOutside`, `NameUnended`, and `TooLong` where it has more than
-    /// 4,096 bytes. Else a fault of a read, or a refusal for want of budget.
+    /// - Those of the name, at the record: `NameOutside`, `NameUnended`, and `TooLong` if it has
+    ///   more than 4,096 bytes.
+    /// - Otherwise a read fault, or a refusal for lack of budget.
     pub fn needed_file(
         &mut self,
         left: &mut Option<u64>,
@@ -179,13 +188,14 @@ impl<S: Source> LookupObject<S> {
         read
     }
 
-    /// Whether it defines versions, and none by a name of at most 4,096 bytes. No more is asked for than
-    /// what is left of a budget, where there is one; what was asked for is taken off. Afterwards no limit
-    /// is set.
+    /// Checks whether it defines versions, and none with a name of at most 4,096 bytes.
+    ///
+    /// Requests at most the bytes left of the budget, if there is one; those requested are
+    /// subtracted. On return no limit is set.
     ///
     /// # Errors
-    /// The first record of its definitions that is refused, or whose name has a fault, at what holds the
-    /// name. Else a fault of a read, or a refusal for want of budget.
+    /// The first record of its definitions that is refused, or whose name has a fault, at the
+    /// structure that holds the name. Otherwise a read fault, or a refusal for lack of budget.
     pub fn lacks_version(&mut self, left: &mut Option<u64>, version: &[u8]) -> Result<bool, Fault>
         requires { length version.now ≤ 4096 }
         ensures { LooksForVersion version.now self.old self.new left.old left.new result }

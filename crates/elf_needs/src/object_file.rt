@@ -1,4 +1,4 @@
-//! The file of an object, before names are looked for in it.
+//! The file of an object, before names are looked up in it.
 ghost use Rattle.std.specs.Prelude.{◌≡◌, ◌≤◌};
 ghost use Rattle.elf_needs.specs.Budget.{AsksFile};
 ghost use Rattle.elf_source.specs.Source.{counted};
@@ -10,17 +10,17 @@ use elf_source::{Counted, Source};
 use elf_table::{Fault, HeaderStore};
 use std::marker::Model;
 
-/// What files may be asked for, and what they were asked for.
+/// How much may be requested from files, and how much was.
 #[derive(Drop)]
 pub(crate) struct ReadAccount {
-    /// What is left of the budget, where there is one.
+    /// What is left of the budget, if there is one.
     pub left: Option<u64>,
-    /// How many bytes the files were asked for that are closed. It stays at 2^128 - 1.
+    /// How many bytes were requested from the files that are closed. It saturates at 2^128 - 1.
     pub spent: u128,
 }
 
-/// The file of an object. Nothing is asked of it but within what is left of a budget, where there is one,
-/// and by calls that take off what they asked for. It isn't let go but by [`ObjectFile::close`].
+/// The file of an object. It is read only within what is left of a budget, if there is one, and by
+/// calls that subtract what they request. It is released only by [`ObjectFile::close`].
 pub(crate) struct ObjectFile<S: Source> {
     source: Counted<S>,
 }
@@ -34,7 +34,7 @@ impl<S: Source> Model for ObjectFile<S> {
 }
 
 impl<S: Source> ObjectFile<S> {
-    /// A file of which nothing was asked yet.
+    /// Creates a file from which nothing was requested yet.
     pub(crate) fn new(source: S) -> Self
         ensures asked { result.asked ≡ 0 }
         ensures source { result.source ≡ S.seen source }
@@ -44,8 +44,8 @@ impl<S: Source> ObjectFile<S> {
         }
     }
 
-    /// Its machine, as [`machine_of`] tells it. No more is asked for than what is left of the budget, where
-    /// there is one; what was asked for is taken off.
+    /// Returns its machine, as [`machine_of`] does. Requests at most the bytes left of the budget,
+    /// if there is one; those requested are subtracted.
     ///
     /// # Errors
     /// Those of [`machine_of`].
@@ -60,8 +60,8 @@ impl<S: Source> ObjectFile<S> {
         machine
     }
 
-    /// How it is linked, as [`read_link_info`] tells it. No more is asked for than what is left of the budget,
-    /// where there is one; what was asked for is taken off.
+    /// Reads how it is linked, as [`read_link_info`] does. Requests at most the bytes left of the
+    /// budget, if there is one; those requested are subtracted.
     ///
     /// # Errors
     /// Those of [`read_link_info`].
@@ -81,7 +81,7 @@ impl<S: Source> ObjectFile<S> {
         found
     }
 
-    /// Gives the source back. What was asked of it is added to what files were asked for.
+    /// Returns the source. What was requested from it is added to what was requested from files.
     pub(crate) fn close(self, account: &mut ReadAccount) -> S
         ensures source { S.seen result ≡ self.source }
         ensures left { account.new.left ≡ account.old.left }

@@ -12,7 +12,7 @@ use elf_format::{
 use elf_model::{FileStatus, Format};
 use elf_source::{Out, OutFault, Sink};
 
-/// The `L` line of an object up to its path.
+/// Writes the `L` line of an object up to its path.
 #[tactic(auto, unfolding(crate::specs::ObjectLines::object_front))]
 fn object_row<R: Render>(
     front: &mut LinePrefix,
@@ -36,7 +36,7 @@ fn object_row<R: Render>(
     put_fault::<R>(line, file_state(state));
 }
 
-/// The state of a file that is at fault where an object is refused.
+/// Returns the state of a malformed file, if an object is refused.
 fn file_state(state: ObjectState) -> FileStatus
     ensures { result ≡ file_state state }
 {
@@ -46,7 +46,7 @@ fn file_state(state: ObjectState) -> FileStatus
     }
 }
 
-/// The word of a state in an object's line.
+/// Returns the word of a state in an object's line.
 #[tactic(auto, unfolding(crate::specs::ObjectLines::object_state_name))]
 fn object_state_name(state: ObjectState) -> &'static str
     ensures word { result.now ≡ object_state_name state }
@@ -59,12 +59,14 @@ fn object_state_name(state: ObjectState) -> &'static str
     }
 }
 
-/// Writes the line of an object: its index, the index of the object that first needed it, its state, the
-/// file offset and the cause of its refusal, and its path, or its name where it is missing, spelt as names
-/// are.
+/// Writes the line of an object.
+///
+/// Its fields are the object's index, the index of the object that first needed it, its state, the
+/// file offset and the cause of its refusal, and its path, or its name if it is missing, escaped as
+/// names are.
 ///
 /// # Errors
-/// A fault of the output, with a front of the line written.
+/// A fault of the output, with a prefix of the line written.
 pub fn show_object<W: Sink>(
     index: u16,
     needer: Option<u16>,
@@ -83,11 +85,11 @@ pub fn show_object<W: Sink>(
     show_named(&mut front, path, false, out)
 }
 
-/// Writes the line that ends the objects where one more is needed than are listed: the file offset of the
-/// dynamic entry that needs it.
+/// Writes the line that ends the objects if one more is needed than are listed: the file offset of
+/// the dynamic entry that needs it.
 ///
 /// # Errors
-/// A fault of the output, with a front of the line written.
+/// A fault of the output, with a prefix of the line written.
 pub fn show_too_many<W: Sink>(place: u64, format: Format, out: &mut Out<W>) -> Result<(), OutFault>
     ensures puts { OutPuts out.old out.new result (too_many_line format place) }
 {
@@ -97,7 +99,7 @@ pub fn show_too_many<W: Sink>(place: u64, format: Format, out: &mut Out<W>) -> R
     }
 }
 
-/// The line that ends the objects.
+/// Returns the line that ends the objects.
 #[tactic(auto, unfolding(crate::specs::ObjectLines::too_many_line))]
 fn too_many_row<R: Render>(place: u64) -> LineBuf
     ensures { result.items ≡ too_many_line R.FORMAT place }

@@ -1,4 +1,4 @@
-//! The objects of a program whose files are kept open, so that names are looked for in them.
+//! The objects of a program whose files are kept open, so that names can be looked up in them.
 ghost use Rattle.std.specs.Prelude.{◌≡◌, [], IfOk};
 ghost use Rattle.elf_needs.specs.Opens.{AsksKept, KeepsOne};
 
@@ -10,22 +10,23 @@ use elf_source::{Counted, Source};
 use elf_table::{Fault, HeaderStore};
 use std::alloc::{AllocError, Global};
 
-/// Objects whose files are kept open, in their order, each with its index among all. Those without a
-/// hash table have no symbols, and are not kept.
+/// Objects whose files are kept open, in their order, each with its index among all. Those without
+/// a hash table have no symbols, and are not kept.
 #[derive(Drop)]
 pub struct OpenObjects<S: Source + Drop> {
     /// The objects.
     pub objects: Vec<LookupObject<S>>,
-    /// Their indexes among all.
+    /// Their indices among all.
     pub indexes: Vec<u16>,
     most: usize,
 }
 
 impl<S: Source + Drop> OpenObjects<S> {
-    /// No object, with room for so many. The memory is taken from `alloc` here.
+    /// Creates an empty list with room for the given number of objects. Allocates its memory from
+    /// `alloc`.
     ///
     /// # Errors
-    /// Where memory is refused.
+    /// Out of memory.
     pub fn new(alloc: Global, most: usize) -> Result<OpenObjects<S>, AllocError>
         ensures none { IfOk result (λ o. o.objects.items ≡ []) }
         ensures most { IfOk result (λ o. o.most ≡ most) }
@@ -37,7 +38,7 @@ impl<S: Source + Drop> OpenObjects<S> {
         })
     }
 
-    /// Puts an object behind the others.
+    /// Adds an object after the others.
     fn push(&mut self, index: u16, object: LookupObject<S>)
         ensures { KeepsOne self.old.objects.items self.new.objects.items object }
     {
@@ -48,13 +49,15 @@ impl<S: Source + Drop> OpenObjects<S> {
 }
 
 impl<S: Source + Drop> OpenObjects<CachedSource<S>> {
-    /// Keeps the file of the object of an index open, if there is room for it and it has a hash table. Lookups
-    /// in it go by its program headers, as a loader's do, whatever its section headers say.
-    /// No more is asked for than what is left of a budget, where there is one; what was asked for is taken
-    /// off. Without a budget whole pages of it are read.
+    /// Keeps the file of the object with an index open, if there is room for it and it has a hash
+    /// table.
+    ///
+    /// Lookups in it use its program headers, as a loader's do, ignoring its section headers.
+    /// Requests at most the bytes left of the budget, if there is one; those requested are
+    /// subtracted. Without a budget it is read by whole pages.
     ///
     /// # Errors
-    /// Those of [`LookupObject::open`] but `NoHash`.
+    /// Those of [`LookupObject::open`] except `NoHash`.
     pub fn keep(
         &mut self,
         index: u16,
@@ -87,7 +90,7 @@ impl<S: Source + Drop> OpenObjects<CachedSource<S>> {
     }
 }
 
-/// A fault, unless it is that there is no hash table.
+/// Returns a fault, unless it is that there is no hash table.
 fn unless_no_hash(fault: Fault) -> Result<(), Fault> {
     match fault {
         Fault::Refused(

@@ -9,7 +9,7 @@ use std::marker::Model;
 /// How many bytes a page has.
 pub const PAGE_BYTES: usize = 1024;
 
-/// Bytes of a file from an offset on, as many as are held.
+/// Bytes of a file at an offset, as many as are held.
 #[derive(Drop)]
 pub(crate) struct Page {
     at: u64,
@@ -29,7 +29,7 @@ impl Model for Page {
 }
 
 impl Page {
-    /// A page of which nothing is held.
+    /// Creates an empty page.
     pub(crate) fn new() -> Page
         ensures { result.bytes ≡ [] }
     {
@@ -40,7 +40,7 @@ impl Page {
         }
     }
 
-    /// Fills `out` with the bytes from the file offset `at` on, if all of them are held.
+    /// Fills `out` with the bytes at the file offset `at`, if all of them are held.
     pub(crate) fn give(&self, at: u64, out: &mut [u8]) -> bool
         ensures { GivesHeld self.now at out.old out.new result }
     {
@@ -56,8 +56,8 @@ impl Page {
         true
     }
 
-    /// Reads the page that the file offset `at` stands in, as far as the file has it. Where the read
-    /// fails nothing is held.
+    /// Reads the page that contains the file offset `at`, as far as the file has it. If the read
+    /// fails, nothing is held.
     pub(crate) fn load<S: Source>(&mut self, source: &mut S, at: u64)
         requires { at < (S.seen source.old).size }
         ensures keeps { KeepsSource (S.seen source.old) (S.seen source.new) }

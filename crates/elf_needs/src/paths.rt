@@ -1,4 +1,4 @@
-//! Paths that are made of folders and names.
+//! Paths composed of directories and names.
 ghost use Rattle.std.specs.Prelude.{◌≡◌, ◌==◌, ◌∷◌, ◌++◌, ◌≤◌, [], length, Some, None, true, false, slice_index};
 ghost use Rattle.elf_needs.specs.Searching.{MOST_PATH_BYTES, PATH_SLASH, after_dir, root_before, entry_path, expanded, IsDirOf, dir_of_entry, if_short, is_rooted};
 ghost use Rattle.elf_needs.specs.Steps.{IsMade, PutsText, origin_of};
@@ -7,10 +7,10 @@ use crate::tokens::token_in;
 use arrayvec::ArrayVec;
 use memchr::memrchr;
 
-/// A path that is tried, at most as long as one can be opened.
+/// A path that is tried, of at most the length that can be opened.
 pub type CandidatePath = ArrayVec<u8, 4095>;
 
-/// Puts bytes behind a path. Answers whether there is room for them: else nothing changes.
+/// Appends bytes to a path. Returns whether they fit: otherwise nothing changes.
 fn put(path: &mut CandidatePath, bytes: &[u8]) -> bool
     ensures puts { PutsText path.old.items path.new.items (Some bytes.now) result }
     ensures within { result ≡ true → length path.new.items ≤ MOST_PATH_BYTES }
@@ -18,22 +18,22 @@ fn put(path: &mut CandidatePath, bytes: &[u8]) -> bool
     path.try_extend_from_slice(bytes).is_ok()
 }
 
-/// Puts a byte behind a path. Answers whether there is room for it: else nothing changes.
+/// Appends a byte to a path. Returns whether it fits: otherwise nothing changes.
 fn put_byte(path: &mut CandidatePath, byte: u8) -> bool
     ensures { PutsText path.old.items path.new.items (Some (byte ∷ [])) result }
 {
     path.try_push(byte).is_ok()
 }
 
-/// Whether a text begins with a slash.
+/// Returns `true` if a text begins with a slash.
 fn is_rooted(text: &[u8]) -> bool
     ensures { result ≡ is_rooted text.now }
 {
     !text.is_empty() && text[0] == b'/'
 }
 
-/// Puts a text behind a path, with what stands for its tokens. Answers whether each `$` begins one and
-/// there is room for it all.
+/// Appends a text to a path, with its tokens replaced. Returns whether each `$` begins a token and
+/// all of it fits.
 fn put_expanded(path: &mut CandidatePath, text: &[u8], origin: &[u8]) -> bool
     ensures { PutsText path.old.items path.new.items (expanded origin.now 0 text.now) result }
 {
@@ -57,7 +57,7 @@ fn put_expanded(path: &mut CandidatePath, text: &[u8], origin: &[u8]) -> bool
     true
 }
 
-/// Puts the folder that an entry names behind a path.
+/// Appends the directory that an entry names to a path.
 #[tactic(auto, unfolding(crate::specs::Searching::dir_of_entry))]
 fn put_dir(path: &mut CandidatePath, entry: &[u8], origin: Option<&[u8]>) -> bool
     ensures { PutsText path.old.items path.new.items
@@ -69,7 +69,7 @@ fn put_dir(path: &mut CandidatePath, entry: &[u8], origin: Option<&[u8]>) -> boo
     }
 }
 
-/// Puts what stands below another root before a text that begins with a slash.
+/// Appends the other root before a text that begins with a slash.
 fn push_root(path: &mut CandidatePath, root: &[u8], text: &[u8]) -> bool
     ensures { PutsText path.old.items path.new.items (Some (root_before root.now text.now)) result }
 {
@@ -79,7 +79,7 @@ fn push_root(path: &mut CandidatePath, root: &[u8], text: &[u8]) -> bool
     true
 }
 
-/// Puts what stands between a folder and a name in it.
+/// Appends what separates a directory and a name in it.
 #[tactic(auto, unfolding(crate::specs::Searching::after_dir))]
 fn put_after(path: &mut CandidatePath) -> bool
     ensures { PutsText path.old.items path.new.items (Some (after_dir path.old.items)) result }
@@ -90,7 +90,7 @@ fn put_after(path: &mut CandidatePath) -> bool
     put(path, b"/")
 }
 
-/// Puts a name behind the folder that it is in.
+/// Appends a name to its directory.
 fn put_name(path: &mut CandidatePath, name: &[u8]) -> bool
     ensures puts { PutsText path.old.items path.new.items
         (Some (after_dir path.old.items ++ name.now)) result }
@@ -99,8 +99,8 @@ fn put_name(path: &mut CandidatePath, name: &[u8]) -> bool
     put_after(path) && put(path, name)
 }
 
-/// Makes the path of a name in the folder that an entry names, below a root. Answers whether there is such
-/// a path; else what the path holds means nothing.
+/// Composes the path of a name in the directory that an entry names, below a root. Returns whether
+/// there is such a path; otherwise the contents of the path are unspecified.
 pub(crate) fn put_entry(
     path: &mut CandidatePath,
     root: &[u8],
@@ -121,8 +121,8 @@ pub(crate) fn put_entry(
     put_name(path, name)
 }
 
-/// Makes the path that a name with a slash in it is, below a root. Answers whether it can be opened; else
-/// what the path holds means nothing.
+/// Composes the path that a name with a slash in it is, below a root. Returns whether it can be
+/// opened; otherwise the contents of the path are unspecified.
 pub fn named_path(path: &mut CandidatePath, root: &[u8], name: &[u8]) -> bool
     ensures { IsMade path.new.items (if_short (root_before root.now name.now ++ name.now)) result }
 {
@@ -133,8 +133,8 @@ pub fn named_path(path: &mut CandidatePath, root: &[u8], name: &[u8]) -> bool
     put(path, name)
 }
 
-/// The folder of a path: what stands before its last slash, `/` where nothing does, and the current folder
-/// where there is none.
+/// Returns the directory of a path: what is before its last slash, `/` if nothing is, and the
+/// current directory if there is no slash.
 pub fn dir_of_path(path: &[u8]) -> &[u8]
     ensures { IsDirOf path.now result.now }
 {

@@ -12,8 +12,9 @@ use elf_options::VersionQuery;
 use elf_source::{Counted, Source};
 use elf_table::Fault;
 
-/// The hash table with its counts, where these and the file's records of versions are such that no
-/// lookup is refused before its walk: each record can be read, and the strings of its name end in a NUL.
+/// Returns the hash table with its counts, if these and the file's records of versions are such
+/// that no lookup is refused before its walk: each record can be read, and its string table ends in
+/// a NUL.
 ///
 /// # Errors
 /// A fault of the counts or of the records, or of a read.
@@ -36,17 +37,17 @@ pub(crate) fn ready_table<S: Source>(
     Ok(table_where(definitions_end, needs_end, table))
 }
 
-/// A table, where both are so.
+/// Returns a table, if both hold.
 fn table_where(one: bool, other: bool, table: HashTable) -> Option<HashTable>
     ensures { result ≡ table_where one other table }
 {
     if one && other { Some(table) } else { None }
 }
 
-/// Whether the strings of the names of a table of records, if there is one, end in a NUL.
+/// Checks whether the string table of a table of records, if there is one, ends in a NUL.
 ///
 /// # Errors
-/// A fault of a read.
+/// A read fault.
 fn ends_in_nul<S: Source>(
     src: &mut Counted<S>,
     records: &Option<VersionRecordTable>,
@@ -66,7 +67,7 @@ fn ends_in_nul<S: Source>(
     Ok(ends)
 }
 
-/// Whether the name of the version that is asked for has a NUL.
+/// Returns `true` if the name of the wanted version has a NUL.
 pub(crate) fn has_nul(asked: &VersionQuery<'_>) -> bool
     ensures { MatchBool result ⊤ (HasNoNul (asked_of asked.now)) }
 {

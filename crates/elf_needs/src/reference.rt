@@ -1,4 +1,4 @@
-//! What a symbol of a file asks others for.
+//! What a symbol of a file references.
 ghost use Rattle.std.specs.Prelude.{◌≡◌, ℕ, ◌+◌, ◌*◌, ◌<◌, ◌∷◌, [], List, None, Some, IfOk};
 ghost use Rattle.elf_needs.specs.Sought.{SeeksOf, ReturnsAsked, ReturnsSought, ReturnsVersionIf, ReturnsWhole};
 ghost use Rattle.elf_table.specs.Prelude.{CallDid, StringsInBounds, fault_of_result, strings_in};
@@ -16,26 +16,26 @@ use elf_record::{Cause, Sym};
 use elf_source::{Counted, Source};
 use elf_table::{Fault, NameBuf, NameEnd, NameLimit, Names, refused};
 
-/// How many bytes a name of a symbol or a version has at most that is asked for.
+/// The maximum number of bytes of a referenced symbol or version name.
 const SOUGHT_CAP: NameLimit = NameLimit { bytes: 4096 };
 
-/// A symbol that others are asked for.
+/// A referenced symbol.
 #[derive(Clone, Copy)]
 pub struct SymbolReference {
-    /// Whether it is weak: it may be defined by none.
+    /// Whether it is weak: it need not be defined.
     pub weak: bool,
-    /// Whether it asks for a version.
+    /// Whether it needs a version.
     pub versioned: bool,
-    /// The record of the needed file of which it asks for that version, if it is of one.
+    /// The record of the needed file from which it needs that version, if there is one.
     pub file: Option<VersionRecord>,
 }
 
-/// The version that a symbol asks for.
+/// The version that a symbol references.
 #[derive(Clone, Copy)]
 struct VersionReference {
-    /// Whether it asks for one.
+    /// Whether it needs one.
     versioned: bool,
-    /// The record of the needed file that it is of, if it is of one.
+    /// The record of the needed file that it is of, if there is one.
     file: Option<VersionRecord>,
 }
 
@@ -45,15 +45,19 @@ const NO_VERSION: VersionReference = VersionReference {
     file: None,
 };
 
-/// Reads what the symbol of an index asks others for: its name, into `name`, and if it asks for a version
-/// that, into `version`. None if it asks for nothing: it is defined, or local, or has no name, or an empty
-/// one. After None or a fault they hold any bytes.
+/// Reads what the symbol at an index references: its name, into `name`, and the version that it
+/// needs, if any, into `version`. Returns `None` if it references nothing: it is defined, or local,
+/// or has no name, or an empty one. After `None` or a fault their contents are unspecified.
 ///
 /// # Errors
-/// At the symbol: those of its name, as [`Names::read`] has them, and `TooLong` where that has more than
-/// 4,096 bytes. `VersionCut` at what tells of the words of versions where it has none. Those of the
-/// records up to the first that has the number of its version; `VersionIndex` at the word where none
-/// has; at what holds the name of the version the same as of the symbol's. Else a fault of a read.
+/// - At the symbol: those of its name, as for [`Names::read`], and `TooLong` if that has more than
+///   4,096 bytes.
+/// - `VersionCut` at the structure that locates the version entries if there is none for the
+///   symbol.
+/// - Those of the records up to the first that has its version index.
+/// - `VersionIndex` at the entry if none has.
+/// - At the structure that holds the name of the version: the same as for the symbol's.
+/// - Otherwise a read fault.
 pub(crate) fn reference_symbol<S: Source>(
     src: &mut Counted<S>,
     symbols: &DynamicSymbols,
@@ -89,7 +93,7 @@ pub(crate) fn reference_symbol<S: Source>(
     }))
 }
 
-/// The same, and None behind the last symbol that there is room for.
+/// Reads the same, and returns `None` after the last symbol that there is room for.
 ///
 /// # Errors
 /// Those of [`reference_symbol`].
@@ -117,7 +121,8 @@ pub(crate) fn reference_of<S: Source>(
     reference_symbol(src, symbols, index, name, version)
 }
 
-/// Whether a symbol asks others for something: it is undefined, global, weak or unique, and has a name.
+/// Returns `true` if a symbol references something: it is undefined, global, weak or unique, and
+/// has a name.
 #[tactic(auto, unfolding(elf_model::specs::Bindings::is_reference))]
 fn is_reference(symbol: &Sym) -> bool
     ensures { (file : List ℕ) (at : ℕ) → IsSym file at symbol.now → result ≡ is_reference file at }
@@ -125,14 +130,14 @@ fn is_reference(symbol: &Sym) -> bool
     symbol.st_shndx == SHN_UNDEF && has_reference_binding(symbol.binding()) && symbol.st_name != 0
 }
 
-// Whether a binding is one of symbols that others are asked for.
+// Whether a binding is one of referenced symbols.
 fn has_reference_binding(binding: u8) -> bool
     ensures { result ≡ is_among binding (STB_GLOBAL ∷ STB_WEAK ∷ STB_GNU_UNIQUE ∷ []) }
 {
     binding == STB_GLOBAL || binding == STB_WEAK || binding == STB_GNU_UNIQUE
 }
 
-/// Whether a symbol may be defined by none.
+/// Returns `true` if a symbol need not be defined.
 fn is_weak(symbol: &Sym) -> bool
     ensures { (file : List ℕ) (at : ℕ) → IsSym file at symbol.now → result ≡ is_weak file at }
 {
@@ -160,10 +165,10 @@ pub(crate) fn whole_name<S: Source>(
     }
 }
 
-/// Whether the symbol of an index asks for a version, which is read.
+/// Checks whether the symbol at an index needs a version, and reads it.
 ///
 /// # Errors
-/// Those of [`reference_symbol`] behind its name.
+/// Those of [`reference_symbol`] after its name.
 fn reference_version<S: Source>(
     src: &mut Counted<S>,
     symbols: &DynamicSymbols,
@@ -197,11 +202,11 @@ fn reference_version<S: Source>(
     })
 }
 
-/// Reads the name of the version of a number, which a word at a file offset has. Answers the record of
-/// the needed file that it is of, if it is of one.
+/// Reads the name of the version with an index, which an entry at a file offset has. Returns the
+/// record of the needed file that it is of, if there is one.
 ///
 /// # Errors
-/// Those of [`reference_symbol`] behind the word.
+/// Those of [`reference_symbol`] after the entry.
 fn by_number<S: Source>(
     src: &mut Counted<S>,
     symbols: &DynamicSymbols,

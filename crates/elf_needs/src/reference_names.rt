@@ -1,4 +1,4 @@
-//! The name and the version that a symbol asks others for.
+//! The name and the version that a symbol references.
 ghost use Rattle.std.specs.Prelude.{◌≡◌};
 ghost use Rattle.elf_needs.specs.Sought.{asked_if};
 ghost use Rattle.elf_loader.specs.Lookups.{AreShort};
@@ -7,21 +7,21 @@ ghost use Rattle.elf_options.specs.Wants.{query_of};
 use elf_options::{SymbolQuery, VersionQuery};
 use elf_table::NameBuf;
 
-/// The name and the version that a symbol asks others for.
+/// The name and the version that a symbol references.
 #[derive(Drop)]
 pub struct ReferenceNames {
     /// The name.
     pub name: NameBuf,
-    /// The version, where it asks for one.
+    /// The version, if it needs one.
     pub version: NameBuf,
-    /// The needed file of which it asks for that.
+    /// The needed file from which it needs that version.
     pub file: NameBuf,
-    /// Whether it asks for a version.
+    /// Whether it needs a version.
     pub versioned: bool,
 }
 
 impl ReferenceNames {
-    /// No name.
+    /// Creates empty names.
     pub fn new() -> ReferenceNames {
         ReferenceNames {
             name: NameBuf::new(),
@@ -31,7 +31,7 @@ impl ReferenceNames {
         }
     }
 
-    /// Returns what is looked for.
+    /// Returns the symbol query.
     pub fn wanted(&self) -> SymbolQuery<'_>
         ensures short { AreShort (query_of result) }
         ensures name { (query_of result).name ≡ self.now.name }

@@ -17,8 +17,8 @@ use memchr::memchr;
 use std::os::unix::fs::FileExt;
 use std::rt::Files;
 
-/// The folders that a command line tells, each text parted by colons, and what stands before each folder
-/// that is written with a slash at its front.
+/// The directories given on a command line, each a colon-separated list, and the root that precedes
+/// each directory that begins with a slash.
 #[derive(Clone, Copy)]
 pub struct SearchDirs<'a> {
     /// Those that come before an object's DT_RUNPATH.
@@ -29,16 +29,16 @@ pub struct SearchDirs<'a> {
     pub root: &'a [u8],
 }
 
-/// The files of a system among which libraries are looked for.
+/// The system in which libraries are searched.
 #[derive(Drop)]
 pub struct SystemFiles<'f, R, S: Source + Drop> {
     /// The system.
     pub rt: &'f R,
-    /// Its loader's cache, where one is looked in.
+    /// Its loader's cache, if one is searched.
     pub cache: Option<LoaderCache<S>>,
 }
 
-/// Why a search for a library came to no end.
+/// Why a search for a library ended early.
 #[derive(Clone, Copy)]
 pub(crate) enum SearchFault {
     /// The walk ends.
@@ -47,25 +47,26 @@ pub(crate) enum SearchFault {
     Refused(Refusal),
 }
 
-/// A search for a library of a machine: what it goes by, and what is left of the budget.
+/// A search for a library of a machine: its parameters, and what is left of the budget.
 #[derive(Drop)]
 pub(crate) struct Search<'s> {
-    /// The folders that are told.
+    /// The given directories.
     pub folders: SearchDirs<'s>,
     /// The machine.
     pub machine: u16,
     /// The path that is tried.
     pub path: CandidatePath,
-    /// What is left of the budget, and what was asked for.
+    /// What is left of the budget, and what was requested.
     pub account: ReadAccount,
 }
 
 impl Search<'_> {
-    /// Looks for the library of a name that an object needs. Where it is found its path stands in the
-    /// search's. It is not made part of its caller, whose stack would hold its lists while a file is read.
+    /// Searches for the library with a name that an object needs. If it is found, its path is in
+    /// the search's. It is not inlined: the stack of its caller would hold its lists while a file
+    /// is read.
     ///
     /// # Errors
-    /// A read failed, or the budget has no room for what is read of the cache.
+    /// A read failed, or the budget is exhausted by what is read of the cache.
     #[inline(never)]
     pub(crate) fn find<R: Files>(
         &mut self,
@@ -100,7 +101,7 @@ impl Search<'_> {
     /// Tries the path that the loader's cache has for a name, if there is a cache.
     ///
     /// # Errors
-    /// A read failed, or the budget has no room for what is read of the cache.
+    /// A read failed, or the budget is exhausted by what is read of the cache.
     fn try_cache<R: Files>(
         &mut self,
         system: &mut SystemFiles<'_, R, FileSource<R::File>>,
@@ -179,14 +180,15 @@ impl Search<'_> {
     }
 }
 
-/// No texts of folders. It is not made part of its caller, whose stack would hold them three times.
+/// Returns empty lists of directories. It is not inlined: the stack of its caller would hold them
+/// three times.
 #[inline(never)]
 fn no_lists<'a>() -> SearchPaths<'a> {
     SearchPaths::new()
 }
 
-/// Puts the texts of the folders in which a library is looked for that an object needs. It is not made part
-/// of its caller, whose stack would hold the objects above while paths are tried.
+/// Appends the lists of the directories in which a library is searched that an object needs. It is
+/// not inlined: the stack of its caller would hold the objects above while paths are tried.
 #[inline(never)]
 fn gather<'a>(
     objects: &'a ObjectList,
@@ -199,8 +201,8 @@ fn gather<'a>(
     gather_dirs(&chain[..count], folders.library, folders.default, lists);
 }
 
-/// Puts an object, the one that first needed it, and so on up to the program, as many as there is room for,
-/// at the front of others. Answers how many.
+/// Copies an object, the one that first needed it, and so on up to the program, up to the capacity,
+/// to the start of others. Returns how many.
 fn put_chain<'a>(
     objects: &'a ObjectList,
     known: &KnownObject,
@@ -223,7 +225,7 @@ fn put_chain<'a>(
     chain.len()
 }
 
-/// The object that first needed another, if one did.
+/// Returns the object that first needed another, if there is one.
 fn above(objects: &ObjectList, known: &KnownObject) -> Option<KnownObject> {
     match known.needer {
         Some(needer) => objects.get(usize::from(needer)),

@@ -1,14 +1,14 @@
-//! What names are looked for among, and what writing lines came to.
+//! Where names are looked up, and the result of writing lines.
 ghost use Rattle.std.specs.Prelude.{◌≡◌, ◌==◌, ◌||◌, get_or, position};
 ghost use Rattle.elf_needs.specs.Bound.{failing_of};
 
 use crate::known_object::ObjectList;
 use elf_model::Format;
 
-/// What names are looked for among.
+/// The objects in which names are looked up.
 #[derive(Clone, Copy)]
 pub(crate) struct SearchScope<'a> {
-    /// The index of each object that is looked in, among all objects.
+    /// The index of each object that is searched, among all objects.
     pub indexes: &'a [u16],
     /// All objects.
     pub known: &'a ObjectList,
@@ -16,21 +16,21 @@ pub(crate) struct SearchScope<'a> {
     pub format: Format,
 }
 
-/// What writing lines came to.
+/// The result of writing the lines.
 #[derive(Clone, Copy)]
 pub(crate) enum WriteEnd {
     /// All are written.
     Whole {
-        /// Whether a symbol is missing, or can't be told.
+        /// Whether a symbol is missing, or its state cannot be determined.
         fails: bool,
     },
     /// All are written, and the last is that of a fault.
     Ended,
-    /// The budget is used up.
+    /// The budget is exhausted.
     Cut,
 }
 
-/// The index among all objects of the one at a place.
+/// Returns the index among all objects of the one at a position.
 pub(crate) fn index_at(indexes: &[u16], place: usize) -> u16
     ensures { result ≡ get_or indexes.now place 0 }
 {
@@ -40,14 +40,15 @@ pub(crate) fn index_at(indexes: &[u16], place: usize) -> u16
     }
 }
 
-/// The place of the object of an index, if it is looked in.
+/// Returns the position of the object with an index, if it is searched.
 pub(crate) fn place_of(indexes: &[u16], index: u16) -> Option<usize>
     ensures { result ≡ position (λ other. other == index) indexes.now }
 {
     indexes.iter().position(|other| *other == index)
 }
 
-/// Whether lines that were written tell that something is missing; None where the budget is used up.
+/// Returns whether lines that were written report that something is missing, or `None` if the
+/// budget is exhausted.
 pub(crate) fn failing(came: WriteEnd) -> Option<bool>
     ensures { result ≡ failing_of came }
 {
@@ -58,7 +59,7 @@ pub(crate) fn failing(came: WriteEnd) -> Option<bool>
     }
 }
 
-/// One or the other.
+/// Returns `true` if either is.
 pub(crate) fn either(one: bool, other: bool) -> bool
     ensures { result ≡ (one || other) }
 {

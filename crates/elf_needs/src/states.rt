@@ -1,4 +1,4 @@
-//! What is told of an object that a program needs.
+//! The state of an object that a program needs.
 use elf_model::Refusal;
 
 /// The state of an object.
@@ -6,7 +6,7 @@ use elf_model::Refusal;
 pub enum ObjectState {
     /// It was found, and what it needs is known.
     Found,
-    /// None of the paths that are tried for it can be opened.
+    /// None of the paths tried for it can be opened.
     Missing,
     /// It was found, and is refused.
     Refused(Refusal),

@@ -1,4 +1,4 @@
-//! Texts in memory that is taken once.
+//! Texts in memory that is allocated once.
 ghost use Rattle.std.specs.Prelude.{◌≡◌, ◌<◌, ◌++◌, ◌∷◌, [], ℕ, List, IfOk, IfSome, IsNone, is_some, nat_lt, ◌&&◌, length, slice_index_or};
 ghost use Rattle.elf_model.specs.Prelude.{has_room, slice};
 ghost use Rattle.elf_needs.specs.Held.{with_text};
@@ -6,7 +6,7 @@ ghost use Rattle.elf_needs.specs.Held.{with_text};
 use std::alloc::{AllocError, Global};
 use std::marker::Model;
 
-/// Texts one behind the other, each known by its index.
+/// Texts one after the other, each known by its index.
 #[derive(Drop)]
 pub struct StringArena {
     bytes: Vec<u8>,
@@ -16,7 +16,7 @@ pub struct StringArena {
     most_texts: usize,
 }
 
-/// Where a text lies among the bytes.
+/// The span of a text among the bytes.
 #[derive(Clone, Copy)]
 struct TextSpan {
     start: u32,
@@ -45,11 +45,11 @@ impl Model for StringArena {
 }
 
 impl StringArena {
-    /// No text, with room for so many texts of so many bytes together, each below 2^32. The memory is taken
-    /// from `alloc` here: `bytes` and 8 for each text.
+    /// Creates an empty list with room for the given number of texts with the given total of bytes,
+    /// each below 2^32. Allocates its memory from `alloc`: `bytes` and 8 for each text.
     ///
     /// # Errors
-    /// Where memory is refused.
+    /// Out of memory.
     pub fn new(alloc: Global, bytes: u32, texts: u32) -> Result<StringArena, AllocError>
         ensures { IfOk result (λ held. held ≡ record {
           texts = [];
@@ -66,14 +66,14 @@ impl StringArena {
         })
     }
 
-    /// How many there are.
+    /// Returns the number of texts.
     pub fn len(&self) -> usize
         ensures { result ≡ length self.now.texts }
     {
         self.places.len()
     }
 
-    /// The text of an index; where there is none of that index the empty text.
+    /// Returns the text at an index, or the empty text if there is none.
     pub fn get(&self, index: u32) -> &[u8]
         ensures { result.now ≡ slice_index_or self.now.texts index [] }
     {
@@ -83,8 +83,8 @@ impl StringArena {
         }
     }
 
-    /// Puts a text behind the others, and answers its index. None where there is no room for it, or it has
-    /// 65,536 bytes or more: nothing changes then.
+    /// Appends a text, and returns its index, or `None` if it does not fit, or it has 65,536 bytes
+    /// or more: nothing changes then.
     pub fn push(&mut self, text: &[u8]) -> Option<u32>
         ensures pushed { IfSome result (λ index. self.new ≡ with_text self.old text.now) }
         ensures index { IfSome result (λ index. index ≡ length self.old.texts) }
@@ -106,7 +106,7 @@ impl StringArena {
     }
 }
 
-/// The text at a place among bytes.
+/// Returns the text at a span of bytes.
 fn text_at(bytes: &[u8], place: TextSpan) -> &[u8]
     ensures { result.now ≡ slice bytes.now place.start place.len }
 {

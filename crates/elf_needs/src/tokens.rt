@@ -1,18 +1,18 @@
-//! Tokens in the name of a folder.
+//! Tokens in the name of a directory.
 ghost use Rattle.std.specs.Prelude.{◌≡◌, ◌≤◌, length, not, option_map, slice_index, IfSome};
 ghost use Rattle.elf_needs.specs.Searching.{is_name_byte, token_in, token_size};
 ghost use Rattle.elf_needs.specs.Steps.{token_of};
 
-/// A token: what stands for it, and how many bytes it has behind its `$`.
+/// A token: its replacement, and how many bytes it has after its `$`.
 #[derive(Clone, Copy)]
 pub(crate) struct StringToken<'a> {
-    /// What stands for it.
+    /// Its replacement.
     pub value: &'a [u8],
     /// How many bytes it has.
     pub size: usize,
 }
 
-/// The token that bytes behind a `$` begin with, if they do.
+/// Returns the token that bytes after a `$` begin with, if they do.
 #[tactic(auto, unfolding(crate::specs::Searching::token_in))]
 pub(crate) fn token_in<'a>(origin: &'a [u8], bytes: &[u8]) -> Option<StringToken<'a>>
     ensures token { option_map token_of result ≡ token_in origin.now bytes.now }
@@ -33,7 +33,8 @@ pub(crate) fn token_in<'a>(origin: &'a [u8], bytes: &[u8]) -> Option<StringToken
     None
 }
 
-/// How many bytes a token has with which bytes begin: the name in braces, or a name that ends there.
+/// Returns the length of the token with which bytes begin: the name in braces, or a name that ends
+/// there.
 #[tactic(auto, unfolding(crate::specs::Searching::token_size))]
 fn token_size(bytes: &[u8], name: &[u8], braced: &[u8]) -> Option<usize>
     ensures size { result ≡ token_size bytes.now name.now braced.now }
@@ -48,7 +49,7 @@ fn token_size(bytes: &[u8], name: &[u8], braced: &[u8]) -> Option<usize>
     None
 }
 
-/// Whether no byte of a name stands at a place.
+/// Returns `true` if no byte of a name is at an index.
 #[tactic(auto, unfolding(crate::specs::Searching::is_name_byte))]
 fn ends_name(bytes: &[u8], place: usize) -> bool
     ensures { result ≡ not (is_name_byte (slice_index bytes.now place)) }
@@ -56,7 +57,7 @@ fn ends_name(bytes: &[u8], place: usize) -> bool
     !(place < bytes.len() && is_name_byte(bytes[place]))
 }
 
-/// Whether a byte may stand in a name: a letter, a digit, or `_`.
+/// Returns `true` if a byte may be in a name: a letter, a digit, or `_`.
 #[tactic(auto, unfolding(crate::specs::Searching::is_name_byte))]
 fn is_name_byte(byte: u8) -> bool
     ensures { result ≡ is_name_byte byte }

@@ -1,4 +1,4 @@
-//! The paths that are tried in the folders of a text.
+//! The paths that are tried in a list of directories.
 ghost use Rattle.std.specs.Prelude.{◌≡◌, ◌∷◌, [], true, false};
 ghost use Rattle.elf_needs.specs.Searching.{dir_paths};
 ghost use Rattle.elf_needs.specs.Steps.{dirs_of};
@@ -8,13 +8,13 @@ use crate::folders::SearchPathList;
 use crate::paths::{CandidatePath, put_entry};
 use std::marker::Model;
 
-/// The paths of a name in the folders of a text that were not tried yet.
+/// The paths of a name in a list of directories that were not tried yet.
 #[derive(Drop)]
 pub struct CandidatePaths<'a> {
     root: &'a [u8],
     name: &'a [u8],
     origin: Option<&'a [u8]>,
-    /// What is left of the text.
+    /// What is left of the list.
     left: Option<&'a [u8]>,
 }
 
@@ -29,8 +29,8 @@ impl<'a> Model for CandidatePaths<'a> {
 }
 
 impl<'a> CandidatePaths<'a> {
-    /// The paths of a name in the folders of a text, below a root: what stands before each folder that is
-    /// written with a slash at its front.
+    /// Creates the paths of a name in a list of directories, below a root, which precedes each
+    /// directory that begins with a slash.
     #[tactic(auto, unfolding(crate::specs::Searching::entries_of, crate::specs::Searching::entry_paths))]
     pub fn new(root: &'a [u8], name: &'a [u8], folders: SearchPathList<'a>) -> CandidatePaths<'a>
         ensures { result ≡ dir_paths root.now name.now (dirs_of folders.entry) }
@@ -48,7 +48,7 @@ impl<'a> CandidatePaths<'a> {
         }
     }
 
-    /// No path of a name.
+    /// Returns no path of a name.
     #[tactic(auto, unfolding(crate::specs::Searching::entry_paths))]
     pub(crate) fn none(root: &'a [u8], name: &'a [u8]) -> CandidatePaths<'a>
         ensures { result ≡ [] }
@@ -61,7 +61,8 @@ impl<'a> CandidatePaths<'a> {
         }
     }
 
-    /// Makes the next path. Answers whether there is one; else what the path holds means nothing.
+    /// Composes the next path. Returns whether there is one; otherwise the contents of the path are
+    /// unspecified.
     pub fn next(&mut self, path: &mut CandidatePath) -> bool
         ensures next { result ≡ true → self.old ≡ path.new.items ∷ self.new }
         ensures none { result ≡ false → self.old ≡ [] }

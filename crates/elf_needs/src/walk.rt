@@ -25,7 +25,7 @@ pub type OpenFiles<F> = OpenObjects<CachedFile<F>>;
 /// The source of a file of the system that is kept open, with some of its pages.
 type CachedFile<F> = CachedSource<FileSource<F>>;
 
-/// Why a walk came to no end.
+/// Why a walk was not completed.
 #[derive(Clone, Copy)]
 pub enum NeedsFault {
     /// A read failed.
@@ -34,18 +34,18 @@ pub enum NeedsFault {
     Out(OutFault),
 }
 
-/// What a walk goes by.
+/// The parameters of a walk.
 #[derive(Clone, Copy)]
 pub struct NeedsOptions<'a> {
-    /// The folders that are told.
+    /// The given directories.
     pub folders: SearchDirs<'a>,
-    /// How many bytes may be asked for, of all files together, where that is limited.
+    /// How many bytes may be read, of all files together, if limited.
     pub budget: Option<u64>,
     /// How a line is written.
     pub format: Format,
 }
 
-/// What an object comes to: its state, what its dynamic entries tell, and where its needs are.
+/// The result for an object: its state, what its dynamic entries give, and where its needs are.
 #[derive(Clone, Copy)]
 struct ObjectReport {
     state: ObjectState,
@@ -54,12 +54,12 @@ struct ObjectReport {
     needs_end: usize,
 }
 
-/// What the listing of objects comes to.
+/// The result of listing objects.
 #[derive(Clone, Copy)]
 pub struct Listed {
     /// The exit status.
     pub status: u8,
-    /// Whether all objects are listed: else there are more than 512, which ends the answer.
+    /// Whether all objects are listed: otherwise there are more than 512, which ends the listing.
     pub whole: bool,
 }
 
@@ -72,7 +72,7 @@ enum ControlFlow {
     TooMany,
 }
 
-/// A walk over the objects of a program: what it uses for each, and what has come of them so far.
+/// A walk over the objects of a program: what it uses for each, and the results so far.
 #[derive(Drop)]
 pub struct DependencyWalk<'w, 's, W: Sink> {
     pub(crate) search: Search<'s>,
@@ -84,7 +84,8 @@ pub struct DependencyWalk<'w, 's, W: Sink> {
 }
 
 impl<'w, 's, W: Sink> DependencyWalk<'w, 's, W> {
-    /// A walk with no object yet. Headers are loaded into the store, and lines are written to `out`.
+    /// Creates a walk with no object yet. Headers are loaded into the store, and lines are written
+    /// to `out`.
     pub fn new(
         settings: &NeedsOptions<'s>,
         store: HeaderStore<'w>,
@@ -115,7 +116,7 @@ impl<'w, 's, W: Sink> DependencyWalk<'w, 's, W> {
         }
     }
 
-    /// Gives the output back.
+    /// Returns the output.
     pub fn into_out(self) -> Out<W>
         ensures { result ≡ self.entry.out }
     {
@@ -125,12 +126,14 @@ impl<'w, 's, W: Sink> DependencyWalk<'w, 's, W> {
 }
 
 impl<W: Sink> DependencyWalk<'_, '_, W> {
-    /// Lists the objects that a program needs, in a loader's order: the program, then for each object in
-    /// order each library that it needs and that is none of those before. A line for each. Answers the exit
-    /// status, 1 where one is missing or refused, or there are more than 512, and whether all are listed. No more is asked for, of all
-    /// files together, than the budget has, where there is one. `path` is the program's as it is shown, and
-    /// the folder of `real` stands for `$ORIGIN`. The files of those that are found are kept open, as far as
-    /// there is room for them.
+    /// Lists the objects that a program needs, in a loader's order: the program, then for each
+    /// object in order each library that it needs and that is not one of those before.
+    ///
+    /// A line for each. Returns the exit status, 1 if one is missing or refused, or there are more
+    /// than 512, and whether all are listed. Requests at most the budget, if there is one, from all
+    /// files together. `path` is the program's as it is shown, and the directory of `real` replaces
+    /// `$ORIGIN`. The files of those that are found are kept open, as far as there is room for
+    /// them.
     ///
     /// # Errors
     /// A read or the output failed.
@@ -159,7 +162,7 @@ impl<W: Sink> DependencyWalk<'_, '_, W> {
         Ok(self.listed(true))
     }
 
-    /// What listing comes to so far, of all objects or not.
+    /// Returns the result of listing so far, of all objects or not.
     fn listed(&self, whole: bool) -> Listed
         ensures { result ≡ record { status = self.now.status; whole = whole } }
     {
@@ -197,14 +200,14 @@ impl<W: Sink> DependencyWalk<'_, '_, W> {
     {
         match file.machine(&mut self.search.account) {
             Ok(Some(machine)) => self.search.machine = machine,
-            // That is told of the program where it is read.
+            // That is reported when the program is read.
             Ok(None) | Err(Fault::Refused(_)) => {}
             Err(Fault::Source { .. }) => return Err(NeedsFault::Read),
         }
         self.read(file)
     }
 
-    /// Goes over what an object needs.
+    /// Processes what an object needs.
     fn needs_of<R: Files>(
         &mut self,
         system: &mut SystemFiles<'_, R, FileSource<R::File>>,
@@ -235,7 +238,7 @@ impl<W: Sink> DependencyWalk<'_, '_, W> {
         Ok(ControlFlow::Yes)
     }
 
-    /// Looks for a library that an object needs, reads it, and writes its line.
+    /// Searches for a library that an object needs, reads it, and writes its line.
     fn take<R: Files>(
         &mut self,
         system: &mut SystemFiles<'_, R, FileSource<R::File>>,
@@ -307,8 +310,8 @@ impl<W: Sink> DependencyWalk<'_, '_, W> {
         .map_err(NeedsFault::Out)
     }
 
-    /// Reads what a file needs. What was asked of it is taken off the budget. It is not made part of its
-    /// callers, whose stack would hold its buffers twice.
+    /// Reads what a file needs. What was requested from it is subtracted from the budget. It is not
+    /// inlined: the stack of its callers would hold its buffers twice.
     #[inline(never)]
     fn read<S: Source>(&mut self, file: &mut ObjectFile<S>) -> Result<ObjectReport, NeedsFault>
         ensures asks { AsksFile file.old file.new self.old.search.account self.new.search.account }
@@ -327,7 +330,8 @@ impl<W: Sink> DependencyWalk<'_, '_, W> {
         }
     }
 
-    /// Closes the file of the next object, and keeps its source open, if it is found and there is room for it.
+    /// Closes the file of the next object, and keeps its source open, if it is found and there is
+    /// room for it.
     #[inline(never)]
     fn keep<S: Source + Drop>(
         &mut self,
@@ -358,7 +362,7 @@ impl<W: Sink> DependencyWalk<'_, '_, W> {
         }
     }
 
-    /// Adds an object, and answers its index.
+    /// Adds an object, and returns its index.
     fn add(
         &mut self,
         needer: Option<u16>,
@@ -383,7 +387,7 @@ impl<W: Sink> DependencyWalk<'_, '_, W> {
     }
 }
 
-/// What an object comes to of which nothing but its state is told.
+/// Returns the result for an object of which nothing but its state is known.
 fn told_alone(state: ObjectState) -> ObjectReport {
     ObjectReport {
         state,

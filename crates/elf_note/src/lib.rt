@@ -1,9 +1,7 @@
-//! Names and symbols that the rows of a table refer to, read ahead of those rows.
-//!
-//! Cursors over notes and over dynamic entries.
-//!
-//! Symbol versions (Linux Standard Base Core, Symbol Versioning): a cursor over the records of
-//! definitions and of needs, and the names of version indices. No call of this crate allocates.
+//! Rows whose sizes or meanings depend on other rows: [`NoteCursor`] over notes, [`DynCursor`] over
+//! dynamic entries, and [`VersionCursor`] over the records of symbol versions (Linux Standard Base
+//! Core, Symbol Versioning), with [`VersionNames`] for the names of version indices. [`ReadAhead`]
+//! reads the names and symbols that rows refer to before those rows. No call allocates.
 #![tactic(auto)]
 
 mod dyn_cursor;

@@ -1,11 +1,7 @@
-//! What users ask for.
-//!
-//! A name, or a name and a version, that a GNU loader looks up; sorted texts, among which a name is
-//! searched, and the rows of a listing that they select; and the traits that a file must have. No
-//! call here allocates.
-//!
-//! The names that select rows: those among the arguments, and those of a list, one per line; and
-//! how rows are shown by them.
+//! What users ask for: the [`Caps`] of a listing, that is its limits and its [`ListingStyle`]; the
+//! [`SymbolQuery`] of a lookup, a name or a name and a version; the names that select rows, from
+//! arguments or a list, as a [`RowFilter`]; and the [`RequiredTrait`] of a file. Only the calls
+//! that gather names from arguments or a list allocate.
 #![tactic(auto)]
 
 mod caps;

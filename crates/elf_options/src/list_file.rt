@@ -13,8 +13,11 @@ const LIST_BYTES: usize = 67_108_864;
 /// size is read.
 ///
 /// # Errors
-/// Returns `Read` if the list can't be read, `TooLarge` if it has more than 67,108,864 bytes,
-/// `Memory` if there is not enough memory for the text. What was read stays in `text`.
+/// - `Read` if the list can't be read.
+/// - `TooLarge` if it has more than 67,108,864 bytes.
+/// - `Memory` if there is not enough memory for the text.
+///
+/// What was read stays in `text`.
 pub fn read_names<I: Read>(list: &mut I, text: &mut Vec<u8>) -> Result<(), NamesFault>
     requires { text.old.items ≡ [] }
     ensures { (bytes : List ℕ) → I.remaining list.old ≡ Some bytes →

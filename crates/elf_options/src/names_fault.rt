@@ -1,6 +1,6 @@
-//! Why there are no names.
+//! Why the names of a list could not be gathered.
 
-/// Why there are no names.
+/// Why the names of a list could not be gathered.
 #[derive(Clone, Copy, PartialEq)]
 pub enum NamesFault {
     /// The list can't be read.

@@ -23,8 +23,9 @@ const MOST_BYTES: usize = 4_096;
 /// carriage return is a byte like any other.
 ///
 /// # Errors
-/// Returns `BadName` if a line of the list is not valid ([`is_valid_row_name`], by whether a name
-/// may have a version); `Memory` if there is not enough memory for the names.
+/// - `BadName` if a line of the list is not valid ([`is_valid_row_name`], by whether a name may
+///   have a version).
+/// - `Memory` if there is not enough memory for the names.
 pub fn gather_names<'a>(
     alloc: Global,
     words: &[&'a str],
@@ -64,7 +65,8 @@ fn push_words<'a>(names: &mut Vec<&'a [u8]>, words: &[&'a str]) -> Result<(), Na
 /// Appends the names of a list to those that are there.
 ///
 /// # Errors
-/// Returns `BadName` if one is not valid; `Memory` if there is not enough memory for them.
+/// - `BadName` if one is not valid.
+/// - `Memory` if there is not enough memory for them.
 fn push_lines<'a>(
     names: &mut Vec<&'a [u8]>,
     list: &'a [u8],
@@ -87,7 +89,8 @@ fn push_lines<'a>(
 /// Appends a line to the names that are there, if it is not empty.
 ///
 /// # Errors
-/// Returns `BadName` if it is not valid; `Memory` if there is not enough memory for it.
+/// - `BadName` if it is not valid.
+/// - `Memory` if there is not enough memory for it.
 fn push_line<'a>(
     names: &mut Vec<&'a [u8]>,
     line: &'a [u8],

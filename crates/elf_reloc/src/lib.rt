@@ -1,9 +1,6 @@
-//! Relocations of x86-64: the values that they store.
-//!
-//! Relocations applied to a section of a relocatable file for x86-64.
-//!
-//! What a layout is missing if a section was refused: the relocation type of the entry, the name of
-//! its symbol, and the address that would help. No call allocates.
+//! Relocations of x86-64: [`value`] computes what an entry stores, [`apply`] writes a section of a
+//! relocatable file with its relocations applied, by the addresses of a [`Layout`], and [`explain`]
+//! finds what the layout is missing if the section was refused. No call allocates.
 #![tactic(auto)]
 
 mod apply_section;

@@ -21,7 +21,7 @@ report_shown : (file : List ℕ) (headers : ℕ) (style : ListingStyle) (parts :
 report_shown file headers style parts text fault is =
     ap (λ t. answer_of t fault) is.text_is ∙ ap (λ f. answer_of (report_of style.format (listing file headers style parts)) f) is.fault_is
 
--- a report whose fault is not for want of budget is the whole answer
+-- a report whose fault is not for lack of budget is the whole answer
 whole_report : (budget : Option ℕ) (file : List ℕ) (headers : ℕ) (style : ListingStyle) (parts : ℕ) (text : List ℕ) (fault : Option Refusal) → IsBudgeted budget file headers style parts text fault
     → ((refusal : Refusal) → fault ≡ Some refusal → IsBudgetRefusal refusal → ⊥) → answer_of text fault ≡ show_answer_by file headers style parts
 whole_report None file headers style parts text fault is other = report_shown file headers style parts text fault is
@@ -40,7 +40,7 @@ ends_in (Some budget) file headers style parts text fault refusal some (inl is) 
 ends_in (Some budget) file headers style parts text fault refusal some (inr is) =
     let same : is.1.refusal ≡ refusal = let two = some ∙ is.1.fault_is in cc in (style.format, lines_of is.1.front, rw same at is.1.text_is)
 
--- what a task answers that lists
+-- the result of a task that lists
 abbrev pub listed_status : Result (Unit {0}) RunFault → Result ℕ RunFault
 listed_status (Ok x) = Ok 0
 listed_status (Err stop) = Err stop
@@ -66,7 +66,7 @@ module _ (file : List ℕ) (caps : Caps) (parts : ℕ) (s t : CountedState) (a b
   whole_or_used (Err (Source cause at)) wrote asks = tt
   whole_or_used (Err (Out cause)) wrote asks = tt
 
--- what is asked for, and what a fault says, are those of the listing
+-- what is read, and what a fault says, are those of the listing
 asks_as : {s t : CountedState} (caps : Caps) (parts : ℕ) (result : Result (Unit {0}) RunFault) → AsksWithin caps parts s t result → AsksWithin caps parts s t (listed_status result)
 asks_as caps parts (Ok x) asks =
     record { ceiling = asks.ceiling; unread = asks.unread; alone = asks.alone; budget = asks.budget; late = λ refusal is. cc; place = λ refusal is. cc }

@@ -1,4 +1,4 @@
--- What the words for applying come to.
+-- The result of parsing the arguments for `apply`.
 use Rattle.std.proofs.Common.{◌≡◌, ℕ, ◌<◌, ◌^◌, List, Option, None, Some, Ok, Err, refl, sym, subst, codes, inl, inr}
 use Rattle.std.specs.Prelude.{Bool, IfSome}
 use Rattle.std.specs.Borrow.{Bor}
@@ -13,17 +13,17 @@ use Rattle.elf_requests.specs.declared.requests.Request.{Request}
 use Rattle.elf_requests.specs.declared.requests.Task.{Task}
 use Rattle.elf_requests.proofs.OnceLaws.{laid}
 
--- words of which one is refused
+-- arguments of which one is refused
 pub refused : (rows : List Row) (fault : RequestFault) → LaysWords no_items (item_words rows) (Err fault) → HasFault (Some (codes "apply", rows)) fault
 refused rows fault lays = inr (refl, lays)
 
--- words that give a layout have no fault
+-- arguments that give a layout have no fault
 faultless : (rows : List Row) (layout : Layout) → LaysWords no_items (item_words rows) (Ok layout) → (fault : RequestFault)
     → HasFault (Some (codes "apply", rows)) fault → ⊥
 faultless rows layout lays fault (inl named) = let e = named.1.0 in cc
 faultless rows layout lays fault (inr badly) = laid (item_words rows) no_items layout fault lays badly.1
 
--- only an applying is asked for by `apply`
+-- `apply` requests only applying a section
 only_applying : (rows : List Row) (file : Option (Bor Text)) (task : Task) → IsTask (codes "apply") rows file task
     → (section : ℕ) × (layout : Layout) × (explain : Bool) × IsApplying (codes "apply") rows file section layout explain
 only_applying rows None (Show parts name) (are, parts_are, is, every) = cc
@@ -33,7 +33,7 @@ only_applying rows file (Resolve wanted by_segments format) is = let e = is.look
 only_applying rows file (Apply section layout explain) is = (section, layout.now, explain, is)
 only_applying rows file (Place section addresses explain) is = absurd is
 
--- there is no section with the index that is given
+-- there is no section with the given index
 pub no_section : (rows : List Row) (layout : Layout) → LaysWords no_items (item_words rows) (Ok layout)
     → ((value : ℕ) → value < 2 ^ 16 → HasNumber (one_of (codes "SECTION") rows) (Some value) → ⊥) → AsksNothing (Some (codes "apply", rows))
 no_section rows layout lays none = record {
@@ -43,7 +43,7 @@ no_section rows layout lays none = record {
   faultless = faultless rows layout lays;
 }
 
--- what an applying comes to, by whether there are a file and limits
+-- the result of applying a section, by whether there are a file and limits
 pub applied : (rows : List Row) (section : ℕ) (layout : Bor Layout) (explain : Bool) (r : Option Request) → LaysWords no_items (item_words rows) (Ok layout.now) → section < 2 ^ 16
     → HasNumber (one_of (codes "SECTION") rows) (Some section) → explain ≡ is_option_set (first_of (codes "explain") rows)
     → IfSome r (λ request. request.task ≡ Apply section layout explain)

@@ -1,4 +1,4 @@
--- What the words for other things than one file come to.
+-- The result of parsing arguments that are not for one file.
 use Rattle.std.proofs.Common.{◌≡◌, ◌≢◌, ◌∙◌, Bool, true, false, List, [], ◌∷◌, Option, None, Some, codes, refl, subst, sym, inl, inr}
 use Rattle.std.specs.Prelude.{◌||◌, bytes_eq}
 use Rattle.std.specs.Borrow.{Bor}
@@ -36,7 +36,7 @@ unfolding is_of_file
 fault_of_file command rows fault (inl badly) = subst (λ c. is_of_file c ≡ true) (sym badly.1.0) refl
 fault_of_file command rows fault (inr badly) = subst (λ c. is_of_file c ≡ true) (sym badly.0) refl
 
--- A COMMAND THAT IS NONE OF THEM asks for nothing of one file, and has no fault of such
+-- A COMMAND THAT IS NONE OF THEM requests nothing of one file, and has no fault of such
 module _ (command : Text) (rows : List Row) (other : is_of_file command ≡ false) where
   no_file : (request : Request) → AsksBy (Some (command, rows)) request → ⊥
   no_file request asks = let e : true ≡ false = sym (task_of_file command rows request.file request.task asks.1) ∙ other in cc
@@ -49,7 +49,7 @@ module _ (command : Text) (rows : List Row) (other : is_of_file command ≡ fals
   no_fault : (command ≢ codes "traits") → takes_names command ≡ false → (fault : RequestFault) → HasAnyFault (Some (command, rows)) fault → ⊥
   no_fault not_traits unnamed = fault_free not_traits (λ fault has. let e : true ≡ false = sym has.0 ∙ unnamed in cc)
 
--- where no check is asked for by `check`, nothing is
+-- if `check` requests no check, it requests nothing
 pub nothing_by_check : (rows : List Row) → NoneAsked IsChecking (Some (codes "check", rows)) → NothingAsked (Some (codes "check", rows))
 unfolding is_of_file
 nothing_by_check rows none = record { nothing = nothing; faultless = no_fault (codes "check") rows refl (apart (codes "check") (codes "traits") refl) refl }
@@ -65,7 +65,7 @@ nothing_by_check rows none = record { nothing = nothing; faultless = no_fault (c
     nothing (Archive asked) is = apart (codes "check") (codes "archive") refl is.archive
     nothing Version is = apart (codes "check") (codes "version") refl is
 
--- where no listings of many files are asked for by `list`, nothing is
+-- if `list` requests no listings of many files, it requests nothing
 pub nothing_by_list : (rows : List Row) → NoneAsked IsListAsked (Some (codes "list", rows)) → ((fault : RequestFault) → AreBadNames rows fault → ⊥) → NothingAsked (Some (codes "list", rows))
 unfolding is_of_file
 nothing_by_list rows none good = record { nothing = nothing; faultless = fault_free (codes "list") rows refl (apart (codes "list") (codes "traits") refl) (λ fault has. good fault has.1) }
@@ -81,7 +81,7 @@ nothing_by_list rows none good = record { nothing = nothing; faultless = fault_f
     nothing (Archive asked) is = apart (codes "list") (codes "archive") refl is.archive
     nothing Version is = apart (codes "list") (codes "version") refl is
 
--- where no traits are asked for by `traits`, and no word is missing, nothing is
+-- if `traits` requests no traits, and no trait is missing, it requests nothing
 pub nothing_by_traits : (rows : List Row) → NoneAsked IsTraitsAsked (Some (codes "traits", rows)) → (LacksWord (first_of (codes "require") rows) → ⊥) → NothingAsked (Some (codes "traits", rows))
 unfolding is_of_file
 nothing_by_traits rows none spelled = record { nothing = nothing; faultless = faultless }
@@ -102,7 +102,7 @@ nothing_by_traits rows none spelled = record { nothing = nothing; faultless = fa
     faultless fault (inr (inl has)) = spelled has.1.1
     faultless fault (inr (inr has)) = let e : true ≡ false = sym has.0 in cc
 
--- where no needs are asked for by `needs`, nothing is
+-- if `needs` requests no needs, it requests nothing
 pub nothing_by_needs : (rows : List Row) → NoneAsked IsNeedsAsked (Some (codes "needs", rows)) → NothingAsked (Some (codes "needs", rows))
 unfolding is_of_file
 nothing_by_needs rows none = record { nothing = nothing; faultless = no_fault (codes "needs") rows refl (apart (codes "needs") (codes "traits") refl) refl }
@@ -118,7 +118,7 @@ nothing_by_needs rows none = record { nothing = nothing; faultless = no_fault (c
     nothing (Archive asked) is = apart (codes "needs") (codes "archive") refl is.archive
     nothing Version is = apart (codes "needs") (codes "version") refl is
 
--- where no archive is asked for by `archive`, nothing is
+-- if `archive` requests no archive, it requests nothing
 pub nothing_by_archive : (rows : List Row) → NoneAsked IsArchiving (Some (codes "archive", rows)) → ((fault : RequestFault) → AreBadNames rows fault → ⊥) → NothingAsked (Some (codes "archive", rows))
 unfolding is_of_file
 nothing_by_archive rows none good = record { nothing = nothing; faultless = fault_free (codes "archive") rows refl (apart (codes "archive") (codes "traits") refl) (λ fault has. good fault has.1) }
@@ -134,7 +134,7 @@ nothing_by_archive rows none good = record { nothing = nothing; faultless = faul
     nothing (Archive asked) is = none asked is
     nothing Version is = apart (codes "archive") (codes "version") refl is
 
--- where nothing is asked for by `show` of every row, nor of the rows of names, nothing is
+-- if `show` requests neither every row nor the rows of names, it requests nothing
 pub nothing_by_show : (rows : List Row) → ((request : Request) → AsksBy (Some (codes "show", rows)) request → ⊥)
     → NoneAsked IsChoosing (Some (codes "show", rows)) → ((fault : RequestFault) → AreBadNames rows fault → ⊥) → NothingAsked (Some (codes "show", rows))
 nothing_by_show rows none unchosen good = record { nothing = nothing; faultless = faultless }
@@ -156,7 +156,7 @@ nothing_by_show rows none unchosen good = record { nothing = nothing; faultless 
     faultless fault (inr (inl has)) = apart (codes "show") (codes "traits") refl has.1.0
     faultless fault (inr (inr has)) = good fault has.1
 
--- where rows of names are asked for, every row is not
+-- if rows of names are requested, every row is not
 pub not_every : (rows : List Row) → has_name_option rows ≡ true → (request : Request) → AsksBy (Some (codes "show", rows)) request → ⊥
 not_every rows named request asks = by_task request.file request.task asks.1
   where
@@ -167,7 +167,7 @@ not_every rows named request asks = by_task request.file request.task asks.1
     by_task file (Apply section layout explain) is = apart (codes "show") (codes "apply") refl is.apply
     by_task file (Place section addresses explain) is = absurd is
 
--- where another command asks for nothing of one file, nothing is asked for
+-- if another command requests nothing of one file, nothing is requested
 pub nothing_by_other : (command : Text) (rows : List Row) → command ≢ codes "show" → command ≢ codes "check" → command ≢ codes "list" → command ≢ codes "traits" → command ≢ codes "needs" → command ≢ codes "archive" → command ≢ codes "version"
     → AsksNothing (Some (command, rows)) → NothingAsked (Some (command, rows))
 nothing_by_other command rows not_show not_check not_list not_traits not_needs not_archive not_version none = record { nothing = nothing; faultless = faultless }
@@ -195,7 +195,7 @@ nothing_by_other command rows not_show not_check not_list not_traits not_needs n
     faultless fault (inr (inl has)) = not_traits has.1.0
     faultless fault (inr (inr has)) = unnamed (bytes_eq command (codes "show")) (bytes_eq command (codes "archive")) (bytes_eq command (codes "list")) refl refl refl has.0
 
--- where a section is not applied by `apply`, nothing is asked for
+-- if `apply` does not apply a section, nothing is requested
 pub nothing_by_apply : (rows : List Row) → AsksNothing (Some (codes "apply", rows)) → NothingAsked (Some (codes "apply", rows))
 nothing_by_apply rows =
     nothing_by_other (codes "apply") rows (apart (codes "apply") (codes "show") refl) (apart (codes "apply") (codes "check") refl) (apart (codes "apply") (codes "list") refl) (apart (codes "apply") (codes "traits") refl) (apart (codes "apply") (codes "needs") refl)

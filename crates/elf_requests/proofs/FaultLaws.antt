@@ -1,4 +1,4 @@
--- Why words that the command line takes are refused.
+-- Why arguments that the command line accepts are refused.
 use Rattle.std.proofs.Common.{List, refl, inl, inr}
 use Rattle.clap.specs.Walk.{Row, Text}
 use Rattle.std.specs.Prelude.{Option, Err}
@@ -7,7 +7,7 @@ use Rattle.elf_cli.specs.declared.faults.RequestFault.TheVariants.{BadItem, BadN
 use Rattle.elf_cli.specs.declared.faults.RequestFault.{RequestFault}
 use Rattle.elf_requests.specs.Prelude.{IsRefusal, NothingAsked, ParsesTo}
 
--- words that ask for nothing
+-- arguments that request nothing
 pub unasked_told : (matches : Option (Text × List Row)) (fault : RequestFault) → IsUnasked fault → NothingAsked matches → IsRefusal matches fault
 unasked_told matches Memory is nothing = inl refl
 unasked_told matches (Words told) is nothing = inr (inr (told, refl, is, nothing))
@@ -18,7 +18,7 @@ unasked_told matches LayoutFull is nothing = absurd is
 unasked_told matches LayoutRepeat is nothing = absurd is
 unasked_told matches BadTrait is nothing = absurd is
 
--- words that have a fault
+-- arguments that have a fault
 pub faulty : (matches : Option (Text × List Row)) (fault : RequestFault) → ParsesTo matches (Err fault) → IsRefusal matches fault
 faulty matches fault (inl memory) = inl memory
 faulty matches fault (inr has) = inr (inl has)

@@ -1,4 +1,4 @@
--- The layouts that words give, word by word.
+-- The layouts that arguments give, one by one.
 use Rattle.std.proofs.Common.{◌≡◌, ℕ, zero, suc, ◌+◌, ◌<◌, List, [], ◌∷◌, length, drop, slice_index_or, Result, Err, refl, sym, subst, inl, inr, arith}
 use Rattle.std.specs.Borrow.{Bor}
 use Rattle.clap.specs.Walk.{Text, texts}
@@ -6,7 +6,7 @@ use Rattle.elf_model.specs.Placing.{Layout}
 use Rattle.elf_requests.specs.Layouts.{LaysWords, PutsItem, RefusesItem}
 use Rattle.elf_cli.specs.declared.faults.RequestFault.{RequestFault}
 
--- a word that is refused decides
+-- a refused argument decides
 pub refused_at : (words : List (Bor Text)) (i : ℕ) (d : Bor Text) (old : Layout) (fault : RequestFault) (result : Result Layout RequestFault) → i < length words
     → RefusesItem (slice_index_or words i d).now old fault → result ≡ Err fault → LaysWords old (texts (drop i words)) result
 refused_at [] i d old fault result within refuses is = absurd (omega arith)
@@ -19,7 +19,7 @@ put_before [] i d old new result within puts lays = absurd (omega arith)
 put_before (word ∷ words) zero d old new result within puts lays = inl (new, puts, lays)
 put_before (word ∷ words) (suc i) d old new result within puts lays = put_before words i d old new result (omega arith) puts lays
 
--- a word whose item is put goes before what the rest of the words gives
+-- an argument whose item is added comes before what the remaining arguments give
 pub put_at : (words : List (Bor Text)) (i : ℕ) (d : Bor Text) (old new : Layout) (result : Result Layout RequestFault) → i < length words
     → PutsItem (slice_index_or words i d).now old new → LaysWords new (texts (drop (i + 1) words)) result → LaysWords old (texts (drop i words)) result
 put_at words i d old new result within puts lays =
@@ -29,7 +29,7 @@ put_at words i d old new result within puts lays =
 error_same : (result : Result Layout RequestFault) (x y : RequestFault) → result ≡ Err x → result ≡ Err y → x ≡ y
 error_same result x y one other = cc
 
--- no words have a fault that no word can have
+-- no arguments have a fault that no argument can have
 pub never_refused : (fault : RequestFault) → ((word : Text) (old : Layout) → RefusesItem word old fault → ⊥) → (words : List Text) (old : Layout)
     → LaysWords old words (Err fault) → ⊥
 never_refused fault never [] old lays = cc

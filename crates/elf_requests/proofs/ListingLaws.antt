@@ -1,4 +1,5 @@
--- What other words than those for a lookup and for applying come to: a listing, or nothing.
+-- The result of parsing arguments other than those for a lookup and for applying: a listing, or
+-- nothing.
 use Rattle.std.proofs.Common.{◌≢◌, List, Option, Some, codes, inl, inr}
 use Rattle.std.specs.Borrow.{Bor}
 use Rattle.clap.specs.Walk.{Row, Text}
@@ -24,6 +25,6 @@ module _ (command : Text) (rows : List Row) (not_apply : command ≢ codes "appl
   no_fault fault (inl named) = not_find named.1.0
   no_fault fault (inr badly) = not_apply badly.0
 
-  -- where no listing is asked for, nothing is
+  -- if no listing is requested, nothing is
   pub nothing_listed : ((listing : ListingRequest) → IsListing command rows listing → ⊥) → AsksNothing (Some (command, rows))
   nothing_listed none = record { nothing = λ request asks. no_task none request.file request.limits request.task asks.0 asks.1; faultless = no_fault }

@@ -1,4 +1,5 @@
--- What a lookup did, of either kind, between the call that sets its limit and the one that takes it away.
+-- What a lookup of either kind did, between the call that sets its limit and the one that removes
+-- it.
 use Rattle.std.proofs.Common.{◌≡◌, ℕ, suc, ◌^◌, ◌≤◌, ◌==◌, List, [], ◌∷◌, ◌++◌, append-nil, length, drop, position, Option, None, Some, Result, Ok, Err, refl, ap, arith, inl, inr}
 use Rattle.std.proofs.lemmas.Bool.{cases_Bool}
 use Rattle.std.proofs.lemmas.List.{length-drop, length-take}
@@ -21,13 +22,13 @@ use Rattle.elf_loader.specs.Lookups.{AreShort, ReturnsLookup}
 use Rattle.elf_requests.specs.Prelude.{Answers, AsksUpTo, Runs, WholeOrUsedUp, WroteAnswer, resolved_answer}
 use Rattle.elf_requests.proofs.TaskLaws.{RefusesAs, answered_stop, answered_whole, lookup_stops, lookup_used, output_alone, runs}
 
--- what a lookup gives of a file, within what it costs
+-- what a lookup gives of a file, within its cost
 abbrev GivesAnswer : Format → Option ℕ → (s0 s3 : CountedState) (cost : List ℕ → ℕ) (whole : List ℕ → Answer) → OutState → OutState → Result ℕ RunFault → List ℕ → Type 0
 GivesAnswer format budget s0 s3 cost whole a b result file =
     Answers a b result (IsAnswered format budget (length file) (cost file) (whole file)) (WholeOrUsedUp budget s0 s3 result (whole file))
 
 module _ {a b : OutState} (format : Format) (budget : Option ℕ) (s0 s1 s2 s3 : CountedState) (most : ℕ → ℕ) (cost : List ℕ → ℕ) (whole : List ℕ → Answer) (set : SetsLimit s0 s1 budget) (unset : SetsLimit s2 s3 None) where
-  -- its answer was written, or a front of that
+  -- its answer was written, or a prefix of it
   pub lookup_answers : (result : Result ℕ RunFault) → CallReads s1 s2 None (most s1.seen.size) → OutGrows a b → IfErr result (IsOfOutput b)
       → ((file : List ℕ) → s1.seen.file ≡ Some file → CallReads s1 s2 None (cost file) × WroteAnswer a b result (whole file))
       → Runs s0 s3 a b result (AsksUpTo budget s0 s3 (most s0.seen.size)) cost (GivesAnswer format budget s0 s3 cost whole a b result)
@@ -45,7 +46,7 @@ module _ {a b : OutState} (format : Format) (budget : Option ℕ) (s0 s1 s2 s3 :
       let costs = told.0.reads.at_most in
       (omega (arith, costs, asked), answered_whole format budget (length file) (cost file) (whole file) result told.1 (alone.1 (whole file))))
 
-  -- it stopped, and that was told
+  -- it stopped, and that was reported
   pub lookup_stopped : (fault : Fault) (told : RunFault) → s0.asked ≤ 2 ^ 127 → CallReads s1 s2 (Some fault) (most s1.seen.size) → OutGrows a b → ReturnsStop format a b (stop_of fault) told
       → ((file : List ℕ) → s1.seen.file ≡ Some file → CallReads s1 s2 (Some fault) (cost file) × RefusesAs format (whole file) fault)
       → Runs s0 s3 a b (Err told) (AsksUpTo budget s0 s3 (most s0.seen.size)) cost (GivesAnswer format budget s0 s3 cost whole a b (Err told))
@@ -67,7 +68,7 @@ module _ {a b : OutState} (format : Format) (budget : Option ℕ) (s0 s1 s2 s3 :
             (λ answer. lookup_used format a b budget s0 s1 s2 s3 (cost file) fault told (whole file) answer small set unset it.0.says tells),
       ))
 
--- one put behind another
+-- one written after another
 pub puts_then : {X : Type 0} {a b : OutState} (c : OutState) (xs ys : List ℕ) (result : Result X OutFault) → SinkTakes a b xs → OutPuts b c result ys → OutPuts a c result (xs ++ ys)
 puts_then c xs ys (Ok x) first next = (SinkTakes-then xs ys first next.0, next.1)
 puts_then c xs ys (Err fault) first next = (SinkTakesPrefix-then xs ys first next.0, next.1)
@@ -103,7 +104,7 @@ pub resolve_refuses : (format : Format) (file : List ℕ) (headers : ℕ) (wante
 resolve_refuses format file headers wanted told (Refuses refusal) tells = λ other. let is = resolve_is format file headers wanted in rw is (rw (tells other) refl)
 resolve_refuses format file headers wanted told (Unread fault at) tells = tt
 
--- a text parts into names that are no longer
+-- a text splits into names that are no longer than it
 behind_short : (bytes : List ℕ) (n : ℕ) → length bytes ≤ n → IfSome (asked_name (asked_after bytes)) (λ version. length version ≤ n)
 behind_short [] n low = omega arith
 behind_short (byte ∷ bytes) n low =

@@ -1,4 +1,4 @@
--- Words give one layout, or have one fault.
+-- Arguments give one layout, or have one fault.
 use Rattle.std.proofs.Common.{◌≡◌, ℕ, List, [], ◌∷◌, ◌++◌, Ok, Err, ap, sym, subst, ◌∙◌, arith, inl, inr}
 use Rattle.clap.specs.Walk.{Text}
 use Rattle.elf_layout.specs.Prelude.{HasKey, LacksKey, ParsesItem, Pushes}
@@ -14,7 +14,7 @@ use Rattle.elf_cli.specs.declared.faults.RequestFault.{RequestFault}
 lacks_none : {K : Type 0} (items : List (K × ℕ)) (key other : K) → key ≡ other → LacksKey items key → HasKey items other → ⊥
 lacks_none items key other same lacks (k, x, within, here, has) = lacks k x within (ap (λ i. i.0) here ∙ has ∙ sym same)
 
--- an item is put into a layout in one way
+-- an item is added to a layout in one way
 one_push : (x y : Item) (old new other : Layout) → SameItem x y → Pushes {X = Unit {0}} x old new (Ok tt) → Pushes {X = Unit {0}} y old other (Ok tt) → new ≡ other
 one_push (Section i a) (Section j b) old new other same (p, d, e, f, g, w) (q, h, l, m, r, v) = λ k. record {
   lookup = (w ∙ sym v) k;
@@ -58,7 +58,7 @@ one_push (Thread n a) (Thread o b) old new other same (p, d, e, f, g, w) (q, h, 
 }
 one_push _ _ old new other same p q = absurd same
 
--- where an item is put there is room
+-- if an item is added there is room
 has_room : (x y : Item) (old new other : Layout) → SameItem x y → Pushes {X = Unit {0}} x old new (Ok tt) → Pushes {X = Unit {0}} y old other (Err Full) → ⊥
 has_room (Section i a) (Section j b) old new other same p q = omega (arith, p.0.2, q.0.2)
 has_room (Define n a) (Define o b) old new other same p q = omega (arith, p.0.2, q.0.2)
@@ -67,7 +67,7 @@ has_room (Table n a) (Table o b) old new other same p q = omega (arith, p.0.2, q
 has_room (Thread n a) (Thread o b) old new other same p q = omega (arith, p.0.2, q.0.2)
 has_room _ _ old new other same p q = same
 
--- where an item is put its index or name is new
+-- if an item is added its index or name is new
 is_new : (x y : Item) (old new other : Layout) → SameItem x y → Pushes {X = Unit {0}} x old new (Ok tt) → Pushes {X = Unit {0}} y old other (Err Repeat) → ⊥
 is_new (Section i a) (Section j b) old new other same p q = lacks_none old.sections i j same.0 p.0.1 q.0.1
 is_new (Define n a) (Define o b) old new other same p q = lacks_none old.definitions n.now o.now same.0 p.0.1 q.0.1
@@ -76,7 +76,7 @@ is_new (Table n a) (Table o b) old new other same p q = lacks_none old.table n.n
 is_new (Thread n a) (Thread o b) old new other same p q = lacks_none old.thread n.now o.now same.0 p.0.1 q.0.1
 is_new _ _ old new other same p q = same
 
--- a word that is put is not refused
+-- an argument that is added is not refused
 not_refused : (word : Text) (x : Item) (old new : Layout) (fault : RequestFault) → ParsesItem word x → Pushes {X = Unit {0}} x old new (Ok tt) → RefusesItem word old fault → ⊥
 not_refused word x old new BadItem spells put refuses = refuses x spells
 not_refused word x old new LayoutFull spells put (y, other, is, full) = has_room x y old new other (one_item word x y spells is) put full
@@ -87,7 +87,7 @@ not_refused word x old new BadTrait spells put refuses = refuses
 not_refused word x old new Memory spells put refuses = refuses
 not_refused word x old new (Told told) spells put refuses = refuses
 
--- words that give a layout have no fault
+-- arguments that give a layout have no fault
 pub laid : (words : List Text) (old layout : Layout) (fault : RequestFault) → LaysWords old words (Ok layout) → LaysWords old words (Err fault) → ⊥
 laid [] old layout fault gives fails = cc
 laid (word ∷ words) old layout fault (inl (new, (x, is, put), gives)) (inl (other, (y, spells, push), fails)) =

@@ -1,4 +1,4 @@
--- The pieces of a text, and the words that they spell.
+-- The pieces of a text, and the traits that they name.
 use Rattle.std.proofs.Common.{◌≡◌, ◌≢◌, ◌∙◌, ◌==◌, ◌<◌, ℕ, zero, suc, Bool, true, false, List, [], ◌∷◌, ◌++◌, length, get_or, map, Option, None, Some, refl, ap, sym, subst, inl, inr, arith, append_assoc}
 use Rattle.std.specs.Prelude.{◌⊎◌, ◌||◌, is_some, not}
 use Rattle.std.specs.List.{list_any}
@@ -11,14 +11,14 @@ use Rattle.elf_requests.specs.AskedTraits.{AreRequired, IsWordFault, LacksWord, 
 use Rattle.elf_cli.specs.declared.faults.RequestFault.TheVariants.{BadTrait, Memory}
 use Rattle.elf_cli.specs.declared.faults.RequestFault.{RequestFault}
 
--- a byte that is no comma stands at the front of the first piece
+-- a byte that is not a comma is at the start of the first piece
 piece_onto : (byte : ℕ) (bytes : Text) → byte ≢ 44 → pieces (byte ∷ bytes) ≡ onto_first byte (pieces bytes)
 unfolding pieces
 piece_onto byte bytes other =
     let differ : (byte == 44) ≡ false = grind (arith, nat_tests, other) in
     subst (λ (b : Bool). elim b as (λ _. List Text) [ true ↦ [] ∷ pieces bytes | false ↦ onto_first byte (pieces bytes) ] ≡ onto_first byte (pieces bytes)) (sym differ) refl
 
--- what stands before the first comma is the first piece
+-- what is before the first comma is the first piece
 pub first_piece : (piece behind : Text) → ((i : ℕ) → i < length piece → get_or piece i 0 ≢ 44) → pieces (piece ++ 44 ∷ behind) ≡ piece ∷ pieces behind
 unfolding pieces
 first_piece [] behind lacks = refl
@@ -38,14 +38,14 @@ Spelled = List (Option Required)
 abbrev no_word : Option Required → Bool
 no_word word = not (is_some word)
 
--- a word more of the pieces
+-- one more trait of the pieces
 pub word_more : (before after : Spelled) (text rest behind piece : Text) → before ++ map parsed_trait_word (pieces rest) ≡ map parsed_trait_word (pieces text)
     → pieces rest ≡ piece ∷ pieces behind → after ≡ before ++ parsed_trait_word piece ∷ [] → after ++ map parsed_trait_word (pieces behind) ≡ map parsed_trait_word (pieces text)
 word_more before after text rest behind piece so parts put =
     ap (λ s. s ++ map parsed_trait_word (pieces behind)) put ∙ append_assoc before (parsed_trait_word piece ∷ []) (map parsed_trait_word (pieces behind))
     ∙ ap (λ p. before ++ map parsed_trait_word p) (sym parts) ∙ so
 
--- the last word
+-- the last trait
 pub word_last : (before after : Spelled) (text rest : Text) → before ++ map parsed_trait_word (pieces rest) ≡ map parsed_trait_word (pieces text)
     → pieces rest ≡ rest ∷ [] → after ≡ before ++ parsed_trait_word rest ∷ [] → map parsed_trait_word (pieces text) ≡ after
 word_last before after text rest so parts put = sym so ∙ ap (λ p. before ++ map parsed_trait_word p) parts ∙ sym put
@@ -58,7 +58,7 @@ any_at (word ∷ before) rest = behind (no_word word) (any_at before rest)
     behind true is = refl
     behind false is = is
 
--- a piece that spells no word is the fault
+-- a piece that names no trait is the fault
 pub word_fault : (before : Spelled) (text rest piece : Text) (more : List Text) (fault : RequestFault) → before ++ map parsed_trait_word (pieces rest) ≡ map parsed_trait_word (pieces text)
     → pieces rest ≡ piece ∷ more → (fault ≡ Memory) ⊎ ((fault ≡ BadTrait) × (parsed_trait_word piece ≡ None)) → IsWordFault (Some text) fault
 word_fault before text rest piece more fault so parts (inl memory) = inl memory
@@ -71,7 +71,7 @@ all_some : (words : List Required) → list_any no_word (map Some words) ≡ fal
 all_some [] = refl
 all_some (word ∷ words) = all_some words
 
--- where each piece spells a word none is missing
+-- if each piece names a trait none is missing
 pub none_lacking : (text : Option Text) (words : List RequiredTrait) → AreRequired text words → LacksWord text → ⊥
 none_lacking text words are lacks =
     let e : true ≡ false = sym lacks ∙ ap (list_any no_word) are ∙ all_some (required_words words) in cc

@@ -1,4 +1,4 @@
--- What the words for names come to.
+-- The result of parsing the arguments for names.
 use Rattle.std.proofs.Common.{◌≡◌, ◌∙◌, ◌<◌, Bool, true, false, List, [], ◌∷◌, Option, None, Some, arith, codes, is_some, length, refl, sym, inl, inr, unwrap_or}
 use Rattle.std.specs.Prelude.{◌||◌}
 use Rattle.clap.specs.Walk.{Row, Text, all_of}
@@ -8,7 +8,7 @@ use Rattle.elf_record.specs.declared.parts.Parts.{Parts}
 use Rattle.elf_requests.specs.Prelude.{AreBadNames, AreNamesIf, AreRows, AreTexts, HasBadText}
 use Rattle.elf_requests.specs.declared.checks.NameArgs.{NameArgs}
 
--- words that are names are not bad
+-- arguments that are names are not bad
 not_bad : (versions : Bool) (words : List Text) → AreTexts versions words → HasBadText versions words → ⊥
 not_bad versions [] are bad = bad
 not_bad versions (word ∷ words) are (inl bad) = bad are.0
@@ -22,7 +22,7 @@ none_bad : (versions : Bool) (words : List Text) → words ≡ [] → (HasBadTex
 none_bad versions [] is = ((λ bad. bad), (λ more. absurd (omega (arith, more))))
 none_bad versions (word ∷ words) is = cc
 
--- names that are asked for, or none, have no fault
+-- names that are requested, or none, have no fault
 pub faultless : (rows : List Row) (names : Option NameArgs) → AreNamesIf rows names → (fault : RequestFault) → AreBadNames rows fault → ⊥
 faultless rows None none fault (inl bad) = (none_bad (has_versions_option rows) (name_words rows) (no_word (all_of (codes "name") rows) _ none)).0 bad.1
 faultless rows None none fault (inr bad) = (none_bad (has_versions_option rows) (name_words rows) (no_word (all_of (codes "name") rows) _ none)).1 bad.1
@@ -32,7 +32,7 @@ faultless rows (Some asked) are fault (inr bad) = absurd (omega (arith, are.few,
 asked_and_not : (rows : List Row) → has_name_option rows ≡ true → has_name_option rows ≡ false → ⊥
 asked_and_not rows is not = let e : true ≡ false = sym is ∙ not in cc
 
--- where no part is found by the names that are asked for, there is none
+-- if no part is found for the requested names, there is none
 pub nothing_shown : (all : Type 0) (rows : List Row) (parts : Parts) (names asked : Option NameArgs) → AreNamesIf rows names → AreRows all rows parts asked
     → (names ≡ None → all → ⊥) → ((some : NameArgs) → names ≡ Some some → AreChosenParts rows parts → ⊥) → ⊥
 nothing_shown all rows parts None None are shown no_all no_chosen = no_all refl shown.1

@@ -1,4 +1,5 @@
--- What a task did that is no listing, between the call that sets its limit and the one that takes it away.
+-- What a task that is not a listing did, between the call that sets its limit and the one that
+-- removes it.
 use Rattle.std.proofs.Common.{◌≡◌, ◌⊎◌, ℕ, ◌+◌, ◌^◌, ◌<◌, ◌≤◌, List, [], ◌++◌, Option, None, Some, Result, Ok, Err, ap, sym, ◌∙◌, inl, inr, refl, subst, arith}
 use Rattle.std.specs.Prelude.{IfErr, IfSome}
 use Rattle.elf_model.specs.Prelude.{Answer, IsAnswered, IsBudgetRefusal, Layout, applied, applied_status, applied_text, apply_answer, refusal_line}
@@ -21,16 +22,17 @@ use Rattle.elf_reloc.specs.declared.apply_section.Applied.{Applied}
 use Rattle.elf_listing.specs.Prelude.{FaultSays, IsOfOutput, ReturnsStop}
 use Rattle.elf_requests.specs.Prelude.{Answers, AsksUpTo, Runs, WholeOrUsedUp, WroteAnswer}
 
--- a text and a front of the next
+-- a text and a prefix of the next
 pub front_then : {a b c : OutState} (xs ys : List ℕ) → SinkTakes a b xs → SinkTakesPrefix b c ys → SinkTakesPrefix a c (xs ++ ys)
 front_then xs ys first next = SinkTakesPrefix-then xs ys first next
 
--- a front of a section is one of the answer's text: of a section that is refused nothing was written
+-- a prefix of a section is one of the answer's text: nothing was written of a section that is
+-- refused
 pub front_of_answer : {old new : OutState} (answer : Result (List ℕ) Refusal) → SinkTakesPrefix old new (text_of answer) → SinkTakesPrefix old new (applied_text answer)
 front_of_answer (Ok text) front = front
 front_of_answer (Err refusal) front = SinkTakesPrefix-more [] (refusal_line Columns refusal) front
 
--- a refusal for want of budget is inside the source, and so many bytes more would pass the limit that is set
+-- a refusal for lack of budget is within the source, and n more bytes would exceed the limit
 abbrev pub IsOver : CountedState → ℕ → Refusal → Type 0
 IsOver src n refusal = IsBudgetRefusal refusal → (refusal.at < src.seen.size) × ((most : ℕ) × (src.most ≡ Some most) × (most < src.asked + n))
 
@@ -38,7 +40,8 @@ IsOver src n refusal = IsBudgetRefusal refusal → (refusal.at < src.seen.size) 
 abbrev pub refused_answer : Format → Refusal → Answer
 refused_answer format refusal = record { text = refusal_line format refusal; status = 1 }
 
--- what was written where a task stopped, whose whole answer this is: nothing before the line of a refusal, else a front
+-- what was written when a task stopped, whose whole answer this is: nothing before the line of a
+-- refusal, otherwise a prefix
 abbrev pub StopsIn : Format → CountedState → ℕ → OutState → OutState → Answer → RunFault → Type 0
 StopsIn format src n old new whole (Refused refusal) =
     IsOver src n refusal × (new ≡ old) × ((IsBudgetRefusal refusal → ⊥) → whole ≡ refused_answer format refusal)
@@ -49,13 +52,13 @@ whole_answered : (format : Format) (budget : Option ℕ) (size cost : ℕ) (whol
 whole_answered format None size cost whole = refl
 whole_answered format (Some budget) size cost whole = inl refl
 
--- all of it was answered
+-- all of it was written
 pub answered_whole : {a b : OutState} {Holds : Answer → Type 0} (format : Format) (budget : Option ℕ) (size cost : ℕ) (whole : Answer) (result : Result ℕ RunFault)
     → WroteAnswer a b result whole → Holds whole → Answers a b result (IsAnswered format budget size cost whole) Holds
 answered_whole format budget size cost whole result wrote holds =
     record { answer = whole; permitted = whole_answered format budget size cost whole; wrote = wrote; holds = holds }
 
--- a refusal for want of budget is one that the budget is too small for
+-- a refusal for lack of budget is one that the budget is too small for
 over_answered : (format : Format) (budget : Option ℕ) (size cost : ℕ) (whole : Answer) (refusal : Refusal) (s0 s1 : CountedState) → s0.asked ≤ 2 ^ 127 → SetsLimit s0 s1 budget
     → size ≡ s1.seen.size → IsOver s1 cost refusal → IsBudgetRefusal refusal → IsAnswered format budget size cost whole (refused_answer format refusal)
 over_answered format None size cost whole refusal s0 s1 small set sized over is =
@@ -72,14 +75,14 @@ over_answered format (Some bytes) size cost whole refusal s0 s1 small set sized 
       record { refusal = refusal; for_budget = is; inside = omega (arith, inside, sized); answer_is = refl },
     )
 
--- what was told of a refusal is its line, or a front of that
+-- what was reported of a refusal is its line, or a prefix of it
 told_refusal : (format : Format) (a b : OutState) (refusal : Refusal) (told : RunFault) → ReturnsStop format a b (Refused refusal) told
     → WroteAnswer a b (Err told) (refused_answer format refusal)
 told_refusal format a b refusal (Refused same) tells = rw (tells.0) (tells.1, refl, (format, [], refl))
 told_refusal format a b refusal (Source fault at) tells = absurd tells
 told_refusal format a b refusal (Out fault) tells = tells.1
 
--- a task stopped, and what was told of that
+-- a task stopped, and what was reported of that
 pub answered_stop : {a c : OutState} {Holds : Answer → Type 0} (format : Format) (b : OutState) (budget : Option ℕ) (size cost : ℕ) (whole : Answer) (stop told : RunFault) (s0 s1 : CountedState) → s0.asked ≤ 2 ^ 127
     → SetsLimit s0 s1 budget → size ≡ s1.seen.size → StopsIn format s1 cost a b whole stop → ReturnsStop format b c stop told
     → ((answer : Answer) → ((refusal : Refusal) → stop ≡ Refused refusal → (IsBudgetRefusal refusal → ⊥) → answer ≡ whole) → Holds answer)
@@ -104,7 +107,7 @@ answered_stop format b budget size cost whole (Source fault at) told s0 s1 small
 answered_stop format b budget size cost whole (Out fault) told s0 s1 small set sized stops tells holds =
     rw (tells.0, tells.1) (answered_whole format budget size cost whole (Err (Out fault)) stops (holds whole (λ same is not. refl)))
 
--- what a task did, by what was asked for behind the limit
+-- what a task did, by what was read after the limit
 pub runs :
     {a b : OutState} {Gives : List ℕ → Type 0} {result : Result ℕ RunFault} (budget : Option ℕ) (s0 s1 s3 : CountedState) (n : ℕ) (cost : List ℕ → ℕ) → SetsLimit s0 s1 budget → OutGrows a b
     → KeepsSource s1.seen s3.seen → s3.most ≡ None → s3.asked ≤ s1.asked + n → IfSome budget (λ bytes. s3.asked ≤ s0.asked + bytes) → IfErr result (FaultSays s0 s3 b)
@@ -121,7 +124,7 @@ runs budget s0 s1 s3 n cost set grows keeps free most within says known =
       text = λ file held. (known file (ap (λ seen. seen.file) set.seen ∙ held)).1;
     }
 
--- a fault of the output alone, and else the whole answer
+-- a fault of the output alone, and otherwise the whole answer
 pub output_alone : (budget : Option ℕ) (s t : CountedState) (out : OutState) (result : Result ℕ RunFault) → IfErr result (IsOfOutput out)
     → IfErr result (FaultSays s t out) × ((whole : Answer) → WholeOrUsedUp budget s t result whole whole)
 output_alone budget s t out (Ok status) fails = (tt, λ whole. refl)
@@ -129,19 +132,20 @@ output_alone budget s t out (Err (Refused refusal)) fails = absurd fails
 output_alone budget s t out (Err (Source fault at)) fails = absurd fails
 output_alone budget s t out (Err (Out fault)) fails = (fails, λ whole. tt)
 
--- a refusal is the whole answer, unless it is for want of budget
+-- a refusal is the whole answer, unless it is for lack of budget
 abbrev pub RefusesAs : Format → Answer → Fault → Type 0
 RefusesAs format whole (Refuses refusal) = (IsBudgetRefusal refusal → ⊥) → whole ≡ refused_answer format refusal
 RefusesAs format whole (Unread fault at) = Unit {0}
 
--- where a lookup stopped
+-- when a lookup stopped
 pub lookup_stops : (format : Format) (s1 s2 : CountedState) (a : OutState) (n : ℕ) (fault : Fault) (whole : Answer) → IsReadFault s1 s2 n fault → RefusesAs format whole fault
     → StopsIn format s1 n a a whole (stop_of fault)
 lookup_stops format s1 s2 a n (Refuses refusal) whole says refuses =
     (λ budget. let said = says budget in (said.0, (said.1.most, said.1.is_set, said.1.above)), refl, refuses)
 lookup_stops format s1 s2 a n (Unread fault at) whole says refuses = SinkTakesPrefix-all [] _ (SinkTakes-nothing a)
 
--- a lookup's budget is used up where its refusal is for want of it, and the refusal names the read that it had no room for
+-- a lookup's budget is exhausted if its refusal is for lack of it, and the refusal names the read
+-- that did not fit
 pub lookup_used : (format : Format) (a b : OutState) (budget : Option ℕ) (s0 s1 s2 s3 : CountedState) (n : ℕ) (fault : Fault) (told : RunFault) (whole answer : Answer) → s0.asked ≤ 2 ^ 127 → SetsLimit s0 s1 budget
     → SetsLimit s2 s3 None → IsReadFault s1 s2 n fault → ReturnsStop format a b (stop_of fault) told → ((refusal : Refusal) → stop_of fault ≡ Refused refusal → (IsBudgetRefusal refusal → ⊥) → answer ≡ whole)
     → WholeOrUsedUp budget s0 s3 (Err told) whole answer
@@ -161,7 +165,7 @@ pub section_wrote : {a b : OutState} {done : Applied} {entries : ℕ} (answer : 
     → WroteAnswer a b (Ok 0) (record { text = applied_text answer; status = applied_status answer })
 section_wrote answer wrote = rw wrote.1 (wrote.2, refl)
 
--- where the writing of a section stopped
+-- when the writing of a section stopped
 pub section_stops : (entries : ℕ) (s1 s2 : CountedState) (a b out : OutState) (file : List ℕ) (headers section : ℕ) (layout : Layout) (n cost : ℕ) (stop : RunFault) → ApplySays s1 s2 out n stop → BudgetTooSmall s1 cost stop
     → Applies a b (Err stop) entries (applied file headers section layout) → StopsIn Columns s1 cost a b (apply_answer file headers section layout) stop
 section_stops entries s1 s2 a b out file headers section layout n cost (Refused refusal) says wants wrote =
@@ -169,7 +173,7 @@ section_stops entries s1 s2 a b out file headers section layout n cost (Refused 
 section_stops entries s1 s2 a b out file headers section layout n cost (Source fault at) says wants wrote = front_of_answer (applied file headers section layout) wrote
 section_stops entries s1 s2 a b out file headers section layout n cost (Out fault) says wants wrote = front_of_answer (applied file headers section layout) wrote
 
--- what was told of a stop says of the source and the output what the stop did
+-- what was reported of a fault implies for the source and the output what the fault did
 pub section_says : (s0 s1 s2 : CountedState) (b c : OutState) (n : ℕ) (budget : Option ℕ) (stop told : RunFault) → SetsLimit s0 s1 budget → ApplySays s1 s2 b n stop → ReturnsStop Columns b c stop told → FaultSays s0 s2 c told
 section_says s0 s1 s2 b c n budget (Refused refusal) (Refused same) set says tells = tt
 section_says s0 s1 s2 b c n budget (Refused refusal) (Source fault at) set says tells = absurd tells

@@ -1,4 +1,4 @@
--- What a run answers.
+-- The results of a run.
 use Rattle.std.specs.Prelude.{ℕ, ◌≡◌, ◌<◌, ◌+◌, ⊤, List, ◌++◌, Option, Some, Result, Ok, Err}
 use Rattle.elf_model.specs.Prelude.{Answer, IsBudgetRefusal, refusal_line}
 use Rattle.elf_model.specs.declared.formats.Format.{Format}
@@ -12,7 +12,8 @@ use Rattle.elf_table.specs.declared.run_fault.RunFault.TheVariants.{Refused, Sou
 abbrev pub EndsInRefusal : Refusal → List ℕ → Type 0
 EndsInRefusal refusal text = (format : Format) × (lines : List ℕ) × (text ≡ lines ++ refusal_line format refusal)
 
--- an answer was written and its status given, which is 1 where the refusal of its last line is; or a front of its text was written
+-- an answer was written and its status returned, which is 1 if its last line is a refusal; or a
+-- prefix of its text was written
 abbrev pub WroteAnswer : OutState → OutState → Result ℕ RunFault → Answer → Type 0
 WroteAnswer old new (Ok status) answer = SinkTakes old new answer.text × (status ≡ answer.status)
 WroteAnswer old new (Err (Refused refusal)) answer = SinkTakes old new answer.text × (1 ≡ answer.status) × EndsInRefusal refusal answer.text
@@ -23,8 +24,8 @@ WroteAnswer old new (Err (Out fault)) answer = SinkTakesPrefix old new answer.te
 abbrev IsUsedUp : Option ℕ → CountedState → CountedState → Type 0
 IsUsedUp budget before after = (bytes : ℕ) × (budget ≡ Some bytes) × (before.asked + bytes < after.asked + 4096)
 
--- an answer that was given is the whole one; or, where its refusal is for want of budget, that is used up, and the refusal
--- names the read that it had no room for
+-- the answer given is the whole one; or, if its refusal is for lack of budget, the budget is
+-- exhausted, and the refusal names the read that did not fit
 abbrev pub WholeOrUsedUp : Option ℕ → CountedState → CountedState → Result ℕ RunFault → (whole answer : Answer) → Type 0
 WholeOrUsedUp budget before after (Ok status) whole answer = answer ≡ whole
 WholeOrUsedUp budget before after (Err (Refused refusal)) whole answer =
@@ -32,7 +33,7 @@ WholeOrUsedUp budget before after (Err (Refused refusal)) whole answer =
 WholeOrUsedUp budget before after (Err (Source fault at)) whole answer = ⊤
 WholeOrUsedUp budget before after (Err (Out fault)) whole answer = ⊤
 
--- THE ANSWER: one that is permitted was written, and this holds of it
+-- THE ANSWER: an allowed one was written, and this holds of it
 pub record Answers (old new : OutState) (result : Result ℕ RunFault) (Permits Holds : Answer → Type 0) : Type 0 where
   pub answer : Answer
   pub permitted : Permits answer

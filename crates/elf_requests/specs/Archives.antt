@@ -1,4 +1,4 @@
--- What the words of a command line ask for of an archive.
+-- What the arguments of a command line request of an archive.
 use Rattle.std.specs.Prelude.{Bool, bytes_eq, ◌≡◌, List, codes, Option, None, Some}
 use Rattle.std.specs.List.{list_any}
 use Rattle.clap.specs.Walk.{Row, Text, first_of}
@@ -12,7 +12,7 @@ use Rattle.elf_requests.specs.declared.checks.ArchiveRequest.{ArchiveRequest}
 abbrev pub is_member_part : Bool → Text → Bool
 is_member_part gnu name = list_any (λ part. bytes_eq name part.1) (member_part_names gnu)
 
--- the part with this name, or without a name all of a listing of the GNU system or of the standards' alone
+-- the part with this name, or without a name all of a GNU listing or of the standards' alone
 abbrev pub AreMemberPartsOf : Bool → Option Text → Parts → Type 0
 AreMemberPartsOf gnu None parts = parts.0 ≡ all_parts gnu
 AreMemberPartsOf gnu (Some name) parts = name_in_table (member_part_names gnu) parts.0 ≡ Some name
@@ -21,7 +21,7 @@ AreMemberPartsOf gnu (Some name) parts = name_in_table (member_part_names gnu) p
 abbrev pub AreMemberParts : List Row → Parts → Type 0
 AreMemberParts rows = AreMemberPartsOf (has_gnu_option rows) (first_of (codes "only") rows)
 
--- a listing of the archive whose path stands among the values
+-- a listing of the archive whose path is among the values
 pub record IsArchiving (command : Text) (rows : List Row) (asked : ArchiveRequest) : Type 0 where
   pub archive : command ≡ codes "archive"
   pub path : first_of (codes "FILE") rows ≡ Some asked.file.now

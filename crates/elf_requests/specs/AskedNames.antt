@@ -1,4 +1,4 @@
--- The names of which rows are asked for, and what is listed by them.
+-- The names whose rows are requested, and what is listed by them.
 use Rattle.std.specs.Prelude.{◌≡◌, ◌⊎◌, ◌≤◌, ◌<◌, ⊤, Bool, true, false, bytes_eq, length, List, [], ◌∷◌, codes, Option, None, Some, option_map}
 use Rattle.std.specs.List.{list_any}
 use Rattle.clap.specs.Walk.{Row, Text, first_of, texts}
@@ -10,17 +10,19 @@ use Rattle.elf_requests.specs.Asked.{IsFileNamed, IsText}
 use Rattle.elf_requests.specs.declared.checks.FilteredRequest.{FilteredRequest}
 use Rattle.elf_requests.specs.declared.checks.NameArgs.{NameArgs}
 
--- each is a name: a text of 1 to 4,096 bytes without NUL; and where a name may have a version, neither is empty
+-- each is a name: a text of 1 to 4,096 bytes without NUL; and if a name may have a version, neither
+-- is empty
 abbrev pub AreTexts : (versions : Bool) → List Text → Type 0
 AreTexts versions [] = ⊤
 AreTexts versions (word ∷ words) = IsText versions word × AreTexts versions words
 
--- one is none
+-- one is not a name
 abbrev pub HasBadText : (versions : Bool) → List Text → Type 0
 HasBadText versions [] = ⊥
 HasBadText versions (word ∷ words) = (IsText versions word → ⊥) ⊎ HasBadText versions words
 
--- the names that stand among the values, at most 64, and the path of a file that has more; there is a name, or that file
+-- the names among the values, at most 64, and the path of a file that has more; there is a name, or
+-- that file
 pub record AreNamesAsked (rows : List Row) (asked : NameArgs) : Type 0 where
   pub names : texts asked.names.items ≡ name_words rows
   pub list : option_map (λ path. path.now) asked.list ≡ first_of (codes "name-list") rows
@@ -29,17 +31,18 @@ pub record AreNamesAsked (rows : List Row) (asked : NameArgs) : Type 0 where
   pub each : AreTexts (has_versions_option rows) (name_words rows)
   pub versions : asked.versions ≡ has_versions_option rows
 
--- such names where they are asked for, else none
+-- such names if they are requested, otherwise none
 abbrev pub AreNamesIf : List Row → Option NameArgs → Type 0
 AreNamesIf rows None = has_name_option rows ≡ false
 AreNamesIf rows (Some asked) = AreNamesAsked rows asked
 
--- which rows are listed: with names those of them in the part that they choose from, else all of the parts that are asked for
+-- which rows are listed: with names those of them in the part that they select from, otherwise all
+-- of the requested parts
 abbrev pub AreRows : Type 0 → List Row → Parts → Option NameArgs → Type 0
 AreRows all rows parts None = (has_name_option rows ≡ false) × all
 AreRows all rows parts (Some asked) = AreNamesAsked rows asked × AreChosenParts rows parts
 
--- a listing of the file whose path stands among the values, of the rows of names
+-- a listing of the file whose path is among the values, of the rows of names
 pub record IsChoosing (command : Text) (rows : List Row) (asked : FilteredRequest) : Type 0 where
   pub show : command ≡ codes "show"
   pub path : IsFileNamed rows asked.listing.file
@@ -48,22 +51,22 @@ pub record IsChoosing (command : Text) (rows : List Row) (asked : FilteredReques
   pub parts : AreChosenParts rows asked.listing.parts
   pub names : AreNamesAsked rows asked.names
 
--- what is wrong with words for names: one is none, or there are too many
+-- the fault of arguments for names: one is not a name, or there are too many
 abbrev pub AreBadWords : (versions : Bool) → List Text → RequestFault → Type 0
 AreBadWords versions words fault = ((fault ≡ BadName) × HasBadText versions words) ⊎ ((fault ≡ NamesFull) × (64 < length words))
 
 abbrev pub AreBadNames : List Row → RequestFault → Type 0
 AreBadNames rows fault = AreBadWords (has_versions_option rows) (name_words rows) fault
 
--- why there are none: no memory, or what is wrong with them
+-- why there are none: no memory, or their fault
 abbrev pub IsNameFault : List Row → RequestFault → Type 0
 IsNameFault rows fault = (fault ≡ Memory) ⊎ AreBadNames rows fault
 
--- the commands that take such names
+-- the commands that accept such names
 abbrev pub takes_names : Text → Bool
 takes_names command = list_any (bytes_eq command) (codes "show" ∷ codes "archive" ∷ codes "list" ∷ [])
 
--- rows of names are asked for, with this fault in the words for them
+-- rows of names are requested, with this fault in the arguments for them
 abbrev pub ChoosesBadly : Option (Text × List Row) → RequestFault → Type 0
 ChoosesBadly None fault = ⊥
 ChoosesBadly (Some (command, rows)) fault = (takes_names command ≡ true) × AreBadNames rows fault

@@ -1,4 +1,4 @@
--- What the words of a command line ask for, of how many files are hardened.
+-- What the arguments of a command line request about how many files are hardened.
 use Rattle.std.specs.Prelude.{ℕ, ◌==◌, ◌≡◌, ◌⊎◌, true, false, not, is_some, List, [], ◌∷◌, codes, map, Option, None, Some}
 use Rattle.std.specs.List.{list_any}
 use Rattle.clap.specs.Walk.{Row, Text, first_of}
@@ -11,34 +11,34 @@ use Rattle.elf_options.specs.declared.required.RequiredTrait.{RequiredTrait}
 use Rattle.elf_requests.specs.Files.{AreFiles}
 use Rattle.elf_requests.specs.declared.checks.TraitsRequest.{TraitsRequest}
 
--- a byte more at the front of the first of some pieces
+-- one more byte at the start of the first of some pieces
 abbrev pub onto_first : ℕ → List Text → List Text
 onto_first byte [] = (byte ∷ []) ∷ []
 onto_first byte (piece ∷ rest) = (byte ∷ piece) ∷ rest
 
--- the pieces of a text, which commas part
+-- the pieces of a text, separated by commas
 unfoldable pub pieces : Text → List Text
 pieces [] = [] ∷ []
 pieces (byte ∷ bytes) = elim (byte == 44) [ true ↦ [] ∷ pieces bytes | false ↦ onto_first byte (pieces bytes) ]
 
--- what each piece of a text spells; without a text nothing is required
+-- the trait that each piece of a text names; without a text nothing is required
 abbrev parsed_in : Option Text → List (Option Required)
 parsed_in None = []
 parsed_in (Some text) = map parsed_trait_word (pieces text)
 
--- a piece spells no word
+-- a piece names no trait
 abbrev pub LacksWord : Option Text → Type 0
 LacksWord text = list_any (λ word. not (is_some word)) (parsed_in text) ≡ true
 
--- the words that the pieces of a text spell, in order
+-- the traits that the pieces of a text name, in order
 abbrev pub AreRequired : Option Text → List RequiredTrait → Type 0
 AreRequired text words = parsed_in text ≡ map Some (required_words words)
 
--- why there are none: no memory, or a piece that spells no word
+-- why there are none: no memory, or a piece that names no trait
 abbrev pub IsWordFault : Option Text → RequestFault → Type 0
 IsWordFault text fault = (fault ≡ Memory) ⊎ ((fault ≡ BadTrait) × LacksWord text)
 
--- the traits of the files that stand among the values, with the words that are required there
+-- the traits of the files among the values, with the traits that are required there
 pub record IsTraitsAsked (command : Text) (rows : List Row) (asked : TraitsRequest) : Type 0 where
   pub traits : command ≡ codes "traits"
   pub files : AreFiles rows asked.files
@@ -46,7 +46,7 @@ pub record IsTraitsAsked (command : Text) (rows : List Row) (asked : TraitsReque
   pub format : asked.format ≡ asked_format rows
   pub required : AreRequired (first_of (codes "require") rows) asked.required.items
 
--- traits are asked for, with words of which one is none
+-- traits are requested, and one of the required traits is invalid
 abbrev pub RequiresBadly : Option (Text × List Row) → Type 0
 RequiresBadly None = ⊥
 RequiresBadly (Some (command, rows)) = (command ≡ codes "traits") × LacksWord (first_of (codes "require") rows)

@@ -1,4 +1,5 @@
--- What the words of a command line ask for, of one file, of many or of an archive; and the version of the program.
+-- What the arguments of a command line request, for one file, for many or for an archive; and the
+-- version of the program.
 use Rattle.std.specs.Prelude.{⊤, ◌≡◌, ◌⊎◌, List, Result, Ok, Err, codes, Option, None, Some}
 use Rattle.clap.specs.Walk.{Row, Text, first_of}
 use Rattle.elf_cli.specs.Prelude.{AreLimitOptions, AreParts, AskedBy, AsksVersion, IsStyle, is_option_set}
@@ -15,7 +16,7 @@ use Rattle.elf_requests.specs.declared.checks.ParsedCommand.TheVariants.{File, L
 use Rattle.elf_requests.specs.Archives.{IsArchiving}
 use Rattle.elf_requests.specs.declared.checks.CheckRequest.{CheckRequest}
 
--- a check of the files that stand among the values
+-- a check of the files among the values
 pub record IsChecking (command : Text) (rows : List Row) (asked : CheckRequest) : Type 0 where
   pub check : command ≡ codes "check"
   pub files : AreFiles rows asked.files
@@ -34,7 +35,7 @@ abbrev HasList : Option (Text × List Row) → Text → Type 0
 HasList None list = ⊥
 HasList (Some (command, rows)) list = (command ≡ codes "apply") × (first_of (codes "layout") rows ≡ Some list)
 
--- a command with the values of its arguments asks for just this
+-- a command with the values of its arguments requests just this
 abbrev pub IsAsked : Option (Text × List Row) → ParsedCommand → Type 0
 IsAsked matches (File request) = AsksBy matches request × LacksList matches
 IsAsked matches (Laid laying) = AsksBy matches laying.request × HasList matches laying.list.now
@@ -46,16 +47,17 @@ IsAsked matches (Needs asked) = AskedBy IsNeedsAsked matches asked
 IsAsked matches (Archive asked) = AskedBy IsArchiving matches asked
 IsAsked matches Version = AsksVersion matches
 
--- a command with the values of its arguments asks for something, and has this fault in its words for it
+-- a command with the values of its arguments requests something, and has this fault in its
+-- arguments for it
 abbrev pub HasAnyFault : Option (Text × List Row) → RequestFault → Type 0
 HasAnyFault matches fault = HasFault matches fault ⊎ (((fault ≡ BadTrait) × RequiresBadly matches) ⊎ ChoosesBadly matches fault)
 
--- nothing is asked for, not even with a fault in the words for it
+-- nothing is requested, not even with a fault in its arguments
 pub record NothingAsked (matches : Option (Text × List Row)) : Type 0 where
   pub nothing : (asked : ParsedCommand) → IsAsked matches asked → ⊥
   pub faultless : (fault : RequestFault) → HasAnyFault matches fault → ⊥
 
--- what a command with the values of its arguments comes to: what is asked for, nothing, or a fault
+-- the result of parsing a command with the values of its arguments: a request, nothing, or a fault
 abbrev pub ParsesTo : Option (Text × List Row) → Result (Option ParsedCommand) RequestFault → Type 0
 ParsesTo matches (Ok (Some asked)) = IsAsked matches asked
 ParsesTo matches (Ok None) = NothingAsked matches

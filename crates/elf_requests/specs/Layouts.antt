@@ -1,4 +1,4 @@
--- The layouts that words give.
+-- The layouts that arguments give.
 use Rattle.std.specs.Prelude.{◌≡◌, ◌⊎◌, List, [], ◌∷◌, Result, Ok, Err}
 use Rattle.clap.specs.Walk.{Text}
 use Rattle.elf_layout.specs.Prelude.{ParsesItem, Pushes}
@@ -8,19 +8,20 @@ use Rattle.elf_model.specs.Placing.{Layout}
 use Rattle.elf_cli.specs.declared.faults.RequestFault.TheVariants.{BadItem, LayoutFull, LayoutRepeat}
 use Rattle.elf_cli.specs.declared.faults.RequestFault.{RequestFault}
 
--- a word spells an item, which is put behind those of its sort
+-- an argument is an item, which is added after those of its type
 abbrev pub PutsItem : Text → Layout → Layout → Type 0
 PutsItem word old new = (item : Item) × ParsesItem word item × Pushes {X = Unit {0}} item old new (Ok tt)
 
--- a word spells no item; or one for which there is no room; or one whose index or name is there already
+-- an argument is not an item; or one for which there is no room; or one whose index or name is
+-- already there
 abbrev pub RefusesItem : Text → Layout → RequestFault → Type 0
 RefusesItem word old BadItem = (item : Item) → ParsesItem word item → ⊥
 RefusesItem word old LayoutFull = (item : Item) × (new : Layout) × ParsesItem word item × Pushes {X = Unit {0}} item old new (Err Full)
 RefusesItem word old LayoutRepeat = (item : Item) × (new : Layout) × ParsesItem word item × Pushes {X = Unit {0}} item old new (Err Repeat)
 RefusesItem word old _ = ⊥
 
--- THE LAYOUT that words give behind the items of another, from the first word to the last; the first word that is refused
--- decides
+-- THE LAYOUT given by arguments after the items of another, from the first to the last; the first
+-- refused argument decides
 abbrev pub LaysWords : Layout → List Text → Result Layout RequestFault → Type 0
 LaysWords old [] result = result ≡ Ok old
 LaysWords old (word ∷ words) result =

@@ -1,4 +1,4 @@
--- What the words of a command line ask for, of listings of many files.
+-- What the arguments of a command line request about listings of many files.
 use Rattle.std.specs.Prelude.{◌≡◌, List, codes}
 use Rattle.clap.specs.Walk.{Row, Text, first_of}
 use Rattle.elf_cli.specs.Options.{AreLimitOptions, AreParts, IsStyle, is_option_set}
@@ -6,7 +6,7 @@ use Rattle.elf_requests.specs.AskedNames.{AreRows}
 use Rattle.elf_requests.specs.Files.{AreFiles}
 use Rattle.elf_requests.specs.declared.checks.ListRequest.{ListRequest}
 
--- listings of the files that stand among the values
+-- listings of the files among the values
 pub record IsListAsked (command : Text) (rows : List Row) (asked : ListRequest) : Type 0 where
   pub list : command ≡ codes "list"
   pub files : AreFiles rows asked.files

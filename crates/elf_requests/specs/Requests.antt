@@ -1,4 +1,4 @@
--- What a request does: what it gives of a file, what it costs, and what it asks for.
+-- What a request does: what it writes of a file, what it costs, and what it reads.
 use Rattle.std.specs.Prelude.{ℕ, ◌≡◌, ◌≤◌, ◌+◌, ⊤, Bool, List, length, Option, Some, Result, IfErr, IfSome}
 use Rattle.elf_model.specs.Prelude.{IsAnswered, IsShown, Layout, apply_answer, apply_cost_by_order, find_answer, find_cost, listing_cost, loader_answer, loader_ceiling, loader_cost, looked_at, parse_query, show_answer_by}
 use Rattle.elf_model.specs.declared.formats.Format.TheVariants.{Columns}
@@ -15,13 +15,14 @@ use Rattle.elf_requests.specs.declared.requests.Task.{Task}
 use Rattle.elf_requests.specs.declared.requests.Task.TheVariants.{Show, Find, Resolve, Apply, Place}
 use Rattle.elf_requests.specs.Answers.{Answers, WholeOrUsedUp}
 
--- no more is asked for than n bytes, and than the budget
+-- at most n bytes are requested, and at most the budget
 pub record AsksUpTo (budget : Option ℕ) (old new : CountedState) (n : ℕ) : Type 0 where
   pub most : new.asked ≤ old.asked + n
   pub within : IfSome budget (λ bytes. new.asked ≤ old.asked + bytes)
 
--- WHAT A TASK DID. For every source: what was written stays, the source is kept and no limit is left, a fault says what is so,
--- and this is asked for. Where the file is known: it gives this of it, and asks for no more than this costs
+-- THE EFFECT OF A TASK. For any source: what was written is kept, the source is kept and no limit
+-- is left, a fault says what happened, and this is requested. If the file is known: it writes this
+-- of it, and requests at most what this costs
 pub record Runs (old new : CountedState) (before after : OutState) (result : Result ℕ RunFault) (CountsRead : Type 0) (costs : List ℕ → ℕ) (Gives : List ℕ → Type 0) : Type 0 where
   pub grows : OutGrows before after
   pub leaves : KeepsSourceUnlimited old new
@@ -37,7 +38,7 @@ RunsShow caps parts old new before after result =
     (λ file. Answers before after result (IsShown caps.limits.budget file caps.limits.headers (style_of caps.style) parts)
     (WholeOrUsedUp caps.limits.budget old new result (show_answer_by file caps.limits.headers (style_of caps.style) parts)))
 
--- a lookup of a name, which is answered in a format
+-- a lookup of a name, whose result is written in a format
 abbrev pub RunsFind : Limits → List ℕ → Format → CountedState → CountedState → OutState → OutState → Result ℕ RunFault → Type 0
 RunsFind limits wanted format old new before after result =
     Runs old new before after result (AsksUpTo limits.budget old new (find_bytes old.seen.size limits.headers (length wanted)))
@@ -46,7 +47,8 @@ RunsFind limits wanted format old new before after result =
     (IsAnswered format limits.budget (length file) (find_cost file limits.headers wanted) (find_answer format file limits.headers wanted))
     (WholeOrUsedUp limits.budget old new result (find_answer format file limits.headers wanted)))
 
--- a lookup as a loader does it, of a name alone or with a version, by the program headers alone or not
+-- a lookup as a loader does it, of a name alone or with a version, by the program headers alone or
+-- not
 abbrev pub RunsResolve : Limits → List ℕ → Bool → Format → CountedState → CountedState → OutState → OutState → Result ℕ RunFault → Type 0
 RunsResolve limits text by_segments format old new before after result =
     Runs old new before after result (AsksUpTo limits.budget old new (loader_ceiling old.seen.size limits.headers (parse_query text)))

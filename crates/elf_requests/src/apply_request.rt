@@ -1,4 +1,4 @@
-//! A section written with its relocations applied.
+//! The request for a section with its relocations applied.
 ghost use Rattle.std.specs.Prelude.{◌≡◌, ◌^◌, ◌≤◌};
 ghost use Rattle.elf_requests.specs.Requests.{RunsApply};
 
@@ -9,11 +9,11 @@ use elf_reloc::apply_with;
 use elf_source::{Counted, Out, Sink, Source};
 use elf_table::{HeaderStore, Limits, RunFault};
 
-/// Writes a section's bytes with its relocations applied, and answers the status 0; or the line of
-/// the refusal. Where there is a budget no more is read; afterwards no limit is set.
+/// Writes a section's bytes with its relocations applied, and returns status 0; or writes the line
+/// of the refusal. If there is a budget, no more is read; on return no limit is set.
 ///
 /// # Errors
-/// A refusal, whose line was written, or a fault of the source or of the output, with a front of
+/// A refusal, whose line was written, or a fault of the source or of the output, with a prefix of
 /// the text written.
 pub(crate) fn write_applied<S: Source, W: Sink>(
     src: &mut Counted<S>,

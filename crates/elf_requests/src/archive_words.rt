@@ -1,4 +1,4 @@
-//! The words that ask for a listing of an archive.
+//! The arguments that request a listing of an archive.
 ghost use Rattle.std.specs.Prelude.{◌≡◌, IfSome, None, Option, Some, Ok, codes, false};
 ghost use Rattle.clap.specs.Walk.{rows_of};
 ghost use Rattle.clap.specs.Words.{found_of};
@@ -21,10 +21,10 @@ use std::alloc::Global;
 /// No part of a listing.
 const NO_PART: Parts = Parts(0);
 
-/// What `archive` with these arguments asks for, or None where they ask for nothing.
+/// Returns what `archive` with these arguments requests, or `None` if they request nothing.
 ///
 /// # Errors
-/// What is wrong with the names of which the rows are asked for; there is no memory for them.
+/// The fault of the names whose rows are requested; out of memory for them.
 pub(crate) fn archive_asked<'a>(
     alloc: Global,
     options: &ArgMatches<'a>,
@@ -35,7 +35,7 @@ pub(crate) fn archive_asked<'a>(
     Ok(archive_of(options, names))
 }
 
-/// What `archive` asks for, of the rows of these names.
+/// Returns what `archive` requests, for the rows of these names.
 fn archive_of<'a>(
     options: &ArgMatches<'a>,
     names: Option<NameArgs<'a>>,
@@ -49,7 +49,7 @@ fn archive_of<'a>(
     }
 }
 
-/// The listing of the archive whose path is among the arguments.
+/// Returns the listing of the archive whose path is among the arguments.
 fn archiving_of<'a>(
     options: &ArgMatches<'a>,
     names: Option<NameArgs<'a>>,
@@ -72,7 +72,7 @@ fn archiving_of<'a>(
     })
 }
 
-/// The parts that the options ask for, by whether rows are chosen by names.
+/// Returns the parts that the options select, by whether rows are selected by name.
 fn archived_parts_of(options: &ArgMatches<'_>, names: &Option<NameArgs<'_>>) -> Option<Parts>
     requires { AreNamesIf (rows_of (found_of options.now)) names.now }
     ensures some { IfSome result (λ parts. AreRows
@@ -88,7 +88,7 @@ fn archived_parts_of(options: &ArgMatches<'_>, names: &Option<NameArgs<'_>>) -> 
     }
 }
 
-/// The parts that the options ask for.
+/// Returns the parts that the options select.
 fn member_parts_of(options: &ArgMatches<'_>) -> Option<Parts>
     ensures some { IfSome result (AreMemberParts (rows_of (found_of options.now))) }
     ensures none { result ≡ None → (parts : Parts)
@@ -101,8 +101,8 @@ fn member_parts_of(options: &ArgMatches<'_>) -> Option<Parts>
     }
 }
 
-/// The part of an archive's listing, of the GNU system (`gnu`) or of the standards' alone, that has
-/// this name.
+/// Returns the part with this name of an archive's listing, GNU if `gnu` is set, otherwise of the
+/// standards' alone.
 #[tactic(auto, unfolding(elf_model::specs::Text::name_of))]
 fn member_part_named(name: &str, gnu: bool) -> Option<Parts>
     ensures some { IfSome result

@@ -1,4 +1,4 @@
-//! The words that ask for a check of many files.
+//! The arguments that request a check of many files.
 ghost use Rattle.std.specs.Prelude.{◌≡◌, IfSome, Some, None, codes};
 ghost use Rattle.clap.specs.Walk.{rows_of};
 ghost use Rattle.clap.specs.Words.{found_of};
@@ -12,11 +12,11 @@ use clap::ArgMatches;
 use elf_cli::{RequestFault, is_set, limits_of, parts_of, style_of};
 use std::alloc::{AllocError, Global};
 
-/// What `check` with these arguments asks for, or None where there is neither a path nor a file with
-/// paths.
+/// Returns what `check` with these arguments requests, or `None` if there is neither a path nor a
+/// list of paths.
 ///
 /// # Errors
-/// There is no memory for the list of paths.
+/// Out of memory for the list of paths.
 pub(crate) fn parse_check<'a>(
     alloc: Global,
     options: &ArgMatches<'a>,
@@ -30,7 +30,7 @@ pub(crate) fn parse_check<'a>(
     }
 }
 
-/// What `check` of these files asks for.
+/// Returns what `check` of these files requests.
 fn check_of<'a>(options: &ArgMatches<'a>, files: PathArgs<'a>) -> Option<ParsedCommand<'a>>
     requires { AreFiles (rows_of (found_of options.now)) files }
     ensures { ParsesTo (Some (codes "check", rows_of (found_of options.now))) (Ok result) }
@@ -41,7 +41,7 @@ fn check_of<'a>(options: &ArgMatches<'a>, files: PathArgs<'a>) -> Option<ParsedC
     }
 }
 
-/// The check of these files.
+/// Returns the check of these files.
 fn checking_of<'a>(options: &ArgMatches<'a>, files: PathArgs<'a>) -> Option<CheckRequest<'a>>
     requires { AreFiles (rows_of (found_of options.now)) files }
     ensures none { result ≡ None →

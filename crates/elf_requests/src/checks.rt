@@ -1,4 +1,4 @@
-//! What can be asked for: of one file, of many, of an archive, or the version.
+//! Requests: for one file, for many, for an archive, or for the version.
 use crate::requests::Request;
 use elf_cli::ListingRequest;
 use elf_model::Format;
@@ -6,90 +6,90 @@ use elf_options::RequiredTrait;
 use elf_record::Parts;
 use elf_table::{Limits, ListingStyle};
 
-/// What is asked for.
+/// A request.
 #[derive(Drop)]
 pub enum ParsedCommand<'a> {
-    /// Something is done with one file.
+    /// Process one file.
     File(Request<'a>),
-    /// A section is applied, with the items of a file too.
+    /// Apply a section's relocations, with the items of a file too.
     Laid(ApplyWithLayout<'a>),
-    /// Those rows of one file are listed that have one of some names.
+    /// List the rows of one file that have one of some names.
     Chosen(FilteredRequest<'a>),
-    /// Many files are checked.
+    /// Check many files.
     Check(CheckRequest<'a>),
-    /// Many files are listed.
+    /// List many files.
     List(ListRequest<'a>),
-    /// How each of many files is hardened is printed.
+    /// Print how each of many files is hardened.
     Traits(TraitsRequest<'a>),
-    /// The libraries that a program needs are printed.
+    /// Print the libraries that a program needs.
     Needs(NeedsRequest<'a>),
-    /// The members of an archive are listed.
+    /// List the members of an archive.
     Archive(ArchiveRequest<'a>),
-    /// The version of the program is printed.
+    /// Print the version of the program.
     Version,
 }
 
-/// A section that is applied, with the items of a file behind those of its layout.
+/// A section to apply, with the items of a file after those of its layout.
 #[derive(Clone, Copy, Drop)]
 pub struct ApplyWithLayout<'a> {
-    /// What is asked for of the section, with the layout that words give.
+    /// The request for the section, with the layout given by the arguments.
     pub request: Request<'a>,
-    /// The path of the file, which has one item a line.
+    /// The path of the file, which has one item per line.
     pub list: &'a str,
 }
 
-/// Names of which the rows are asked for. There is one, or a file that has some.
+/// Names whose rows are requested. There is at least one, or a file that has some.
 #[derive(Drop)]
 pub struct NameArgs<'a> {
     /// At most 64 names, each of 1 to 4,096 bytes, none of them NUL.
     pub names: Vec<&'a str>,
-    /// The path of a file that has more names, one a line.
+    /// The path of a file with more names, one per line.
     pub list: Option<&'a str>,
     /// Whether a name may have a version, as NAME@VERSION or NAME@@VERSION.
     pub versions: bool,
 }
 
-/// A listing of those rows of one file that have one of some names.
+/// A listing of the rows of one file that have one of some names.
 #[derive(Drop)]
 pub struct FilteredRequest<'a> {
-    /// The listing, whose style chooses no rows yet.
+    /// The listing, whose style selects no rows yet.
     pub listing: ListingRequest<'a>,
     /// The names.
     pub names: NameArgs<'a>,
 }
 
-/// The files that are asked for, where there are many.
+/// The files of a request for many.
 #[derive(Drop)]
 pub struct PathArgs<'a> {
-    /// The paths of files and folders.
+    /// The paths of files and directories.
     pub paths: Vec<&'a str>,
-    /// The path of a file that has more paths, each ended by NUL; `-` is standard input.
+    /// The path of a file with more paths, each ended by NUL; `-` is standard input.
     pub list: Option<&'a str>,
 }
 
-/// A check of many files: which, how much of each may be read, which parts of its listing count, and
-/// whether archives are gone into.
+/// A check of many files: which files, how much of each may be read, which parts of its listing
+/// count, and whether the members of archives are checked.
 #[derive(Drop)]
 pub struct CheckRequest<'a> {
     /// The files.
     pub files: PathArgs<'a>,
-    /// How many headers are permitted, and how many bytes may be read, of each file.
+    /// How many headers are allowed, and how many bytes may be read, of each file.
     pub limits: Limits,
     /// The parts of a listing that count.
     pub parts: Parts,
     /// How rows are shown in such a listing.
     pub style: ListingStyle<'static>,
-    /// Whether an archive has the state of its members' listings.
+    /// Whether the state of an archive includes its members' listings.
     pub members: bool,
 }
 
-/// Listings of many files: which, how much of each may be read, which parts there are, how rows are
-/// shown, and whether archives are gone into.
+/// Listings of many files: which files, how much of each may be read, which parts they have, how
+/// rows are shown, and whether the members of archives are listed.
 #[derive(Drop)]
 pub struct ListRequest<'a> {
     /// The files.
     pub files: PathArgs<'a>,
-    /// How many headers are permitted, and how many bytes may be read, of each file.
+    /// How many headers are allowed, and how many bytes may be read, of each file.
     pub limits: Limits,
     /// The parts of a listing.
     pub parts: Parts,
@@ -97,64 +97,65 @@ pub struct ListRequest<'a> {
     pub style: ListingStyle<'a>,
     /// Whether archives are listed too.
     pub members: bool,
-    /// The names of which the rows alone are listed, where that is asked for.
+    /// The names whose rows alone are listed, if requested.
     pub names: Option<NameArgs<'a>>,
 }
 
-/// How many files are hardened: which files, how much of each may be read, how a line is written, and
-/// what is required.
+/// How many files are hardened: which files, how much of each may be read, how a line is written,
+/// and which traits are required.
 #[derive(Drop)]
 pub struct TraitsRequest<'a> {
     /// The files.
     pub files: PathArgs<'a>,
-    /// How many headers are permitted, and how many bytes may be read, of each file.
+    /// How many headers are allowed, and how many bytes may be read, of each file.
     pub limits: Limits,
     /// How a line is written.
     pub format: Format,
-    /// The words that are required of each program and library, in the order in which they were given.
+    /// The traits required of each program and library, in the order given.
     pub required: Vec<RequiredTrait<'a>>,
 }
 
-/// A listing of an archive: where it is, how much may be read, how rows are shown, and which parts of
-/// its members' listings there are; without a part its members alone are listed.
+/// A listing of an archive: its path, how much may be read, how rows are shown, and which parts its
+/// members' listings have; without a part only the members are listed.
 #[derive(Drop)]
 pub struct ArchiveRequest<'a> {
     /// The path of the archive.
     pub file: &'a str,
-    /// How many headers of a member are permitted, and how many bytes may be read of the archive.
+    /// How many headers of a member are allowed, and how many bytes of the archive may be read.
     pub limits: Limits,
     /// The parts of a listing.
     pub parts: Parts,
     /// How rows are shown.
     pub style: ListingStyle<'a>,
-    /// The names of which the rows alone are listed, where that is asked for.
+    /// The names whose rows alone are listed, if requested.
     pub names: Option<NameArgs<'a>>,
 }
 
-/// Which loader's cache libraries are looked for in, before the folders that are looked in last.
+/// Which loader's cache is searched, before the directories that are searched last.
 #[derive(Clone, Copy, Drop)]
 pub struct CacheArgs<'a> {
-    /// The path of its file, where one is given; else it is that of the system.
+    /// The path of its file, if one is given; otherwise it is the system's.
     pub file: Option<&'a str>,
-    /// Whether none is looked in, since it is left out or the folders are given.
+    /// Whether none is searched: it is left out, or those directories are given.
     pub none: bool,
 }
 
-/// What a program needs: which program, where its libraries are looked for, how much of each file may be
-/// read, and how a line is written. Folders are separated by colons.
+/// What a program needs: which program, where its libraries are searched, how much of each file may
+/// be read, and how a line is written. Directories are separated by colons.
 #[derive(Clone, Copy, Drop)]
 pub struct NeedsRequest<'a> {
     /// The path of the program.
     pub file: &'a str,
-    /// The folders that are looked in before those of DT_RUNPATH; empty where none are given.
+    /// The directories that are searched before those of DT_RUNPATH; empty if none are given.
     pub library_path: &'a str,
-    /// The folders that are looked in last.
+    /// The directories that are searched last.
     pub default: &'a str,
-    /// The folder below which paths that begin with a slash are looked for; empty where none is given.
+    /// The root directory for paths that begin with a slash; empty if none is given.
     pub root: &'a str,
-    /// The loader's cache that libraries are looked for in.
+    /// The loader's cache in which libraries are searched.
     pub cache: CacheArgs<'a>,
-    /// How many headers are permitted, of each file, and how many bytes may be read, of all together.
+    /// How many headers of each file are allowed, and how many bytes of all files together may be
+    /// read.
     pub limits: Limits,
     /// How a line is written.
     pub format: Format,

@@ -1,4 +1,4 @@
-//! The words that name many files.
+//! The arguments that name many files.
 ghost use Rattle.std.specs.Prelude.{◌≡◌, IfOk, IfSome, None, Ok, [], codes, unwrap_or};
 ghost use Rattle.clap.specs.Walk.{all_of, rows_of, texts};
 ghost use Rattle.clap.specs.Words.{found_of};
@@ -10,10 +10,10 @@ use clap::ArgMatches;
 use elf_cli::text_of;
 use std::alloc::{AllocError, Global};
 
-/// The files that are asked for, or None where there is neither a path nor a file with paths.
+/// Returns the files that are requested, or `None` if there is neither a path nor a list of paths.
 ///
 /// # Errors
-/// There is no memory for the list of paths.
+/// Out of memory for the list of paths.
 pub(crate) fn files_of<'a>(
     alloc: Global,
     options: &ArgMatches<'a>,
@@ -28,7 +28,7 @@ pub(crate) fn files_of<'a>(
     }
 }
 
-/// The files of these paths, and those in the file that is asked for.
+/// Returns the files of these paths, and those in the file that the options name.
 fn files_with<'a>(options: &ArgMatches<'a>, paths: Vec<&'a str>) -> Option<PathArgs<'a>>
     requires { texts paths.items ≡ path_words (rows_of (found_of options.now)) }
     ensures some { IfSome result (AreFiles (rows_of (found_of options.now))) }
@@ -42,7 +42,7 @@ fn files_with<'a>(options: &ArgMatches<'a>, paths: Vec<&'a str>) -> Option<PathA
     Some(PathArgs { paths, list })
 }
 
-/// The values of an argument.
+/// Returns the values of an argument.
 pub(crate) fn words_of<'a>(
     alloc: Global,
     options: &ArgMatches<'a>,
@@ -57,7 +57,7 @@ pub(crate) fn words_of<'a>(
     }
 }
 
-/// The same words once more, which still stand where they stood.
+/// Returns a copy of the slices of arguments; the arguments themselves are not copied.
 fn copied_words<'a>(alloc: Global, words: &[&'a str]) -> Result<Vec<&'a str>, AllocError>
     ensures { IfOk result (λ copy. copy.items ≡ words.now) }
 {

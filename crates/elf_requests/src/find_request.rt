@@ -1,4 +1,4 @@
-//! A name looked up.
+//! The request for a lookup by the SysV hash table.
 ghost use Rattle.std.specs.Prelude.{◌≡◌, ◌^◌, ◌≤◌, ℕ, List, length, IfErr};
 ghost use Rattle.elf_hash.specs.Lookups.{AnswersSysvLookup as LooksInObject};
 ghost use Rattle.elf_model.specs.Hash.{Lookup as Looked};
@@ -15,14 +15,14 @@ use elf_model::Format;
 use elf_source::{Counted, Out, Sink, Source};
 use elf_table::{HeaderStore, Limits, RunFault};
 
-/// Looks a name up in a file by its hash table: writes the symbol's line and how many names were
-/// compared, or that number alone where there is no such symbol, or the line of the refusal. Answers
-/// the status: 0 where the symbol was found, else 1. The name has at most 4,096 bytes and no NUL.
-/// Where there is a budget no more is read; afterwards no limit is set.
+/// Looks up a name in a file by its SysV hash table: writes the symbol's line and how many names
+/// were compared, or only that number if there is no such symbol, or the line of the refusal.
+/// Returns the status: 0 if the symbol was found, otherwise 1. The name has at most 4,096 bytes and
+/// no NUL. If there is a budget, no more is read; on return no limit is set.
 ///
 /// # Errors
 /// A refusal, whose line was written, a fault of the source, with nothing written, or of the
-/// output, with a front of the text written.
+/// output, with a prefix of the text written.
 pub(crate) fn look_up<S: Source, W: Sink>(
     src: &mut Counted<S>,
     store: &mut HeaderStore,
@@ -45,10 +45,10 @@ pub(crate) fn look_up<S: Source, W: Sink>(
     }
 }
 
-/// Writes the lines of a lookup's answer, and answers its status.
+/// Writes the lines of a lookup's result, and returns its status.
 ///
 /// # Errors
-/// A fault of the output, with a front of the lines written.
+/// A fault of the output, with a prefix of the lines written.
 #[tactic(auto, using(crate::proofs::TaskLaws::front_then))]
 fn show_lookup<W: Sink>(
     lookup: &Lookup,

@@ -1,4 +1,4 @@
-//! Items of a layout, as words spell them.
+//! Layout items given as arguments.
 ghost use Rattle.std.specs.Prelude.{◌≡◌, IfErr, IfOk, Ok, Err};
 ghost use Rattle.elf_model.specs.Placing.{no_items};
 ghost use Rattle.elf_requests.specs.Layouts.{LaysWords, PutsItem, RefusesItem};
@@ -7,13 +7,15 @@ ghost use Rattle.clap.specs.Walk.{texts};
 use elf_cli::RequestFault;
 use elf_layout::{Layout, LayoutFault, item};
 
-/// Lays out the items that words give, from the first to the last, and no other items.
+/// Adds the items given by arguments to a layout, from the first to the last, and no other items.
 ///
 /// # Errors
-/// `BadItem` for a word that spells no item; `LayoutRepeat` for an item of the same sort with the
-/// same index or name as an earlier one; else `LayoutFull` where there are 64 sections, 32
-/// definitions or 32 entries of its sort before it. The first such word decides; the layout is left with the
-/// items before it.
+/// - `BadItem` for an argument that is not an item.
+/// - `LayoutRepeat` for an item of the same type with the same index or name as an earlier one.
+/// - Otherwise `LayoutFull` if there are already 64 sections, 32 definitions or 32 entries of its
+///   type.
+///
+/// The first such argument is reported; the layout keeps the items before it.
 pub fn lay(layout: &mut Layout, words: &[&str]) -> Result<(), RequestFault>
     ensures laid { IfOk result (λ _. LaysWords no_items (texts words.now) (Ok layout.new)) }
     ensures refused { IfErr result (λ fault. LaysWords no_items (texts words.now) (Err fault)) }
@@ -25,7 +27,7 @@ pub fn lay(layout: &mut Layout, words: &[&str]) -> Result<(), RequestFault>
     Ok(())
 }
 
-/// Puts the item that a word spells into a layout, which a refused one leaves as it was.
+/// Adds the item given by an argument to a layout, which a refused one leaves unchanged.
 fn put(layout: &mut Layout, word: &str) -> Result<(), RequestFault>
     ensures put { IfOk result (λ _. PutsItem word.now layout.old layout.new) }
     ensures refused { IfErr result (RefusesItem word.now layout.old) }

@@ -1,7 +1,6 @@
-//! What can be asked for on a command line, and the words that ask for it.
-//!
-//! A request carried out: a listing, a lookup of a name or as a loader does it, or a section with its
-//! relocations applied; and what the listing of an archive answers.
+//! What can be asked for on a command line: [`request`] parses arguments to a [`ParsedCommand`],
+//! and [`run`] carries out the [`Request`] for one file: a listing, a lookup of a name, a lookup as
+//! a loader does it, or a section with its relocations applied.
 #![tactic(auto)]
 
 mod apply_request;

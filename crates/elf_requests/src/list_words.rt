@@ -1,4 +1,4 @@
-//! The words that ask for listings of many files.
+//! The arguments that request listings of many files.
 ghost use Rattle.std.specs.Prelude.{◌≡◌, IfSome, Ok, Option, Some, None, codes};
 ghost use Rattle.clap.specs.Walk.{rows_of};
 ghost use Rattle.clap.specs.Words.{found_of};
@@ -18,12 +18,12 @@ use elf_cli::{RequestFault, chosen_parts_of, is_set, limits_of, parts_of, style_
 use elf_record::Parts;
 use std::alloc::{AllocError, Global};
 
-/// What `list` with these arguments asks for, or None where there is neither a path nor a file with
-/// paths.
+/// Returns what `list` with these arguments requests, or `None` if there is neither a path nor a
+/// list of paths.
 ///
 /// # Errors
-/// What is wrong with the names of which the rows are asked for; there is no memory for them or for the
-/// list of paths.
+/// The fault of the names whose rows are requested; out of memory for them or for the list of
+/// paths.
 pub(crate) fn list_asked<'a>(
     alloc: Global,
     options: &ArgMatches<'a>,
@@ -34,7 +34,7 @@ pub(crate) fn list_asked<'a>(
     list_with(alloc, options, names)
 }
 
-/// What `list` asks for, of the rows of these names.
+/// Returns what `list` requests, for the rows of these names.
 fn list_with<'a>(
     alloc: Global,
     options: &ArgMatches<'a>,
@@ -50,7 +50,7 @@ fn list_with<'a>(
     }
 }
 
-/// What `list` of these files asks for.
+/// Returns what `list` of these files requests.
 fn list_of<'a>(
     options: &ArgMatches<'a>,
     files: PathArgs<'a>,
@@ -66,7 +66,7 @@ fn list_of<'a>(
     }
 }
 
-/// The listings of these files.
+/// Returns the listings of these files.
 fn listing_of_files<'a>(
     options: &ArgMatches<'a>,
     files: PathArgs<'a>,
@@ -91,7 +91,7 @@ fn listing_of_files<'a>(
     })
 }
 
-/// The parts that the options ask for, by whether rows are chosen by names.
+/// Returns the parts that the options select, by whether rows are selected by name.
 fn listed_parts_of(options: &ArgMatches<'_>, names: &Option<NameArgs<'_>>) -> Option<Parts>
     requires { AreNamesIf (rows_of (found_of options.now)) names.now }
     ensures some { IfSome result (λ parts. AreRows

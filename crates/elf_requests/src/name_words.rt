@@ -1,4 +1,4 @@
-//! The words that choose rows by names.
+//! The arguments that select rows by name.
 ghost use Rattle.std.specs.Prelude.{◌≡◌, ◌≤◌, IfErr, IfOk, length, true, false};
 ghost use Rattle.clap.specs.Walk.{rows_of, texts};
 ghost use Rattle.clap.specs.Words.{found_of};
@@ -14,15 +14,16 @@ use elf_cli::{RequestFault, has_name_option, has_versions_option, text_of};
 use elf_options::is_valid_row_name;
 use std::alloc::{AllocError, Global};
 
-/// How many names may stand among the words.
+/// How many names may be given as arguments.
 const MOST_NAMES: usize = 64;
 
-/// The names of which the rows are asked for, or None where every row is.
+/// Returns the names whose rows are requested, or `None` if every row is.
 ///
 /// # Errors
-/// `BadName` where one is not of 1 to 4,096 bytes without NUL, or with versions has an empty name or
-/// version; `NamesFull` where there are more than 64;
-/// `Memory` where there is none for them.
+/// - `BadName` if one is not of 1 to 4,096 bytes without NUL, or with versions has an empty name or
+///   version.
+/// - `NamesFull` if there are more than 64.
+/// - `Memory` if out of memory for them.
 pub(crate) fn names_of<'a>(
     alloc: Global,
     options: &ArgMatches<'a>,
@@ -37,7 +38,7 @@ pub(crate) fn names_of<'a>(
     names_with(alloc, options)
 }
 
-/// The names among the words, with the file that has more.
+/// Returns the names given as arguments, with the file that has more.
 fn names_with<'a>(
     alloc: Global,
     options: &ArgMatches<'a>,
@@ -59,10 +60,10 @@ fn names_with<'a>(
     }
 }
 
-/// Whether the names among the words can be looked for, and are few enough.
+/// Checks that the names given as arguments can be looked up, and are at most 64.
 ///
 /// # Errors
-/// Those of [`names_of`], but for memory.
+/// Those of [`names_of`], except `Memory`.
 fn check_names(options: &ArgMatches<'_>) -> Result<(), RequestFault>
     ensures few { IfOk result (λ _. length (name_words (rows_of (found_of options.now))) ≤ 64) }
     ensures each { IfOk result (λ _. AreTexts (has_versions_option (rows_of (found_of options.now)))
@@ -76,10 +77,10 @@ fn check_names(options: &ArgMatches<'_>) -> Result<(), RequestFault>
     }
 }
 
-/// Whether words are names that can be looked for, and few enough.
+/// Checks that arguments are names that can be looked up, and at most 64.
 ///
 /// # Errors
-/// Those of [`names_of`], but for memory.
+/// Those of [`names_of`], except `Memory`.
 fn check_words(words: &[&str], versions: bool) -> Result<(), RequestFault>
     ensures few { IfOk result (λ _. length (texts words.now) ≤ 64) }
     ensures each { IfOk result (λ _. AreTexts versions (texts words.now)) }
@@ -94,7 +95,7 @@ fn check_words(words: &[&str], versions: bool) -> Result<(), RequestFault>
     Err(RequestFault::BadName)
 }
 
-/// Whether words are names that can be looked for.
+/// Returns `true` if all arguments are names that can be looked up.
 fn are_names(mut words: &[&str], versions: bool) -> bool
     ensures each { result ≡ true → AreTexts versions (texts words.entry.now) }
     ensures bad { result ≡ false → HasBadText versions (texts words.entry.now) }
@@ -108,8 +109,8 @@ fn are_names(mut words: &[&str], versions: bool) -> bool
     true
 }
 
-/// Whether a word is a name that can be looked for; and where a name may have a version, has neither
-/// an empty name nor an empty version.
+/// Returns `true` if an argument is a name that can be looked up and, if a name may have a version,
+/// has neither an empty name nor an empty version.
 fn is_text(word: &str, versions: bool) -> bool
     ensures yes { result ≡ true → IsText versions word.now }
     ensures no { result ≡ false → IsText versions word.now → ⊥ }

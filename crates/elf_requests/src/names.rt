@@ -1,4 +1,4 @@
-//! Names that can be looked for.
+//! Names that can be looked up.
 ghost use Rattle.std.specs.Prelude.{◌≡◌, ◌≤◌, IsNone, IfSome, length, true};
 ghost use Rattle.elf_model.specs.NameLaws.{IsWanted};
 ghost use Rattle.elf_requests.specs.Asked.{IsText};
@@ -6,8 +6,8 @@ ghost use Rattle.elf_requests.specs.Asked.{IsText};
 use crate::requests::{LookupName, LookupSymbol};
 use elf_options::{is_valid_row_name, parse_query};
 
-/// A name that can be looked for: a word of 1 to 4,096 bytes, none of them NUL. None for another
-/// word.
+/// Returns a name that can be looked up: an argument of 1 to 4,096 bytes, none of them NUL. Returns
+/// `None` for any other argument.
 pub fn checked_name(word: &str) -> Option<LookupName<'_>>
     ensures named { IfSome result (λ name. name.bytes.now ≡ word.now) }
     ensures unnamed { IsNone result → IsWanted word.now → length word.now ≤ 4096 → ⊥ }
@@ -18,9 +18,10 @@ pub fn checked_name(word: &str) -> Option<LookupName<'_>>
     }
 }
 
-/// A symbol that can be looked up as a loader of the GNU system does it: a word NAME, NAME@VERSION
-/// or NAME@@VERSION of 1 to 4,096 bytes, none of them NUL, with no empty name and no empty version.
-/// None for another word.
+/// Returns a symbol that can be looked up as glibc's dynamic loader does it.
+///
+/// It is an argument NAME, NAME@VERSION or NAME@@VERSION of 1 to 4,096 bytes, none of them NUL,
+/// with a nonempty name and a nonempty version. Returns `None` for any other argument.
 pub fn checked_symbol(word: &str) -> Option<LookupSymbol<'_>>
     ensures named { IfSome result (λ symbol. symbol.text.now ≡ word.now) }
     ensures unnamed { IsNone result → IsText true word.now → ⊥ }
@@ -32,7 +33,7 @@ pub fn checked_symbol(word: &str) -> Option<LookupSymbol<'_>>
     Some(LookupSymbol { text })
 }
 
-/// The bytes of a word that has 1 to 4,096 of them, none NUL.
+/// Returns the bytes of an argument that has 1 to 4,096 of them, none NUL.
 fn name_bytes(word: &str) -> Option<&[u8]>
     ensures named { IfSome result (λ name. (name.now ≡ word.now)
         × IsWanted name.now × (length name.now ≤ 4096)) }

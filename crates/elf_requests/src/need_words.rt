@@ -1,4 +1,4 @@
-//! The words that ask what a program needs.
+//! The arguments that request what a program needs.
 ghost use Rattle.std.specs.Prelude.{◌≡◌, IfSome, None, Ok, Some, codes, unwrap_or};
 ghost use Rattle.clap.specs.Walk.{first_of, rows_of};
 ghost use Rattle.clap.specs.Words.{found_of};
@@ -10,11 +10,11 @@ use crate::checks::{CacheArgs, NeedsRequest, ParsedCommand};
 use clap::ArgMatches;
 use elf_cli::{format_of, is_set, limits_of, text_of};
 
-/// The folders that libraries are looked for in last, where the words give none.
+/// The directories in which libraries are searched last, if no others are given.
 const DEFAULT_FOLDERS: &str =
     "/lib/x86_64-linux-gnu:/usr/lib/x86_64-linux-gnu:/lib64:/usr/lib64:/lib:/usr/lib";
 
-/// What `needs` with these arguments asks for, or None where they ask for nothing.
+/// Returns what `needs` with these arguments requests, or `None` if they request nothing.
 pub(crate) fn needs_asked<'a>(options: &ArgMatches<'a>) -> Option<ParsedCommand<'a>>
     ensures { ParsesTo (Some (codes "needs", rows_of (found_of options.now))) (Ok result) }
 {
@@ -24,7 +24,7 @@ pub(crate) fn needs_asked<'a>(options: &ArgMatches<'a>) -> Option<ParsedCommand<
     }
 }
 
-/// The program whose path is among the arguments, and where its libraries are looked for.
+/// Returns the program whose path is among the arguments, and where its libraries are searched.
 fn needs_of<'a>(options: &ArgMatches<'a>) -> Option<NeedsRequest<'a>>
     ensures none { result ≡ None →
         NoneAsked IsNeedsAsked (Some (codes "needs", rows_of (found_of options.now))) }
@@ -44,7 +44,7 @@ fn needs_of<'a>(options: &ArgMatches<'a>) -> Option<NeedsRequest<'a>>
     })
 }
 
-/// The loader's cache that libraries are looked for in.
+/// Returns the loader's cache in which libraries are searched.
 fn cache_of<'a>(options: &ArgMatches<'a>) -> CacheArgs<'a>
     ensures { IsCacheAsked (rows_of (found_of options.now)) result }
 {
@@ -55,7 +55,7 @@ fn cache_of<'a>(options: &ArgMatches<'a>) -> CacheArgs<'a>
     }
 }
 
-/// The value of an argument, or another text where it has none.
+/// Returns the value of an argument, or another text if it has none.
 fn text_or<'a>(options: &ArgMatches<'a>, argument: &str, other: &'static str) -> &'a str
     ensures { result.now
         ≡ unwrap_or (first_of argument.now (rows_of (found_of options.now))) other.now }

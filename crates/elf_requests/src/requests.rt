@@ -1,4 +1,4 @@
-//! What can be asked for.
+//! Requests for one file.
 ghost use Rattle.std.specs.Prelude.{◌≡◌, ◌≤◌, length, true};
 ghost use Rattle.elf_model.specs.Prelude.{IsWanted, is_complete, parse_query};
 
@@ -7,12 +7,12 @@ use elf_model::Format;
 use elf_record::Parts;
 use elf_table::{Limits, ListingStyle};
 
-/// What is asked for: which file, how much of it may be read, and what is done with it.
+/// A request: which file, how much of it may be read, and what is done with it.
 #[derive(Clone, Copy)]
 pub struct Request<'a> {
-    /// The file's path, or none for the sample, which is a file that the program carries.
+    /// The file's path, or `None` for the sample, which is a file that the program contains.
     pub file: Option<&'a str>,
-    /// How many headers are permitted, and how many bytes may be read.
+    /// How many headers are allowed, and how many bytes may be read.
     pub limits: Limits,
     /// What is done with the file.
     pub task: Task<'a>,
@@ -21,50 +21,50 @@ pub struct Request<'a> {
 /// What is done with a file.
 #[derive(Clone, Copy)]
 pub enum Task<'a> {
-    /// Parts of it are listed.
+    /// List parts of it.
     Show {
         /// The parts.
         parts: Parts,
         /// How rows are shown.
         style: ListingStyle<'a>,
     },
-    /// A name is looked up in it.
+    /// Look up a name in it.
     Find {
         /// The name.
         wanted: LookupName<'a>,
         /// How a line is written.
         format: Format,
     },
-    /// A symbol is looked up in it as a loader of the GNU system looks it up.
+    /// Look up a symbol in it as glibc's dynamic loader does.
     Resolve {
         /// The symbol.
         wanted: LookupSymbol<'a>,
-        /// Whether the tables are found by the program headers also where there are section headers.
+        /// Whether the tables are found by the program headers even if there are section headers.
         by_segments: bool,
         /// How a line is written.
         format: Format,
     },
-    /// One of its sections is written, with its relocations applied.
+    /// Write one of its sections, with its relocations applied.
     Apply {
         /// The section's index.
         section: u16,
-        /// The addresses of sections, names and their entries.
+        /// The addresses of sections, and the names and their entries.
         layout: &'a Layout,
-        /// Whether the item that would help is printed, where an address is missing.
+        /// Whether the item that would help is printed if an address is missing.
         explain: bool,
     },
-    /// The same, in addresses that are kept otherwise.
+    /// The same, with addresses in another representation.
     Place {
         /// The section's index.
         section: u16,
-        /// The addresses of sections, names and their entries.
+        /// The addresses of sections, and the names and their entries.
         addresses: &'a Addresses<'a>,
-        /// Whether the item that would help is printed, where an address is missing.
+        /// Whether the item that would help is printed if an address is missing.
         explain: bool,
     },
 }
 
-/// A name that can be looked for, of 1 to 4,096 bytes, none of them NUL.
+/// A name that can be looked up, of 1 to 4,096 bytes, none of them NUL.
 #[derive(Clone, Copy)]
 pub struct LookupName<'a> {
     /// The name's bytes.
@@ -73,8 +73,9 @@ pub struct LookupName<'a> {
     pub ghost most: { length bytes.now ≤ 4096 },
 }
 
-/// A symbol that can be looked up as a loader of the GNU system does it: a text NAME, NAME@VERSION or
-/// NAME@@VERSION of 1 to 4,096 bytes, none of them NUL, with no empty name and no empty version.
+/// A symbol that can be looked up as glibc's dynamic loader does it: a text NAME, NAME@VERSION or
+/// NAME@@VERSION of 1 to 4,096 bytes, none of them NUL, with a nonempty name and a nonempty
+/// version.
 #[derive(Clone, Copy)]
 pub struct LookupSymbol<'a> {
     /// The bytes of the text.

@@ -1,4 +1,4 @@
-//! A name looked up as a loader does.
+//! The request for a lookup as a loader does it.
 ghost use Rattle.std.specs.Prelude.{◌≡◌, ◌^◌, ◌≤◌, ◌++◌, ℕ, List, length, IfErr, Some, option_map, true};
 ghost use Rattle.elf_format.specs.Named.{shown_as};
 ghost use Rattle.elf_listing.specs.Shows.{IsOfOutput};
@@ -22,26 +22,27 @@ use elf_options::{SymbolQuery, VersionQuery, parse_query};
 use elf_source::{Counted, Out, OutFault, Sink, Source};
 use elf_table::{HeaderStore, Limits, NameBuf, NameEnd, RunFault};
 
-/// How a name is looked up, and how that is answered.
+/// How a name is looked up, and how the result is written.
 #[derive(Clone, Copy)]
 pub(crate) struct LookupStyle {
-    /// Whether what it is looked up in is found by the program headers also where there are section
+    /// Whether the lookup tables are found by the program headers even if there are section
     /// headers.
     pub by_segments: bool,
     /// How a line is written.
     pub format: Format,
 }
 
-/// Looks a name up in a file as a loader does, alone or with a version: `text` is NAME, NAME@VERSION
-/// or NAME@@VERSION. Writes the symbol's line, in the names of the GNU system, the line of its
-/// version, where the file has versions, and how many symbols were tried; or that number alone where
-/// no symbol answers, or the line of the refusal. Answers the status: 0 where a symbol was found, else
-/// 1. The text has at most 4,096 bytes. Where there is a budget no more is read; afterwards no limit
-/// is set.
+/// Looks up a name in a file as a loader does, alone or with a version: `text` is NAME,
+/// NAME@VERSION or NAME@@VERSION.
+///
+/// Writes the symbol's line, with GNU names, the line of its version, if the file has versions, and
+/// how many symbols were tried; or only that number if no symbol matches, or the line of the
+/// refusal. Returns the status: 0 if a symbol was found, otherwise 1. The text has at most 4,096
+/// bytes. If there is a budget, no more is read; on return no limit is set.
 ///
 /// # Errors
 /// A refusal, whose line was written, a fault of the source, with nothing written, or of the
-/// output, with a front of the text written.
+/// output, with a prefix of the text written.
 pub(crate) fn resolve<S: Source, W: Sink>(
     src: &mut Counted<S>,
     store: &mut HeaderStore,
@@ -67,10 +68,10 @@ pub(crate) fn resolve<S: Source, W: Sink>(
     }
 }
 
-/// Writes the lines of a lookup's answer, and answers its status.
+/// Writes the lines of a lookup's result, and returns its status.
 ///
 /// # Errors
-/// A fault of the output, with a front of the lines written.
+/// A fault of the output, with a prefix of the lines written.
 fn show_resolved<W: Sink>(
     lookup: &SymbolLookup,
     wanted: &SymbolQuery<'_>,
@@ -97,10 +98,10 @@ fn show_resolved<W: Sink>(
     }
 }
 
-/// Writes the line of a symbol that is found, under the wanted name, and that of its version.
+/// Writes the line of a symbol that was found, with the wanted name, and that of its version.
 ///
 /// # Errors
-/// A fault of the output, with a front of the lines written.
+/// A fault of the output, with a prefix of the lines written.
 fn show_found<W: Sink>(
     found: &FoundSymbol,
     wanted: &SymbolQuery<'_>,
@@ -139,10 +140,10 @@ fn show_found<W: Sink>(
     show_version(found.index, version, &wanted.asked, name, format, out)
 }
 
-/// Writes the line of the version of the symbol of an index.
+/// Writes the line of the version of the symbol at an index.
 ///
 /// # Errors
-/// A fault of the output, with a front of the line written.
+/// A fault of the output, with a prefix of the line written.
 fn show_version<W: Sink>(
     index: u64,
     version: &FoundVersion,
@@ -160,7 +161,7 @@ fn show_version<W: Sink>(
     show_named(&mut front, bytes, is_cut, out)
 }
 
-/// The name of a version, and whether it is cut.
+/// Returns the name of a version, and whether it is cut.
 fn version_name<'a>(
     version: VersionName,
     asked: &VersionQuery<'a>,

@@ -1,4 +1,4 @@
-//! A request carried out.
+//! The call that carries out a request.
 ghost use Rattle.std.specs.Prelude.{◌≡◌, ◌^◌, ◌≤◌};
 ghost use Rattle.elf_requests.specs.Requests.{RunsShow, RunsTask};
 
@@ -12,15 +12,16 @@ use elf_record::Parts;
 use elf_source::{Counted, Out, Sink, Source};
 use elf_table::{Caps, HeaderStore, RunFault};
 
-/// Carries out a request on a source: writes its text and answers its status, 0 where the file was
-/// listed, the name was found or the relocations are applied, and 1 where there is no such name.
-/// The store has a slot for each header that the request permits, and at most 2^127 bytes were
-/// asked of the source before. Afterwards no limit is set on the source.
+/// Carries out a request on a source: writes its text and returns its status.
+///
+/// The status is 0 if the file was listed, the name was found or the relocations were applied, and
+/// 1 if there is no such name. The store has a slot for each header that the request allows, and at
+/// most 2^127 bytes were requested from the source before. On return no limit is set on the source.
 ///
 /// # Errors
-/// A refusal of the file, or because the request's read budget is used up: its line was written, as
-/// the last one of the text. A fault of the source, with the offset that was asked for, or of the
-/// output, with the number of bytes that it took: what went out is a front of the text.
+/// A refusal of the file, or because the request's read budget is exhausted: its line was written,
+/// as the last one of the text. A fault of the source, with the offset that was requested, or of
+/// the output, with the number of bytes it took: a prefix of the text was written.
 pub fn run<S: Source, W: Sink>(
     request: &Request<'_>,
     src: &mut Counted<S>,
@@ -63,7 +64,7 @@ pub fn run<S: Source, W: Sink>(
     }
 }
 
-/// Lists a file, and answers the listing's status.
+/// Lists a file, and returns the listing's status.
 fn list<S: Source, W: Sink>(
     src: &mut Counted<S>,
     store: &mut HeaderStore,

@@ -1,4 +1,4 @@
-//! The words that ask for a listing of one file, or of those of its rows that have one of some names.
+//! The arguments that request a listing of one file, or of its rows that have one of some names.
 ghost use Rattle.std.specs.Prelude.{◌≡◌, IfSome, None, Ok, Some, codes, false};
 ghost use Rattle.clap.specs.Walk.{rows_of};
 ghost use Rattle.clap.specs.Words.{found_of};
@@ -15,10 +15,10 @@ use clap::ArgMatches;
 use elf_cli::{ListingRequest, RequestFault, chosen_parts_of, limits_of, style_of, text_of};
 use std::alloc::Global;
 
-/// What `show` with these arguments asks for, or None where they ask for nothing.
+/// Returns what `show` with these arguments requests, or `None` if they request nothing.
 ///
 /// # Errors
-/// What is wrong with the names of which the rows are asked for; there is no memory for them.
+/// The fault of the names whose rows are requested; out of memory for them.
 pub(crate) fn show_asked<'a>(
     alloc: Global,
     options: &ArgMatches<'a>,
@@ -31,7 +31,7 @@ pub(crate) fn show_asked<'a>(
     }
 }
 
-/// What `show` asks for, of every row.
+/// Returns what `show` requests, for every row.
 fn every_row_of<'a>(options: &ArgMatches<'a>) -> Option<ParsedCommand<'a>>
     requires { has_name_option (rows_of (found_of options.now)) ≡ false }
     ensures { ParsesTo (Some (codes "show", rows_of (found_of options.now))) (Ok result) }
@@ -42,7 +42,7 @@ fn every_row_of<'a>(options: &ArgMatches<'a>) -> Option<ParsedCommand<'a>>
     }
 }
 
-/// What `show` asks for, of the rows of these names.
+/// Returns what `show` requests, for the rows of these names.
 fn chosen_of<'a>(options: &ArgMatches<'a>, names: NameArgs<'a>) -> Option<ParsedCommand<'a>>
     requires { AreNamesAsked (rows_of (found_of options.now)) names }
     ensures { ParsesTo (Some (codes "show", rows_of (found_of options.now))) (Ok result) }
@@ -53,7 +53,8 @@ fn chosen_of<'a>(options: &ArgMatches<'a>, names: NameArgs<'a>) -> Option<Parsed
     }
 }
 
-/// The listing of the file whose path is among the arguments, of parts whose rows are chosen by names.
+/// Returns the listing of the file whose path is among the arguments, of parts whose rows are
+/// selected by name.
 fn chosen_listing_of<'a>(options: &ArgMatches<'a>) -> Option<ListingRequest<'a>>
     ensures file { IfSome result (λ listing.
         IsFileNamed (rows_of (found_of options.now)) listing.file) }

@@ -1,4 +1,4 @@
-//! The words that ask how many files are hardened.
+//! The arguments that request how many files are hardened.
 ghost use Rattle.std.specs.Prelude.{◌≡◌, ◌⊎◌, ◌++◌, ◌∷◌, [], IfErr, IfOk, IfSome, Ok, Some, None};
 ghost use Rattle.std.specs.Prelude.{codes, map};
 ghost use Rattle.clap.specs.Walk.{first_of, rows_of};
@@ -16,12 +16,12 @@ use elf_cli::{RequestFault, format_of, limits_of, text_of};
 use elf_options::{RequiredTrait, parsed_trait_word};
 use std::alloc::{AllocError, Global};
 
-/// What `traits` with these arguments asks for, or None where there is neither a path nor a file with
-/// paths.
+/// Returns what `traits` with these arguments requests, or `None` if there is neither a path nor a
+/// list of paths.
 ///
 /// # Errors
-/// `BadTrait` where one of the words that are required is none; there is no memory for the words or the
-/// list of paths.
+/// `BadTrait` if one of the required traits is invalid; out of memory for the traits or the list of
+/// paths.
 pub(crate) fn traits_asked<'a>(
     alloc: Global,
     options: &ArgMatches<'a>,
@@ -32,7 +32,7 @@ pub(crate) fn traits_asked<'a>(
     traits_with(alloc, options, required)
 }
 
-/// What `traits` asks for that requires these words.
+/// Returns what `traits` requests, with these required traits.
 fn traits_with<'a>(
     alloc: Global,
     options: &ArgMatches<'a>,
@@ -49,7 +49,7 @@ fn traits_with<'a>(
     }
 }
 
-/// What `traits` of these files asks for that requires these words.
+/// Returns what `traits` of these files requests, with these required traits.
 fn traits_of<'a>(
     options: &ArgMatches<'a>,
     files: PathArgs<'a>,
@@ -71,11 +71,11 @@ fn traits_of<'a>(
     }
 }
 
-/// The words that are required.
+/// Returns the required traits.
 ///
 /// # Errors
-/// `BadTrait` where a piece of the option's value spells no word of a column; `Memory` where there is
-/// none for them.
+/// `BadTrait` if a piece of the option's value is not a word of any column; `Memory` if out of
+/// memory for them.
 fn required_of<'a>(
     alloc: Global,
     options: &ArgMatches<'a>,
@@ -91,10 +91,10 @@ fn required_of<'a>(
     }
 }
 
-/// The words that the pieces of a text spell, which commas part.
+/// Returns the traits that the comma-separated pieces of a text name.
 ///
 /// # Errors
-/// `BadTrait` where a piece spells no word of a column; `Memory` where there is none for them.
+/// `BadTrait` if a piece is not a word of any column; `Memory` if out of memory for them.
 fn required_in<'a>(alloc: Global, text: &'a str) -> Result<Vec<RequiredTrait<'a>>, RequestFault>
     ensures words { IfOk result (λ words. AreRequired (Some text.now) words.items) }
     ensures refused { IfErr result (IsWordFault (Some text.now)) }
@@ -113,10 +113,10 @@ fn required_in<'a>(alloc: Global, text: &'a str) -> Result<Vec<RequiredTrait<'a>
     }
 }
 
-/// Puts the word that a piece spells behind those that are required.
+/// Appends the trait that a piece names to the required ones.
 ///
 /// # Errors
-/// `BadTrait` where it spells no word of a column; `Memory` where there is none for it.
+/// `BadTrait` if it is not a word of any column; `Memory` if out of memory for it.
 fn put_required<'a>(
     required: &mut Vec<RequiredTrait<'a>>,
     piece: &'a str,

@@ -1,4 +1,4 @@
-//! The words of a command line.
+//! The arguments of a command line.
 ghost use Rattle.std.specs.Prelude.{◌≡◌, ◌≢◌, IfErr, IfOk, IfSome, None, Ok, Err};
 ghost use Rattle.std.specs.Prelude.{Option, Some, codes, map};
 ghost use Rattle.std.specs.Borrow.{Bor};
@@ -32,15 +32,16 @@ use elf_model::Format;
 use std::alloc::Global;
 use std::convert::AsStr;
 
-/// Reads the words of a command line, without the program's name.
+/// Parses the arguments of a command line, without the program's name.
 ///
 /// # Errors
-/// `Words` for words that ask for nothing that there is, or for help; `BadName` where they ask for
-/// a name that is not of 1 to 4,096 bytes without NUL; `NamesFull` where they ask for the rows of more
-/// than 64 names; `BadItem`, `LayoutRepeat` and `LayoutFull`
-/// for the first word that is no item of a layout, gives an item again, or gives one more of a sort
-/// than a layout holds; `BadTrait` where a word that is required of traits is none; `Memory` where
-/// there is none for reading them.
+/// - `Words` for arguments that are invalid or request help.
+/// - `BadName` if they give a name that is not of 1 to 4,096 bytes without NUL.
+/// - `NamesFull` if they request the rows of more than 64 names.
+/// - `BadItem`, `LayoutRepeat` and `LayoutFull` for the first layout item that is malformed,
+///   repeats an item, or is one more of its type than a layout holds.
+/// - `BadTrait` if a required trait is invalid.
+/// - `Memory` if out of memory.
 pub fn request<'a, S: AsStr>(
     alloc: Global,
     words: &'a [S],
@@ -53,7 +54,7 @@ pub fn request<'a, S: AsStr>(
     answered(alloc, &matches, layout)
 }
 
-/// What words that the command line let through ask for, or why they are refused.
+/// Returns what arguments request that the command line accepts, or why they are refused.
 fn answered<'a>(
     alloc: Global,
     matches: &ArgMatches<'a>,
@@ -68,7 +69,7 @@ fn answered<'a>(
     }
 }
 
-/// What words that the command line let through ask for, or None where they ask for nothing.
+/// Returns what arguments request that the command line accepts, or `None` if they request nothing.
 fn asked<'a>(
     alloc: Global,
     matches: &ArgMatches<'a>,
@@ -82,7 +83,7 @@ fn asked<'a>(
     }
 }
 
-/// What a command with these arguments asks for.
+/// Returns what a command with these arguments requests.
 fn asked_by<'a>(
     alloc: Global,
     command: &str,
@@ -104,7 +105,8 @@ fn asked_by<'a>(
     }
 }
 
-/// What `apply` with these arguments asks for: with the items of a file too, where one is named.
+/// Returns what `apply` with these arguments requests: with the items of a file too, if one is
+/// named.
 fn parse_apply<'a>(
     options: &ArgMatches<'a>,
     layout: &'a mut Layout,
@@ -117,7 +119,7 @@ fn parse_apply<'a>(
     }
 }
 
-/// A request to apply, with the file of items that is named, if any.
+/// Returns a request to apply a section, with the named file of items, if any.
 fn with_list<'a>(options: &ArgMatches<'a>, request: Request<'a>) -> ParsedCommand<'a>
     requires { AsksBy (Some (codes "apply", rows_of (found_of options.now))) request }
     ensures { IsAsked (Some (codes "apply", rows_of (found_of options.now))) result }
@@ -128,8 +130,8 @@ fn with_list<'a>(options: &ArgMatches<'a>, request: Request<'a>) -> ParsedComman
     }
 }
 
-/// What another command with these arguments asks for, which is none of many files, of an archive or
-/// of the version, and not `apply`.
+/// Returns what another command with these arguments requests: not one for many files, for an
+/// archive or for the version, and not `apply`.
 fn parse_file_args<'a>(
     command: &str,
     options: &ArgMatches<'a>,
@@ -146,7 +148,7 @@ fn parse_file_args<'a>(
     }
 }
 
-/// What another command with these arguments asks for, of one file.
+/// Returns what another command with these arguments requests, for one file.
 fn of_file<'a>(command: &str, options: &ArgMatches<'a>) -> Result<Option<Request<'a>>, RequestFault>
     requires { command.now ≢ codes "apply" }
     ensures { ResolvesTo (Some (command.now, rows_of (found_of options.now))) result }
@@ -157,7 +159,7 @@ fn of_file<'a>(command: &str, options: &ArgMatches<'a>) -> Result<Option<Request
     }
 }
 
-/// A listing, which is asked for as the programs that list read it.
+/// Returns a listing, as parsed by the programs that list.
 pub(crate) fn parse_listing<'a>(command: &str, options: &ArgMatches<'a>) -> Option<Request<'a>>
     requires { (command.now ≢ codes "apply") × (command.now ≢ codes "find") }
     ensures { ResolvesTo (Some (command.now, rows_of (found_of options.now))) (Ok result) }
@@ -175,8 +177,8 @@ pub(crate) fn parse_listing<'a>(command: &str, options: &ArgMatches<'a>) -> Opti
     }
 }
 
-/// A lookup in a file, within the limits that are asked for, as a loader of the GNU system does it
-/// where that is asked for. None where only such a lookup is what is asked for, and it is not.
+/// Returns a lookup in a file, within the given limits, as glibc's dynamic loader does it if that
+/// is requested. Returns `None` if the options require such a lookup, but it is not requested.
 fn lookup<'a>(options: &ArgMatches<'a>) -> Result<Option<Request<'a>>, RequestFault>
     ensures { ResolvesTo (Some (codes "find", rows_of (found_of options.now))) result }
 {
@@ -198,9 +200,9 @@ fn lookup<'a>(options: &ArgMatches<'a>) -> Result<Option<Request<'a>>, RequestFa
     Ok(in_file(options, task))
 }
 
-/// The lookup of a text, as a loader of the GNU system does it (`gnu`), by the program headers alone
-/// or not, or by the file's SysV hash table, which is answered in this format. None where the text is
-/// none that can be looked up so.
+/// Returns the lookup of a text, as glibc's dynamic loader does it if `gnu` is set, by the program
+/// headers alone or not, or otherwise by the file's SysV hash table, with its result written in
+/// this format. Returns `None` if the text cannot be looked up so.
 fn parse_lookup(text: &str, gnu: bool, by_segments: bool, format: Format) -> Option<Task<'_>>
     ensures some { IfSome result (IsLookupTask gnu by_segments format text.now) }
     ensures none { result ≡ None → IsText gnu text.now → ⊥ }
@@ -217,7 +219,7 @@ fn parse_lookup(text: &str, gnu: bool, by_segments: bool, format: Format) -> Opt
     Some(Task::Find { wanted, format })
 }
 
-/// A section applied, within the limits and in the layout that are asked for.
+/// Returns a section to apply, within the given limits and in the given layout.
 fn applying<'a>(
     options: &ArgMatches<'a>,
     layout: &'a mut Layout,
@@ -237,7 +239,7 @@ fn applying<'a>(
     Ok(in_file(options, task))
 }
 
-/// The layout that is asked for, which has no item where no word gives one.
+/// Returns the requested layout, which is empty if no argument gives an item.
 fn layout_asked<'a>(
     options: &ArgMatches<'_>,
     layout: &'a mut Layout,
@@ -251,7 +253,7 @@ fn layout_asked<'a>(
     Ok(layout)
 }
 
-/// Lays out the items that are asked for, and no other items.
+/// Adds the requested items to a layout, and no other items.
 fn layout_requested(options: &ArgMatches<'_>, layout: &mut Layout) -> Result<(), RequestFault>
     ensures laid { IfOk result (λ _.
         LaysWords no_items (item_words (rows_of (found_of options.now))) (Ok layout.new)) }
@@ -264,7 +266,7 @@ fn layout_requested(options: &ArgMatches<'_>, layout: &mut Layout) -> Result<(),
     }
 }
 
-/// What is done with the file that is asked for, within the limits that are asked for.
+/// Returns the task for the requested file, within the given limits.
 fn in_file<'a>(options: &ArgMatches<'a>, task: Task<'a>) -> Option<Request<'a>>
     ensures task { IfSome result (λ request. request.task ≡ task.entry) }
     ensures file { IfSome result (λ request.

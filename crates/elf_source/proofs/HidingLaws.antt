@@ -47,7 +47,7 @@ pub read_shown : (hides : Bool) (source : Option (List ℕ)) (at n : ℕ) (read 
 read_shown false source at n read file h is slice = slice file is
 read_shown true source at n read file h is slice = cc
 
--- and with zeros for what is hidden where that is hidden
+-- and with zeros for what is hidden, if it is hidden
 pub read_hidden : (hides : Bool) (source : Option (List ℕ)) (at n : ℕ) (read file : List ℕ) → hides ≡ true → file_by hides source ≡ Some file
     → ((bytes : List ℕ) → source ≡ Some bytes → read ≡ take n (drop at bytes)) → without_sections_from at read ≡ take n (drop at file)
 read_hidden false source at n read file h is slice = cc

@@ -128,10 +128,12 @@ impl<S: Source> Counted<S> {
     /// the source fails.
     ///
     /// # Errors
-    /// Returns `Budget` if a limit has fewer bytes left than `out` has: nothing is read, and only
-    /// the result of [`Counted::stopped`] changes. Otherwise returns the source's fault: `Device`
-    /// only if its count of failures rose, `Ended` only if it isn't honest. After a fault the
-    /// contents of `out` are unspecified, and the source may be read again.
+    /// - `Budget` if a limit has fewer bytes left than `out` has: nothing is read, and only the
+    ///   result of [`Counted::stopped`] changes.
+    /// - `Source` with the source's fault: `Device` only if its count of failures rose, `Ended`
+    ///   only if it isn't honest.
+    ///
+    /// After a fault the contents of `out` are unspecified, and the source may be read again.
     pub fn ask(&mut self, at: u64, out: &mut [u8]) -> Result<(), AskFault>
         requires { IsReadable self.old at (length out.old) }
         ensures reads { ReadsUpTo self.old self.new (length out.old) }

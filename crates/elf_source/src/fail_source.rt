@@ -51,8 +51,8 @@ impl<S: Source> Source for FailSource<S> {
     /// then the other source is not read, and `out` does not change.
     ///
     /// # Errors
-    /// Returns `Device` if this is the failing read, and the count of failures rises by one;
-    /// otherwise the fault of the other source.
+    /// - `Device` if this is the failing read; the count of failures rises by one.
+    /// - Otherwise the fault of the other source.
     fn fill(&mut self, at: u64, out: &mut [u8]) -> Result<(), SourceFault>
         requires { at + length out.old ≤ self.old.source.size }
         ensures slice { (file : List ℕ) → self.old.source.file ≡ Some file → OnOk result

@@ -26,9 +26,10 @@ pub trait Source {
     /// Fills `out` with the bytes at offset `at`, all within the length.
     ///
     /// # Errors
-    /// Returns `Device` only if the count of failures rose, `Ended` only from a source that isn't
-    /// honest. After either the contents of `out` are unspecified, and the source may be read
-    /// again.
+    /// - `Device` only if the count of failures rose.
+    /// - `Ended` only from a source that isn't honest.
+    ///
+    /// After either the contents of `out` are unspecified, and the source may be read again.
     fn fill(&mut self, at: u64, out: &mut [u8]) -> Result<(), SourceFault>
         requires { at + length out.old ≤ (seen self.old).size }
         ensures slice { (file : List ℕ) → (seen self.old).file ≡ Some file → OnOk result

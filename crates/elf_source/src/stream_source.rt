@@ -90,9 +90,9 @@ impl<R: ReadAt> Source for StreamSource<R> {
     /// Fills `out` with the bytes at offset `at`.
     ///
     /// # Errors
-    /// Returns `Ended` if a turn returns no byte, `Device` if a turn fails, or 64 of them are
-    /// interrupted in this call. Once 2^64 - 1 calls have failed so, each returns `Ended` and reads
-    /// nothing.
+    /// - `Ended` if a turn returns no byte, or once 2^64 - 1 calls have failed with `Device`: then
+    ///   nothing is read.
+    /// - `Device` if a turn fails, or 64 of them are interrupted in this call.
     fn fill(&mut self, at: u64, out: &mut [u8]) -> Result<(), SourceFault>
         requires { at + length out.old ≤ self.old.seen.size }
         ensures slice { (file : List ℕ) → self.old.seen.file ≡ Some file → OnOk result

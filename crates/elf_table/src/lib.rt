@@ -1,9 +1,7 @@
-//! The headers of an ELF64 file: the file header, the store of section headers or program headers,
-//! the checks of a load, and reads whose errors name their offset. No call allocates except
-//! `HeaderBuffer::new`.
-//!
-//! The tables of an ELF64 file: the checks of its sections and segments, cursors over tables, and
-//! names in string tables.
+//! The headers and tables of an ELF64 file: [`header`] and [`load`] read the headers into a
+//! [`HeaderStore`] and check them, [`SectionView`] and [`ExecutionView`] check sections and
+//! segments, [`Cursor`] goes through the rows of a [`Table`], and [`Names`] reads names. Errors
+//! name their offset. No call allocates except `HeaderBuffer::new`.
 #![tactic(auto)]
 
 mod buffers;

@@ -1,4 +1,4 @@
-//! How often a source is read for names and symbols, in order, with gaps, again and scattered.
+//! How often a source is read for names and symbols: in order, with gaps, repeatedly and scattered.
 use crate::faulty_source::FaultySource;
 use elf_note::{NameIndex, ReadAhead};
 use elf_source::Counted;
@@ -42,7 +42,7 @@ fn names_in_order_take_few_reads(rt: HostRuntime) {
         let end = read_name(&mut ahead, &mut src, 8 * i, &rt);
         assert!(rt; end == Ok(NameEnd::Whole), "{i}");
     }
-    // 64 bytes, twice as many up to 2,048, and then 4,096 at once.
+    // 64 bytes, doubled up to 2,048, and then 4,096 at once.
     assert!(rt; src.asked() == STRINGS as u128);
     assert!(rt; src.into_inner().reads == 9);
 }
@@ -56,8 +56,8 @@ fn names_with_gaps_take_few_reads(rt: HostRuntime) {
         let end = read_name(&mut ahead, &mut src, 104 * i, &rt);
         assert!(rt; end == Ok(NameEnd::Whole), "{i}");
     }
-    // The second stands 40 bytes behind the first read, and the fourth 80 behind the second, which
-    // gave the third. Each read takes twice as many bytes as the last, at most 4,096.
+    // The second is 40 bytes after the first read, and the fourth 80 after the second, which gave
+    // the third. Each read takes twice as many bytes as the last, at most 4,096.
     assert!(rt; src.into_inner().reads == 9);
 }
 
@@ -71,7 +71,7 @@ fn scattered_names_behind_a_run_take_one_small_read_each(rt: HostRuntime) {
         let end = read_name(&mut ahead, &mut src, off, &rt);
         assert!(rt; end == Ok(NameEnd::Whole), "{i}");
     }
-    // 64 and 128 bytes for the run, 256 behind it, and then 64 each.
+    // 64 and 128 bytes for the run, 256 after it, and then 64 each.
     assert!(rt; src.asked() == 64 + 128 + 256 + 149 * 64);
     assert!(rt; src.into_inner().reads == 152);
 }
@@ -79,7 +79,7 @@ fn scattered_names_behind_a_run_take_one_small_read_each(rt: HostRuntime) {
 /// How many symbols the tables here have.
 const SYMBOLS: u64 = 500;
 
-// Whether the symbol at an index of a table whose bytes tell it is read.
+// Whether the symbol at an index is read, of a table whose bytes give the index.
 fn gives_symbol(
     ahead: &mut ReadAhead,
     src: &mut Counted<FaultySource<'_>>,
@@ -91,7 +91,7 @@ fn gives_symbol(
     symbol.is_ok_and(|read| u64::from(read.st_name) == index)
 }
 
-// The same with what a name leaves of its credit.
+// The same with the credit that a name leaves.
 fn read_symbol(
     ahead: &mut ReadAhead,
     src: &mut Counted<FaultySource<'_>>,
@@ -139,7 +139,7 @@ fn symbols_that_repeat_take_few_reads(rt: HostRuntime) {
     for i in 0..2 * SYMBOLS {
         assert!(rt; gives_symbol(&mut ahead, &mut src, i / 2, &rt), "{i}");
     }
-    // The second call for a symbol asks for nothing, and leaves its 24 bytes to the next read.
+    // The second call for a symbol reads nothing, and leaves its 24 bytes to the next read.
     assert!(rt; src.into_inner().reads == 10);
 }
 

@@ -1,5 +1,5 @@
-//! Sections written with their relocations applied: the bytes, the statuses, and where reads and writes
-//! fail.
+//! Sections written with their relocations applied: the bytes, the statuses, and where reads and
+//! writes fail.
 use crate::requests::{check_answer, check_outputs, check_reads, request};
 use elf_fixtures::{
     falling_relocations, one_call, overlapping_relocations, third_overflows, with_bytes,
@@ -9,7 +9,7 @@ use elf_requests::{Request, Task};
 use std::process::Abort;
 use std::test::Fail;
 
-/// Section 1 applied in a layout, in a file of three sections.
+/// Returns section 1 applied in a layout, in a file of three sections.
 fn first_applied(layout: &Layout) -> Result<Request<'_>, Fail> {
     let section = 1;
     request(
@@ -22,7 +22,7 @@ fn first_applied(layout: &Layout) -> Result<Request<'_>, Fail> {
     )
 }
 
-/// A section of the file with the call applied in a layout.
+/// Returns a section of the file with the call applied in a layout.
 fn call_applied(section: u16, layout: &Layout) -> Result<Request<'_>, Fail> {
     request(
         5,
@@ -34,7 +34,7 @@ fn call_applied(section: u16, layout: &Layout) -> Result<Request<'_>, Fail> {
     )
 }
 
-/// A layout with an address of section 1 and of the entry for `f`.
+/// Returns a layout with an address of section 1 and of the entry for `f`.
 fn placed_call(rt: &impl Abort) -> Layout {
     let mut layout = Layout::new();
     for item in [
@@ -72,11 +72,11 @@ fn each_read_and_write_of_an_applied_section_fails_in_turn(rt: HostRuntime) -> R
     check_reads(&rt, &asked, overlapping_relocations(), &offsets, 3)?;
     check_outputs(&rt, &asked, overlapping_relocations())?;
     check_outputs(&rt, &asked, third_overflows())?;
-    // The section is read in two windows, each with the entries behind it.
+    // The section is read in two windows, each with the entries after it.
     let offsets = [0, 0x120, 0xc0, 0x40, 0xc0, 0x80, 0xc0];
     check_reads(&rt, &asked, &falling_relocations(), &offsets, 3)?;
-    // An entry's symbol and its name too, and the section in two pieces: what stands before the
-    // entry, and the rest.
+    // An entry's symbol and its name too, and the section in two pieces: what is before the entry,
+    // and the rest.
     let offsets = [0, 0x98, 0x48, 0x78, 0x91, 0x48, 0x78, 0x91, 0x40, 0x41];
     let layout = placed_call(&rt);
     let asked = call_applied(1, &layout)?;

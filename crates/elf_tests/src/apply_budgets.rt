@@ -1,4 +1,4 @@
-//! Where a limit on what may be asked for refuses a section, and how much was asked for by then.
+//! Where a limit on reads refuses a section, and how much was read by then.
 use elf_fixtures::one_call;
 use elf_layout::{Item, Layout};
 use elf_record::{Cause, Refusal};
@@ -8,11 +8,11 @@ use elf_table::{HeaderBuffer, HeaderStore, RunFault};
 use std::process::Abort;
 use std::test::Fail;
 
-/// What a request within a limit answers: the answer, how many bytes were asked for, and the bytes
-/// of the output, which are 9 where nothing was written.
+/// The result of a request within a limit: the result, how many bytes were requested, and the bytes
+/// of the output, which are 9 if nothing was written.
 type Limited = (Result<Applied, RunFault>, u128, [u8; 128]);
 
-/// Applies to section 1 of the file with one call within a limit, of which none is left afterwards.
+/// Applies section 1 of the file with one call within a limit, of which none is left afterwards.
 fn limited(rt: &impl Abort, layout: &Layout, store: &mut HeaderStore, budget: u64) -> Limited {
     let mut bytes = [9; 128];
     let mut src = Counted::new(MemorySource::new(one_call()));
@@ -24,7 +24,7 @@ fn limited(rt: &impl Abort, layout: &Layout, store: &mut HeaderStore, budget: u6
     (answer, asked, bytes)
 }
 
-/// The layout in which the call goes to its linkage entry.
+/// Returns the layout in which the call goes to its PLT entry.
 fn linked(rt: &impl Abort) -> Layout {
     let mut layout = Layout::new();
     for item in [
@@ -42,7 +42,7 @@ fn linked(rt: &impl Abort) -> Layout {
     layout
 }
 
-/// Checks the refusal within a budget, and how many bytes were asked for before.
+/// Checks the refusal within a budget, and how many bytes were requested before.
 fn check_refused(rt: &impl Abort, layout: &Layout, store: &mut HeaderStore, row: (u64, u64, u128)) {
     let (budget, at, wanted) = row;
     let (answer, asked, bytes) = limited(rt, layout, store, budget);

@@ -1,4 +1,4 @@
-//! A source whose entries rise in the first pass, and fall in the second.
+//! A source whose entries ascend in the first pass, and descend in the second.
 
 use elf_fixtures::{falling_relocations, rising_relocations};
 use elf_layout::Layout;
@@ -8,7 +8,7 @@ use elf_source::{Counted, Out, SliceSink, Source, SourceFault};
 use elf_table::{HeaderBuffer, RunFault};
 use std::test::Fail;
 
-/// A file for some reads, and then another of the same length.
+/// A source of one file for some reads, and then of another of the same length.
 #[derive(Drop)]
 struct Turning<'a> {
     first: &'a [u8; 480],

@@ -11,8 +11,8 @@ use elf_table::HeaderBuffer;
 use std::process::Abort;
 use std::test::Fail;
 
-/// The file whose offsets rise with a section of 6,000 bytes, each 7, and two entries of two bytes: at
-/// its last two bytes, and one before those.
+/// Returns the file whose offsets ascend with a section of 6,000 bytes, each 7, and two entries of
+/// two bytes: at its last two bytes, and one before those.
 fn long_section() -> [u8; 8192] {
     let mut file = with_bytes(&[7; 8192], 0, rising_relocations());
     for (place, number) in [
@@ -27,7 +27,8 @@ fn long_section() -> [u8; 8192] {
     file
 }
 
-/// How often the source is read, and how often the writer is called, where a file is applied.
+/// Returns how often the source is read, and how often the writer is called, when a file is
+/// applied.
 fn calls(file: &[u8], rt: &(impl Abort + AllocGlobal)) -> Result<(u32, u32), Fail> {
     let mut room = HeaderBuffer::new(rt.alloc(), 3)?;
     let mut store = room.store();
@@ -41,7 +42,7 @@ fn calls(file: &[u8], rt: &(impl Abort + AllocGlobal)) -> Result<(u32, u32), Fai
 
 #[test]
 fn one_pass_reads_and_writes_by_pages(rt: HostRuntime) -> Result<(), Fail> {
-    // The two headers, the entries twice, and all 128 bytes at once. What stands before each of the
+    // The two headers, the entries twice, and all 128 bytes at once. What is before each of the
     // last three entries is written, and then the rest.
     assert!(rt; calls(rising_relocations(), &rt)? == (5, 4));
     // 4,096 bytes, 1,901 up to the first entry, and the last three. What is copied is written as it

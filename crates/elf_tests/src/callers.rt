@@ -1,4 +1,4 @@
-//! Calls that are there for callers and that no other crate makes.
+//! Calls that exist for callers and that no other crate makes.
 ghost use Rattle.std.specs.Prelude.{◌≡◌};
 ghost use Rattle.elf_table.specs.Tables.{TableInBounds};
 
@@ -11,8 +11,8 @@ use elf_table::{Caps, Fault, NameBuf, NameLimit, Table};
 use std::process::Abort;
 use std::test::Fail;
 
-/// Where the next note stands, its type, and how many bytes of its descriptor are lent, with the last
-/// of them.
+/// Returns where the next note is, its type, and how many bytes of its descriptor are borrowed,
+/// with the last of them.
 fn next_note<S: Source>(
     cursor: &mut NoteCursor,
     src: &mut Counted<S>,
@@ -27,7 +27,8 @@ fn next_note<S: Source>(
     Ok(Some((row.at, row.head.kind, row.desc.len(), last)))
 }
 
-/// The first note of a table of so many bytes at the front of the file with one note.
+/// Returns the first note of a table of the given number of bytes at the start of the file with one
+/// note.
 fn first_note(
     size: u64,
     name: &mut NameBuf,
@@ -48,7 +49,7 @@ fn a_note_lends_its_descriptor(rt: HostRuntime) {
     assert!(rt; first_note(0, &mut name, &rt) == None);
 }
 
-/// The index of the next dynamic entry, its offset, and the first byte of its value.
+/// Returns the index of the next dynamic entry, its offset, and the first byte of its value.
 fn next_entry<S: Source>(
     cursor: &mut DynCursor,
     src: &mut Counted<S>,
@@ -61,7 +62,7 @@ fn next_entry<S: Source>(
     Ok(Some((row.index, row.at, row.bytes.get(8).copied())))
 }
 
-/// The first of so many entries from an offset on, in the file with tags that come twice.
+/// Returns the first of `count` entries at offset `at`, in the file with tags that occur twice.
 fn first_entry(at: u64, count: u64, rt: &impl Abort) -> Option<(u64, u64, Option<u8>)> {
     assert!(rt; at <= 80 && count <= 5 && at + 16 * count <= 80);
     let mut src = Counted::new(MemorySource::new(repeated_tags()));

@@ -14,18 +14,18 @@ use std::test::Fail;
 const SYMBOLS: usize = 41;
 /// How many bytes a name has.
 const NAME: usize = 100;
-/// Where the hash table stands: two counts, one bucket, a chain for each symbol.
+/// The offset of the hash table: two counts, one bucket, a chain entry for each symbol.
 const HASH_AT: usize = 64;
-/// Where the symbols stand.
+/// The offset of the symbols.
 const SYMBOLS_AT: usize = HASH_AT + 4 * (3 + SYMBOLS);
-/// Where their names stand, behind a NUL.
+/// The offset of their names, after a NUL.
 const NAMES_AT: usize = SYMBOLS_AT + 24 * SYMBOLS;
-/// Where the section headers stand.
+/// The offset of the section headers.
 const HEADERS_AT: usize = NAMES_AT + 1 + (NAME + 1) * (SYMBOLS - 1);
-/// How many bytes the file has.
+/// The size of the file in bytes.
 const SIZE: usize = HEADERS_AT + 4 * 64;
 
-/// The name of a symbol: all begin alike.
+/// Returns the name of a symbol: all have a common prefix.
 fn name(index: usize) -> [u8; NAME]
     requires { index < 100 }
 {
@@ -35,7 +35,7 @@ fn name(index: usize) -> [u8; NAME]
     name
 }
 
-/// A section header of a type, a range, a link and a size of entries.
+/// Returns a section header with a type, a range, a link and an entry size.
 fn section(sh_type: u32, at: usize, size: usize, sh_link: u32, entry: u64) -> [u8; 64] {
     let mut header = Shdr::decode(&[0; 64]);
     header.sh_type = sh_type;
@@ -46,14 +46,14 @@ fn section(sh_type: u32, at: usize, size: usize, sh_link: u32, entry: u64) -> [u
     header.encode()
 }
 
-/// Puts bytes at a place.
+/// Writes bytes at an offset.
 fn put(rt: &impl Abort, file: &mut [u8; SIZE], at: usize, bytes: &[u8]) {
     assert!(rt; at <= SIZE && bytes.len() <= SIZE - at);
     let all = &mut file[..];
     all[at..at + bytes.len()].copy_from_slice(bytes);
 }
 
-/// A file with one bucket, whose chain goes through all symbols in their order.
+/// Returns a file with one bucket, whose chain iterates over all symbols in order.
 fn one_chain(rt: &impl Abort) -> [u8; SIZE] {
     let mut file = [0; SIZE];
     let mut header = Ehdr::decode(bare_header());
@@ -90,8 +90,8 @@ fn a_lookup_reads_word_by_word(rt: HostRuntime) -> Result<(), Fail> {
     let answer = find(&mut src, &mut store, &name(40));
     assert!(rt; answer.is_ok());
     let source = src.into_inner();
-    // The file header, the section headers, two counts, the bucket's word; a symbol, a name and a
-    // word for each step but the last.
+    // The file header, the section headers, two counts, the bucket; a symbol, a name and a chain
+    // entry for each step but the last.
     assert!(rt; source.reads == 5 + 3 * 40 - 1 && source.largest == 256);
     Ok(())
 }

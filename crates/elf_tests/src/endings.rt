@@ -1,4 +1,4 @@
-//! What is left of an output: it is tried once, and the program ends as that goes.
+//! The rest of an output: writing it is tried once, and the program ends accordingly.
 
 use crate::printer::ShortWriter;
 use crate::script::{FaultScript, InjectedFault};
@@ -8,7 +8,8 @@ use elf_table::RunFault;
 use std::io::{BufWriter, ErrorKind, Write};
 use std::process::Abort;
 
-/// How a program ends whose output has a word left over a printer, and what the printer took.
+/// Returns how a program ends whose output has a word left over a printer, and what the printer
+/// took.
 fn end(
     rt: &(impl Abort + AllocGlobal),
     answer: &Result<u8, RunFault>,

@@ -3,25 +3,26 @@ ghost use Rattle.std.specs.Prelude.{◌≡◌, false};
 
 use elf_source::{Source, SourceFault};
 
-/// A source over bytes in memory that counts what it is asked for, and fails at one of its reads.
+/// A source over bytes in memory that counts what is requested from it, and fails at one of its
+/// reads.
 #[derive(Drop)]
 pub struct FaultySource<'a> {
-    /// The bytes that it gives.
+    /// The bytes that it returns.
     pub bytes: &'a [u8],
-    /// The number of the read that fails, counted from 1 on; 0 where none does.
+    /// The number of the read that fails, counted from 1; 0 if none does.
     pub failing: u32,
-    /// Whether that read has come.
+    /// Whether that read was made.
     pub has_failed: bool,
-    /// How many reads it was asked for.
+    /// How many reads were made.
     pub reads: u32,
-    /// How many bytes it was asked for.
+    /// How many bytes were requested.
     pub asked: u64,
-    /// How many bytes it was asked for in the largest read.
+    /// The size of the largest read in bytes.
     pub largest: usize,
 }
 
 impl<'a> FaultySource<'a> {
-    /// A source over `bytes` whose read with the number `failing` fails, counted from 1 on. With 0
+    /// Creates a source over `bytes` whose read number `failing`, counted from 1, fails. With 0
     /// none does.
     pub fn new(bytes: &'a [u8], failing: u32) -> Self
         ensures bytes { result.bytes.now ≡ bytes.now }

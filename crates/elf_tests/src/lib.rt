@@ -1,14 +1,8 @@
-//! Sources, readers and writers for tests, which do what a device may: they fail, end early, are
-//! interrupted, or give little.
-//!
-//! Tests of what no clause says of sources, sinks, lines, loads, tables, names, notes, versions,
-//! lookups and applied sections: readers and writers that give or take little, are interrupted, fail
-//! or end, how often they are called and for how much at once, and an entry that falls back between
-//! reads; and a test by name of each call that no other crate makes.
-//! They are in a crate of their own, since a crate with tests is proved twice.
-//!
-//! Tests of requests carried out: whole answers, within budgets too, and each read and each write failing
-//! in turn, and two files that answer in turn.
+//! Tests of what no contract says of the libraries and of requests: how often and for how much at
+//! once readers and writers are called, how faults of each read and write are reported, whole
+//! answers with and without a budget, and the public surface by its names. Sources, readers and
+//! writers for them fail, end early, are interrupted or give little. They are in a crate of their
+//! own, since a crate with tests is proved twice.
 #![tactic(auto)]
 
 #[cfg(test)]

@@ -1,4 +1,4 @@
-//! What no clause says of a load: that the store can be made, and how much each read takes.
+//! What no clause states about a load: that the store can be created, and how much each read takes.
 use crate::faulty_source::FaultySource;
 use elf_fixtures::tables_over_headers;
 use elf_source::{Counted, Source, SourceFault};
@@ -11,7 +11,7 @@ fn open<S: Source>(src: &mut Counted<S>, store: &mut HeaderStore) -> Result<Load
     load(src, store, &header)
 }
 
-/// A file with room for 130 section headers, which says that it has so many.
+/// Returns a file with room for 130 section headers, whose header says that it has `count`.
 fn three_pages(count: u8) -> [u8; 64 + 64 * 130] {
     let mut file = [0; 64 + 64 * 130];
     file[..64].copy_from_slice(&tables_over_headers()[..64]);

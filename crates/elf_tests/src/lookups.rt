@@ -1,11 +1,11 @@
-//! Names looked up: the lines, the statuses, and where reads and writes fail.
+//! Lookups of names: the lines, the statuses, and where reads and writes fail.
 use crate::requests::{check_answer, check_outputs, check_reads, request, within};
 use elf_fixtures::{hash_with_cycle, hash_with_end, one_symbol_table};
 use elf_model::Format;
 use elf_requests::{Request, Task, checked_name};
 use std::test::Fail;
 
-/// A lookup of a name, with so many headers permitted.
+/// Returns a lookup of a name, with the given number of headers allowed.
 fn lookup(headers: u16, name: &str) -> Result<Request<'_>, Fail> {
     let wanted = checked_name(name).ok_or("name")?;
     let format = Format::Columns;
@@ -30,8 +30,8 @@ fn names_are_found_or_absent(rt: HostRuntime) -> Result<(), Fail> {
 
 #[test]
 fn each_read_and_write_of_a_lookup_fails_in_turn(rt: HostRuntime) -> Result<(), Fail> {
-    // The file header, the section headers, the counts, the bucket's word; symbol 1, its name and
-    // its chain's word; symbol 2 and its name.
+    // The file header, the section headers, the counts, the bucket; symbol 1, its name and its
+    // chain entry; symbol 2 and its name.
     let offsets = [0, 0xa8, 0x40, 0x44, 0x48, 0x70, 0xa1, 0x50, 0x88, 0xa3];
     let wanted = lookup(4, "b")?;
     check_reads(&rt, &wanted, hash_with_cycle(), &offsets, 10)?;

@@ -1,12 +1,12 @@
-//! How often a source is read for a name that is read or compared alone, and which read fails.
+//! How often a source is read for a single name that is read or compared, and which read fails.
 use crate::faulty_source::FaultySource;
 use elf_note::{NameIndex, ReadAhead};
 use elf_source::{Counted, SourceFault};
 use elf_table::{Fault, NameBuf, NameEnd, NameLimit, Names};
 use std::process::Abort;
 
-// The answers where a long name of a string table at 20 is read, and where it is compared, if the
-// read with the number `failing` fails.
+// The results if a long name of a string table at 20 is read, and if it is compared, when the read
+// number `failing` fails.
 fn read_and_compare(
     failing: u32,
     rt: &impl Abort,
@@ -35,7 +35,8 @@ fn a_fault_in_any_piece_names_its_offset(rt: HostRuntime) {
     assert!(rt; read_and_compare(3, &rt) == (Ok(NameEnd::Cut), Ok(false)));
 }
 
-// How many reads a comparison takes with a name of `count` bytes, of a string table of nothing else.
+// How many reads a comparison takes with a name of `count` bytes, of a string table of nothing
+// else.
 fn reads_of_a_comparison(count: usize, rt: &impl Abort) -> u32 {
     assert!(rt; count <= 4096);
     let mut strings = [b'a'; 4097];

@@ -1,4 +1,4 @@
-//! How often a source is asked for notes, and for how much of them.
+//! How often a source is read for notes, and for how many bytes.
 ghost use Rattle.std.specs.Prelude.{◌≡◌};
 ghost use Rattle.elf_table.specs.Tables.{TableInBounds};
 
@@ -8,7 +8,7 @@ use elf_source::{Counted, Source};
 use elf_table::{Fault, NameBuf, NameLimit, Table};
 use std::process::Abort;
 
-/// How many notes a cursor gives.
+/// Returns the number of notes of a cursor.
 fn notes_given<S: Source>(
     cursor: &mut NoteCursor,
     src: &mut Counted<S>,
@@ -26,8 +26,8 @@ fn notes_given<S: Source>(
     Ok(count)
 }
 
-// How many notes a table that is all of a file has, how often the source was read, and how many bytes
-// were asked for.
+// How many notes a table has that is all of a file, how often the source was read, and how many
+// bytes were requested.
 fn walk(bytes: &[u8], cap: u16, rt: &impl Abort) -> (Result<u64, Fault>, u32, u128) {
     assert!(rt; cap >= 1 && cap <= 4096);
     let mut name = NameBuf::new();
@@ -49,7 +49,7 @@ fn what_is_not_shown_of_a_long_name_is_not_read(rt: HostRuntime) {
 
 #[test]
 fn a_long_descriptor_is_passed_over(rt: HostRuntime) {
-    // A descriptor of 12,000 bytes, and behind it a note of nothing but its head.
+    // A descriptor of 12,000 bytes, and after it a note of nothing but its header.
     let mut bytes = [0; 12_024];
     bytes[4..6].copy_from_slice(&[0xe0, 0x2e]);
     assert!(rt; walk(&bytes, 256, &rt) == (Ok(2), 2, 4096 + 12));
@@ -57,7 +57,7 @@ fn a_long_descriptor_is_passed_over(rt: HostRuntime) {
 
 #[test]
 fn notes_are_read_by_pages(rt: HostRuntime) {
-    // A note whose name is all that follows the head, of one page and of a byte more.
+    // A note whose name is all that follows the header, of one page and of one byte more.
     let mut bytes = [b'a'; 4097];
     bytes[..12].copy_from_slice(&[0xf4, 15, 0, 0, 0, 0, 0, 0, 1, 0, 0, 0]);
     assert!(rt; walk(&bytes[..4096], 4096, &rt) == (Ok(1), 1, 4096));

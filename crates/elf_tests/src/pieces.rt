@@ -1,11 +1,11 @@
-//! A reader that tells its file.
+//! A reader that states its file.
 ghost use Rattle.std.specs.Prelude.{◌≡◌, IfErr};
 ghost use Rattle.elf_source.specs.Reader.{IsTurn};
 
 use elf_source::{ReadAt, ReadAtFault};
 
-/// A reader of bytes in memory that tells its file. It gives at most seven bytes at a turn, and each
-/// third turn is interrupted.
+/// A reader of bytes in memory that states its file. It returns at most seven bytes per turn, and
+/// each third turn is interrupted.
 #[derive(Drop)]
 pub struct ChunkedReader<'a> {
     bytes: &'a [u8],
@@ -14,7 +14,7 @@ pub struct ChunkedReader<'a> {
 }
 
 impl<'a> ChunkedReader<'a> {
-    /// A reader of these bytes.
+    /// Creates a reader of these bytes.
     pub fn new(bytes: &'a [u8]) -> Self
         ensures bytes { result.bytes.now ≡ bytes.now }
         ensures interrupted { result.interrupted ≡ 0 }
@@ -48,7 +48,7 @@ impl<'a> ReadAt for ChunkedReader<'a> {
 
     ghost interrupted = { λ r. r.interrupted };
 
-    /// Its bytes stay, wherever a turn reads.
+    /// Its bytes stay the same, wherever a turn reads.
     ghost one_turn = { λ before _ _ after. after.bytes ≡ before.bytes };
 
     fn end(&mut self) -> Result<u64, ReadAtFault> {

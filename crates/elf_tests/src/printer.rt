@@ -6,7 +6,7 @@ use std::alloc::Global;
 use std::io;
 use std::io::{Error, Write};
 
-/// A writer that takes at most so many bytes at a write.
+/// A writer that takes at most a given number of bytes per write.
 #[derive(Drop)]
 pub struct ShortWriter<'a> {
     /// What was written.
@@ -16,7 +16,7 @@ pub struct ShortWriter<'a> {
 }
 
 impl<'a> ShortWriter<'a> {
-    /// A writer that takes at most `most` bytes at a write, and does what its script has.
+    /// Creates a writer that takes at most `most` bytes per write, and follows its script.
     pub fn new(most: usize, script: &'a FaultScript, alloc: Global) -> Self
         ensures written { result.written.items ≡ [] }
         ensures most { result.most ≡ most }

@@ -13,7 +13,7 @@ use std::test::Fail;
 /// All parts of a listing.
 pub(crate) const LISTED: Parts = Parts(127);
 
-/// A request with so many headers permitted.
+/// Returns a request with the given number of headers allowed.
 pub(crate) fn request(headers: u16, task: Task<'_>) -> Result<Request<'_>, Fail> {
     let limits = Limits::new(headers, None).ok_or("limits")?;
     Ok(Request {
@@ -23,13 +23,13 @@ pub(crate) fn request(headers: u16, task: Task<'_>) -> Result<Request<'_>, Fail>
     })
 }
 
-/// A listing of some parts, with names of 63 bytes.
+/// Returns a listing of some parts, with names of 63 bytes.
 pub(crate) fn listing(headers: u16, parts: Parts) -> Result<Request<'static>, Fail> {
     let style = ListingStyle::standard(NameLimit::new(63).ok_or("cap")?);
     request(headers, Task::Show { parts, style })
 }
 
-/// The same request within a budget.
+/// Returns the same request within a budget.
 pub(crate) fn within<'a>(request: &Request<'a>, budget: u64) -> Request<'a> {
     Request {
         file: None,
@@ -41,7 +41,7 @@ pub(crate) fn within<'a>(request: &Request<'a>, budget: u64) -> Request<'a> {
     }
 }
 
-/// What was written, how it ended, how many bytes were asked for, and where the last read stopped.
+/// What was written, how it ended, how many bytes were requested, and where the last read stopped.
 #[derive(Drop)]
 pub(crate) struct Finished {
     pub(crate) text: Vec<u8>,
@@ -50,7 +50,7 @@ pub(crate) struct Finished {
     pub(crate) stopped: u64,
 }
 
-/// Carries a request out on what a source gives. No limit is left.
+/// Carries out a request on a source. No limit is left.
 pub(crate) fn carry_out<S: Source + Drop>(
     rt: &(impl Abort + AllocGlobal),
     request: &Request<'_>,
@@ -70,8 +70,8 @@ pub(crate) fn carry_out<S: Source + Drop>(
     }
 }
 
-/// Carries a request out on a file, and checks its text, its status, and that no more bytes were asked
-/// for than it costs.
+/// Carries out a request on a file, and checks its text, its status, and that no more bytes were
+/// requested than it costs.
 pub(crate) fn check_answer(
     rt: &(impl Abort + AllocGlobal),
     request: &Request<'_>,
@@ -92,9 +92,9 @@ pub(crate) fn check_answer(
     Ok(())
 }
 
-/// Carries a request out with its first read failing, then its second, and so on until none fails:
-/// these are the offsets of its reads. What went out is a front of the answer, and nothing where one of
-/// the first `unwritten` reads failed. Afterwards the same store gives the whole answer.
+/// Carries out a request with its first read failing, then its second, and so on until none fails:
+/// these are the offsets of its reads. What is written is a prefix of the answer, and nothing if
+/// one of the first `unwritten` reads failed. Afterwards the same store gives the whole answer.
 pub(crate) fn check_reads(
     rt: &(impl Abort + AllocGlobal),
     request: &Request<'_>,
@@ -126,8 +126,8 @@ pub(crate) fn check_reads(
     Ok(())
 }
 
-/// Carries a request out into a slice of no byte, then of one, and so on up to its text less the last
-/// byte. The slice is filled with the front of the text, and the fault tells how much that is.
+/// Carries out a request into a slice of no bytes, then of one, and so on up to its text less the
+/// last byte. The slice is filled with the prefix of the text, and the fault reports its length.
 pub(crate) fn check_outputs(
     rt: &(impl Abort + AllocGlobal),
     request: &Request<'_>,

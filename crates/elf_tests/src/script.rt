@@ -7,30 +7,30 @@ use std::io::ErrorKind;
 pub enum InjectedFault {
     /// The call fails.
     Fails(ErrorKind),
-    /// The device says that it has ended.
+    /// The device reports its end.
     Ends,
 }
 
-/// What a device meets at its next calls, and what was asked of it. A call that is interrupted is
-/// counted, and nothing else goes wrong at it.
+/// What happens at the next calls of a device, and what was requested from it. A call that is
+/// interrupted is counted, and nothing else goes wrong at it.
 #[derive(Drop)]
 pub struct FaultScript {
-    // How many of the next seeks are interrupted, how many of the next reads or writes, and how many
-    // behind each of those that goes well.
+    // How many of the next seeks are interrupted, how many of the next reads or writes, and how
+    // many after each of those that succeeds.
     seeks_interrupted: Cell<u32>,
     turns_interrupted: Cell<u32>,
     then_interrupted: Cell<u32>,
-    // What goes wrong, once, and how many calls go well before it.
+    // What goes wrong, once, and how many calls succeed before it.
     trouble: Cell<Option<InjectedFault>>,
     well: Cell<u32>,
     calls: Cell<u32>,
     seeks: Cell<u32>,
-    // Up to where bytes were asked for.
+    // The end of the requested bytes.
     asked_to: Cell<u64>,
 }
 
 impl FaultScript {
-    /// Every call goes well.
+    /// Creates a script in which every call succeeds.
     pub fn new() -> Self {
         FaultScript {
             seeks_interrupted: Cell::new(0),
@@ -44,36 +44,36 @@ impl FaultScript {
         }
     }
 
-    /// So many calls go well, and then one goes wrong.
+    /// Lets the given number of calls succeed, and then one fail.
     pub fn go_wrong(&self, well: u32, trouble: InjectedFault) {
         self.well.set(well);
         self.trouble.set(Some(trouble));
     }
 
-    /// So many of the next seeks are interrupted, so many of the next reads or writes, and so many
-    /// behind each of those that goes well.
+    /// Interrupts the given numbers of the next seeks, of the next reads or writes, and of those
+    /// after each one that succeeds.
     pub fn interrupt(&self, seeks: u32, turns: u32, then: u32) {
         self.seeks_interrupted.set(seeks);
         self.turns_interrupted.set(turns);
         self.then_interrupted.set(then);
     }
 
-    /// How often the device was called.
+    /// Returns how often the device was called.
     pub fn calls(&self) -> u32 {
         self.calls.get()
     }
 
-    /// How many of its seeks went well.
+    /// Returns how many of its seeks succeeded.
     pub fn seeks(&self) -> u32 {
         self.seeks.get()
     }
 
-    /// The end of the range that reaches furthest of those that it was asked for.
+    /// Returns the largest end of the requested ranges.
     pub fn asked_to(&self) -> u64 {
         self.asked_to.get()
     }
 
-    /// A seek: what goes wrong at it.
+    /// Makes a seek, and returns what goes wrong at it.
     pub(crate) fn seek(&self) -> Option<InjectedFault> {
         let trouble = self.call(&self.seeks_interrupted);
         if matches!(trouble, None) {
@@ -82,7 +82,7 @@ impl FaultScript {
         trouble
     }
 
-    /// A read or a write: what goes wrong at it.
+    /// Makes a read or a write, and returns what goes wrong at it.
     pub(crate) fn turn(&self) -> Option<InjectedFault> {
         let trouble = self.call(&self.turns_interrupted);
         if matches!(trouble, None) {
@@ -91,12 +91,13 @@ impl FaultScript {
         trouble
     }
 
-    /// Bytes were asked for up to this offset.
+    /// Records that bytes were requested up to this offset.
     pub(crate) fn ask_to(&self, end: u64) {
         self.asked_to.set(self.asked_to.get().max(end));
     }
 
-    // A call, which may be one of those that are interrupted: what goes wrong at it.
+    // Makes a call, which may be one of those that are interrupted, and returns what goes wrong at
+    // it.
     fn call(&self, interrupted: &Cell<u32>) -> Option<InjectedFault> {
         rise(&self.calls);
         if falls(interrupted) {
@@ -116,7 +117,7 @@ fn rise(count: &Cell<u32>) {
     count.set(count.get().saturating_add(1));
 }
 
-// Takes one from the count, and says whether it wasn't 0.
+// Subtracts one from the count, and returns whether it was not 0.
 fn falls(count: &Cell<u32>) -> bool {
     let left = count.get();
     count.set(left.saturating_sub(1));

@@ -6,7 +6,7 @@ use elf_table::{HeaderBuffer, header, load};
 use std::process::Abort;
 use std::test::Fail;
 
-/// A file of 75 program headers and no sections.
+/// Returns a file of 75 program headers and no sections.
 fn two_pages() -> [u8; 64 + 56 * 75] {
     let mut file = [0; 64 + 56 * 75];
     file[..64].copy_from_slice(&library_without_sections()[..64]);

@@ -1,4 +1,4 @@
-//! What no clause says: that sources and sinks over a device fail only where it does, and then how.
+//! What no clause states: that sources and sinks over a device fail only if it does, and then how.
 use crate::printer::ShortWriter;
 use crate::script::{FaultScript, InjectedFault};
 use crate::tape::EndlessReader;
@@ -10,10 +10,10 @@ use std::alloc::Global;
 use std::io::ErrorKind;
 use std::process::Abort;
 
-/// A failure, as a device tells it.
+/// A failure, as a device reports it.
 pub(crate) const FAILS: InjectedFault = InjectedFault::Fails(ErrorKind::Other);
 
-// Fills `out` from `at` on, which the source's length has to allow.
+// Fills `out` from the offset `at`, which the source's length has to allow.
 pub(crate) fn fill_at<S: Source>(
     source: &mut S,
     at: u64,
@@ -25,7 +25,7 @@ pub(crate) fn fill_at<S: Source>(
     source.fill(at, out)
 }
 
-// Whether at most three bytes from `at` on are read so.
+// Whether at most three bytes at offset `at` are read so.
 fn gives<S: Source>(source: &mut S, at: u64, want: &[u8], rt: &impl Abort) -> bool {
     assert!(rt; want.len() <= 3);
     let mut bytes = [0; 3];
@@ -33,7 +33,7 @@ fn gives<S: Source>(source: &mut S, at: u64, want: &[u8], rt: &impl Abort) -> bo
     fill_at(source, at, out, rt) == Ok(()) && *out == *want
 }
 
-/// A stream over the first letters of a tape that gives at most `most` of them at a read.
+/// Returns a stream over the first letters of a tape that returns at most `most` of them per read.
 pub(crate) fn stream<'a>(
     length: u64,
     most: usize,
@@ -43,7 +43,7 @@ pub(crate) fn stream<'a>(
     StreamSource::new(EndlessReader::new(length, most, script)).expect(rt, "a stream")
 }
 
-/// A stream over the same letters, which are read at offsets as a file of the system is.
+/// Returns a stream over the same letters, which are read at offsets like a file of the system.
 pub(crate) fn file_stream<'a>(
     length: u64,
     most: usize,
@@ -54,7 +54,7 @@ pub(crate) fn file_stream<'a>(
     StreamSource::over(reader).expect(rt, "a stream")
 }
 
-/// A sink over a printer that takes at most `most` bytes at a write.
+/// Returns a sink over a printer that takes at most `most` bytes per write.
 pub(crate) fn printer_sink<'a>(
     most: usize,
     script: &'a FaultScript,

@@ -1,6 +1,6 @@
-//! What no clause says of a stream: that a read is filled, however far it lies and however much is
-//! asked for; that a fault of the reader is told, and leaves no place behind from which the next read
-//! would go on; and how often the reader is asked.
+//! What no clause states about a stream: that a read is filled, however far it lies and however
+//! much is requested; that a fault of the reader is reported, and leaves no position from which the
+//! next read would go on; and how often the reader is called.
 use crate::script::{FaultScript, InjectedFault};
 use crate::source_tests::{FAILS, file_stream, fill_at, stream};
 use crate::tape::stands_at;
@@ -12,13 +12,13 @@ use std::process::Abort;
 /// The length of the longest file that is read, 2^63 - 1 bytes.
 const FAR: u64 = u64::MAX >> 1;
 
-// Whether so many bytes from `at` on are read, each the tape's.
+// Whether the given number of bytes at offset `at` are read, each the tape's.
 fn gives<S: Source>(source: &mut S, at: u64, count: usize, alloc: Global, rt: &impl Abort) -> bool {
     let mut bytes = vec![in alloc; 255u8; count].expect(rt, "memory");
     fill_at(source, at, &mut bytes, rt) == Ok(()) && stands_at(&bytes, at)
 }
 
-// Whether two bytes from `at` on are read, each the tape's.
+// Whether two bytes at offset `at` are read, each the tape's.
 fn gives_two<S: Source>(source: &mut S, at: u64, rt: &impl Abort) -> bool {
     let mut bytes = [255; 2];
     fill_at(source, at, &mut bytes, rt) == Ok(()) && stands_at(&bytes, at)
@@ -74,8 +74,8 @@ fn a_read_of_no_byte_leaves_the_reader_where_it_stands(rt: HostRuntime) {
     }
 }
 
-// Whether two bytes are read well from `next` on behind a read of five at `at` that has this fault,
-// since a call of it goes wrong; the reader stood at 5.
+// Whether two bytes are read successfully at `next` after a read of five at `at` that has this
+// fault, since a call of it goes wrong; the reader was at 5.
 fn recovers(
     at: u64,
     (well, trouble): (u32, InjectedFault),
@@ -135,7 +135,8 @@ fn a_fault_of_any_kind_is_told_at_once(rt: HostRuntime) {
     }
 }
 
-// What reading so many bytes answers, one at each turn, where seeks and reads are interrupted.
+// The result of reading the given number of bytes, one per turn, when seeks and reads are
+// interrupted.
 fn read_interrupted(
     (seeks, reads, then): (u32, u32, u32),
     count: usize,
@@ -161,7 +162,7 @@ fn interruptions_of_one_call_are_counted_together(rt: HostRuntime) {
         ((40, 24, 0), 3, fault),
         ((1, 63, 0), 3, fault),
         ((63, 1, 0), 3, fault),
-        // One or more behind each read but the last.
+        // One or more after each read but the last.
         ((0, 0, 1), 64, Ok(())),
         ((0, 0, 1), 65, fault),
         ((1, 0, 1), 64, fault),

@@ -61,7 +61,8 @@ fn open<S: Source>(src: &mut Counted<S>, store: &mut HeaderStore) -> Result<Load
     load(src, store, &header)
 }
 
-/// The first name byte of the second symbol, its section, and whether its name is `wanted`.
+/// Returns the first byte of the second symbol's name, its section, and whether its name is
+/// `wanted`.
 fn second_symbol<S: Source>(
     src: &mut Counted<S>,
     symbols: Table,
@@ -146,14 +147,14 @@ fn a_loaded_file_has_its_segments_tables(rt: HostRuntime) -> Result<(), Fail> {
     Ok(())
 }
 
-/// The index of a row.
+/// Returns the index of a row.
 fn index_of(row: &Row<'_>) -> u64
     ensures { result ≡ row.now.index }
 {
     row.index
 }
 
-/// Where the descriptor of a note stands.
+/// Returns the offset of a note's descriptor.
 fn descriptor_of(row: &NoteRow<'_>) -> u64
     ensures { result ≡ row.now.desc_at }
 {
@@ -271,7 +272,8 @@ fn a_refusal_ends_a_listing_with_its_line(rt: HostRuntime) -> Result<(), Fail> {
     let mut text = [0; 256];
     let mut out = Out::new(SliceSink::new(&mut text));
     let mut src = Counted::new(MemorySource::new(&one_symbol_table()[..63]));
-    assert!(rt; store.slots() == caps.headers());
+    assert!(rt; store.slots() == caps.headers() && caps.name() == 63 && caps.budget() == None);
+    assert!(rt; caps.with_budget(1).budget() == Some(1));
     let refusal = Refusal {
         at: 63,
         cause: Cause::Short,
@@ -301,6 +303,16 @@ fn a_section_is_applied(rt: HostRuntime) -> Result<(), Fail> {
     };
     let answer: Result<Applied, ApplyFault> = apply(&mut src, &mut store, 1, &layout, &mut out);
     assert!(rt; answer.err() == Some(ApplyFault::Refused(refusal)) && out.written() == 0);
+    let entry = Item::Entry {
+        name: b"f",
+        address: 0x2000,
+    };
+    assert!(rt; layout.push(entry) == Ok(()));
+    match apply(&mut src, &mut store, 1, &layout, &mut out) {
+        Ok(Applied { size, entries }) => assert!(rt; size == 5 && entries == 1),
+        Err(_) => assert!(rt; false),
+    }
+    assert!(rt; out.into_inner().written() == [0xe8, 0xfb, 0x0f, 0, 0].as_slice());
     let patch: Result<Patch, ValueFault> = value(10, 0x1_0000_0000, 0, 0, 0);
     assert!(rt; patch.err() == Some(ValueFault::Overflow));
     Ok(())

@@ -1,4 +1,4 @@
-//! How often a source is asked for rows.
+//! How often a source is read for rows.
 ghost use Rattle.std.specs.Prelude.{◌≡◌};
 ghost use Rattle.elf_table.specs.Tables.{TableInBounds};
 
@@ -7,7 +7,7 @@ use elf_source::{Counted, Source};
 use elf_table::{Cursor, Fault, Table};
 use std::process::Abort;
 
-/// How many rows of 24 bytes a cursor gives, each with its index and offset.
+/// Returns the number of rows of 24 bytes of a cursor, each with its index and offset.
 fn rows_given<S: Source>(
     cursor: &mut Cursor,
     src: &mut Counted<S>,
@@ -27,8 +27,8 @@ fn rows_given<S: Source>(
     Ok(count)
 }
 
-// Goes over a table of so many rows: the answer, how often the source was read, and how many bytes
-// were asked for.
+// Iterates over a table of the given number of rows: the result, how often the source was read, and
+// how many bytes were requested.
 fn walk(count: u64, rt: &impl Abort) -> (Result<u64, Fault>, u32, u128) {
     let bytes = [7; 4104];
     assert!(rt; count <= 171);

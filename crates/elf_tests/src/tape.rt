@@ -6,9 +6,9 @@ use std::io;
 use std::io::{Error, ErrorKind, Read, Seek, SeekFrom};
 use std::os::unix::fs::FileExt;
 
-/// A reader of the letters from `a` to `z`, over and over, which are never stored, at the place where
-/// it stands or at an offset. It gives at most so many bytes at a read. Where a call fails it stands
-/// elsewhere afterwards, unless it was interrupted.
+/// A reader of the letters from `a` to `z`, repeated, which are never stored, at its position or at
+/// an offset. It returns at most a given number of bytes per read. If a call fails, its position
+/// has changed afterwards, unless the call was interrupted.
 #[derive(Drop)]
 pub struct EndlessReader<'a> {
     length: u64,
@@ -18,7 +18,8 @@ pub struct EndlessReader<'a> {
 }
 
 impl<'a> EndlessReader<'a> {
-    /// A reader of `length` bytes that gives at most `most` at a read, and does what its script has.
+    /// Creates a reader of `length` bytes that returns at most `most` per read, and follows its
+    /// script.
     pub fn new(length: u64, most: usize, script: &'a FaultScript) -> Self
         ensures { (result.length ≡ length) × (result.at ≡ 0) × (result.most ≡ most) }
     {
@@ -38,12 +39,12 @@ impl<'a> EndlessReader<'a> {
         Error::from(kind)
     }
 
-    // Goes elsewhere.
+    // Changes the position.
     fn stray(&mut self) {
         self.at = self.at.saturating_add(100);
     }
 
-    // Gives what stands at an offset into the front of `buf`, and answers how many bytes.
+    // Copies the bytes at an offset to the start of `buf`, and returns how many.
     fn give(&self, at: u64, buf: &mut [u8]) -> usize
         ensures { result ≤ length buf.new }
     {
@@ -107,7 +108,7 @@ fn letter_at(at: u64) -> u8
     b'a' + (at % 26) as u8
 }
 
-// Writes the letters of a tape from `at` on.
+// Writes the letters of a tape starting at `at`.
 fn write_from(out: &mut [u8], at: u64) {
     let mut place = at;
     for byte in out {
@@ -116,7 +117,7 @@ fn write_from(out: &mut [u8], at: u64) {
     }
 }
 
-/// Whether these are the letters of a tape from the offset `at` on.
+/// Returns `true` if these are the letters of a tape starting at offset `at`.
 pub fn stands_at(bytes: &[u8], at: u64) -> bool {
     let mut place = at;
     for byte in bytes {

@@ -1,4 +1,4 @@
-//! Requests over two files that answer in turn, as where a file changes between two reads.
+//! Requests over two files that are read in turn, as if a file changes between two reads.
 use crate::requests::{LISTED, carry_out, listing, request};
 use elf_cli::outcome;
 use elf_fixtures::{hash_with_cycle, one_symbol_table, overlapping_relocations, with_bytes};
@@ -10,8 +10,8 @@ use elf_table::HeaderBuffer;
 use std::process::Abort;
 use std::test::Fail;
 
-/// Carries a request out on two files of one length in turn, in both orders. It comes back with an
-/// answer or a refusal, never with a fault, and no more than so many bytes are asked for.
+/// Carries out a request on two files of one length in turn, in both orders. It returns an answer
+/// or a refusal, never a fault, and requests at most the given number of bytes.
 fn check_turns(
     rt: &(impl Abort + AllocGlobal),
     request: &Request<'_>,
@@ -57,8 +57,8 @@ fn applying_in_two_files_in_turn_stays_below_its_bound(rt: HostRuntime) -> Resul
             explain: false,
         },
     )?;
-    // The file header and the section headers; six passes over tables of 39 entries, of 48 bytes each
-    // with their symbols; and the section.
+    // The file header and the section headers; six passes over tables of 39 entries, of 48 bytes
+    // each with their symbols; and the section.
     check_turns(&rt, &applied, files, 64 + 192 + 6 * 39 * 48 + 312)
 }
 

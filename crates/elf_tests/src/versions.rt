@@ -1,4 +1,4 @@
-//! How often a source is asked for symbol versions, and for how much of them.
+//! How often a source is read for symbol versions, and for how many bytes.
 ghost use Rattle.std.specs.Prelude.{◌≡◌};
 ghost use Rattle.elf_table.specs.Tables.{TableInBounds};
 
@@ -10,7 +10,7 @@ use elf_source::{Counted, Source};
 use elf_table::{Fault, Table};
 use std::process::Abort;
 
-/// How many records a cursor gives.
+/// Returns the number of records of a cursor.
 fn records_given<S: Source>(cursor: &mut VersionCursor, src: &mut Counted<S>) -> Result<u64, Fault>
     requires { TableInBounds src.old.seen.size cursor.old.held.table }
     ensures table { cursor.new.held ≡ cursor.old.held }
@@ -23,14 +23,14 @@ fn records_given<S: Source>(cursor: &mut VersionCursor, src: &mut Counted<S>) ->
     Ok(count)
 }
 
-/// What was asked of a source.
+/// What was requested from a source.
 #[derive(Clone, Copy, PartialEq, Eq)]
 struct AskedBytes {
     reads: u32,
     bytes: u64,
 }
 
-// Goes over a table of some bytes of a file: the answer, and what was asked for.
+// Iterates over a table of some bytes of a file: the result, and what was requested.
 fn walk(
     file: &[u8],
     kind: VersionKind,
@@ -54,7 +54,7 @@ fn walk(
     (answer, AskedBytes { reads, bytes })
 }
 
-// A refusal of a record that leads to a place where none is.
+// A refusal of a record that leads to an offset without a record.
 fn cut(at: u64) -> Result<u64, Fault> {
     Err(Fault::Refused(Refusal {
         at,
@@ -62,7 +62,7 @@ fn cut(at: u64) -> Result<u64, Fault> {
     }))
 }
 
-/// So many reads, of so many bytes together.
+/// Returns the given number of reads, with the given number of bytes in total.
 fn took(reads: u32, bytes: u64) -> AskedBytes {
     AskedBytes { reads, bytes }
 }
@@ -80,18 +80,18 @@ fn a_table_is_read_at_once(rt: HostRuntime) {
 
 #[test]
 fn records_over_each_other_are_read_alone_in_a_long_table(rt: HostRuntime) {
-    // Definitions that lead on by 13 bytes, with their names 264 bytes behind them.
+    // Definitions with a distance of 13 bytes, with their names 264 bytes after them.
     let mut bytes = [0; 5000];
     for index in 0..384_usize {
         let place = index * 13;
         bytes[place..place + 13].copy_from_slice(&[1, 0, 0, 13, 0, 0, 0, 0, 0, 0, 0, 0, 8]);
     }
     let walked = walk(&bytes, VersionKind::Definition, 0, 5000, &rt);
-    // As many as have room one behind the other, 250, each with 20 bytes and 4 of its name.
+    // As many as fit one after the other, 250, each with 20 bytes and 4 of its name.
     assert!(rt; walked == (cut(3237), took(500, 6000)));
     let walked = walk(&bytes, VersionKind::Definition, 0, 1000, &rt);
     assert!(rt; walked == (cut(637), took(1, 1000)));
-    // As long as what is held at most, and a byte longer.
+    // As long as what is buffered at most, and a byte longer.
     let walked = walk(&bytes, VersionKind::Definition, 0, 4096, &rt);
     assert!(rt; walked == (cut(2639), took(1, 4096)));
     let walked = walk(&bytes, VersionKind::Definition, 0, 4097, &rt);

@@ -1,4 +1,4 @@
--- Passes over the names of a folder give all of them.
+-- Passes over the names of a directory give all of them.
 use Rattle.std.proofs.Common.{◌≡◌, ℕ, zero, suc, ◌≤◌, ◌<◌, nat_lt, Bool, true, false, cond, List, [], ◌∷◌, ◌++◌, length, take, drop, get_or, refl, ap, sym, ◌∙◌, arith, subst}
 use Rattle.std.proofs.lemmas.Bool.{ltb-true, ltb-false}
 use Rattle.std.proofs.lemmas.List.{length-drop}
@@ -20,7 +20,7 @@ parted zero names = refl
 parted (suc n) [] = refl
 parted (suc n) (x ∷ xs) = ap (λ l. x ∷ l) (parted n xs)
 
--- what is behind the last of those that a pass keeps are those that it doesn't keep
+-- those that a pass does not keep are after the last of those that it keeps
 rest_behind : (after : List ℕ) (all : List (List ℕ)) (d : List ℕ) (k : ℕ) → k < length (names_following after (in_order all))
     → names_following (get_or (names_following after (in_order all)) k d) (in_order all) ≡ drop (suc k) (names_following after (in_order all))
 rest_behind after all d k within =

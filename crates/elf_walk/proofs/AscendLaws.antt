@@ -1,4 +1,4 @@
--- Names in order ascend, and those behind a name are put in order among themselves.
+-- Sorted names ascend, and those after a name are sorted among themselves.
 use Rattle.std.proofs.Common.{◌≡◌, ℕ, zero, suc, ◌<◌, Bool, true, false, cond, List, [], ◌∷◌, length, drop, get_or, refl, ap, sym, ◌∙◌, arith, subst}
 use Rattle.std.proofs.lemmas.Bool.{both_ways}
 use Rattle.std.proofs.lemmas.Cmp.{nat_list_cmp_total, tied_itself}
@@ -26,7 +26,7 @@ greater_by Less is = absurd (both_ways false refl is)
 greater_by Equal is = absurd (both_ways false refl is)
 greater_by Greater is = refl
 
--- what is behind a name that is behind another is behind that one
+-- what is after a name that is after another is after that one
 further : (low name far : List ℕ) → is_gt (order name low) ≡ true → order name far ≡ Less → is_gt (order far low) ≡ true
 further low name far is less =
     let below : order low name ≡ Less = back_of_greater name low (greater_by (order name low) is) in
@@ -35,7 +35,7 @@ further low name far is less =
 same_behind : (low name other : List ℕ) → order name other ≡ Equal → is_gt (order name low) ≡ is_gt (order other low)
 same_behind low name other same = ap is_gt (total.congr name other low same)
 
--- THOSE BEHIND A NAME
+-- THOSE AFTER A NAME
 
 by_order : (low name first : List ℕ) (rest : List (List ℕ))
     → names_following low (insert_by (λ n. n) name rest) ≡ cond (is_gt (order name low)) (insert_by (λ n. n) name (names_following low rest)) (names_following low rest)
@@ -94,7 +94,7 @@ one_more low name names before false is rest =
     subst (λ b. names_following low (insert_by (λ n. n) name before) ≡ cond b (insert_by (λ n. n) name (names_following low before)) (names_following low before)) (sym is) (put_after low name before) in
     rw (sym is) (ap (λ l. put_all_by (λ n. n) (names_following low names) l) (sym one) ∙ rest (insert_by (λ n. n) name before))
 
--- those behind a name in order are those in order that are behind it
+-- those after a name, sorted, are those of the sorted names that are after it
 pub order_after : (low : List ℕ) (names before : List (List ℕ))
     → put_all_by (λ n. n) (names_following low names) (names_following low before) ≡ names_following low (put_all_by (λ n. n) names before)
 unfolding put_all_by
@@ -151,7 +151,7 @@ pub after_ascends : (low : List ℕ) (names : List (List ℕ)) → Ascends names
 after_ascends low [] up = tt
 after_ascends low (x ∷ xs) up = one_ascends x (names_following low xs) (is_gt (order x low)) (filtered_behind low x xs up.0) (after_ascends low xs up.1)
 
--- WHAT IS BEHIND A MEMBER
+-- WHAT IS AFTER A MEMBER
 
 all_kept : (low : List ℕ) (names : List (List ℕ)) → AreAfter low names → names_following low names ≡ names
 all_kept low [] are = refl
@@ -162,7 +162,7 @@ member_behind first [] k d are within = absurd (omega arith)
 member_behind first (x ∷ xs) zero d are within = are.0
 member_behind first (x ∷ xs) (suc k) d are within = member_behind first xs k d are.1 (omega arith)
 
--- what is behind a member of names that ascend are those after it
+-- what is after a member of names that ascend are those after it
 pub after_member : (names : List (List ℕ)) (k : ℕ) (d : List ℕ) → Ascends names → k < length names
     → names_following (get_or names k d) names ≡ drop (suc k) names
 after_member [] k d up within = absurd (omega arith)
@@ -182,7 +182,7 @@ one_twice low high x xs true false is was less ih = rw (sym was) ih
 one_twice low high x xs false true is was less ih = absurd (both_ways (is_gt (order x low)) (sym is) (still_behind low high x less (sym was)))
 one_twice low high x xs false false is was less ih = ih
 
--- what is behind the higher of two names is behind both
+-- what is after the higher of two names is after both
 pub after_twice : (low high : List ℕ) (names : List (List ℕ)) → order low high ≡ Less → names_following high (names_following low names) ≡ names_following high names
 after_twice low high [] less = refl
 after_twice low high (x ∷ xs) less =

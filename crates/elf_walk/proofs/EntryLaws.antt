@@ -1,9 +1,10 @@
--- Entries of bytes, and of bytes behind them.
+-- Entries of bytes, and of bytes after them.
 use Rattle.std.proofs.Common.{◌≡◌, ◌≢◌, ℕ, zero, suc, ◌<◌, All, List, [], ◌∷◌, ◌++◌, length, take, drop, get_or, refl, ap, sym, ◌∙◌, arith, append_assoc, append-nil}
 use Rattle.std.proofs.lemmas.List.Elements.{All-head, All-tail}
 use Rattle.elf_walk.specs.Entries.{EntryIsFound, LastIsFound, whole_entries, last_entry, rest_from}
 
--- the entries of bytes and of others behind them are those of the first, then those of the others with what is left before them
+-- the entries of bytes and of others after them are those of the first, then those of the others
+-- with what is left before them
 pub entries_join : (front a b : List ℕ) → whole_entries front (a ++ b) ≡ whole_entries front a ++ whole_entries (rest_from front a) b
 unfolding whole_entries rest_from
 entries_join front [] b = refl
@@ -31,7 +32,7 @@ none_ends front [] none = refl
 none_ends front (zero ∷ a) none = absurd (none 0 (omega arith) refl)
 none_ends front (suc n ∷ a) none = none_ends (front ++ suc n ∷ []) a (λ k low. none (suc k) (omega arith))
 
--- where no entry ends in them, all bytes are left
+-- if no entry ends in them, all bytes are left
 pub all_left : (front a : List ℕ) → whole_entries front a ≡ [] → rest_from front a ≡ front ++ a
 unfolding whole_entries rest_from
 all_left front [] none = sym (append-nil front)
@@ -50,7 +51,7 @@ first_ends front (suc n ∷ a) (suc end) low nul none =
     let more = first_ends (front ++ suc n ∷ []) a end (omega arith) nul (λ k below. none (suc k) (omega arith)) in
     (more.0 ∙ ap (λ f. f ∷ whole_entries [] (drop (suc end) a)) (append_assoc front (suc n ∷ []) (take end a)), more.1)
 
--- bytes with an entry at their front
+-- bytes with an entry at their start
 whole_from : (front entry rest : List ℕ) → All (λ b. b ≢ 0) entry
     → (whole_entries front (entry ++ 0 ∷ rest) ≡ (front ++ entry) ∷ whole_entries [] rest) × (rest_from front (entry ++ 0 ∷ rest) ≡ rest_from [] rest)
 unfolding whole_entries rest_from

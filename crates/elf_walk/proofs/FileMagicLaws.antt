@@ -1,4 +1,4 @@
--- The check of a file by its sort, and what that asks for.
+-- The check of a file by its type, and what that reads.
 use Rattle.std.proofs.Common.{◌≡◌, ℕ, ◌+◌, ◌≤◌, nat_lt, Bool, true, false, if◌then◌else◌, List, Option, None, Some, arith}
 use Rattle.std.specs.Prelude.{IfSome}
 use Rattle.elf_model.specs.Prelude.{ListingStyle, archive_ceiling, front_size, style_ceiling}
@@ -9,7 +9,7 @@ use Rattle.elf_options.specs.Prelude.{style_of}
 use Rattle.elf_options.specs.declared.caps.Caps.{Caps}
 use Rattle.elf_walk.specs.Prelude.{AsksNoMore, FailsRead, FindsSorted, FindsSortedState, check_ceiling, front_asked}
 
--- what a file asks for, by the ceiling of an archive of as many bytes
+-- what a check reads, by the ceiling of an archive of as many bytes
 check_most : (short : Bool) (size headers : ℕ) (style : ListingStyle) → (if short then 4 else style_ceiling size headers style) ≤ archive_ceiling size headers style
 unfolding archive_ceiling
 check_most true size headers style = omega arith
@@ -22,7 +22,7 @@ asks_as_archive caps old new asks =
     check_most (nat_lt old.seen.size 64) old.seen.size caps.limits.headers (style_of caps.style) in
     record { ceiling = omega (arith, asks.ceiling, most); budget = asks.budget }
 
--- nothing more is asked for
+-- nothing more is read
 some_within : (budget : Option ℕ) (old new : ℕ) → new ≡ old → IfSome budget (λ bytes. new ≤ old + bytes)
 some_within None old new is = tt
 some_within (Some bytes) old new is = omega (arith, is)
@@ -30,7 +30,7 @@ some_within (Some bytes) old new is = omega (arith, is)
 pub asks_nothing : (caps : Caps) (old new : CountedState) → new.asked ≡ old.asked → AsksNoMore (archive_ceiling old.seen.size caps.limits.headers (style_of caps.style)) caps.limits.budget old new
 asks_nothing caps old new is = record { ceiling = omega (arith, is); budget = some_within caps.limits.budget old.asked new.asked is }
 
--- the bytes that tell what a file is are eight at most
+-- the magic bytes of a file are at most eight
 front_few : (short room : Bool) (n : ℕ) → n ≤ 8 → (if short then 0 else if room then n else 0) ≤ 8
 front_few true room n few = omega arith
 front_few false true n few = few
@@ -51,7 +51,7 @@ sorted_found caps parts file state.NoElf finds = finds
 sorted_found caps parts file state.Unread finds = tt
 sorted_found caps parts file state.Memory finds = finds
 
--- a file that was not read behind reads that did not fail
+-- a file that was not read after reads that did not fail
 pub state_after : (a b c : CountedState) (found : FileStatus) → a.seen.failures ≤ b.seen.failures → FailsRead b c found → FailsRead a c found
 state_after a b c state.Ok fewer fails = tt
 state_after a b c (state.Refused refusal) fewer fails = tt

@@ -45,7 +45,7 @@ short_found caps parts file state.NoElf short is = short_file_status caps.limits
 short_found caps parts file state.Unread short is = tt
 short_found caps parts file state.Memory short is = short_file_status caps.limits.budget file caps.limits.headers (style_of caps.style) parts _ short is
 
--- a listing that came to its end
+-- a listing that was read to its end
 pub ended : {X : Type 0} (file : List ℕ) (caps : Caps) (parts : ℕ) (old new : OutState) (x : X) → WroteReport file caps parts old new (Ok x)
     → IsStateOf caps.limits.budget file caps.limits.headers (style_of caps.style) parts state.Ok
 ended file caps parts old new x reports = record {
@@ -55,7 +55,7 @@ ended file caps parts old new x reports = record {
   state_is = ap (state_of caps.limits.budget file) reports.wrote.1;
 }
 
--- a listing that was refused, of a file that has room for a file header
+-- a listing that was refused, of a file large enough for a file header
 pub refused : {X : Type 0} (file : List ℕ) (caps : Caps) (parts : ℕ) (old new : OutState) (refusal : Refusal) (found : FileStatus) → 64 ≤ length file
     → WroteReport {X = X} file caps parts old new (Err (StopRefused refusal)) → found ≡ (if is_not_elf refusal.cause then state.NoElf else state.Refused refusal)
     → IsStateOf caps.limits.budget file caps.limits.headers (style_of caps.style) parts found
@@ -80,7 +80,7 @@ pub refused_read : (a b : CountedState) (t : Bool) (refusal : Refusal) (found : 
 refused_read a b true refusal found is = rw is tt
 refused_read a b false refusal found is = rw is tt
 
--- what the check of a short file may ask for, and of one that has room for a file header
+-- what the check of a short file may request, and of one large enough for a file header
 pub cost_short : (file : List ℕ) (headers : ℕ) (style : ListingStyle) (parts : ℕ) → length file < 64 → check_cost file headers style parts ≡ 4
 cost_short file headers style parts short = let few : nat_lt (length file) 64 ≡ true = grind (arith, nat_tests) in rw few refl
 

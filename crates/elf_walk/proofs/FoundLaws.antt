@@ -1,4 +1,4 @@
--- What is found of a file, by what the search for its traits answered.
+-- What is found for a file, by the result of the search for its traits.
 use Rattle.std.proofs.Common.{◌≡◌, ℕ, ◌^◌, ◌<◌, ◌≤◌, ◌++◌, ◌⊎◌, true, false, if◌then◌else◌, List, length, Option, None, Some, Result, Ok, Err, inl, inr, refl, sym, ap, subst, ◌∙◌, nat_lt, arith}
 use Rattle.std.proofs.lemmas.Bool.Decides.{nat_tests}
 use Rattle.elf_model.specs.Prelude.{IsBudgetRefusal, first_refusal, header_checks, is_not_elf, load_checks, loaded_traits, state_of, traits_by_segments, traits_cost, traits_of, without_sections}
@@ -40,7 +40,7 @@ short_traits file headers short =
     ∙ refused_first (without_sections file) headers (short_refusal (without_sections file)) (short_first (without_sections file) headers (omega (arith, same)))
     ∙ ap (λ at. Err (record { at = at; cause = Short })) same
 
--- what the definitions tell is found, within every budget
+-- what the definitions give is found, within every budget
 told : (budget : Option ℕ) (headers : ℕ) (file : List ℕ) (found : Result Hardening FileStatus) → found ≡ traits_found budget file (traits_of file headers)
     → IsFoundWithin budget headers file found
 told None headers file found is = is
@@ -73,7 +73,7 @@ pub found_within : (budget : Option ℕ) (headers : ℕ) (file : List ℕ) (trai
 found_within budget headers file traits s1 s2 did =
     finds budget headers file (Ok traits) (told budget headers file (Ok traits) (sym (ap (traits_found budget file) did.finds)))
 
--- a refusal for want of budget: the budget is less than what the traits cost
+-- a refusal for lack of budget: the budget is less than what the traits cost
 lacking_within : (budget : Option ℕ) (headers : ℕ) (file : List ℕ) (s0 s1 s2 : CountedState) (refusal : Refusal) → s0.asked ≤ 2 ^ 127 → SetsLimit s0 s1 budget
     → length file ≡ s1.seen.size → IsBudgetRefusal refusal → FindsTraits file headers s1 s2 (Err (Refused refusal)) → IsFoundWithin budget headers file (Err (state.Refused refusal))
 lacking_within None headers file s0 s1 s2 refusal small set sized budget did =
@@ -88,7 +88,7 @@ lacking_within (Some bytes) headers file s0 s1 s2 refusal small set sized budget
       (budget, omega (arith, says.0, sized)),
     )
 
--- a refusal of a file that has room for a file header
+-- a refusal of a file large enough for a file header
 pub refused_within : (budget : Option ℕ) (headers : ℕ) (file : List ℕ) (s0 s1 s2 : CountedState) (refusal : Refusal) (found : FileStatus) → 64 ≤ length file → s0.asked ≤ 2 ^ 127
     → SetsLimit s0 s1 budget → length file ≡ s1.seen.size → FindsTraits file headers s1 s2 (Err (Refused refusal))
     → found ≡ (if is_not_elf refusal.cause then state.NoElf else state.Refused refusal) → FindsWithin budget headers file (Err found)

@@ -1,4 +1,4 @@
--- What is kept where a name is put, and where the last ones are dropped.
+-- What is kept when a name is inserted, and when the last ones are dropped.
 use Rattle.std.proofs.Common.{◌≡◌, ℕ, zero, suc, ◌<◌, Bool, true, false, not, ◌&&◌, ◌||◌, cond, List, [], ◌∷◌, ◌++◌, length, take, drop, get_or, refl, ap, sym, ◌∙◌, arith, append_assoc, subst}
 use Rattle.std.proofs.lemmas.Bool.{both_ways}
 use Rattle.std.proofs.lemmas.Cmp.{nat_list_cmp_total}
@@ -22,7 +22,7 @@ back_of_less x y less = total.antisymm y x ∙ ap ordering_reverse less
 back_of_greater : (x y : List ℕ) → order x y ≡ Greater → order y x ≡ Less
 back_of_greater x y greater = total.antisymm y x ∙ ap ordering_reverse greater
 
--- THE NAMES BEHIND ONE, WITH ONE MORE
+-- THE NAMES AFTER ONE, WITH ONE MORE
 
 one_filtered : (low name : List ℕ) (names : List (List ℕ)) → names_following low (names ++ name ∷ []) ≡ names_following low names ++ cond (is_gt (order name low)) (name ∷ []) []
 one_filtered low name [] = refl
@@ -46,7 +46,7 @@ pub one_after : (low name : List ℕ) (names : List (List ℕ)) → is_gt (order
 one_after low name names is =
     ap in_order (one_filtered low name names ∙ ap (λ b. names_following low names ++ cond b (name ∷ []) []) is) ∙ all_more (names_following low names) name []
 
--- A NAME IS PUT
+-- A NAME IS INSERTED
 
 put_within : (name limit : List ℕ) (front rest : List (List ℕ)) → order name limit ≡ Less
     → insert_by (λ n. n) name (front ++ limit ∷ rest) ≡ insert_by (λ n. n) name front ++ limit ∷ rest
@@ -113,7 +113,7 @@ lt_by Less is = refl
 lt_by Equal is = absurd (both_ways false refl is)
 lt_by Greater is = absurd (both_ways false refl is)
 
--- a name that is wanted is put among those that are kept
+-- a name that is wanted is inserted among those that are kept
 pub front_wanted : (name limit : List ℕ) (kept all : List (List ℕ)) (more : Bool) → (not more || is_lt (order name limit)) ≡ true
     → IsFront limit more kept all → IsFront limit more (insert_by (λ n. n) name kept) (insert_by (λ n. n) name all)
 front_wanted name limit kept all false is front = ap (λ l. insert_by (λ n. n) name l) front
@@ -176,7 +176,7 @@ keeps_wanted names name low limit kept more true gt is front =
     (front_wanted name limit kept (in_order (names_following low names)) more is front)
 keeps_wanted names name low limit kept more false gt is front = absurd (both_ways false refl is)
 
--- NAMES ARE PUT IN ORDER, AND THE LAST ARE DROPPED
+-- NAMES ARE SORTED, AND THE LAST ARE DROPPED
 
 behind_taken : (first : List ℕ) (n : ℕ) (names : List (List ℕ)) → AreAfter first names → AreAfter first (take n names)
 behind_taken first zero names are = tt
@@ -194,7 +194,7 @@ at_taken (suc n) k [] d within = refl
 at_taken (suc n) zero (x ∷ xs) d within = refl
 at_taken (suc n) (suc k) (x ∷ xs) d within = at_taken n k xs d (omega arith)
 
--- those of some names in order are in order
+-- those of some sorted names are sorted
 pub taken_stays : (names spare new : List (List ℕ)) → spare ≡ in_order names → new ≡ take (length new) spare → in_order new ≡ new
 taken_stays names spare new is front =
     let up : Ascends new = subst Ascends (sym (front ∙ ap (λ l. take (length new) l) is)) (taken_ascends (length new) (in_order names) (order_ascends names [] tt)) in

@@ -1,4 +1,4 @@
--- The names of a folder, entry by entry.
+-- The names of a directory, entry by entry.
 use Rattle.std.proofs.Common.{◌≡◌, ◌≢◌, ℕ, suc, ◌+◌, ◌-◌, ◌^◌, ◌<◌, ◌≤◌, inl, inr, Bool, true, false, min, Result, Ok, OnOk, List, [], ◌∷◌, ◌++◌, length, take, drop, get_or, refl, ap, sym, ◌∙◌, arith, subst, append_assoc, append-nil, length-drop}
 use Rattle.std.proofs.lemmas.Bool.{cases_lt}
 use Rattle.std.proofs.lemmas.Grind.{flat_map-append}
@@ -96,7 +96,7 @@ last_one (x ∷ a) end some is none =
     ap (λ es. es ++ last_entry (rest_from [] bytes)) open_end ∙ ap last_entry left ∙ ap (λ e. e ∷ []) (sym entry)
     ∙ ap (λ d. take end bytes ∷ d) (sym (ap list_entries behind ∙ none_of_none))
 
--- the first entry of some bytes, and those behind it
+-- the first entry of some bytes, and those after it
 pub first_entry : (a : List ℕ) (end : ℕ) → 0 < length a → end ≤ length a → (end < length a → get_or a end 0 ≡ 0) → ((k : ℕ) → k < end → get_or a k 0 ≢ 0)
     → list_entries a ≡ take end a ∷ list_entries (drop (suc end) a)
 first_entry a end some within nul none = elim (cases_lt end (length a)) [
@@ -127,7 +127,7 @@ put_none bytes old = record {
   keeps = λ before h. subst (λ names. KeepsFirstNames names old) (sym (append-nil before)) h;
 }
 
--- one entry more
+-- one more entry
 pub put_more : (bytes : List ℕ) (at end next unnamed count : ℕ) (names : List (List ℕ)) (n : ℕ) (old mid new : KeptNames) → PutSoFar bytes at unnamed old mid
     → list_entries (drop at bytes) ≡ take end (drop at bytes) ∷ list_entries (drop (suc end) (drop at bytes)) → next ≡ suc (at + end)
     → AreNamesOf (take end (drop at bytes) ∷ []) names n → count ≡ min (unnamed + n) (2 ^ 64 - 1)

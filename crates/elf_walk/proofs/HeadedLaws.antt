@@ -1,4 +1,4 @@
--- A listing behind the line of a path, by what was written of both.
+-- A listing after the line of a path, by what was written of both.
 use Rattle.std.proofs.Common.{◌≡◌, ℕ, Bool, false, List, [], ◌∷◌, Option, None, Some, Result, Ok, Err, refl, ◌∙◌, inl}
 use Rattle.std.specs.Prelude.{IfErr}
 use Rattle.elf_model.specs.Prelude.{EveryRow, ListingStyle, RowFilter, RowsOf, SymbolQuery, archive_items, fault_of, headed, listing, members_alone, report_of}
@@ -59,14 +59,14 @@ path_stops kind line file limits style parts old new fault front =
     let some = some_listed kind file limits style parts in
     record { text = some.text; fault = some.fault; listed = some.listed; wrote = front some.text; refused = tt }
 
--- with a front of it, or with nothing
+-- with a prefix of it, or with nothing
 pub line_begun : (line : List ℕ) (choice : RowFilter) (old new : OutState) → choice ≡ EveryRow → SinkTakesPrefix old new line → (text : List ℕ) → SinkTakesPrefix old new (headed choice line text)
 line_begun line choice old new every front text = rw every (SinkTakesPrefix-more line text front)
 
 pub line_unheld : (line : List ℕ) (choice : RowFilter) (old new : OutState) (fault : OutFault) → FailsOutput old new fault → (text : List ℕ) → SinkTakesPrefix old new (headed choice line text)
 line_unheld line choice old new fault breaks text = record { front = []; rest = headed choice line text; split = refl; takes = broken_takes old new fault breaks }
 
--- the line stands before each listing
+-- the line is before each listing
 pub every_headed : (kind : FileMagic) (line file : List ℕ) (limits : Limits) (style : ListingStyle) (parts : ℕ) (old mid new : OutState) (result : Result Bool RunFault) → style.choice ≡ EveryRow
     → SinkTakes old mid line → ListsSort kind file limits style parts mid new result → ListsHeaded kind line file limits style parts old new result
 every_headed kind line file limits style parts old mid new result every p q =
@@ -78,13 +78,13 @@ every_headed kind line file limits style parts old mid new result every p q =
     by_result (Err (Source fault at)) wrote = (wrote.front, wrote.rest, wrote.split, SinkTakes-then line wrote.front p wrote.takes)
     by_result (Err (Out fault)) wrote = SinkTakesPrefix-then line q.text p wrote
 
--- by names the line stands before a text that has some byte
+-- by names the line is before a text that has some byte
 headed_names : (names : List SymbolQuery) (line text : List ℕ) → headed (RowsOf names) line text ≡ before_text line text
 headed_names names line [] = refl
 headed_names names line (byte ∷ text) = refl
 
 module _ (old mid before last : OutState) (line : List ℕ) (held : DeferredLine) (p : KeepsDeferred old mid line held) (ends : EndsLine held before last) where
-  -- the line that was held, and the listing behind it
+  -- the line that was deferred, and the listing after it
   pub held_headed : (kind : FileMagic) (file : List ℕ) (limits : Limits) (style : ListingStyle) (parts : ℕ) (names : List SymbolQuery) (listed result : Result Bool RunFault) → style.choice ≡ RowsOf names
       → AnswersAfter listed last result → ListsSort kind file limits style parts mid before listed → ListsHeaded kind line file limits style parts old last result
   held_headed kind file limits style parts names listed result named is q = by_result listed is q.wrote q.refused
@@ -108,7 +108,7 @@ module _ (old mid before last : OutState) (line : List ℕ) (held : DeferredLine
             refused = tt;
           })
 
-  -- what a stop says of the source and the output
+  -- what a fault implies for the source and the output
   pub held_says : (a b : CountedState) (listed result : Result Bool RunFault) → OutGrows mid before → AnswersAfter listed last result → IfErr listed (ArchiveSays a b before) → IfErr result (ArchiveSays a b last)
   held_says a b (Ok refused) result grows is says = rw is tt
   held_says a b (Err (Refused refusal)) result grows is says = rw is tt

@@ -1,4 +1,4 @@
--- Names that are held in bytes, with more bytes behind them, and in another order.
+-- Names that are held in bytes, with more bytes after them, and in another order.
 use Rattle.std.proofs.Common.{◌≡◌, ℕ, ◌+◌, ◌≤◌, ◌<◌, Bool, List, [], ◌∷◌, ◌++◌, length, take, drop, map, get_or, refl, ap, sym, ◌∙◌, subst, arith}
 use Rattle.std.proofs.Math.Seq.{drop-append_seam}
 use Rattle.std.proofs.lemmas.List.{drop-append-le, get_or-map, length-drop, length-map, length-take, map-append, take-append-le, take_all}
@@ -27,7 +27,7 @@ module _ {X : Type 0} (start len : X → ℕ) where
       ap (λ l. l ∷ map (λ q. slice (xs ++ ys) (start q) (len q)) ps) (piece_of (start p) (len p) xs ys (All-head (λ q. start q + len q ≤ length xs) p ps all))
       ∙ ap (λ l. slice xs (start p) (len p) ∷ l) (pieces_of ps xs ys (All-tail (λ q. start q + len q ≤ length xs) p ps all))
 
-  -- bytes with a name behind them hold one name more
+  -- bytes with a name after them hold one name more
   pub one_more : (ps : List X) (p : X) (xs ys : List ℕ) → All (λ q. start q + len q ≤ length xs) ps → start p ≡ length xs → len p ≡ length ys
       → map (λ q. slice (xs ++ ys) (start q) (len q)) (ps ++ p ∷ []) ≡ map (λ q. slice xs (start q) (len q)) ps ++ ys ∷ []
   one_more ps p xs ys all begins ends =
@@ -50,6 +50,6 @@ module _ {F A R : Type 0} (g : Mut F A R) (P : A → R → Type 0) (f : F) (one 
   each [] = tt
   each (a ∷ xs) = λ r f' called. let now = one a r f' called in (now.0, subst (λ k. ReturnsEach g P k xs) (sym now.1) (each xs))
 
-  -- a closure that stays as it is answers each time as it does once
+  -- a closure that is unchanged returns each time what it returns once
   pub answers_so : AlwaysReturns g P f
   answers_so = record { at = each }

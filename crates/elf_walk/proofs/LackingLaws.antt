@@ -1,4 +1,4 @@
--- The first word that is lacking is among those that are left.
+-- The first required trait that is lacking is among those that are left.
 use Rattle.std.proofs.Common.{◌≡◌, ℕ, zero, suc, ◌<◌, Bool, true, false, List, [], ◌∷◌, ◌++◌, length, drop, refl, ap, sym, ◌∙◌, arith, subst, Option, None, Some}
 use Rattle.std.specs.Prelude.{slice_index_or}
 use Rattle.elf_model.specs.Prelude.{Required, first_lacking, has_word, is_program, lacking, lacking_line, trait_line, traits_text}
@@ -13,7 +13,7 @@ parted [] i d low = absurd (omega arith)
 parted (w ∷ words) zero d low = refl
 parted (w ∷ words) (suc i) d low = parted words i d (omega arith)
 
--- among some words, by whether the file has the first of them
+-- among some required traits, by whether the file has the first of them
 one : (t : Hardening) (w : RequiredTrait) (words : List RequiredTrait) (has : Bool) → has_word t (required_word w) ≡ has
     → first_lacking t (required_words (w ∷ words)) ≡ elim has as (λ _. Option TraitColumn) [ true ↦ first_lacking t (required_words words) | false ↦ Some w.column ]
 unfolding first_lacking
@@ -31,13 +31,13 @@ pub lacked : (t : Hardening) (words : List RequiredTrait) (i : ℕ) (d : Require
 lacked t words i d low is =
     ap (λ l. first_lacking t (required_words l)) (parted words i d low) ∙ one t (slice_index_or words i d) (drop (suc i) words) false is
 
--- words are required of a program
+-- traits are required of a program
 pub of_program : (t : Hardening) (required : List Required) → is_program t.kind ≡ true → first_lacking t required ≡ lacking t required
 unfolding lacking
 of_program t required is =
     subst (λ (b : Bool). first_lacking t required ≡ elim b as (λ _. Option TraitColumn) [ true ↦ first_lacking t required | false ↦ None ]) (sym is) refl
 
--- the lines of a file that lacks a word
+-- the lines of a file that lacks a required trait
 pub lacked_text : (format : Format) (t : Hardening) (required : List Required) (path : List ℕ) (its_column : TraitColumn) → lacking t required ≡ Some its_column
     → trait_line format t path ++ lacking_line format t its_column ≡ traits_text format t required path
 unfolding traits_text

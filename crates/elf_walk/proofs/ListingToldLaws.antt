@@ -1,4 +1,4 @@
--- What is told of a file, and what that asks for.
+-- What is reported of a file, and what that reads.
 use Rattle.std.proofs.Common.{◌≡◌, ℕ, ◌+◌, ◌-◌, ◌≤◌, Bool, true, false, not, if◌then◌else◌, List, Option, None, Some, Result, Ok, Err, nat_lt, refl, arith}
 use Rattle.std.specs.Prelude.{IfSome, IfErr}
 use Rattle.std.proofs.lemmas.Bool.Decides.{nat_tests}
@@ -18,7 +18,7 @@ use Rattle.elf_table.specs.declared.run_fault.RunFault.{RunFault}
 use Rattle.elf_table.specs.declared.run_fault.RunFault.TheVariants.{Refused, Source}
 use Rattle.elf_archive.specs.Listed.{ArchiveSays}
 
--- the bytes that tell what a file is, and what is left behind them, are within a budget
+-- the magic bytes of a file, and what is left after them, are within a budget
 within_both : (members : Bool) (bytes size : ℕ) (t u : Bool) → nat_lt size 4 ≡ t → nat_lt bytes (front_size members size) ≡ u
     → (if t then 0 else if not u then front_size members size else 0) + (if u then bytes else bytes - front_size members size) ≤ bytes
 within_both members bytes size true true st bt = omega arith
@@ -46,7 +46,7 @@ fault_fails before after Ended never = λ honest. absurd (never honest)
 pub fault_after : (a b c : CountedState) → KeepsSource a.seen b.seen → FailsRead b c Unread → FailsRead a c Unread
 fault_after a b c keeps fails = λ honest. let rose = fails honest in omega (arith, keeps.no_fewer, rose)
 
--- what is told of a file that is not of another kind
+-- what is reported of a file that is not of another type
 pub file_told : (kind : FileMagic) (rule : ListOptions) (path : List ℕ) (before : CountedState) (old new : OutState) (answer : Result ℕ OutFault) → (kind ≡ sort.Foreign → ⊥)
     → ListsFile kind rule path before old new answer → ToldOf (Some kind) rule path before old new answer
 file_told sort.Elf rule path before old new answer other lists = lists

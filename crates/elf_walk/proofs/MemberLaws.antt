@@ -1,4 +1,4 @@
--- Names in order are determined by which names they are.
+-- Sorted names are determined by which names they are.
 use Rattle.std.proofs.Common.{◌≡◌, ℕ, Bool, true, false, ◌||◌, List, [], ◌∷◌, refl, ap, sym, ◌∙◌, subst}
 use Rattle.std.proofs.lemmas.Bool.{both_ways}
 use Rattle.std.proofs.lemmas.Cmp.{nat_list_cmp_total, tied_itself}
@@ -22,7 +22,7 @@ total = nat_list_cmp_total
 abbrev has : List ℕ → List (List ℕ) → Bool
 has name names = list_any (λ n. is_eq (order name n)) names
 
--- names that are equal in their order are the same
+-- names that compare equal are the same
 pub same_name : (x y : List ℕ) → order x y ≡ Equal → x ≡ y
 same_name x y equal = (bytes_eq-Decides x y).0 (sym (is_eq-slice_cmp x y) ∙ ap is_eq equal)
 
@@ -67,7 +67,7 @@ all_has z (x ∷ xs) before =
     all_has z xs (insert_by (λ n. n) x before) ∙ ap (λ b. has z xs || b) (put_has z x before)
     ∙ joined (is_eq (order z x)) (has z xs) (has z before)
 
--- a name that all others are behind is none of them
+-- a name that all others are after is not one of them
 none_behind : (low : List ℕ) (names : List (List ℕ)) → AreAfter low names → has low names ≡ false
 none_behind low [] are = refl
 none_behind low (x ∷ xs) are = rw (are.0) (none_behind low xs are.1)
@@ -82,7 +82,7 @@ tails z x xs ys true is ax ay same =
     ap (λ n. has n xs) z_is ∙ none_behind x xs ax ∙ sym (ap (λ n. has n ys) z_is ∙ none_behind x ys ay)
 tails z x xs ys false is ax ay same = rw (sym is) at same
 
--- names that ascend are the same where they are the same names
+-- names that ascend are the same if they are the same names
 unique : (xs ys : List (List ℕ)) → Ascends xs → Ascends ys → ((z : List ℕ) → has z xs ≡ has z ys) → xs ≡ ys
 unique [] [] ax ay same = refl
 unique [] (y ∷ ys) ax ay same = absurd (both_ways (has y (y ∷ ys)) (sym (same y)) (itself y ys))
@@ -105,13 +105,13 @@ no_more : (b : Bool) → (b || false) ≡ b
 no_more true = refl
 no_more false = refl
 
--- the order does not depend on how the names come
+-- the order does not depend on how the names are read
 pub permuted : (xs ys : List (List ℕ)) → IsPermutation xs ys → in_order xs ≡ in_order ys
 permuted xs ys moved =
     unique (in_order xs) (in_order ys) (order_ascends xs [] tt) (order_ascends ys [] tt)
     (λ z. all_has z xs [] ∙ no_more (has z xs) ∙ list_any-IsPermutation (λ n. is_eq (order z n)) xs ys moved
     ∙ sym (all_has z ys [] ∙ no_more (has z ys)))
 
--- names that ascend are in order
+-- names that ascend are sorted
 pub stays : (xs : List (List ℕ)) → Ascends xs → in_order xs ≡ xs
 stays xs up = unique (in_order xs) xs (order_ascends xs [] tt) up (λ z. all_has z xs [] ∙ no_more (has z xs))

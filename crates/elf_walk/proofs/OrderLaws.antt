@@ -1,5 +1,5 @@
--- Where a member belongs among others, found by going over them; and that keeping the first few at each step keeps the
--- first few of all.
+-- Where a member belongs among others, found by iterating over them; and keeping the first few at
+-- each step keeps the first few of all.
 use Rattle.std.proofs.Common.{◌≡◌, ℕ, zero, suc, ◌+◌, ◌≤◌, ◌<◌, List, [], ◌∷◌, ◌++◌, length, take, drop, get_or, refl, ap, sym, ◌∙◌, add-one, append_assoc, arith, subst}
 use Rattle.std.proofs.Math.Seq.{drop-cons, take-suc}
 use Rattle.std.specs.declared.cmp.Ordering.{Ordering}
@@ -19,11 +19,11 @@ module _ {X : Type 0} (name : X → List ℕ) (x : X) where
   unfolding insert_by
   put_greater first rest is = rw (is, insert_by) refl
 
-  -- where nothing was passed over yet
+  -- if nothing was skipped yet
   pub put_start : (xs : List X) → insert_by name x xs ≡ take 0 xs ++ insert_by name x (drop 0 xs)
   put_start xs = refl
 
-  -- a member that is smaller is passed over
+  -- a member that is smaller is skipped
   pub put_step : (xs : List X) (i : ℕ) (kept : X) → i < length xs → kept ≡ get_or xs i kept → order (name x) (name kept) ≡ Greater
       → insert_by name x xs ≡ take i xs ++ insert_by name x (drop i xs) → insert_by name x xs ≡ take (i + 1) xs ++ insert_by name x (drop (i + 1) xs)
   put_step xs i kept within is greater so_far =
@@ -32,7 +32,7 @@ module _ {X : Type 0} (name : X → List ℕ) (x : X) where
       let rest = put_greater kept (drop (suc i) xs) greater in
       rw (add-one, front, append_assoc) (so_far ∙ ap (λ l. take i xs ++ insert_by name x l) back ∙ ap (λ l. take i xs ++ l) rest)
 
-  -- it is put before a larger one
+  -- it is inserted before a larger one
   pub put_here : (xs : List X) (i : ℕ) (kept : X) → i < length xs → kept ≡ get_or xs i kept → order (name x) (name kept) ≡ Less
       → insert_by name x xs ≡ take i xs ++ insert_by name x (drop i xs) → insert_by name x xs ≡ take i xs ++ x ∷ drop i xs
   put_here xs i kept within is less so_far =
@@ -85,14 +85,14 @@ module _ {X : Type 0} (name : X → List ℕ) (x : X) where
   by_order n first rest Equal ih = ap (λ l. first ∷ l) (take_take n rest)
   by_order n first rest Greater ih = ap (λ l. first ∷ l) ih
 
-  -- what is dropped behind the first n members is not missed when another is put
+  -- what is dropped after the first n members is not missed when another is inserted
   pub put_first : (n : ℕ) (xs : List X) → take n (insert_by name x (take n xs)) ≡ take n (insert_by name x xs)
   unfolding insert_by
   put_first zero xs = refl
   put_first (suc n) [] = refl
   put_first (suc n) (first ∷ rest) = by_order n first rest (order (name x) (name first)) (put_first n rest)
 
-  -- putting a member loses none
+  -- inserting a member loses none
   grown : (first : X) (rest : List X) (o : Ordering) → length rest ≤ length (insert_by name x rest)
       → suc (length rest) ≤ length (elim o as (λ _. List X) [ Less ↦ x ∷ first ∷ rest | Equal ↦ first ∷ rest | Greater ↦ first ∷ insert_by name x rest ])
   grown first rest Less ih = omega arith
@@ -123,16 +123,16 @@ module _ {X : Type 0} (name : X → List ℕ) (x : X) where
   inserted (suc n) (suc at) [] low = refl
   inserted (suc n) (suc at) (y ∷ ys) low = ap (λ l. y ∷ l) (inserted n at ys (omega arith))
 
-  -- what is kept where nothing is put
+  -- what is kept if nothing is inserted
   pub kept_same : (n : ℕ) (xs : List X) → length xs ≤ n → insert_by name x xs ≡ xs → xs ≡ take n (insert_by name x xs)
   kept_same n xs few is = sym (ap (take n) is ∙ take_all n xs few)
 
-  -- what is kept where the place is behind all that are kept
+  -- what is kept if the place is after all that are kept
   pub kept_front : (n at : ℕ) (xs : List X) → length xs ≤ n → n ≤ at → at ≤ length xs → insert_by name x xs ≡ take at xs ++ x ∷ drop at xs
       → xs ≡ take n (insert_by name x xs)
   kept_front n at xs few low within is = sym (ap (take n) is ∙ front_alone n at xs low within few)
 
-  -- what is kept where it is put
+  -- what is kept if it is inserted
   pub kept_put : (n at : ℕ) (xs : List X) → at ≤ n → insert_by name x xs ≡ take at xs ++ x ∷ drop at xs
       → take at (take n xs) ++ x ∷ drop at (take n xs) ≡ take (suc n) (insert_by name x xs)
   kept_put n at xs low is = sym (ap (take (suc n)) is ∙ inserted n at xs low)

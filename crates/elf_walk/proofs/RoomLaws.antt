@@ -1,4 +1,4 @@
--- How much names take.
+-- How much memory names take.
 use Rattle.std.proofs.Common.{◌≡◌, ℕ, ◌+◌, ◌<◌, ◌≤◌, inl, inr, Bool, true, List, [], ◌∷◌, ◌++◌, length, drop, map, refl, ap, sym, ◌∙◌, arith, subst, length-append, length-take-le, length-drop}
 use Rattle.std.proofs.lemmas.List.Elements.{All-head, All-tail}
 use Rattle.std.proofs.lemmas.List.Sums.{sum_by-cons, sum_by_push}
@@ -12,7 +12,7 @@ use Rattle.elf_walk.proofs.SortedLaws.{all_more}
 piece_length : (bytes : List ℕ) (start len : ℕ) → start + len ≤ length bytes → length (slice bytes start len) ≡ len
 piece_length bytes start len within = length-take-le len (drop start bytes) (omega (arith, length-drop start bytes))
 
--- names that lie among bytes have as many bytes as their places say
+-- names that lie among bytes have as many bytes as their spans say
 module _ {X : Type 0} (start len : X → ℕ) where
   pub held_is : (ps : List X) (bytes : List ℕ) → All (λ p. start p + len p ≤ length bytes) ps
       → bytes_held (map (λ p. slice bytes (start p) (len p)) ps) ≡ sum_by len ps
@@ -23,7 +23,7 @@ module _ {X : Type 0} (start len : X → ℕ) where
       ∙ ap (λ n. len p + n) (held_is ps bytes (All-tail (λ q. start q + len q ≤ length bytes) p ps all))
       ∙ sym (sum_by-cons len p ps)
 
--- a name that is put takes none away
+-- inserting a name takes none away
 pub put_rises : (name : List ℕ) (names : List (List ℕ)) → (length names ≤ length (insert_by (λ n. n) name names)) × (bytes_held names ≤ bytes_held (insert_by (λ n. n) name names))
 unfolding insert_by
 put_rises name [] = (omega arith, omega arith)
@@ -43,18 +43,18 @@ pub enough_more : (name : List ℕ) (names : List (List ℕ)) → IsEnough names
 enough_more name names (inl many) = inl (omega (arith, many, (put_rises name names).0))
 enough_more name names (inr long) = inr (omega (arith, long, (put_rises name names).1))
 
--- one name behind others
+-- one name after others
 pub held_more : (names : List (List ℕ)) (name : List ℕ) → bytes_held (names ++ name ∷ []) ≡ bytes_held names + length name
 held_more names name = sum_by_push (λ (n : List ℕ). length n) names name
 
--- a name is put behind others that are not enough
+-- a name is inserted after others that are not enough
 pub few_more : (names : List (List ℕ)) (name : List ℕ) → (0 < length names → IsSmallFolder names) → length name ≤ 255 → IsWithinKept (names ++ name ∷ [])
 few_more [] name few short = (omega arith, omega (arith, held_more [] name))
 few_more (x ∷ xs) name few short =
     let now = few (omega arith) in
     (omega (arith, now.0, length-append (x ∷ xs) (name ∷ [])), omega (arith, now.1, held_more (x ∷ xs) name))
 
--- a name more is held
+-- one more name is held
 pub holds_more : (kept new : List (List ℕ)) (name after limit : List ℕ) (more : Bool) → LeavesRoom kept → length name ≤ 255 → (more ≡ true → IsEnough (in_order kept))
     → new ≡ kept ++ name ∷ [] → HoldsWithin record { names = in_order new; held = new; after = after; limit = limit; more = more }
 holds_more kept new name after limit more room short enough is =
@@ -65,6 +65,6 @@ holds_more kept new name after limit more room short enough is =
       enough = λ yes. rises (enough yes);
     }
 
--- no name more is held
+-- no more name is held
 pub holds_still : (kept : KeptNames) → LeavesRoom kept.held → (kept.more ≡ true → IsEnough kept.names) → HoldsWithin kept
 holds_still kept room enough = record { room = (omega (arith, room.0), omega (arith, room.1)); enough = enough }

@@ -1,4 +1,4 @@
--- Sorted names put one after another, each once.
+-- Sorted names put one after another, without duplicates.
 use Rattle.std.proofs.Common.{◌≡◌, ℕ, zero, suc, ◌<◌, ◌≤◌, ◌-◌, Bool, true, false, List, [], ◌∷◌, ◌++◌, length, take, get_or, refl, ap, sym, add-one, ◌∙◌, arith, subst}
 use Rattle.std.proofs.Math.Seq.{take-suc}
 use Rattle.std.proofs.lemmas.Bool.{both_ways}
@@ -121,7 +121,7 @@ pub none_put : put_all_by (λ (n : List ℕ). n) [] [] ≡ []
 unfolding put_all_by
 none_put = refl
 
--- a name of sorted ones that is not the one before it is put behind all before it
+-- a name of sorted ones that is not the one before it is inserted after all before it
 pub added : (names : List (List ℕ)) (i : ℕ) → i < length names → IsSorted order names → repeats names i ≡ false
     → in_order (take i names) ++ get_or names i [] ∷ [] ≡ in_order (take (suc i) names)
 added names zero within sorted is = ap (λ l. l ++ get_or names zero [] ∷ []) none_put ∙ first_put (get_or names zero []) ∙ sym (more_taken names zero within)

@@ -1,4 +1,4 @@
--- Names put on others, the last one first.
+-- Names pushed on others, the last one first.
 use Rattle.std.proofs.Common.{All, length-take, ◌≡◌, ℕ, zero, suc, ◌<◌, ◌≤◌, ◌-◌, List, [], ◌∷◌, ◌++◌, length, take, drop, get_or, refl, ap, sym, ◌∙◌, arith, subst}
 use Rattle.std.proofs.lemmas.List.Elements.{All-cons}
 use Rattle.std.proofs.lemmas.List.{take-append-drop, take-append-le}
@@ -26,7 +26,7 @@ pub one_put : (name : List ℕ) (rest : List (List ℕ)) (below : List ℕ) → 
 unfolding stacked
 one_put name rest below = refl
 
--- one name more is put, which stands before those that are
+-- one more name is pushed, which is before those that are
 pub more_put : (names : List (List ℕ)) (n left : ℕ) (below was now : List ℕ) → 0 < left → left ≤ n → n ≤ length names
     → was ≡ stacked (drop left (take n names)) below → now ≡ pushed was (get_or names (left - 1) [])
     → now ≡ stacked (drop (left - 1) (take n names)) below

@@ -9,7 +9,7 @@ use Rattle.elf_model.specs.declared.states.FileStatus.TheVariants as state
 use Rattle.elf_source.specs.Source.{SourceState}
 use Rattle.elf_walk.specs.Checked.{short_refusal}
 
--- the length that is asked for is the file's
+-- the length that is requested is the file's
 pub length_is : (was now : SourceState) (file : List ℕ) (at : ℕ) → now ≡ was → was.file ≡ Some file → at ≡ now.size → length file ≡ at
 length_is was now file at same held is = let sized = was.sized file held in let size = ap (λ (seen : SourceState). seen.size) same in omega (arith, sized, size, is)
 

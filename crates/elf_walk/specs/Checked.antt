@@ -1,4 +1,4 @@
--- The state of a file among many, where it is too short for a file header, or was not read.
+-- The state of a file among many that is too short for a file header, or was not read.
 use Rattle.std.specs.Prelude.{ℕ, ◌≡◌, ◌<◌, List, length, Option, Some, ⊤}
 use Rattle.elf_model.specs.Prelude.{state_of}
 use Rattle.elf_model.specs.declared.states.FileStatus.{FileStatus}
@@ -11,12 +11,14 @@ use Rattle.elf_source.specs.Source.{CountedState, IsHonest}
 abbrev pub short_refusal : List ℕ → Refusal
 short_refusal file = record { at = length file; cause = Short }
 
--- the state that is found of such a file: that of this refusal within the budget, unless a read failed
+-- the state that is found for such a file: that of this refusal within the budget, unless a read
+-- failed
 abbrev pub FindsShort : Option ℕ → List ℕ → FileStatus → Type 0
 FindsShort budget file state.Unread = ⊤
 FindsShort budget file found = found ≡ state_of budget file (Some (short_refusal file))
 
--- a file that was not read: a read of it failed, or its source isn't honest; what is told of it takes no memory, so none is wanted
+-- a file that was not read: a read of it failed, or its source is not honest; reporting it
+-- allocates nothing, so memory is never lacking
 abbrev pub FailsRead : CountedState → CountedState → FileStatus → Type 0
 FailsRead old new state.Unread = IsHonest new.seen → old.seen.failures < new.seen.failures
 FailsRead old new state.Memory = ⊥

@@ -1,4 +1,4 @@
--- What the check of one file did.
+-- The effect of the check of one file.
 use Rattle.std.specs.Prelude.{ℕ, ◌≡◌, ◌+◌, ◌≤◌, nat_lt, if◌then◌else◌, List, length, Option, Some, IfSome, ⊤}
 use Rattle.elf_model.specs.Prelude.{ELF_MAGIC_SIZE, FILE_HEADER_SIZE, IsStateOf, ListingStyle, listing_cost, style_ceiling}
 use Rattle.elf_model.specs.declared.states.FileStatus.{FileStatus}
@@ -9,28 +9,29 @@ use Rattle.elf_options.specs.declared.caps.Caps.{Caps}
 use Rattle.elf_listing.specs.Reports.{KeepsSourceUnlimited}
 use Rattle.elf_walk.specs.Checked.{FailsRead}
 
--- THE STATE that is found of a file: that of its listing within the budget, unless a read failed
+-- THE STATE that is found for a file: that of its listing within the budget, unless a read failed
 abbrev pub FindsState : Caps → ℕ → List ℕ → FileStatus → Type 0
 FindsState caps parts file state.Unread = ⊤
 FindsState caps parts file found = IsStateOf caps.limits.budget file caps.limits.headers (style_of caps.style) parts found
 
--- what a file's check may ask for: of one that is too short for a file header its first bytes
+-- what a file's check may request: of one that is too short for a file header its first bytes
 abbrev pub check_cost : List ℕ → ℕ → ListingStyle → ℕ → ℕ
 check_cost file headers style parts =
     if nat_lt (length file) FILE_HEADER_SIZE then ELF_MAGIC_SIZE else listing_cost file headers style parts
 
--- the same of every source
+-- the same for any source
 abbrev pub check_ceiling : (size headers : ℕ) → ListingStyle → ℕ
 check_ceiling size headers style = if nat_lt size FILE_HEADER_SIZE then ELF_MAGIC_SIZE else style_ceiling size headers style
 
--- what is asked for: no more than a ceiling, and no more than the budget
+-- what is requested: at most a ceiling, and at most the budget
 pub record AsksNoMore (most : ℕ) (allowed : Option ℕ) (old new : CountedState) : Type 0 where
   pub ceiling : new.asked ≤ old.asked + most
   pub budget : IfSome allowed (λ bytes. new.asked ≤ old.asked + bytes)
 
--- WHAT THE CHECK OF A FILE DID. For every source: the store has as many slots, the source is kept and no limit is left, the file
--- is unread only where a read failed, and no more is asked for than the ceiling and the budget. Where the file is known: the
--- state that was found, and what that may ask for
+-- THE EFFECT OF THE CHECK OF A FILE. For any source: the store has as many slots, the source is
+-- kept and no limit is left, the file is unread only if a read failed, and at most the ceiling and
+-- the budget are requested. If the file is known: the state that was found, and what that may
+-- request
 pub record ChecksFile (headers now : ℕ) (caps : Caps) (parts : ℕ) (old new : CountedState) (found : FileStatus) (finds : Caps → ℕ → List ℕ → FileStatus → Type 0) (costs : List ℕ → ℕ → ListingStyle → ℕ → ℕ) (most : ℕ → ℕ → ListingStyle → ℕ) : Type 0 where
   pub slots : now ≡ headers
   pub leaves : KeepsSourceUnlimited old new

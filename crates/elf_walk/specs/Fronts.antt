@@ -1,8 +1,8 @@
--- What is asked for to tell what a file is, by its first bytes.
+-- What is read to determine the type of a file, by its first bytes.
 use Rattle.std.specs.Prelude.{ℕ, nat_lt, if◌then◌else◌, Bool, Option}
 use Rattle.elf_model.specs.Prelude.{ELF_MAGIC_SIZE, front_size, may_read_bytes}
 
--- how many bytes are asked for: where the file and the budget have them
+-- how many bytes are read: if the file and the budget have them
 abbrev pub front_asked : Bool → Option ℕ → (size : ℕ) → ℕ
 front_asked members budget size =
     if nat_lt size ELF_MAGIC_SIZE then 0

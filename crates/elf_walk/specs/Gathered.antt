@@ -1,4 +1,4 @@
--- The names of a folder, as they come.
+-- The names of a directory, as they are read.
 use Rattle.std.specs.Prelude.{ℕ, suc, ◌≡◌, ◌-◌, ◌^◌, ◌⊎◌, true, false, List, [], ◌∷◌, ◌++◌, min}
 use Rattle.std.specs.List.{flat_map}
 use Rattle.elf_walk.specs.Entries.{list_entries}
@@ -6,8 +6,8 @@ use Rattle.elf_walk.specs.declared.batch.Insertion.{Insertion}
 use Rattle.elf_walk.specs.declared.batch.Insertion.TheVariants.{Placed, Unnamed}
 use Rattle.elf_walk.specs.Kept.{IsNameable, KeptNames, KeepsFirstNames, is_dot_entry}
 
--- the names of a folder among its entries, in the order in which they came, and how many entries are none that can be named;
--- those of the folder itself and of the one above it are neither
+-- the names of a directory among its entries, in the order in which they were read, and how many
+-- entries cannot be represented; `.` and `..` are neither
 abbrev pub AreNamesOf : List (List ℕ) → List (List ℕ) → ℕ → Type 0
 AreNamesOf [] names unnamed = (names ≡ []) × (unnamed ≡ 0)
 AreNamesOf (entry ∷ entries) names unnamed =
@@ -15,16 +15,16 @@ AreNamesOf (entry ∷ entries) names unnamed =
     ⊎ (((more : List (List ℕ)) × (is_dot_entry entry ≡ false) × IsNameable entry × (names ≡ entry ∷ more) × AreNamesOf entries more unnamed)
     ⊎ ((others : ℕ) × (is_dot_entry entry ≡ false) × (¬ (IsNameable entry)) × (unnamed ≡ suc others) × AreNamesOf entries names others))
 
--- a count, as far as 64 bits go
+-- a count, saturating at 64 bits
 abbrev pub saturated : ℕ → ℕ
 saturated n = min n (2 ^ 64 - 1)
 
--- how many that is of one entry
+-- how many that is for one entry
 abbrev pub unnamed_count : Insertion → ℕ
 unnamed_count Placed = 0
 unnamed_count Unnamed = 1
 
--- EACH ENTRY of some bytes is put among the names of a folder, or saturated, or is that of the folder itself or the one above it
+-- EACH ENTRY of some bytes is put among the names of a directory, or counted, or is `.` or `..`
 pub record PutsNames (bytes : List ℕ) (unnamed : ℕ) (old new : KeptNames) : Type 0 where
   pub names : List (List ℕ)
   pub others : ℕ
@@ -32,7 +32,8 @@ pub record PutsNames (bytes : List ℕ) (unnamed : ℕ) (old new : KeptNames) : 
   pub counts : unnamed ≡ saturated others
   pub keeps : (before : List (List ℕ)) → KeepsFirstNames before old → KeepsFirstNames (before ++ names) new
 
--- WHAT IS GATHERED of a folder, of which some bytes came at each read: what is kept of its names is in order
+-- WHAT IS GATHERED of a directory, of which some bytes were read each time: what is kept of its
+-- names is sorted
 pub record GathersNames (unnamed : ℕ) (old new : KeptNames) : Type 0 where
   pub reads : List (List ℕ)
   pub names : List (List ℕ)

@@ -1,4 +1,4 @@
--- What the check of an archive with its members did.
+-- The effect of the check of an archive with its members.
 use Rattle.std.specs.Prelude.{ℕ, ◌≡◌, ◌+◌, ⊤, true, List, length, None, Some}
 use Rattle.elf_model.specs.Prelude.{ListingStyle, archive_ceiling, archive_cost, budget_after, file_magic, front_size}
 use Rattle.elf_model.specs.declared.states.FileMagic.{FileMagic}
@@ -10,7 +10,7 @@ use Rattle.elf_options.specs.declared.caps.Caps.{Caps}
 use Rattle.elf_archive.specs.FirstFault.{IsArchiveFault}
 use Rattle.elf_walk.specs.CheckedFile.{FindsState, check_cost}
 
--- THE STATE that is found of an archive: that of its fault within the budget, unless a read failed
+-- THE STATE that is found for an archive: that of its fault within the budget, unless a read failed
 abbrev pub FindsArchive : Caps → ℕ → List ℕ → FileStatus → Type 0
 FindsArchive caps parts file state.Ok = IsArchiveFault caps.limits.budget file caps.limits.headers (style_of caps.style) parts None
 FindsArchive caps parts file (state.Refused refusal) =
@@ -19,20 +19,20 @@ FindsArchive caps parts file state.NoElf = ⊥
 FindsArchive caps parts file state.Unread = ⊤
 FindsArchive caps parts file state.Memory = ⊥
 
--- the caps behind the bytes that tell what a file of so many bytes is
+-- the caps after the magic bytes of a file of the given size
 pub record IsCapsAfter (caps : Caps) (size : ℕ) (left : Caps) : Type 0 where
   pub headers : left.limits.headers ≡ caps.limits.headers
   pub budget : left.limits.budget ≡ budget_after caps.limits.budget (front_size true size)
   pub style : left.style ≡ caps.style
 
--- the state that is found of a file of a sort
+-- the state that is found for a file of a type
 abbrev pub FindsBySort : FileMagic → Caps → ℕ → List ℕ → FileStatus → Type 0
 FindsBySort sort.Elf caps parts file found = FindsState caps parts file found
 FindsBySort sort.Archive caps parts file found = FindsArchive caps parts file found
 FindsBySort sort.Foreign caps parts file found = found ≡ state.NoElf
 
--- THE STATE that is found of a file where archives are gone into: that of its sort, within what is left of the budget behind the
--- bytes that tell it, unless a read of these failed
+-- THE STATE that is found for a file if members are checked: that of its type, within what is left
+-- of the budget after the magic bytes, unless a read of these failed
 pub record FindsSortedState (caps : Caps) (parts : ℕ) (file : List ℕ) (found : FileStatus) : Type 0 where
   pub left : Caps
   pub behind : IsCapsAfter caps (length file) left
@@ -42,7 +42,7 @@ abbrev pub FindsSorted : Caps → ℕ → List ℕ → FileStatus → Type 0
 FindsSorted caps parts file state.Unread = ⊤
 FindsSorted caps parts file found = FindsSortedState caps parts file found
 
--- what such a check may ask for: the bytes that tell what the file is, and what its sort costs
+-- what such a check may request: the magic bytes, and what its type costs
 abbrev pub cost_by : FileMagic → List ℕ → ℕ → ListingStyle → ℕ → ℕ
 cost_by sort.Elf file headers style parts = check_cost file headers style parts
 cost_by sort.Archive file headers style parts = archive_cost file headers style parts
@@ -51,6 +51,6 @@ cost_by sort.Foreign file headers style parts = 0
 abbrev pub sorted_cost : Caps → List ℕ → ℕ → ListingStyle → ℕ → ℕ
 sorted_cost caps file headers style parts = 8 + cost_by (file_magic true caps.limits.budget file) file headers style parts
 
--- the same of every source
+-- the same for any source
 abbrev pub sorted_ceiling : ℕ → ℕ → ListingStyle → ℕ
 sorted_ceiling size headers style = 8 + archive_ceiling size headers style

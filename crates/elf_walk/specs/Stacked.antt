@@ -1,11 +1,11 @@
--- Names that wait, each with its length behind it.
+-- Pending names, each with its length after it.
 use Rattle.std.specs.Prelude.{ℕ, List, [], ◌∷◌, ◌++◌, length}
 
--- a name put on others
+-- a name pushed on others
 abbrev pub pushed : List ℕ → List ℕ → List ℕ
 pushed below name = below ++ name ++ length name ∷ []
 
--- names put on others, the first one last
+-- names pushed on others, the first one last
 unfoldable pub stacked : List (List ℕ) → List ℕ → List ℕ
 stacked [] below = below
 stacked (name ∷ names) below = pushed (stacked names below) name

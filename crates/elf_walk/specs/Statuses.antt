@@ -1,9 +1,9 @@
--- The exit status of a check over many files: the largest that a file's state calls for.
+-- The exit status of a check over many files: the largest that a file's state requires.
 use Rattle.std.specs.Prelude.{ℕ}
 use Rattle.elf_model.specs.declared.states.FileStatus.{FileStatus}
 use Rattle.elf_model.specs.declared.states.FileStatus.TheVariants as state
 
--- what a state calls for
+-- the status that a state requires
 abbrev pub state_status : FileStatus → ℕ
 state_status state.Ok = 0
 state_status state.NoElf = 0

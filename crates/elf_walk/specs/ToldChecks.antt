@@ -1,4 +1,4 @@
--- What is told of one checked file among many.
+-- What is reported of one checked file among many.
 use Rattle.std.specs.Prelude.{ℕ, ◌≡◌, ◌+◌, ◌≤◌, Bool, true, false, List, Some, Result, IfOk}
 use Rattle.elf_model.specs.Prelude.{ListingStyle, check_line}
 use Rattle.elf_model.specs.declared.states.FileStatus.{FileStatus}
@@ -11,24 +11,25 @@ use Rattle.elf_walk.specs.Statuses.{state_status}
 use Rattle.elf_walk.specs.CheckedFile.{AsksNoMore, FindsState, check_ceiling, check_cost}
 use Rattle.elf_walk.specs.Members.{FindsSorted, sorted_ceiling, sorted_cost}
 
--- the state that is found of a file: that of its listing, or where archives are gone into by what it is
+-- the state that is found for a file: that of its listing or, if members are checked, by its type
 abbrev pub Finds : (members : Bool) → Caps → ℕ → List ℕ → FileStatus → Type 0
 Finds true = FindsSorted
 Finds false = FindsState
 
--- what its check may ask for
+-- what its check may request
 abbrev pub cost_of_check : (members : Bool) → Caps → List ℕ → ℕ → ListingStyle → ℕ → ℕ
 cost_of_check true caps file headers style parts = sorted_cost caps file headers style parts
 cost_of_check false caps file headers style parts = check_cost file headers style parts
 
--- the same of every source
+-- the same for any source
 abbrev pub ceiling_of_check : (members : Bool) → ℕ → ℕ → ListingStyle → ℕ
 ceiling_of_check true = sorted_ceiling
 ceiling_of_check false = check_ceiling
 
--- THE CHECK of a file among many, by its source and the output before and after: the line of the state that its own listing
--- has where the file is known, unread only where a read failed, and the status that this calls for; no more is asked of the
--- source than the listing's cost, and than the budget of a file
+-- THE CHECK of a file among many, by its source and the output before and after: the line of the
+-- state that its own listing has if the file is known, unread only if a read failed, and the status
+-- that this requires; at most the listing's cost, and the budget of a file, is requested from the
+-- source
 pub record ReturnsState (members : Bool) (caps : Caps) (parts : ℕ) (path : List ℕ) (before after : CountedState) (old new : OutState) (answer : Result ℕ OutFault) : Type 0 where
   pub state : FileStatus
   pub found : (file : List ℕ) → before.seen.file ≡ Some file → Finds members caps parts file state

@@ -1,4 +1,4 @@
--- What is told of one listed file among many.
+-- What is reported of one listed file among many.
 use Rattle.std.specs.Prelude.{ℕ, ◌≡◌, ◌+◌, ◌≤◌, List, Option, None, Some, Bool, false, Result, Ok, Err, IfOk, IfSome}
 use Rattle.elf_model.specs.Prelude.{budget_after, check_line, file_magic, front_size, list_status, path_line}
 use Rattle.elf_model.specs.declared.states.FileMagic.{FileMagic}
@@ -17,7 +17,7 @@ use Rattle.elf_walk.specs.Fronts.{front_asked}
 use Rattle.elf_walk.specs.Lists.{ListsHeaded, sort_ceiling, sort_cost}
 use Rattle.elf_walk.specs.declared.options.ListOptions.{ListOptions}
 
--- what is left of a rule's limits behind the bytes that tell what a file is
+-- what is left of a rule's limits after the magic bytes
 pub record LeavesLimits (rule : ListOptions) (size : ℕ) (limits : Limits) : Type 0 where
   pub headers : limits.headers ≡ rule.caps.limits.headers
   pub budget : limits.budget ≡ budget_after rule.caps.limits.budget (front_size rule.members size)
@@ -26,14 +26,16 @@ pub record LeavesLimits (rule : ListOptions) (size : ℕ) (limits : Limits) : Ty
 abbrev pub PutsUnread : Format → List ℕ → (old new : OutState) → Result ℕ OutFault → Type 0
 PutsUnread format path old new answer = OutPuts old new answer (check_line format Unread path) × IfOk answer (λ status. status ≡ 3)
 
--- what is told where a listing ends: of one that was written its status; where a read of it failed the line of a file that is not read
+-- what is reported when a listing ends: for one that was written its status; if a read of it failed
+-- the line of a file that is not read
 abbrev pub EndsListing : Format → List ℕ → Result Bool RunFault → (old new : OutState) → Result ℕ OutFault → Type 0
 EndsListing format path (Ok refused) old new answer = (new ≡ old) × (answer ≡ Ok (list_status None refused))
 EndsListing format path (Err (Refused refusal)) old new answer = (new ≡ old) × (answer ≡ Ok (list_status (Some refusal) false))
 EndsListing format path (Err (Source fault at)) old new answer = PutsUnread format path old new answer
 EndsListing format path (Err (Out fault)) old new answer = (new ≡ old) × (answer ≡ Err fault)
 
--- the listing of a file of a sort behind the line of its path, within what is left of the budget, and its end
+-- the listing of a file of a type after the line of its path, within what is left of the budget,
+-- and its end
 pub record ListsFile (kind : FileMagic) (rule : ListOptions) (path : List ℕ) (before : CountedState) (old new : OutState) (answer : Result ℕ OutFault) : Type 0 where
   pub limits : Limits
   pub behind : LeavesLimits rule before.seen.size limits
@@ -43,13 +45,14 @@ pub record ListsFile (kind : FileMagic) (rule : ListOptions) (path : List ℕ) (
       → ListsHeaded kind (path_line rule.caps.style.format path) file limits (style_of rule.caps.style) rule.parts.0 old between result
   pub ends : EndsListing rule.caps.style.format path result between new answer
 
--- what is told by what a file is: nothing of one of another kind; where a read of its first bytes failed, that it is not read
+-- what is reported by the type of a file: nothing of one of another type; if a read of its first
+-- bytes failed, that it is not read
 abbrev pub ToldOf : Option FileMagic → ListOptions → List ℕ → CountedState → (old new : OutState) → Result ℕ OutFault → Type 0
 ToldOf None rule path before old new answer = PutsUnread rule.caps.style.format path old new answer
 ToldOf (Some sort.Foreign) rule path before old new answer = (new ≡ old) × (answer ≡ Ok 0)
 ToldOf (Some kind) rule path before old new answer = ListsFile kind rule path before old new answer
 
--- how many bytes the listing of a file of a sort asks for at most
+-- how many bytes the listing of a file of a type reads at most
 abbrev pub kind_cost : Option FileMagic → ListOptions → List ℕ → ℕ
 kind_cost None rule file = 0
 kind_cost (Some kind) rule file = sort_cost kind file rule.caps.limits.headers (style_of rule.caps.style) rule.parts.0
@@ -58,9 +61,9 @@ abbrev pub kind_ceiling : Option FileMagic → ListOptions → ℕ → ℕ
 kind_ceiling None rule size = 0
 kind_ceiling (Some kind) rule size = sort_ceiling kind size rule.caps.limits.headers (style_of rule.caps.style)
 
--- THE LISTING of a file among many, by its source and the output before and after: what its own bytes tell, whatever came before
--- it; unread only where a read failed; no more is asked of the source than the bytes that tell what it is and the listing's cost,
--- and than the budget of a file
+-- THE LISTING of a file among many, by its source and the output before and after: what its own
+-- bytes give, independently of the files before it; unread only if a read failed; at most the magic
+-- bytes and the listing's cost, and the budget of a file, is requested from the source
 pub record ReturnsListing (rule : ListOptions) (path : List ℕ) (before after : CountedState) (old new : OutState) (answer : Result ℕ OutFault) : Type 0 where
   pub kind : Option FileMagic
   pub finds : (file : List ℕ) → before.seen.file ≡ Some file → IfSome kind (λ found. found ≡ file_magic rule.members rule.caps.limits.budget file)

@@ -1,4 +1,4 @@
-//! The names in a folder, in order, a pass at a time.
+//! The names in a directory, sorted, one pass at a time.
 ghost use Rattle.std.specs.Prelude.{◌≡◌, ◌<◌, ◌++◌, ◌∷◌, List, ℕ, suc, slice_index_or, true, false, IfOk, IfSome, IsNone, OnOk, Ok, [], length, take};
 ghost use Rattle.std.specs.List.Sorted.{IsSorted};
 ghost use Rattle.elf_walk.specs.Held.{IsEnough, IsWithinKept, LeavesRoom, IsSettled};
@@ -13,16 +13,16 @@ use std::cmp::Ordering;
 use std::marker::Model;
 use std::str;
 
-/// A name in a folder.
+/// A name in a directory.
 pub type DirEntryName = ArrayVec<u8, 255>;
 
-/// The first names of a folder behind another one, in the order of their bytes, each once: as many as
-/// there is room for. A pass over the folder puts each name that it has; where there are more than are
-/// kept, another pass follows.
+/// The first names of a directory after a given one, sorted by their bytes, without duplicates, up
+/// to the batch's capacity. A pass over the directory inserts each of its names; if there are more
+/// than are kept, another pass follows.
 #[derive(Drop)]
 pub struct NameBatch {
     kept: DirNames,
-    /// Where names are put in order.
+    /// Where names are sorted.
     spare: DirNames,
     after: DirEntryName,
     limit: DirEntryName,
@@ -44,20 +44,20 @@ impl Model for NameBatch {
     } };
 }
 
-/// What becomes of a name that is put.
+/// The result of inserting a name.
 #[derive(Clone, Copy)]
 pub enum Insertion {
-    /// It has its place in this pass or another, or had it before, or it is `.` or `..`.
+    /// It belongs to this pass or another, or was inserted before, or it is `.` or `..`.
     Placed,
     /// It is not UTF-8, or longer than 255 bytes.
     Unnamed,
 }
 
 impl NameBatch {
-    /// A batch without a name. Its memory is taken from `alloc` here.
+    /// Creates an empty batch. Allocates its memory from `alloc`.
     ///
     /// # Errors
-    /// Where memory is refused.
+    /// Out of memory.
     pub fn new(alloc: Global) -> Result<NameBatch, AllocError>
         ensures { IfOk result (λ batch. KeepsFirstNames [] batch) }
     {
@@ -70,8 +70,8 @@ impl NameBatch {
         })
     }
 
-    /// Begins a pass that wants the names behind another one, which is empty in the first pass over a
-    /// folder.
+    /// Begins a pass for the names after another one, which is empty in the first pass over a
+    /// directory.
     pub fn begin(&mut self, after: &DirEntryName)
         ensures keeps { KeepsFirstNames [] self.new }
         ensures after { self.new.after ≡ after.now.items }
@@ -83,17 +83,17 @@ impl NameBatch {
         self.more = false;
     }
 
-    /// Whether another pass is wanted.
+    /// Returns `true` if another pass is needed.
     pub fn has_more(&self) -> bool
         ensures { result ≡ self.now.more }
     {
         self.more
     }
 
-    /// Puts a name of the folder.
+    /// Inserts a name of the directory.
     ///
     /// # Errors
-    /// Where memory is refused.
+    /// Out of memory.
     pub fn put(&mut self, name: &[u8]) -> Result<Insertion, AllocError>
         ensures dots { is_dot_entry name.now ≡ true →
             (result ≡ Ok Insertion.Placed) × (self.new ≡ self.old) }
@@ -119,10 +119,10 @@ impl NameBatch {
         Ok(Insertion::Placed)
     }
 
-    /// Puts a name among those that are kept, if it has its place there.
+    /// Inserts a name among those that are kept, if it belongs there.
     ///
     /// # Errors
-    /// Where memory is refused.
+    /// Out of memory.
     fn hold(&mut self, name: &[u8]) -> Result<(), AllocError>
         ensures keeps { OnOk result ((names : List (List ℕ)) → KeepsFirstNames names self.old →
             KeepsFirstNames (names ++ name.now ∷ []) self.new) }
@@ -136,10 +136,10 @@ impl NameBatch {
         Ok(())
     }
 
-    /// Drops the last names where there is no room for one more.
+    /// Drops the last names if there is no room for one more.
     ///
     /// # Errors
-    /// Where memory is refused.
+    /// Out of memory.
     fn make_room(&mut self) -> Result<(), AllocError>
         ensures keeps { OnOk result ((names : List (List ℕ)) → KeepsFirstNames names self.old →
             KeepsFirstNames names self.new) }
@@ -154,7 +154,7 @@ impl NameBatch {
         Ok(())
     }
 
-    /// Whether a name has its place among those that are kept.
+    /// Returns `true` if a name belongs to those that are kept.
     fn wants(&self, name: &[u8]) -> bool
         ensures { result ≡ wants name.now self.now }
     {
@@ -162,10 +162,10 @@ impl NameBatch {
             && (!self.more || name.cmp(self.limit.as_slice()) == Ordering::Less)
     }
 
-    /// Ends a pass: puts the names that are kept in order.
+    /// Ends a pass: sorts the names that are kept.
     ///
     /// # Errors
-    /// Where memory is refused.
+    /// Out of memory.
     pub fn end(&mut self) -> Result<(), AllocError>
         ensures names { OnOk result (self.new.held ≡ self.new.names) }
         ensures keeps { OnOk result ((names : List (List ℕ)) → KeepsFirstNames names self.old →
@@ -183,7 +183,7 @@ impl NameBatch {
         )
     }
 
-    /// The names that are kept, as they lie: in order once the pass has ended.
+    /// Returns the names that are kept: sorted once the pass has ended.
     pub fn names(&self) -> &DirNames
         ensures { result.now ≡ self.now.held }
     {
@@ -191,14 +191,14 @@ impl NameBatch {
     }
 }
 
-/// Whether a name is that of a folder within itself, or of the one above it.
+/// Returns `true` if a name is `.` or `..`.
 fn is_dot_entry(name: &[u8]) -> bool
     ensures { result ≡ is_dot_entry name.now }
 {
     name == b".".as_slice() || name == b"..".as_slice()
 }
 
-/// Whether a name can be told.
+/// Returns `true` if a name can be represented: it is UTF-8, of at most 255 bytes.
 fn is_nameable(name: &[u8]) -> bool
     ensures nameable { result ≡ true → IsNameable name.now }
     ensures unnameable { result ≡ false → ¬ (IsNameable name.now) }
@@ -206,11 +206,10 @@ fn is_nameable(name: &[u8]) -> bool
     str::from_utf8(name).is_ok() && name.len() <= FOLDER_NAME_BYTES
 }
 
-/// Puts names in order, and drops the last ones where there are many: then the limit is the last that is
-/// kept.
+/// Sorts names, and drops the last ones if there are many: then the limit is the last that is kept.
 ///
 /// # Errors
-/// Where memory is refused.
+/// Out of memory.
 fn settle(
     kept: &mut DirNames,
     spare: &mut DirNames,
@@ -235,10 +234,10 @@ fn settle(
     Ok(())
 }
 
-/// Puts sorted names behind one another, each once.
+/// Appends sorted names without duplicates.
 ///
 /// # Errors
-/// Where memory is refused.
+/// Out of memory.
 fn put_each_once(from: &DirNames, to: &mut DirNames) -> Result<(), AllocError>
     requires sorted { IsSorted order from.now }
     requires empty { to.old ≡ [] }
@@ -256,10 +255,10 @@ fn put_each_once(from: &DirNames, to: &mut DirNames) -> Result<(), AllocError>
     Ok(())
 }
 
-/// Puts the first of some names behind one another, as many as are kept. Answers whether these are all.
+/// Appends the first of some names, as many as are kept. Returns whether these are all.
 ///
 /// # Errors
-/// Where memory is refused.
+/// Out of memory.
 fn put_first(from: &DirNames, to: &mut DirNames) -> Result<bool, AllocError>
     requires empty { to.old ≡ [] }
     ensures whole { result ≡ Ok true → to.new ≡ from.now }
@@ -280,7 +279,7 @@ fn put_first(from: &DirNames, to: &mut DirNames) -> Result<bool, AllocError>
     Ok(true)
 }
 
-/// The last of some names; where there are none the empty one.
+/// Returns the last of some names, or the empty name if there are none.
 fn last_of(names: &DirNames) -> DirEntryName
     ensures { (most : ℕ) → length names.now ≡ suc most →
         result.items ≡ slice_index_or names.now most [] }
@@ -292,7 +291,7 @@ fn last_of(names: &DirNames) -> DirEntryName
     last
 }
 
-/// The same name once more.
+/// Returns a copy of a name.
 fn copied(name: &DirEntryName) -> DirEntryName
     ensures { result.items ≡ name.now.items }
 {

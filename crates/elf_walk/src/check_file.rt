@@ -12,11 +12,12 @@ use elf_table::{Caps, HeaderStore, RunFault};
 /// How many bytes a file header has.
 const HEADER_BYTES: u64 = 64;
 
-/// Checks one file: goes through its listing, as far as `parts` has it, and answers the state that
-/// the first fault gives, or that there is none. Nothing is written. The store has a slot for each
-/// header that the caps permit; what it and the source held before is of no account, and at most
-/// 2^127 bytes were asked of the source. Where the caps have a budget no more is read; afterwards
-/// no limit is set.
+/// Checks one file: reads its listing, the parts that `parts` has, and returns the state given by
+/// the first fault, or that there is none.
+///
+/// Nothing is written. The store has a slot for each header that the caps allow; its previous
+/// contents and those of the source do not matter, and at most 2^127 bytes were requested from the
+/// source. If the caps have a budget, no more is read; on return no limit is set.
 pub fn check<S: Source>(
     src: &mut Counted<S>,
     store: &mut HeaderStore,
@@ -37,7 +38,7 @@ pub fn check<S: Source>(
         Ok(()) => FileStatus::Ok,
         Err(RunFault::Refused(refusal)) => refused_state(refusal),
         Err(RunFault::Source { .. }) => FileStatus::Unread,
-        // Not reached: the sink never fails.
+        // Unreachable: the sink never fails.
         Err(RunFault::Out(_)) => FileStatus::Unread,
     }
 }

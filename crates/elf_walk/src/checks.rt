@@ -15,18 +15,19 @@ use elf_source::{Counted, DeferredSink, Out, OutFault, RangeSource, Sink, Source
 use elf_table::{Caps, HeaderStore};
 use std::marker::Model;
 
-/// The rule by which files are checked.
+/// How files are checked.
 #[derive(Clone, Copy)]
 pub struct CheckOptions {
     /// How much of the file may be read, and how rows of its listing are shown.
     pub caps: Caps<'static>,
     /// The parts of its listing that count.
     pub parts: Parts,
-    /// Whether an archive has the state of its members' listings.
+    /// Whether the state of an archive includes its members' listings.
     pub members: bool,
 }
 
-/// Checks files, and writes the line of each: what its own listing ends with, within what is asked for.
+/// A visitor that checks files, and writes the line of each: how its own listing ends, within the
+/// limits.
 #[derive(Drop)]
 pub struct CheckFiles<'a> {
     store: HeaderStore<'a>,
@@ -45,7 +46,8 @@ impl<'a> Model for CheckFiles<'a> {
 }
 
 impl<'a> CheckFiles<'a> {
-    /// A check by a rule, with a store, which has a slot for each header that the rule permits.
+    /// Creates a check with a rule and a store, which has a slot for each header that the rule
+    /// allows.
     pub fn new(store: HeaderStore<'a>, rule: CheckOptions) -> Self
         requires { store.slots ≡ rule.caps.limits.headers }
         ensures { result ≡ rule }
@@ -75,7 +77,8 @@ impl<'a> FileVisitor for CheckFiles<'a> {
     }
 }
 
-/// The state of one file by a rule: that of its listing, or where archives are gone into by what it is.
+/// Returns the state of one file by a rule: that of its listing or, if members are checked, by its
+/// type.
 fn find_state<S: Source>(
     src: &mut Counted<RangeSource<S>>,
     store: &mut HeaderStore,

@@ -1,9 +1,10 @@
-//! Entries that end in NUL, one behind the other.
+//! Entries that end in NUL, one after the other.
 ghost use Rattle.std.specs.Prelude.{◌≡◌, ◌<◌, ◌≤◌, ◌≢◌, ℕ, IfSome, IsNone, length, slice_index};
 
 use memchr::memchr;
 
-/// Where the first entry in `bytes` ends: the index of its NUL. None where there is no NUL.
+/// Returns where the first entry in `bytes` ends: the index of its NUL, or `None` if there is no
+/// NUL.
 pub fn entry_end(bytes: &[u8]) -> Option<usize>
     ensures within { IfSome result (λ end. end < length bytes.now) }
     ensures nul { IfSome result (λ end. slice_index bytes.now end ≡ 0) }
@@ -13,7 +14,7 @@ pub fn entry_end(bytes: &[u8]) -> Option<usize>
     memchr(0, bytes)
 }
 
-/// Where the entry that begins `bytes` ends, with no NUL the end of `bytes`.
+/// Returns where the entry that begins `bytes` ends: without a NUL, at the end of `bytes`.
 pub fn ends_at(bytes: &[u8]) -> usize
     ensures within { result ≤ length bytes.now }
     ensures nul { result < length bytes.now → slice_index bytes.now result ≡ 0 }

@@ -1,4 +1,4 @@
-//! Names in memory that is taken once.
+//! Names in memory that is allocated once.
 ghost use Rattle.std.specs.Prelude.{◌≡◌, ◌+◌, ◌≤◌, ◌<◌, ◌++◌, ◌∷◌, [], true, false, IfOk, IfSome, IsNone, OnOk, length, slice_index_or};
 ghost use Rattle.std.specs.List.Sorted.{IsPermutation, IsSorted};
 ghost use Rattle.elf_model.specs.Bytes.{slice};
@@ -8,7 +8,7 @@ ghost use Rattle.elf_walk.specs.Held.{IsEnough, IsSmallFolder, LeavesRoom, bytes
 use std::alloc::{AllocError, Global};
 use std::marker::Model;
 
-/// The most bytes of a name in a folder.
+/// The maximum number of bytes of a name in a directory.
 pub const FOLDER_NAME_BYTES: usize = 255;
 
 /// How many names are held at once.
@@ -17,20 +17,20 @@ const MOST_NAMES: usize = 32_768;
 /// How many bytes of names are held at once.
 const MOST_BYTES: usize = 720_896;
 
-/// How many names are kept where there are more.
+/// How many names are kept if there are more.
 pub const KEPT_NAMES: usize = 20_480;
 
-/// How many bytes of names are kept where there are more.
+/// How many bytes of names are kept if there are more.
 pub const KEPT_BYTES: usize = 589_824;
 
-/// Names one behind the other.
+/// A list of names, stored one after the other.
 #[derive(Drop)]
 pub struct DirNames {
     bytes: Vec<u8>,
     places: Vec<NameSpan>,
 }
 
-/// Where a name lies among the bytes.
+/// The span of a name among the bytes.
 #[derive(Clone, Copy)]
 struct NameSpan {
     start: u32,
@@ -50,10 +50,10 @@ impl Model for DirNames {
 }
 
 impl DirNames {
-    /// No name. The memory is taken from `alloc` here.
+    /// Creates an empty list of names. Allocates its memory from `alloc`.
     ///
     /// # Errors
-    /// Where memory is refused.
+    /// Out of memory.
     pub(crate) fn new(alloc: Global) -> Result<DirNames, AllocError>
         ensures { IfOk result (λ names. names ≡ []) }
     {
@@ -62,7 +62,7 @@ impl DirNames {
         Ok(DirNames { bytes, places })
     }
 
-    /// Forgets all names.
+    /// Removes all names.
     pub(crate) fn clear(&mut self)
         ensures { self.new ≡ [] }
     {
@@ -70,21 +70,21 @@ impl DirNames {
         self.places.clear();
     }
 
-    /// How many names there are.
+    /// Returns the number of names.
     pub fn len(&self) -> usize
         ensures { result ≡ length self.now }
     {
         self.places.len()
     }
 
-    /// How many bytes the names have together.
+    /// Returns the total length of the names in bytes.
     fn size(&self) -> usize
         ensures { result ≡ bytes_held self.now }
     {
         self.bytes.len()
     }
 
-    /// The name at an index.
+    /// Returns the name at an index.
     pub fn get(&self, index: usize) -> Option<&[u8]>
         ensures some { IfSome result (λ n. (index < length self.now)
             × (n.now ≡ slice_index_or self.now index []) × (length n.now ≤ 255)) }
@@ -96,14 +96,14 @@ impl DirNames {
         }
     }
 
-    /// Whether there is no room for one more name.
+    /// Returns `true` if there is no room for one more name.
     pub(crate) fn is_full(&self) -> bool
         ensures { result ≡ false → LeavesRoom self.now }
     {
         self.len() >= MOST_NAMES || self.size() > MOST_BYTES - FOLDER_NAME_BYTES
     }
 
-    /// Whether these are as many names as are kept where there are more.
+    /// Returns `true` if these are as many names as are kept if there are more.
     pub(crate) fn is_enough(&self) -> bool
         ensures none { self.now ≡ [] → result ≡ false }
         ensures enough { result ≡ true → IsEnough self.now }
@@ -112,10 +112,10 @@ impl DirNames {
         self.len() > 0 && (self.len() >= KEPT_NAMES || self.size() >= KEPT_BYTES)
     }
 
-    /// Puts a name behind the others.
+    /// Appends a name.
     ///
     /// # Errors
-    /// Where memory is refused, or the name has more than 255 bytes; the names stay.
+    /// Out of memory, or the name has more than 255 bytes; the names are unchanged.
     pub(crate) fn push(&mut self, name: &[u8]) -> Result<(), AllocError>
         ensures pushed { OnOk result (self.new ≡ self.old ++ name.now ∷ []) }
         ensures short { OnOk result (length name.now ≤ 255) }
@@ -132,7 +132,7 @@ impl DirNames {
         Ok(())
     }
 
-    /// Puts the names in the order of their bytes.
+    /// Sorts the names by their bytes.
     pub(crate) fn sort(&mut self)
         ensures permutation { IsPermutation self.old self.new }
         ensures sorted { IsSorted order self.new }
@@ -141,7 +141,7 @@ impl DirNames {
         self.places.sort_unstable_by(|one, other| name_at(bytes, *one).cmp(name_at(bytes, *other)));
     }
 
-    /// Whether a name is the one before it.
+    /// Returns `true` if a name equals the one before it.
     pub(crate) fn repeats(&self, index: usize) -> bool
         requires { index < length self.now }
         ensures { result ≡ repeats self.now index }
@@ -156,7 +156,7 @@ impl DirNames {
     }
 }
 
-/// The name at a place among bytes.
+/// Returns the name at a span of bytes.
 fn name_at(bytes: &[u8], place: NameSpan) -> &[u8]
     ensures piece { result.now ≡ slice bytes.now place.start place.len }
     ensures short { length result.now ≤ 255 }

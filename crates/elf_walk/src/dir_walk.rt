@@ -1,4 +1,4 @@
-//! The names in a folder, read in passes.
+//! The names in a directory, read in passes.
 ghost use Rattle.std.specs.Prelude.{◌≡◌, IfOk, List, ℕ, []};
 ghost use Rattle.elf_walk.specs.Gathered.{GathersNames, PutsNames, unnamed_count};
 ghost use Rattle.elf_walk.specs.Kept.{KeepsFirstNames};
@@ -11,12 +11,13 @@ use std::alloc::AllocError;
 use std::io::{ErrorKind, Read};
 use std::rt::Files;
 
-/// Goes once through the folder at a path, and puts its names into a batch, which has them in order then.
-/// `room` is where they are read. Answers how many names there are that can't be named. What names the
-/// system gives is not known; what came is.
+/// Reads the directory at a path once, and puts its names into a batch, which sorts them.
+///
+/// `room` is the buffer they are read into. Returns how many names cannot be represented. The
+/// contract does not say which names the system returns, only what happens to them.
 ///
 /// # Errors
-/// The state of a folder that can't be opened or read.
+/// The state of a directory that cannot be opened or read.
 pub fn gather<R: Files>(
     rt: &R,
     path: &str,
@@ -32,10 +33,10 @@ pub fn gather<R: Files>(
     }
 }
 
-/// Puts the names that an open folder gives into a batch.
+/// Puts the names of an open directory into a batch.
 ///
 /// # Errors
-/// The state of a folder that can't be read, or for whose names there is no memory.
+/// The state of a directory that cannot be read, or for whose names there is no memory.
 fn gather_from<D: Read>(
     folder: &mut D,
     room: &mut [u8],
@@ -60,10 +61,10 @@ fn gather_from<D: Read>(
     Err(FileStatus::Unread)
 }
 
-/// Ends a pass, of which so many names can't be named.
+/// Ends a pass, in which `unnamed` names cannot be represented.
 ///
 /// # Errors
-/// The state of a folder for whose names there is no memory.
+/// The state of a directory for whose names there is no memory.
 fn ended(batch: &mut NameBatch, unnamed: u64) -> Result<u64, FileStatus>
     ensures count { IfOk result (λ count. count ≡ unnamed) }
     ensures order { IfOk result (λ count. batch.new.held ≡ batch.new.names) }
@@ -77,10 +78,10 @@ fn ended(batch: &mut NameBatch, unnamed: u64) -> Result<u64, FileStatus>
     }
 }
 
-/// Puts names, each ended by NUL, into a batch, and answers how many can't be named.
+/// Puts names, each ended by NUL, into a batch, and returns how many cannot be represented.
 ///
 /// # Errors
-/// Where memory is refused.
+/// Out of memory.
 fn put_all(names: &[u8], batch: &mut NameBatch) -> Result<u64, AllocError>
     ensures puts { IfOk result (λ unnamed. PutsNames names.now unnamed batch.old batch.new) }
     ensures after { batch.new.after ≡ batch.old.after }
@@ -96,7 +97,7 @@ fn put_all(names: &[u8], batch: &mut NameBatch) -> Result<u64, AllocError>
     Ok(unnamed)
 }
 
-/// How many names can't be named, of one that was put.
+/// Returns how many names cannot be represented, for one that was inserted: 0 or 1.
 fn unnamed_of(put: Insertion) -> u64
     ensures { result ≡ unnamed_count put }
 {

@@ -6,24 +6,26 @@ ghost use Rattle.elf_source.specs.declared.faults.OutFault.{OutFault};
 
 use elf_source::{Counted, DeferredSink, Out, OutFault, RangeSource, Sink, Source};
 
-/// Tells of files one after another, by the same rule: what came before a file is of no account.
+/// A visitor of files, one after another, by the same rule: earlier files do not matter.
 pub trait FileVisitor {
-    /// The rule by which files are told of: what is asked for of each.
+    /// The rule by which files are visited: what is requested for each.
     type Rule;
 
-    /// The rule, which stays from one file to the next.
+    /// The rule, which is the same from one file to the next.
     ghost rule: { Self → Self.Rule };
 
-    /// What was asked of the source of a file at a path, and what was written of it, by the source and
-    /// the output before and after, and by the answer, which is the exit status that the file calls for.
+    /// What was requested from the source of a file at a path, and what was written of it, by the
+    /// source and the output before and after, and by the result, which is the exit status that the
+    /// file requires.
     ghost tells: { Self.Rule → List ℕ → CountedState → CountedState → OutState → OutState →
         Result ℕ OutFault → Type 0 };
 
-    /// Tells of the file at a path, whose source is a range of all its bytes. At most 2^126 bytes were
-    /// asked of it. The output may hold bytes back within a call, and holds none between two. Answers the exit status that the file calls for.
+    /// Visits the file at a path, whose source is a range of all its bytes. At most 2^126 bytes
+    /// were requested from it. The output may defer bytes within a call, and defers none between
+    /// two. Returns the exit status that the file requires.
     ///
     /// # Errors
-    /// A fault of the output, with a front of what there is to tell written.
+    /// A fault of the output, with a prefix of the text written.
     fn visit<S: Source, W: Sink>(
         &mut self,
         src: &mut Counted<RangeSource<S>>,

@@ -15,7 +15,8 @@ use elf_source::{Counted, DeferredSink, Out, OutFault, RangeSource, Sink, Source
 use elf_table::{Caps, HeaderStore, Limits, RunFault};
 use std::marker::Model;
 
-/// Lists files: for each the line of its path, and behind it its listing, within what is asked for.
+/// A visitor that lists files: for each the line of its path, and after it its listing, within the
+/// limits.
 #[derive(Drop)]
 pub struct ListFiles<'a> {
     store: HeaderStore<'a>,
@@ -34,7 +35,8 @@ impl<'a> Model for ListFiles<'a> {
 }
 
 impl<'a> ListFiles<'a> {
-    /// Listings by a rule, with a store, which has a slot for each header that the rule permits.
+    /// Creates listings with a rule and a store, which has a slot for each header that the rule
+    /// allows.
     pub fn new(store: HeaderStore<'a>, rule: ListOptions<'a>) -> Self
         requires { store.slots ≡ rule.caps.limits.headers }
         ensures { result ≡ rule.entry }
@@ -73,7 +75,7 @@ impl<'a> FileVisitor for ListFiles<'a> {
     }
 }
 
-/// Whether a file is of another kind.
+/// Returns `true` if a file is of another type.
 fn lacks_elf_magic(sort: FileMagic) -> bool
     ensures yes { result ≡ true → sort ≡ Foreign }
     ensures no { result ≡ false → sort ≡ Foreign → ⊥ }
@@ -84,8 +86,8 @@ fn lacks_elf_magic(sort: FileMagic) -> bool
     }
 }
 
-/// The rule for what stands behind the bytes that tell what a file of so many bytes is: of the budget is
-/// left what they did not take.
+/// Returns the rule for what follows the magic bytes of a file of `size` bytes: the budget less
+/// those bytes.
 fn behind<'n>(rule: &ListOptions<'n>, size: u64) -> ListOptions<'n>
     ensures limits { LeavesLimits rule.now size result.caps.limits }
     ensures style { result.caps.style ≡ rule.now.caps.style }
@@ -106,7 +108,8 @@ fn behind<'n>(rule: &ListOptions<'n>, size: u64) -> ListOptions<'n>
     }
 }
 
-/// What is left of a budget behind so many bytes; of one that has no room for them all of it.
+/// Returns what is left of a budget after a number of bytes, or all of it if it does not have that
+/// many.
 pub fn budget_after(budget: Option<u64>, count: u64) -> Option<u64>
     ensures { result ≡ budget_after budget count }
 {
@@ -117,7 +120,8 @@ pub fn budget_after(budget: Option<u64>, count: u64) -> Option<u64>
     }
 }
 
-/// Tells how the listing of the file at a path ended, and answers the exit status that it calls for.
+/// Reports how the listing of the file at a path ended, and returns the exit status that it
+/// requires.
 ///
 /// # Errors
 /// A fault of the output.
@@ -137,10 +141,10 @@ fn end_list<W: Sink>(
     }
 }
 
-/// Writes the line of a file that is not read, and answers the exit status that it calls for.
+/// Writes the line of a file that is not read, and returns the exit status that it requires.
 ///
 /// # Errors
-/// A fault of the output, with a front of the line written.
+/// A fault of the output, with a prefix of the line written.
 fn report_unread<W: Sink>(path: &[u8], format: Format, out: &mut Out<W>) -> Result<u8, OutFault>
     ensures { PutsUnread format path.now out.old out.new result }
 {

@@ -14,12 +14,14 @@ use elf_table::{Fault, HeaderStore, Limits};
 /// How many bytes a file header has.
 const HEADER_BYTES: u64 = 64;
 
-/// The traits of a file, as far as its limits permit. The store has a slot for each header that they
-/// permit; what it and the source held before is of no account, and at most 2^127 bytes were asked of
-/// the source. Afterwards no limit is set.
+/// Returns the traits of a file, within its limits.
+///
+/// The store has a slot for each header that they allow; its previous contents and those of the
+/// source do not matter, and at most 2^127 bytes were requested from the source. On return no limit
+/// is set.
 ///
 /// # Errors
-/// The state of a file that has none: of another kind, refused, or not read.
+/// The state of a file that has none: of another type, refused, or not read.
 pub fn traits_within<S: Source>(
     src: &mut Counted<S>,
     store: &mut HeaderStore,
@@ -33,7 +35,7 @@ pub fn traits_within<S: Source>(
         FindsWithin limits.budget limits.headers file result }
     ensures cost { (file : List ℕ) → src.old.seen.file ≡ Some file →
         src.new.asked ≤ src.old.asked + file_traits_cost file limits.headers }
-    // For every source.
+    // For any source.
     ensures read { IfErr result (FailsRead src.old src.new) }
     ensures asks { AsksNoMore (file_traits_ceiling src.old.seen.size limits.headers) limits.budget
         src.old src.new }

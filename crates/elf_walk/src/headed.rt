@@ -1,4 +1,4 @@
-//! A listing behind the line of its file's path.
+//! A listing after the line of its file's path.
 ghost use Rattle.std.specs.Prelude.{◌≡◌, ◌+◌, ◌≤◌, ◌^◌, ℕ, List, Some, IfErr};
 ghost use Rattle.elf_archive.specs.Listed.{ArchiveSays, IsAll};
 ghost use Rattle.elf_options.specs.Permitted.{style_of};
@@ -15,12 +15,14 @@ use elf_model::FileMagic;
 use elf_source::{Counted, DeferredSink, Out, RangeSource, Sink, Source};
 use elf_table::{HeaderStore, RunFault};
 
-/// Writes the line of a path, and behind it the listing of the file there as [`list_by_type`] does; where rows
-/// are chosen by their names the line stands only before something that is listed. Answers whether the
-/// listing of a member was refused. Of the budget is left what the rule's caps have.
+/// Writes the line of a path, and after it the listing of the file there as [`list_by_type`] does;
+/// if rows are selected by name, the line is written only before something that is listed.
+///
+/// Returns whether the listing of a member was refused. The budget left is that of the rule's caps.
 ///
 /// # Errors
-/// As of [`list_by_type`], with a front of the line and the listing written, and as of [`defer_path_line`].
+/// As for [`list_by_type`], with a prefix of the line and the listing written, and as for
+/// [`defer_path_line`].
 pub fn list_with_path_line<S: Source, W: Sink>(
     src: &mut Counted<RangeSource<S>>,
     store: &mut HeaderStore,

@@ -1,11 +1,7 @@
-//! The names in a folder in their order, in memory of a fixed size: those of a pass over a folder, those
-//! that wait, and a path that is put together of them; and entries that end in NUL.
-//!
-//! Many files told of one after another: paths, folders, and lists of entries that end in NUL; and what is
-//! done with each file, which is one trait.
-//!
-//! What is done with each of many files: its check, its listing behind the line of its path, or the line of how
-//! it is hardened. Store and buffers are used again for the next file.
+//! Many files, one after another: [`DirWalk`] goes through the names of a directory in order, in
+//! memory of a fixed size, and calls a [`FileVisitor`] for each file: [`CheckFiles`] checks it,
+//! [`ListFiles`] lists it after the line of its path, and [`TraitReport`] writes the line of its
+//! traits. Store and buffers are used again for the next file.
 #![tactic(auto)]
 
 mod batch;

@@ -1,4 +1,4 @@
-//! What a file is, by its first bytes.
+//! The type of a file, by its first bytes.
 ghost use Rattle.std.specs.Prelude.{◌≡◌, ◌+◌, ◌≤◌, ◌==◌, ℕ, List, None, Some, IfErr, IfOk, if◌then◌else◌};
 ghost use Rattle.elf_model.specs.Prelude.{ARCHIVE_MAGIC, field, file_magic, front_size, has_elf_magic, may_read_bytes};
 ghost use Rattle.elf_model.specs.declared.states.FileMagic.TheVariants.{Archive, Elf, Foreign};
@@ -9,18 +9,18 @@ use elf_model::FileMagic;
 use elf_record::{u64_at, word};
 use elf_source::{Counted, Source, SourceFault};
 
-/// The number of an ELF file's magic number (gABI 4, ELF Identification), and how many bytes it has.
+/// The value of the ELF magic number (gABI 4, ELF Identification), and its size in bytes.
 const ELF_MAGIC: u32 = 0x464c_457f;
 
 const ELF_MAGIC_BYTES: u64 = 4;
 
-/// The magic string of an archive, `!<arch>` and a newline, as a number, and how many bytes it has.
+/// The magic string of an archive, `!<arch>` and a newline, as a number, and its size in bytes.
 const ARCHIVE_MAGIC: u64 = 0x0a3e_6863_7261_3c21;
 
 const ARCHIVE_MAGIC_BYTES: u64 = 8;
 
-/// What a file is, by its first bytes: four, or where archives are gone into and there are as many,
-/// eight. One read, or none where the file or the budget has fewer. Afterwards no limit is set.
+/// Returns the type of a file by its first bytes: four or, if members are read and there are as
+/// many, eight. One read, or none if the file or the budget has fewer. On return no limit is set.
 ///
 /// # Errors
 /// A fault of the source.
@@ -56,7 +56,7 @@ pub fn find_file_type<S: Source>(
     sort
 }
 
-/// How many of its first bytes tell what a file of so many bytes is.
+/// Returns how many of its first bytes identify the type of a file of `size` bytes.
 pub fn front_bytes(members: bool, size: u64) -> u64
     ensures { result ≡ front_size members size }
 {
@@ -67,7 +67,7 @@ pub fn front_bytes(members: bool, size: u64) -> u64
     }
 }
 
-/// Whether a budget has so many bytes.
+/// Returns `true` if a budget has at least `count` bytes.
 fn may_read_bytes(budget: Option<u64>, count: u64) -> bool
     ensures { result ≡ may_read_bytes budget count }
 {
@@ -77,7 +77,7 @@ fn may_read_bytes(budget: Option<u64>, count: u64) -> bool
     }
 }
 
-/// What a file of four bytes or more is, where archives are not gone into.
+/// Returns the type of a file of four bytes or more, if members are not read.
 ///
 /// # Errors
 /// A fault of the source.
@@ -96,7 +96,7 @@ fn sort_alone<S: Source>(src: &mut Counted<S>) -> Result<FileMagic, SourceFault>
     Ok(FileMagic::Foreign)
 }
 
-/// What a file of eight bytes or more is, where archives are gone into.
+/// Returns the type of a file of eight bytes or more, if members are read.
 ///
 /// # Errors
 /// A fault of the source.
@@ -120,7 +120,7 @@ fn sort_with_members<S: Source>(src: &mut Counted<S>) -> Result<FileMagic, Sourc
     Ok(FileMagic::Foreign)
 }
 
-/// The number in the first four of eight bytes.
+/// Returns the number in the first four of eight bytes.
 fn first_word(bytes: &[u8; 8]) -> u32
     ensures { result ≡ field bytes.now 0 4 }
 {

@@ -10,30 +10,32 @@ use std::os::unix::fs::FileExt;
 use std::rt::Files;
 use std::str;
 
-/// Why a list came to no end.
+/// Why a list was not read to its end.
 #[derive(Clone, Copy)]
 pub enum ListFault {
-    /// The list can't be read.
+    /// The list cannot be read.
     Read,
     /// The output failed.
     Out(OutFault),
 }
 
-/// Whether the list is within an entry that is longer than the room for it.
+/// Whether the list is within an entry that is longer than the buffer.
 #[derive(Clone, Copy)]
 enum EntryState {
-    /// At an entry's begin.
+    /// At the start of an entry.
     Entry,
-    /// Within an entry that is too long: what comes up to its NUL is passed over.
+    /// Within an entry that is too long: what comes up to its NUL is skipped.
     TooLong,
 }
 
-/// Tells of the files and folders whose paths a list has, each ended by NUL; the last one may end with
-/// the list. An entry that is not UTF-8, or longer than `room`, can't be named. `room` is where
-/// entries are read.
+/// Visits the files and directories whose paths are in a list, each ended by NUL; the last one may
+/// end with the list.
+///
+/// An entry that is not UTF-8, or longer than `room`, is counted as unrepresentable. `room` is the
+/// buffer that entries are read into.
 ///
 /// # Errors
-/// Where the list can't be read, or the output failed: the paths before were told of.
+/// The list cannot be read, or the output failed: the paths before were visited.
 pub fn visit_list<R: Files, W: Sink, E: Write + Drop, A: FileVisitor + Drop, I: Read>(
     rt: &R,
     many: &mut FileRun<W, E, A>,
@@ -65,14 +67,14 @@ where
     visit_last(rt, many, walk, &room[..held.min(room.len())], place)
 }
 
-/// Moves what is left of an entry to the front, and answers how many bytes that are.
+/// Moves the rest of an entry to the start of the buffer, and returns its length in bytes.
 fn keep_rest(room: &mut [u8], used: usize, end: usize) -> usize {
     let used = used.min(end).min(room.len());
     room.rotate_left(used);
     end - used
 }
 
-/// Tells of the entries that are whole, and answers how many bytes they have.
+/// Visits the entries that are whole, and returns their total length in bytes.
 fn visit_entries<R: Files, W: Sink, E: Write + Drop, A: FileVisitor + Drop>(
     rt: &R,
     many: &mut FileRun<W, E, A>,
@@ -96,7 +98,7 @@ where
     Ok(at)
 }
 
-/// Tells of what is left behind the last NUL.
+/// Visits what is left after the last NUL.
 fn visit_last<R: Files, W: Sink, E: Write + Drop, A: FileVisitor + Drop>(
     rt: &R,
     many: &mut FileRun<W, E, A>,
@@ -113,7 +115,7 @@ where
     visit_entry(rt, many, walk, rest, place)
 }
 
-/// Tells of the path that an entry has.
+/// Visits the path of an entry.
 fn visit_entry<R: Files, W: Sink, E: Write + Drop, A: FileVisitor + Drop>(
     rt: &R,
     many: &mut FileRun<W, E, A>,

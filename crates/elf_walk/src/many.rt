@@ -12,10 +12,10 @@ use elf_source::{Counted, DeferredSink, Out, OutFault, RangeSource, Sink, Source
 use std::io::Write;
 use std::marker::Model;
 
-/// How many files are told of between two words of how far it is.
+/// How many files are visited between two progress reports.
 const TELL_EVERY: u64 = 512;
 
-/// Many files, of which each is told by the same rule: the output, and what has come of them so far.
+/// Many files, each visited by the same rule: the output, and the results so far.
 #[derive(Drop)]
 pub struct FileRun<W: Sink, E: Write + Drop, A: FileVisitor> {
     each: A,
@@ -42,7 +42,8 @@ impl<W: Sink, E: Write + Drop, A: FileVisitor> Model for FileRun<W, E, A> {
 }
 
 impl<W: Sink, E: Write + Drop, A: FileVisitor + Drop> FileRun<W, E, A> {
-    /// No file yet. Where there is a terminal it is told how far it is.
+    /// Creates a visit of many files, before the first one. Progress is shown on a terminal, if
+    /// there is one.
     pub fn new(out: Out<DeferredSink<W>>, each: A, format: Format, terminal: Option<E>) -> Self
         ensures out { result.out ≡ out }
         ensures format { result.format ≡ format }
@@ -60,11 +61,12 @@ impl<W: Sink, E: Write + Drop, A: FileVisitor + Drop> FileRun<W, E, A> {
         }
     }
 
-    /// Tells of the file of a source, whatever files came before it, and keeps the larger of the status
-    /// so far and the one that the file calls for. The source is a range of all bytes of the file.
+    /// Visits the file of a source, independently of the files before it, and keeps the larger of
+    /// the status so far and the one that the file requires. The source is a range of all bytes of
+    /// the file.
     ///
     /// # Errors
-    /// A fault of the output, with a front of what there is to tell written.
+    /// A fault of the output, with a prefix of the text written.
     pub fn report_source<S: Source>(
         &mut self,
         src: &mut Counted<RangeSource<S>>,
@@ -79,10 +81,10 @@ impl<W: Sink, E: Write + Drop, A: FileVisitor + Drop> FileRun<W, E, A> {
         Ok(())
     }
 
-    /// Writes the line of a file that is in a state, and keeps the status that it calls for.
+    /// Writes the line of a file in a state, and keeps the status that it requires.
     ///
     /// # Errors
-    /// A fault of the output, with a front of the line written.
+    /// A fault of the output, with a prefix of the line written.
     pub(crate) fn report_state(&mut self, state: FileStatus, path: &[u8]) -> Result<(), OutFault>
         ensures { ReturnsLine state path.now result self.old self.new }
     {
@@ -91,7 +93,7 @@ impl<W: Sink, E: Write + Drop, A: FileVisitor + Drop> FileRun<W, E, A> {
         Ok(())
     }
 
-    /// Counts a file that calls for a status.
+    /// Counts a file that requires a status.
     fn count_file(&mut self, found: u8)
         ensures status { self.new.status ≡ max self.old.status found }
         ensures out { self.new.out ≡ self.old.out }
@@ -103,7 +105,7 @@ impl<W: Sink, E: Write + Drop, A: FileVisitor + Drop> FileRun<W, E, A> {
         self.report_progress();
     }
 
-    /// Counts paths that could not be named.
+    /// Counts paths that cannot be represented.
     pub(crate) fn count_unnamed(&mut self, count: u64)
         ensures unnamed { self.new.unnamed ≡ min (self.old.unnamed + count) (2 ^ 64 - 1) }
         ensures out { self.new.out ≡ self.old.out }
@@ -113,7 +115,7 @@ impl<W: Sink, E: Write + Drop, A: FileVisitor + Drop> FileRun<W, E, A> {
         self.unnamed = self.unnamed.saturating_add(count);
     }
 
-    /// Tells a terminal how far it is, now and then.
+    /// Shows progress on a terminal, every few files.
     fn report_progress(&mut self)
         ensures { self.new ≡ self.old }
     {
@@ -125,11 +127,11 @@ impl<W: Sink, E: Write + Drop, A: FileVisitor + Drop> FileRun<W, E, A> {
         }
     }
 
-    /// Ends with the last line, where paths could not be named, and answers the exit status, which is 3
-    /// then.
+    /// Ends with the last line, if there are paths that cannot be represented, and returns the exit
+    /// status, which is 3 then.
     ///
     /// # Errors
-    /// A fault of the output, with a front of the line written.
+    /// A fault of the output, with a prefix of the line written.
     pub fn end(&mut self) -> Result<u8, OutFault>
         ensures named { self.old.unnamed ≡ 0 → result ≡ Ok self.old.status }
         ensures quiet { self.old.unnamed ≡ 0 → self.new.out ≡ self.old.out }
@@ -146,7 +148,7 @@ impl<W: Sink, E: Write + Drop, A: FileVisitor + Drop> FileRun<W, E, A> {
         Ok(3)
     }
 
-    /// Takes back what a terminal was told.
+    /// Clears the progress on a terminal.
     fn clear_terminal(&mut self)
         ensures { self.new ≡ self.old }
     {
@@ -158,7 +160,7 @@ impl<W: Sink, E: Write + Drop, A: FileVisitor + Drop> FileRun<W, E, A> {
         }
     }
 
-    /// Gives the output back.
+    /// Returns the output.
     pub fn into_out(self) -> Out<DeferredSink<W>>
         ensures { result ≡ self.out }
     {

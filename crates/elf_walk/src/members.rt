@@ -11,12 +11,15 @@ use elf_record::Parts;
 use elf_source::{Counted, RangeSource, Source};
 use elf_table::{Caps, HeaderStore, RunFault};
 
-/// Checks one archive: goes over its members, and through the listing of each that is an ELF file as far
-/// as `parts` has it, up to the first fault, and answers the state that this gives, or that there is
-/// none. The place of a member's fault is counted from the archive's first byte, as far as 64 bits go. Nothing is
-/// written. The source is a range of all bytes of the archive, with nothing hidden, and is one again
-/// afterwards. The store has a slot for each header that the caps permit, and at most 2^127 bytes were
-/// asked of the source. Where the caps have a budget it is one over all members; afterwards no limit is set.
+/// Checks one archive: reads its members, and the listing of each that is an ELF file, the parts
+/// that `parts` has, up to the first fault, and returns the state given by it, or that there is
+/// none.
+///
+/// The offset of a member's fault is from the archive's first byte, saturating at 64 bits. Nothing
+/// is written. The source is a range of all bytes of the archive, with nothing masked, and is one
+/// again on return. The store has a slot for each header that the caps allow, and at most 2^127
+/// bytes were requested from the source. If the caps have a budget, it is one over all members; on
+/// return no limit is set.
 pub fn check_archive<S: Source>(
     src: &mut Counted<RangeSource<S>>,
     store: &mut HeaderStore,
@@ -32,7 +35,7 @@ pub fn check_archive<S: Source>(
         Ok(()) => FileStatus::Ok,
         Err(RunFault::Refused(refusal)) => FileStatus::Refused(refusal),
         Err(RunFault::Source { .. }) => FileStatus::Unread,
-        // Not reached: nothing is put out.
+        // Unreachable: nothing is written.
         Err(RunFault::Out(_)) => FileStatus::Unread,
     }
 }

@@ -1,4 +1,4 @@
-//! What can't be opened.
+//! Paths that cannot be opened.
 ghost use Rattle.std.specs.Prelude.{◌≡◌};
 ghost use Rattle.elf_model.specs.declared.states.FileStatus.TheVariants.{Memory, Unread};
 ghost use Rattle.std.specs.IoError.{error_kind};
@@ -6,7 +6,8 @@ ghost use Rattle.std.specs.IoError.{error_kind};
 use elf_model::FileStatus;
 use std::io::{Error, ErrorKind};
 
-/// The state of a path that can't be looked at or opened: want of memory is told as that.
+/// Returns the state of a path that cannot be examined or opened: lack of memory is reported as
+/// such.
 pub fn unopened(error: &Error) -> FileStatus
     ensures memory { error_kind error.now ≡ ErrorKind.OutOfMemory → result ≡ Memory }
     ensures unread { (error_kind error.now ≡ ErrorKind.OutOfMemory → ⊥) → result ≡ Unread }

@@ -1,4 +1,4 @@
-//! One file, opened and told of.
+//! One file, opened and visited.
 ghost use Rattle.std.specs.Prelude.{◌≡◌, ◌⊎◌, IfErr};
 ghost use Rattle.elf_walk.specs.Telling.{StandsWhole, ReturnsFile};
 ghost use Rattle.elf_model.specs.declared.states.FileStatus.TheVariants.{Memory, Unread};
@@ -15,7 +15,7 @@ use std::io::Write;
 use std::os::unix::fs::FileExt;
 use std::rt::Files;
 
-/// Opens the file at a path, and tells of it.
+/// Opens the file at a path, and visits it.
 ///
 /// # Errors
 /// A fault of the output.
@@ -34,10 +34,10 @@ where
     }
 }
 
-/// Opens a file that is read at offsets; for `-` that on standard input.
+/// Opens a file that is read at offsets; for `-`, standard input.
 ///
 /// # Errors
-/// The state of a file that can't be opened, or whose length can't be found.
+/// The state of a file that cannot be opened, or whose length cannot be determined.
 fn open<R: Files>(rt: &R, path: &str) -> Result<StreamSource<FileReader<R::File>>, FileStatus>
 where
     R::File: FileExt,
@@ -49,7 +49,8 @@ where
     }
 }
 
-/// A source as a file is told of by it: a range of all its bytes, of which nothing was asked.
+/// Returns a source as a visitor gets it: a range of all its bytes, from which nothing was
+/// requested.
 fn whole<S: Source>(source: S) -> Counted<RangeSource<S>>
     ensures whole { StandsWhole result }
     ensures unasked { result.asked ≡ 0 }

@@ -1,14 +1,14 @@
-//! The rule by which files are listed.
+//! How files are listed.
 use elf_record::Parts;
 use elf_table::Caps;
 
-/// The rule by which files are listed.
+/// How files are listed.
 #[derive(Clone, Copy)]
 pub struct ListOptions<'n> {
     /// How much of the file may be read, and how rows of its listing are shown.
     pub caps: Caps<'n>,
     /// The parts of its listing.
     pub parts: Parts,
-    /// Whether archives are gone into.
+    /// Whether members of archives are listed.
     pub members: bool,
 }

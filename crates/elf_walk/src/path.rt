@@ -1,18 +1,18 @@
-//! A path that is put together of names.
+//! A path composed of names.
 ghost use Rattle.std.specs.Prelude.{◌≡◌, ◌+◌, ◌≤◌, ◌<◌, length, true, false};
 ghost use Rattle.arrayvec.specs.ArrayVec.{array_vec_len};
 ghost use Rattle.elf_walk.specs.Joined.{joined_path, needs_slash};
 
 use arrayvec::ArrayVec;
 
-/// The most bytes of a path.
+/// The maximum number of bytes of a path.
 pub const PATH_BYTES: usize = 4_096;
 
 /// A path's bytes.
 pub type PathText = ArrayVec<u8, 4096>;
 
-/// Puts a name behind a folder's path, with a slash between the two unless the path is empty or ends in
-/// one. Answers whether there is room for it: else nothing changes.
+/// Appends a name to a directory's path, with a slash between the two unless the path is empty or
+/// ends in one. Returns whether it fits: otherwise nothing changes.
 pub fn join(path: &mut PathText, name: &[u8]) -> bool
     ensures joined { result ≡ true → path.new.items ≡ joined_path path.old.items name.now }
     ensures full { result ≡ false → path.new ≡ path.old }
@@ -28,7 +28,7 @@ pub fn join(path: &mut PathText, name: &[u8]) -> bool
     path.try_extend_from_slice(name).is_ok()
 }
 
-/// Whether a slash is to stand behind a folder's path.
+/// Returns `true` if a slash is to follow a directory's path.
 fn needs_slash(path: &[u8]) -> bool
     ensures { result ≡ needs_slash path.now }
 {

@@ -10,10 +10,11 @@ use elf_format::{Columns, Json, LinePrefix, Render, begin_named, show_named};
 use elf_model::Format;
 use elf_source::{DeferredLine, DeferredSink, Out, OutFault, Sink, SliceSink};
 
-/// Room for the lines that a list holds back at most, the line of a path and of a member, and a byte more.
+/// Room for the lines that a list defers at most, the line of a path and of a member, and one more
+/// byte.
 pub const HELD_BYTES: usize = 2 * DEFERRED_LINE_BYTES;
 
-/// The `@` line of a file up to its path.
+/// Writes the `@` line of a file up to its path.
 #[tactic(auto, unfolding(elf_model::specs::FileLists::path_front))]
 fn path_row<R: Render>(front: &mut LinePrefix)
     ensures front { front_of front.new ≡ path_front R.FORMAT }
@@ -22,10 +23,10 @@ fn path_row<R: Render>(front: &mut LinePrefix)
     begin_named::<R>(front, b"@", b"path");
 }
 
-/// Writes the line of a path, `@`, and the path spelt as names are, whole.
+/// Writes the line of a path: `@`, and the path escaped as names are, in full.
 ///
 /// # Errors
-/// A fault of the output, with a front of the line written.
+/// A fault of the output, with a prefix of the line written.
 pub fn show_path<W: Sink>(path: &[u8], format: Format, out: &mut Out<W>) -> Result<(), OutFault>
     ensures puts { OutPuts out.old out.new result (path_line format path.now) }
 {
@@ -37,11 +38,11 @@ pub fn show_path<W: Sink>(path: &[u8], format: Format, out: &mut Out<W>) -> Resu
     show_named(&mut front, path, false, out)
 }
 
-/// Has the line of a path held back.
+/// Defers the line of a path.
 ///
 /// # Errors
-/// A fault of the output, with nothing of the line taken: it failed before, or fails for good since the line
-/// has no room in it, which that of a path of at most 4,096 bytes has.
+/// A fault of the output, with nothing of the line taken: it failed before, or fails permanently
+/// since the line does not fit it, which that of a path of at most 4,096 bytes does.
 #[inline(never)]
 pub fn defer_path_line<W: Sink>(
     path: &[u8],

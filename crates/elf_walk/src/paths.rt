@@ -1,4 +1,4 @@
-//! A path that is asked for.
+//! A path given by the caller.
 use crate::each_file::FileVisitor;
 use crate::many::FileRun;
 use crate::open_failure::unopened;
@@ -11,8 +11,8 @@ use std::io::Write;
 use std::os::unix::fs::{FileExt, FileTypeExt};
 use std::rt::Files;
 
-/// Tells of the file at a path, or of all files in the folder there; for `-` those on standard input. A link
-/// at the path is followed. Pipes and sockets are not opened, so that opening never waits.
+/// Visits the file at a path, or all files in the directory there; for `-`, standard input. A link
+/// at the path is followed. Pipes and sockets are not opened, so that opening never blocks.
 ///
 /// # Errors
 /// A fault of the output.

@@ -1,4 +1,4 @@
-//! What a file lacks of what is required.
+//! Which required traits a file lacks.
 ghost use Rattle.std.specs.Prelude.{◌≡◌};
 ghost use Rattle.elf_model.specs.TraitWords.{has_word, is_program, lacking};
 ghost use Rattle.elf_options.specs.Required.{required_word, required_words};
@@ -7,8 +7,8 @@ use elf_format::column_word;
 use elf_model::{Hardening, ProgramKind, TraitColumn};
 use elf_options::RequiredTrait;
 
-/// The column of the first of some words that a file lacks, if it lacks one. None is required of a file
-/// that is neither a program nor a library.
+/// Returns the column of the first required trait that a file lacks, if it lacks one. None is
+/// required of a file that is neither a program nor a library.
 #[tactic(auto, unfolding(elf_model::specs::TraitWords::lacking, elf_model::specs::TraitWords::first_lacking))]
 pub fn lacking(traits: Hardening, required: &[RequiredTrait<'_>]) -> Option<TraitColumn>
     ensures { result ≡ lacking traits (required_words required.now) }
@@ -24,7 +24,7 @@ pub fn lacking(traits: Hardening, required: &[RequiredTrait<'_>]) -> Option<Trai
     None
 }
 
-/// Whether a file has the word that is required of a column.
+/// Returns `true` if a file has the word that is required for a column.
 fn has_word(traits: Hardening, wanted: &RequiredTrait<'_>) -> bool
     ensures { result ≡ has_word traits (required_word wanted.now) }
 {
@@ -33,7 +33,7 @@ fn has_word(traits: Hardening, wanted: &RequiredTrait<'_>) -> bool
     word.len() == other.len() && word.starts_with(other)
 }
 
-/// Whether words are required of a file of this kind.
+/// Returns `true` if traits are required of a file of this kind.
 #[tactic(auto, unfolding(elf_model::specs::TraitWords::is_program))]
 fn is_program(kind: ProgramKind) -> bool
     ensures { result ≡ is_program kind }

@@ -10,14 +10,14 @@ use elf_model::{Cause, FileStatus, Refusal};
 use elf_record::word;
 use elf_source::{Counted, Source, SourceFault};
 
-/// The number of the magic number's four bytes (gABI 4, ELF Identification).
+/// The value of the four magic bytes (gABI 4, ELF Identification).
 const MAGIC: u32 = 0x464c_457f;
 
-/// How many bytes the magic number has.
+/// The size of the magic number in bytes.
 const MAGIC_BYTES: u64 = 4;
 
-/// The state of a file with fewer bytes than a file header: by one read of its first four, where it has
-/// four and the budget has them too. Afterwards no limit is set.
+/// Returns the state of a file with fewer bytes than a file header: by one read of its first four,
+/// if both the file and the budget have four. On return no limit is set.
 pub fn short_file_status<S: Source>(src: &mut Counted<S>, budget: Option<u64>) -> FileStatus
     requires short { src.old.seen.size < 64 }
     requires few { src.old.asked ≤ 2 ^ 127 }
@@ -50,7 +50,7 @@ pub fn short_file_status<S: Source>(src: &mut Counted<S>, budget: Option<u64>) -
     }
 }
 
-/// Whether a budget has the magic number's bytes.
+/// Returns `true` if a budget has the magic number's bytes.
 fn may_read_magic(budget: Option<u64>) -> bool
     ensures value { result ≡ may_read_magic budget }
     ensures four { result ≡ true → IfSome budget (λ bytes. 4 ≤ bytes) }
@@ -61,7 +61,7 @@ fn may_read_magic(budget: Option<u64>) -> bool
     }
 }
 
-/// Whether a file of four bytes or more begins with the magic number.
+/// Checks whether a file of four bytes or more begins with the magic number.
 ///
 /// # Errors
 /// The source's own.
@@ -77,7 +77,7 @@ fn has_elf_magic<S: Source>(src: &mut Counted<S>) -> Result<bool, SourceFault>
     Ok(word(&bytes) == MAGIC)
 }
 
-/// The state of a file that has room for a file header, by its refusal.
+/// Returns the state of a file large enough for a file header, by its refusal.
 pub fn refused_state(refusal: Refusal) -> FileStatus
     ensures { result ≡ (if is_not_elf refusal.cause then NoElf else Refused refusal) }
 {

@@ -1,4 +1,4 @@
-//! The check of a file by what it is, where archives are gone into.
+//! The check of a file by its type, if members are checked.
 ghost use Rattle.std.specs.Prelude.{◌≡◌, ◌≤◌, ◌^◌};
 ghost use Rattle.elf_archive.specs.Listed.{IsAll};
 ghost use Rattle.elf_model.specs.ArchiveCost.{archive_ceiling};
@@ -14,9 +14,10 @@ use elf_record::Parts;
 use elf_source::{Counted, RangeSource, Source};
 use elf_table::{Caps, HeaderStore, Limits};
 
-/// Checks one file, of which its first bytes tell what it is: an ELF file as [`check`] does, an archive
-/// with its members as [`check_archive`] does; a file of another kind is no ELF file. These bytes count
-/// towards the budget. Of the source and the store the same holds as for `check_archive`.
+/// Checks one file by the type that its first bytes identify: an ELF file as [`check`] does, an
+/// archive with its members as [`check_archive`] does; a file of another type is not an ELF file.
+///
+/// These bytes count towards the budget. The source and the store are as for `check_archive`.
 pub fn check_sorted<S: Source>(
     src: &mut Counted<RangeSource<S>>,
     store: &mut HeaderStore,
@@ -37,7 +38,7 @@ pub fn check_sorted<S: Source>(
     check_by_type(src, store, left, parts, sort)
 }
 
-/// Checks one file of a sort. Afterwards no limit is set.
+/// Checks one file of a type. On return no limit is set.
 fn check_by_type<S: Source>(
     src: &mut Counted<RangeSource<S>>,
     store: &mut HeaderStore,
@@ -60,8 +61,8 @@ fn check_by_type<S: Source>(
     }
 }
 
-/// The caps for what stands behind the bytes that tell what a file of so many bytes is: of the budget is
-/// left what they did not take.
+/// Returns the caps for what follows the magic bytes of a file of `size` bytes: the budget less
+/// those bytes.
 fn behind<'n>(caps: Caps<'n>, size: u64) -> Caps<'n>
     ensures { IsCapsAfter caps.entry size result }
 {

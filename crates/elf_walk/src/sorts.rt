@@ -1,4 +1,4 @@
-//! The listing of a file, by its sort.
+//! The listing of a file, by its type.
 ghost use Rattle.std.specs.Prelude.{◌≡◌, ◌+◌, ◌≤◌, ◌^◌, ℕ, List, Some, IfErr};
 ghost use Rattle.elf_archive.specs.Listed.{ArchiveSays, IsAll};
 ghost use Rattle.elf_options.specs.Permitted.{style_of};
@@ -15,13 +15,15 @@ use elf_record::Parts;
 use elf_source::{Counted, DeferredSink, Out, RangeSource, Sink, Source};
 use elf_table::{Caps, HeaderStore, ListingStyle, RunFault};
 
-/// Writes the listing of a file of a sort: of an ELF file its own, of an archive that of its members, whose
-/// lines stand alone where all rows are shown, of another file nothing. The last line is that of its refusal, if it has one. Answers whether the listing
-/// of a member was refused. The source is a range of all bytes of the file, with nothing hidden; of it and
-/// the store the same holds as for [`show_archive`].
+/// Writes the listing of a file of a type: for an ELF file its own, for an archive that of its
+/// members, whose lines are written alone if all rows are shown, for another file nothing.
+///
+/// The last line is that of its refusal, if it has one. Returns whether the listing of a member was
+/// refused. The source is a range of all bytes of the file, with nothing masked; it and the store
+/// are as for [`show_archive`].
 ///
 /// # Errors
-/// As of [`show`] and [`show_archive`].
+/// As for [`show`] and [`show_archive`].
 pub fn list_by_type<S: Source, W: Sink>(
     src: &mut Counted<RangeSource<S>>,
     store: &mut HeaderStore,
@@ -61,7 +63,7 @@ pub fn list_by_type<S: Source, W: Sink>(
     }
 }
 
-/// Whether the lines of members stand alone.
+/// Returns `true` if the lines of members are written alone.
 fn are_alone(style: &ListingStyle) -> bool
     ensures { result ≡ members_alone (style_of style.now).choice }
 {

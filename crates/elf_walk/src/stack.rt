@@ -1,4 +1,4 @@
-//! Names that wait, the last one first.
+//! Pending names, the last one first.
 ghost use Rattle.std.specs.Prelude.{◌≡◌, ◌≤◌, ◌<◌, All, List, ℕ, IfOk, IsSomeAnd, OnOk, [], take, length};
 ghost use Rattle.elf_walk.specs.Stacked.{pushed, stacked};
 
@@ -7,11 +7,11 @@ use crate::dir_names::DirNames;
 use std::alloc::{AllocError, Global};
 use std::marker::Model;
 
-/// How many bytes of names wait at most, each name with one more.
+/// The maximum total size of pending names, each with one more byte.
 pub const STACK_BYTES: usize = 2_097_152;
 
-/// Names that wait, in memory that is taken once: each with its length behind it, so that the last one is
-/// found.
+/// A stack of pending names, in memory that is allocated once: each with its length after it, so
+/// that the last one is found.
 #[derive(Drop)]
 pub struct NameStack {
     bytes: Vec<u8>,
@@ -26,10 +26,10 @@ impl Model for NameStack {
 }
 
 impl NameStack {
-    /// No name. The memory is taken from `alloc` here.
+    /// Creates an empty stack. Allocates its memory from `alloc`.
     ///
     /// # Errors
-    /// Where memory is refused.
+    /// Out of memory.
     pub fn new(alloc: Global) -> Result<NameStack, AllocError>
         ensures { IfOk result (λ stack. stack ≡ []) }
     {
@@ -38,31 +38,31 @@ impl NameStack {
         })
     }
 
-    /// Forgets all names.
+    /// Removes all names.
     pub fn clear(&mut self)
         ensures { self.new ≡ [] }
     {
         self.bytes.clear();
     }
 
-    /// Forgets the names behind so many bytes.
+    /// Removes the names after `len` bytes.
     pub fn truncate(&mut self, len: usize)
         ensures { self.new ≡ take len self.old }
     {
         self.bytes.truncate(len);
     }
 
-    /// How many bytes the names take.
+    /// Returns the size of the names in bytes.
     pub fn len(&self) -> usize
         ensures { result ≡ length self.now }
     {
         self.bytes.len()
     }
 
-    /// Puts a name on the others.
+    /// Pushes a name.
     ///
     /// # Errors
-    /// Where memory is refused, or the name has more than 255 bytes; the names before stay.
+    /// Out of memory, or the name has more than 255 bytes; the names before are unchanged.
     fn push(&mut self, name: &[u8]) -> Result<(), AllocError>
         ensures pushed { OnOk result (self.new ≡ pushed self.old name.now) }
         ensures short { OnOk result (length name.now ≤ 255) }
@@ -78,11 +78,10 @@ impl NameStack {
         Ok(())
     }
 
-    /// Puts the first of some names on the others, as many as are told, so that the first of all is the
-    /// last one here.
+    /// Pushes the first `count` of some names, so that the first of all is the last one here.
     ///
     /// # Errors
-    /// Where memory is refused; the names before stay.
+    /// Out of memory; the names before are unchanged.
     pub fn push_first(&mut self, names: &DirNames, count: usize) -> Result<(), AllocError>
         requires { count ≤ length names.now }
         ensures stacked { OnOk result (self.new ≡ stacked (take count names.now) self.old) }
@@ -100,7 +99,7 @@ impl NameStack {
         Ok(())
     }
 
-    /// Takes the last name.
+    /// Pops the last name.
     pub fn pop(&mut self) -> Option<DirEntryName>
         ensures { (below name : List ℕ) → self.old ≡ pushed below name → length name ≤ 255 →
             IsSomeAnd result (λ last. last.items ≡ name) × (self.new ≡ below) }
@@ -119,7 +118,7 @@ impl NameStack {
     }
 }
 
-/// How many of the first of some names there is room for in so many bytes, one at least.
+/// Returns how many of the first of some names fit the given number of bytes, at least one.
 pub fn count_fitting(names: &DirNames, room: usize) -> usize
     ensures within { result ≤ length names.now }
     ensures some { 0 < length names.now → 0 < result }

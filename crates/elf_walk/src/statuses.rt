@@ -1,11 +1,11 @@
-//! The exit status that a file calls for.
+//! The exit status that a file requires.
 ghost use Rattle.std.specs.Prelude.{◌≡◌};
 ghost use Rattle.elf_walk.specs.Statuses.{state_status};
 
 use elf_model::FileStatus;
 
-/// The exit status that a file's state calls for: 0 where it has no fault or is of another kind, 1
-/// where it is refused, 3 where it could not be read or there was no memory.
+/// Returns the exit status that a file's state requires: 0 if it has no fault or is of another
+/// type, 1 if it is refused, 3 if it could not be read or there was no memory.
 pub fn status(state: FileStatus) -> u8
     ensures { result ≡ state_status state }
 {

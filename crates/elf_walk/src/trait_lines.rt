@@ -1,4 +1,4 @@
-//! The lines of each of many files.
+//! The trait lines of each of many files.
 ghost use Rattle.std.specs.Prelude.{◌≡◌, IfOk};
 ghost use Rattle.elf_source.specs.Output.{OutPuts};
 ghost use Rattle.elf_model.specs.TraitWords.{traits_status, traits_text};
@@ -15,18 +15,18 @@ use elf_source::{Counted, DeferredSink, Out, OutFault, RangeSource, Sink, Source
 use elf_table::{HeaderStore, Limits};
 use std::marker::Model;
 
-/// The rule by which files' traits are told of.
+/// How files' traits are reported.
 #[derive(Clone, Copy)]
 pub struct TraitOptions<'a> {
     /// How much of a file may be read.
     pub limits: Limits,
     /// How lines are written.
     pub format: Format,
-    /// The words that are required of a program or library.
+    /// The traits required of a program or library.
     pub required: &'a [RequiredTrait<'a>],
 }
 
-/// Tells how each of many files is hardened, and what it lacks of what is required.
+/// A visitor that reports how each of many files is hardened, and which required traits it lacks.
 #[derive(Drop)]
 pub struct TraitReport<'a> {
     store: HeaderStore<'a>,
@@ -45,7 +45,8 @@ impl<'a> Model for TraitReport<'a> {
 }
 
 impl<'a> TraitReport<'a> {
-    /// The lines by a rule, with a store, which has a slot for each header that the rule permits.
+    /// Creates the lines with a rule and a store, which has a slot for each header that the rule
+    /// allows.
     pub fn new(store: HeaderStore<'a>, rule: TraitOptions<'a>) -> Self
         requires { store.slots ≡ rule.limits.headers }
         ensures { result ≡ rule.entry }
@@ -80,11 +81,11 @@ impl<'a> FileVisitor for TraitReport<'a> {
     }
 }
 
-/// Writes the line of a file's traits, and that of what it lacks, and answers the exit status that this
-/// calls for.
+/// Writes the line of a file's traits, and that of what it lacks, and returns the exit status that
+/// this requires.
 ///
 /// # Errors
-/// A fault of the output, with a front of the lines written.
+/// A fault of the output, with a prefix of the lines written.
 #[tactic(auto, unfolding(elf_model::specs::TraitWords::traits_text, elf_model::specs::TraitWords::traits_status))]
 fn show_lines<W: Sink>(
     traits: Hardening,

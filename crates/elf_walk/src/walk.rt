@@ -1,4 +1,4 @@
-//! Folders, gone through in the order of their names.
+//! A walk over directories in the order of their names.
 use crate::batch::{DirEntryName, NameBatch};
 use crate::dir_walk::gather;
 use crate::each_file::FileVisitor;
@@ -15,72 +15,73 @@ use std::os::unix::fs::FileExt;
 use std::rt::Files;
 use std::{fs, str};
 
-/// How many folders deep files are looked for.
+/// The maximum depth of directories that are visited.
 pub const DEPTH: usize = 64;
 
 /// How many bytes of names are read at once.
 const ROOM_BYTES: usize = 32_768;
 
-/// How many bytes of names each folder on the way has room for, whatever those above it hold.
+/// How many bytes of names each directory on the path has room for, regardless of those above it.
 const LEVEL_BYTES: usize = 4_096;
 
-/// What a walk over folders needs, taken once: where the names of a folder are put in order, where those
-/// of each folder on the way wait, a path, and where names are read.
+/// What a walk over directories needs, allocated once: where the names of a directory are sorted,
+/// where those of each directory on the path are pending, a path, and a buffer into which names are
+/// read.
 #[derive(Drop)]
 pub struct DirWalk {
     batch: NameBatch,
-    /// The names that wait, those of the innermost folder last.
+    /// The pending names, those of the innermost directory last.
     stack: NameStack,
     levels: Vec<DirLevel>,
     depth: usize,
     path: PathText,
-    /// How many bytes of the path were given.
+    /// How many bytes of the path were given by the caller.
     given: usize,
     room: Vec<u8>,
 }
 
-/// A folder on the way.
+/// A directory on the path.
 #[derive(Drop)]
 struct DirLevel {
-    /// The last of its names that a pass kept; before the first pass no name.
+    /// The last of its names that a pass kept; empty before the first pass.
     after: DirEntryName,
-    /// Whether it has names behind that one.
+    /// Whether it has names after that one.
     has_more: bool,
-    /// How many bytes the names of those above it take.
+    /// The size in bytes of the names of those above it.
     base: usize,
-    /// How many bytes the folder's path has.
+    /// The length of the directory's path in bytes.
     end: usize,
 }
 
-/// What is at a path in a folder.
+/// What is at a path in a directory.
 enum FoundEntry {
     /// A file.
     File,
-    /// A folder.
+    /// A directory.
     Folder,
-    /// What is neither: a link, a device, a pipe or a socket.
+    /// Neither: a link, a device, a pipe or a socket.
     Other,
-    /// Nothing that can be looked at.
+    /// Something that cannot be examined.
     Gone(FileStatus),
 }
 
-/// What comes next in a folder.
+/// What comes next in a directory.
 enum NextEntry {
-    /// The path has the next name behind the folder's.
+    /// The next name was appended to the directory's path.
     Named,
     /// The path of the next name is too long.
     TooLong,
-    /// Another pass over the folder is wanted.
+    /// Another pass over the directory is needed.
     Pass,
-    /// There is no name left.
+    /// No name is left.
     Nothing,
 }
 
 impl DirWalk {
-    /// A walk over folders. All memory that it needs is taken here.
+    /// Creates a walk over directories. Allocates all memory that it needs.
     ///
     /// # Errors
-    /// Where memory is refused.
+    /// Out of memory.
     pub fn new(alloc: Global) -> Result<DirWalk, AllocError> {
         let mut levels = Vec::with_capacity(alloc, DEPTH)?;
         for _level in 0..DEPTH {
@@ -103,8 +104,8 @@ impl DirWalk {
         })
     }
 
-    /// Tells of all files in a folder, and in the folders in it, in the order of their names. No link in
-    /// it is followed, and what is neither a file nor a folder is passed over.
+    /// Visits all files in a directory and its subdirectories, in the order of their names. No link
+    /// in it is followed, and what is neither a file nor a directory is skipped.
     ///
     /// # Errors
     /// A fault of the output.
@@ -121,7 +122,7 @@ impl DirWalk {
         self.stack.clear();
         self.depth = 0;
         self.given = path.len();
-        // The slash has a link at the path followed.
+        // The slash makes the system follow a link at the path.
         if !join(&mut self.path, path.as_bytes()) || !join(&mut self.path, b"") {
             return many.report_state(FileStatus::Unread, path.as_bytes());
         }
@@ -135,7 +136,7 @@ impl DirWalk {
         Ok(())
     }
 
-    /// Takes the next name of the innermost folder, or begins its next pass, or leaves it.
+    /// Takes the next name of the innermost directory, or begins its next pass, or leaves it.
     fn step<R: Files, W: Sink, E: Write + Drop, A: FileVisitor + Drop>(
         &mut self,
         rt: &R,
@@ -159,7 +160,7 @@ impl DirWalk {
         }
     }
 
-    /// Tells of the file at the path, or enters the folder there.
+    /// Visits the file at the path, or enters the directory there.
     fn visit<R: Files, W: Sink, E: Write + Drop, A: FileVisitor + Drop>(
         &mut self,
         rt: &R,
@@ -180,7 +181,7 @@ impl DirWalk {
         }
     }
 
-    /// Enters the folder at the path. One that lies too deep is not read.
+    /// Enters the directory at the path. One that is too deep is not read.
     fn enter<R: Files, W: Sink, E: Write + Drop, A: FileVisitor + Drop>(
         &mut self,
         rt: &R,
@@ -198,7 +199,7 @@ impl DirWalk {
         self.pass(rt, many, at)
     }
 
-    /// Goes once through the folder at the path, for its next names. One that can't be read is left.
+    /// Reads the directory at the path once, for its next names. One that cannot be read is left.
     fn pass<R: Files, W: Sink, E: Write + Drop, A: FileVisitor + Drop>(
         &mut self,
         rt: &R,
@@ -230,12 +231,12 @@ impl DirWalk {
     }
 }
 
-/// Has the first names of a folder wait that a pass gathered, as many as there is room for. Answers how
-/// many names can't be named, of which the pass met so many: those of a first pass, since each pass meets
-/// them.
+/// Makes the first names of a directory that a pass gathered pending, up to the capacity. Returns
+/// how many names cannot be represented, of which the pass counted `unnamed`: those of a first
+/// pass, since each pass counts them.
 ///
 /// # Errors
-/// The state of a folder that can't be read, or for whose names there is no memory.
+/// The state of a directory that cannot be read, or for whose names there is no memory.
 fn keep(
     level: &mut DirLevel,
     batch: &NameBatch,
@@ -260,15 +261,15 @@ fn keep(
     if is_first { Ok(unnamed) } else { Ok(0) }
 }
 
-/// How many bytes of names the folder at a level has room for, where those above it take so many: its own
-/// part, and half of what neither they nor the parts of those below it take.
+/// Returns how many bytes of names the directory at a level has room for, if those above it take
+/// `taken`: its own part, and half of what neither they nor the parts of those below it take.
 fn share(taken: usize, at: usize) -> usize {
     let parts = DEPTH.saturating_sub(at).saturating_mul(LEVEL_BYTES);
     let free = STACK_BYTES.saturating_sub(taken).saturating_sub(parts);
     LEVEL_BYTES + free / 2
 }
 
-/// Puts the next name of the innermost folder behind its path.
+/// Appends the next name of the innermost directory to its path.
 fn next_name(
     levels: &[DirLevel],
     innermost: usize,
@@ -292,7 +293,7 @@ fn next_name(
     }
 }
 
-/// Looks at a path in a folder, and follows no link.
+/// Examines a path in a directory, and follows no link.
 fn look<R: Files>(rt: &R, path: &str) -> FoundEntry {
     let kind = match fs::symlink_metadata(rt, path) {
         Ok(found) => found.file_type(),

@@ -1,4 +1,4 @@
--- What the listing of an archive did, by the status that is made of its answer.
+-- What the listing of an archive did, by the status of its result.
 use Rattle.std.proofs.Common.{◌≡◌, ◌≤◌, ◌+◌, ℕ, Bool, true, List, [], Option, None, Some, Result, Ok, Err, refl, sym, ap, subst, append-nil}
 use Rattle.std.specs.Prelude.{IfErr, IfOk}
 use Rattle.std.specs.Io.KnownBytes.{append_known}
@@ -12,7 +12,7 @@ use Rattle.elf_archive.specs.Listed.{ArchiveSays, AsksInArchive, ReportsArchive}
 use Rattle.elf_requests.specs.ArchiveAnswers.{refused_by}
 use Rattle.elfsee.specs.Ends.{RunsArchive}
 
--- what a stop says is so of a status's answer too
+-- what holds of a fault holds of a status's result too
 status_says : (P : RunFault → Type 0) (answer : Result ℕ RunFault) → IfErr (refused_by answer) P → IfErr answer P
 status_says P (Ok status) says = tt
 status_says P (Err stop) says = says
@@ -33,7 +33,7 @@ archive_runs caps parts old new before after listed answer same status grows lea
   status = status;
 }
 
--- where nothing is held, what was taken went on
+-- if nothing is deferred, what was taken was written
 pub all_below : (below : Option (List ℕ)) (held : List ℕ) → held ≡ [] → append_known below held ≡ below
 all_below None held none = refl
 all_below (Some all) held none = rw none (ap Some (append-nil all))

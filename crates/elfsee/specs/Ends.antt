@@ -18,16 +18,17 @@ use Rattle.elf_cli.specs.declared.outputs.RunEnd.{RunEnd}
 use Rattle.elf_cli.specs.declared.outputs.RunEnd.TheVariants.{Status, Told, Unwritten}
 use Rattle.elf_requests.specs.ArchiveAnswers.{refused_by}
 
--- there was no memory
+-- out of memory
 abbrev pub EndsWithoutMemory : ℕ → List ℕ → Type 0
 EndsWithoutMemory status line = (status ≡ 3) × (line ≡ codes "elfsee: out of memory")
 
--- a file can't be opened or read
+-- a file cannot be opened or read
 abbrev pub EndsWithoutFile : ℕ → List ℕ → Type 0
 EndsWithoutFile status line = (status ≡ 3) × ((line ≡ codes "elfsee: cannot open") ⊎ (line ≡ codes "elfsee: read fault"))
 
--- A RUN ENDS THE PROGRAM: over a source that nothing was asked of, and an output, it did what is asked for; by its answer, and
--- by whether the output failed, the program ends; and what was left of the output went out, as far as its writer took it
+-- A RUN ENDS THE PROGRAM: over a source from which nothing was requested, and an output, it did
+-- what is requested; by its result, and by whether the output failed, the program ends; and the
+-- rest of the output was written, as far as its writer took it
 pub record EndsRunOver {W A : Type 0} (contents : W → Option (List ℕ)) (does : CountedState → CountedState → OutState → OutState → Result ℕ RunFault → Type 0) (seen : SourceState)
     (output : BufWriter W A) (status : ℕ) (line : List ℕ) (sink : Writing W) : Type 0 where
   pub old : CountedState
@@ -45,12 +46,13 @@ pub record EndsRunOver {W A : Type 0} (contents : W → Option (List ℕ)) (does
   pub ends : ProgramEnds answer sink.failed status line
   pub rest : PutsRest (wants_rest answer) sink.failed (writer_buffer last) (contents (writer_inner last)) (contents sink.writer)
 
--- the refusal whose line went out
+-- the refusal whose line was written
 abbrev pub told_refusal : Result ℕ RunFault → Bool → Option Refusal
 told_refusal (Err (Refused refusal)) false = Some refusal
 told_refusal answer failed = None
 
--- WHAT THE LISTING OF AN ARCHIVE DID, by its caps and parts; the status tells whether the listing of a member was refused
+-- THE EFFECT OF THE LISTING OF AN ARCHIVE, by its caps and parts; the status says whether the
+-- listing of a member was refused
 pub record RunsArchive (caps : Caps) (parts : ℕ) (old new : CountedState) (before after : OutState) (answer : Result ℕ RunFault) : Type 0 where
   pub grows : OutGrows before after
   pub leaves : KeepsSourceUnlimited old new
@@ -60,14 +62,14 @@ pub record RunsArchive (caps : Caps) (parts : ℕ) (old new : CountedState) (bef
   pub asks : AsksInArchive caps old new (refused_by answer)
   pub status : IfOk answer (λ status. status ≤ 1)
 
--- how a run ended whose list came to an end, or to none
+-- how a run ended whose list was read to its end, or not
 abbrev pub EndsList : Result (Unit {0}) ListFault → Result (Unit {0}) RunEnd → Type 0
 EndsList (Ok x) result = result ≡ Ok x
 EndsList (Err list.Read) (Err (Told ending)) = (ending.0 ≡ 3) × (ending.1.now ≡ codes "elfsee: read fault")
 EndsList (Err list.Read) result = ⊥
 EndsList (Err (list.Out fault)) result = result ≡ Err Unwritten
 
--- a run stopped before its end: a list can't be opened or read, or the output failed
+-- a run stopped before its end: a list cannot be opened or read, or the output failed
 abbrev pub StopsCheck : RunEnd → Type 0
 StopsCheck (Status status) = ⊥
 StopsCheck (Told ending) = EndsWithoutFile ending.0 ending.1.now

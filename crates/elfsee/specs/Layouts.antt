@@ -12,11 +12,11 @@ abbrev pub PlacesIn : (section : ℕ) → Layout → (explain : Bool) → Task �
 PlacesIn section layout explain (Place applied addresses explained) = (applied ≡ section) × (addresses.now ≡ layout) × (explained ≡ explain)
 PlacesIn section layout explain _ = ⊥
 
--- what is wrong with a line was told, or there was no memory for it
+-- a message for a line was written, or there was no memory for it
 abbrev pub EndsBadLine : ℕ → List ℕ → Type 0
 EndsBadLine status line = ((status ≡ 2) × (line ≡ [])) ⊎ EndsWithoutMemory status line
 
--- how the program ends where a file gives no items: what is wrong with a line is told before
+-- how the program ends if a file gives no items: a message for the line is written before
 abbrev pub EndsItems : LayoutFileFault → ℕ → List ℕ → Type 0
 EndsItems Read status line = (status ≡ 2) × (line ≡ codes "elfsee: cannot read layout")
 EndsItems TooLarge status line = (status ≡ 2) × (line ≡ codes "elfsee: layout too large")

@@ -9,12 +9,13 @@ use Rattle.elf_requests.specs.declared.requests.Task.TheVariants.{Show}
 use Rattle.elf_requests.specs.declared.requests.Task.{Task}
 use Rattle.elfsee.specs.Ends.{EndsWithoutMemory}
 
--- a task lists these parts, of which the rows of these names alone are shown, in a style that is else this one
+-- a task lists these parts, of which only the rows of these names are shown, in a style that is
+-- otherwise this one
 abbrev pub ShowsRowsOf : List (List ℕ) → Parts → ListingStyle → Task → Type 0
 ShowsRowsOf names parts style (Show shown styled) = (shown ≡ parts) × (style_of styled ≡ named_style names (style_of style))
 ShowsRowsOf names parts style _ = ⊥
 
--- how the program ends where there are no names
+-- how the program ends if there are no names
 abbrev pub EndsNames : NamesFault → ℕ → List ℕ → Type 0
 EndsNames Read status line = (status ≡ 2) × (line ≡ codes "elfsee: cannot read names")
 EndsNames TooLarge status line = (status ≡ 2) × (line ≡ codes "elfsee: names too large")

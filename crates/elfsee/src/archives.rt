@@ -16,11 +16,11 @@ use std::io::{self, BufWriter, Write};
 use std::os::unix::fs::FileExt;
 use std::rt::Files;
 
-/// Lists the archive that is asked for, or those of its rows that have one of some names. The names are
+/// Lists the requested archive, or those of its rows that have one of some names. The names are
 /// read and sorted before it is opened.
 ///
 /// # Errors
-/// There is no memory, the archive can't be opened, or its names can't be read.
+/// Out of memory, the archive cannot be opened, or its names cannot be read.
 #[inline(never)]
 pub fn list_archive<R: Files + Print + AllocGlobal>(
     rt: &R,
@@ -54,15 +54,15 @@ where
     }
 }
 
-/// The caps of these limits and of this style.
+/// Returns the caps for these limits and this style.
 fn caps_of<'a>(limits: Limits, style: ListingStyle<'a>) -> Caps<'a>
     ensures { result ≡ record { limits = limits; style = style.entry } }
 {
     Caps { limits, style }
 }
 
-/// The caps of these limits, with the rows of these names, which are in the rising order of their
-/// bytes, and else of this style.
+/// Returns the caps for these limits, with the rows of these names, which are sorted by their
+/// bytes, and otherwise of this style.
 fn caps_by_names<'n>(limits: Limits, style: ListingStyle<'_>, names: &'n [&'n [u8]]) -> Caps<'n>
     requires { NeverDescend names.now }
     ensures limits { result.limits ≡ limits }
@@ -75,10 +75,10 @@ fn caps_by_names<'n>(limits: Limits, style: ListingStyle<'_>, names: &'n [&'n [u
     }
 }
 
-/// Makes what memory is needed, opens the archive, and lists parts of it by these caps.
+/// Allocates the buffers, opens the archive, and lists parts of it by these caps.
 ///
 /// # Errors
-/// There is no memory, or the archive can't be opened.
+/// Out of memory, or the archive cannot be opened.
 fn list_with<R: Files + Print + AllocGlobal>(
     rt: &R,
     file: &str,
@@ -107,8 +107,8 @@ where
     }
 }
 
-/// Lists parts of an archive by these caps, each member with its line, and writes what is left of the output.
-/// `held` is empty: no line is held back. Answers how the program ends, and gives what took the output.
+/// Lists parts of an archive by these caps, each member with its line, and writes the rest of the
+/// output. `held` is empty: no line is deferred. Returns how the program ends, and the sink.
 fn write_archive<S: Source + Drop, W: Write + Drop>(
     caps: Caps<'_>,
     parts: Parts,

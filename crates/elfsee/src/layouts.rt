@@ -1,4 +1,4 @@
-//! A section applied with the items of a file.
+//! Applies a section with the items of a file.
 ghost use Rattle.std.specs.Prelude.{◌≡◌, [], Ok, Err, IfErr, IfOk};
 ghost use Rattle.elf_model.specs.Placing.{Layout as Given};
 ghost use Rattle.elf_layout.specs.Listed.{AreReordered, AreSorted, Gathers};
@@ -17,12 +17,12 @@ use std::{fs, str};
 /// How many bytes of the file of items are read at once.
 const PIECE_BYTES: usize = 65_536;
 
-/// Applies a section with the items of a file behind those that words give. The file is read and its
-/// items are sorted, in memory that its size bounds, before the object is opened.
+/// Applies a section with the items of a file after those given by arguments. The file is read and
+/// its items are sorted, in memory bounded by its size, before the object file is opened.
 ///
 /// # Errors
-/// The file of items cannot be read, a line of it spells no item, or gives one that there is already:
-/// standard error tells which line. Else as [`answer_request`].
+/// The file of items cannot be read, or a line of it is not an item, or repeats one: standard error
+/// names the line. Otherwise as for [`answer_request`].
 pub fn apply_laid<R: Files + Print + AllocGlobal>(
     rt: &R,
     asked: &ApplyWithLayout<'_>,
@@ -60,7 +60,7 @@ where
 /// Reads the text of a file of items.
 ///
 /// # Errors
-/// The file can't be read, is too large, or there is no memory for it.
+/// The file cannot be read, is too large, or out of memory for it.
 fn read_list<R: Files + AllocGlobal>(
     rt: &R,
     path: &str,
@@ -79,7 +79,7 @@ fn read_list<R: Files + AllocGlobal>(
     read_text(&mut file, &mut room, text)
 }
 
-/// The items of a layout and of the lines of a text, sorted.
+/// Returns the items of a layout and of the lines of a text, sorted.
 fn sorted_items<'a>(
     alloc: Global,
     layout: &'a Layout,
@@ -99,7 +99,7 @@ fn sorted_items<'a>(
     Ok(items)
 }
 
-/// Applies a section of the file that is asked for in a layout that is lent.
+/// Applies a section of the requested file in a borrowed layout.
 fn apply_lent<R: Files + Print + AllocGlobal>(
     rt: &R,
     asked: &Request<'_>,
@@ -116,7 +116,7 @@ where
     answer_request(rt, &request, errors)
 }
 
-/// What is asked for of the file of another request: that one of its sections is applied in these
+/// Returns a request for the file of another request: to apply one of its sections with these
 /// addresses.
 fn placed<'a>(
     asked: &Request<'a>,
@@ -139,8 +139,8 @@ fn placed<'a>(
     }
 }
 
-/// How the program ends where the items of a file have a fault. What is wrong with a line is written to
-/// `errors`; where it can't be, the status alone tells.
+/// Returns how the program ends if the items of a file have a fault. A message for the line is
+/// written to `errors`; if it cannot be, the status alone reports it.
 fn told(alloc: Global, errors: Stderr, fault: LayoutFileFault) -> ExitLine
     ensures { EndsItems fault result.0 result.1.now }
 {
@@ -153,7 +153,7 @@ fn told(alloc: Global, errors: Stderr, fault: LayoutFileFault) -> ExitLine
     }
 }
 
-/// Writes what is wrong with a line, and answers how the program ends.
+/// Writes a message for a line, and returns how the program ends.
 fn report_line(alloc: Global, mut errors: Stderr, what: &str, line: u64) -> ExitLine
     ensures { EndsBadLine result.0 result.1.now }
 {

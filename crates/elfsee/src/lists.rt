@@ -15,11 +15,12 @@ use std::io::{Input, Stderr};
 use std::os::unix::fs::FileExt;
 use std::rt::Files;
 
-/// Lists all files that are asked for, or those of their rows that have one of some names. The names are
-/// read and sorted before the first file is opened. Where there is a terminal it is told how far it is.
+/// Lists all requested files, or those of their rows that have one of some names. The names are
+/// read and sorted before the first file is opened. Progress is shown on a terminal, if there is
+/// one.
 ///
 /// # Errors
-/// There is no memory, or the names can't be read.
+/// Out of memory, or the names cannot be read.
 #[inline(never)]
 pub fn list_files<R: Files + Print + Input + AllocGlobal>(
     rt: &R,
@@ -44,7 +45,7 @@ where
     }
 }
 
-/// The rule of what is asked for.
+/// Returns the list rule of a request.
 fn rule_of<'a>(asked: &ListRequest<'a>) -> ListOptions<'a>
     ensures caps { result.caps ≡ record { limits = asked.now.limits; style = asked.now.style } }
     ensures parts { result.parts ≡ asked.now.parts }
@@ -61,7 +62,8 @@ fn rule_of<'a>(asked: &ListRequest<'a>) -> ListOptions<'a>
     }
 }
 
-/// The rule of what is asked for, of the rows of these names, which are in the rising order of their bytes.
+/// Returns the list rule of a request, for the rows of these names, which are sorted by their
+/// bytes.
 fn rule_by_names<'n>(asked: &ListRequest<'_>, names: &'n [&'n [u8]]) -> ListOptions<'n>
     requires { NeverDescend names.now }
     ensures limits { result.caps.limits ≡ asked.now.limits }
@@ -81,10 +83,10 @@ fn rule_by_names<'n>(asked: &ListRequest<'_>, names: &'n [&'n [u8]]) -> ListOpti
     }
 }
 
-/// Makes what memory is needed, and lists files by a rule.
+/// Allocates the buffers, and lists files by a rule.
 ///
 /// # Errors
-/// There is no memory.
+/// Out of memory.
 fn list_with<R: Files + Print + Input + AllocGlobal>(
     rt: &R,
     files: &PathArgs<'_>,

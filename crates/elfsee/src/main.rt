@@ -40,7 +40,7 @@ use std::rt::{Env, Files};
 
 fn main(rt: HostRuntime) -> ExitCode {
     let errors = rt.stderr();
-    // Where the lines go to a terminal too, they tell how far the check is.
+    // If the lines go to a terminal, they show the progress of the check.
     let terminal = if errors.is_terminal() && !rt.stdout().is_terminal() {
         Some(errors)
     } else {
@@ -49,9 +49,9 @@ fn main(rt: HostRuntime) -> ExitCode {
     exit(&rt, answer(&rt, errors, terminal))
 }
 
-/// Reads the words, and carries out what they ask for. What is wrong with words, and help, is written
-/// to `errors`, and so is what is wrong with the lines of a file of items; a terminal, where there is
-/// one that gets no lines, is told how far a check of many files is.
+/// Parses the arguments, and carries out what they request. Messages for wrong arguments, and help,
+/// are written to `errors`, and so are messages for the lines of a file of items; the progress of a
+/// check of many files is shown on a terminal, if there is one that does not get the lines.
 fn answer<R: Env + Files + Print + Input + AllocGlobal>(
     rt: &R,
     errors: Stderr,
@@ -71,7 +71,7 @@ where
     }
 }
 
-/// Carries out what is asked for.
+/// Carries out a request.
 fn carry_out<R: Files + Print + Input + AllocGlobal>(
     rt: &R,
     asked: &ParsedCommand<'_>,
@@ -94,7 +94,7 @@ where
     }
 }
 
-/// Makes a layout without an item, in memory of its own: on the stack it would take a third of it.
+/// Allocates an empty layout: on the stack it would take a third of it.
 fn make_layout(alloc: Global) -> Result<Box<Layout>, ExitLine>
     ensures { IfErr result (λ ending. EndsWithoutMemory ending.0 ending.1.now) }
 {
@@ -104,7 +104,7 @@ fn make_layout(alloc: Global) -> Result<Box<Layout>, ExitLine>
     }
 }
 
-/// Makes what memory is needed, opens the file, and carries the request out.
+/// Allocates the output, opens the file, and carries out the request.
 fn answer_request<R: Files + Print + AllocGlobal>(
     rt: &R,
     request: &Request<'_>,
@@ -124,7 +124,7 @@ where
     answer_into(rt, request, room.store(), output, errors)
 }
 
-/// Opens the file, and carries the request out.
+/// Opens the file, and carries out the request.
 fn answer_into<R: Files + AllocGlobal, W: Write + Drop>(
     rt: &R,
     request: &Request<'_>,
@@ -151,7 +151,7 @@ where
     Ok(ending)
 }
 
-/// Reads what is asked for, and tells what is wrong with words that ask for nothing.
+/// Parses the request, and reports wrong arguments.
 fn read_request<'a>(
     alloc: Global,
     words: &'a [String],
@@ -168,9 +168,9 @@ fn read_request<'a>(
     }
 }
 
-/// Carries a request out and writes what is left of the output; where the line of a refusal went out,
-/// tells what would help. Gives how the program ends, and what took the output. It is not made part of
-/// its caller, whose stack would hold the buffers of a listing twice, one for each kind of source.
+/// Carries out a request and writes the rest of the output; if the line of a refusal was written,
+/// reports what would help. Returns how the program ends, and the sink. It is not inlined: the
+/// stack of its caller would hold the buffers of a listing twice, once for each type of source.
 #[inline(never)]
 fn write_answer<S: Source + Drop, W: Write + Drop>(
     alloc: Global,
@@ -194,7 +194,7 @@ fn write_answer<S: Source + Drop, W: Write + Drop>(
     (ending, output)
 }
 
-/// The refusal that a run answered, where its line went out: not after a fault of the output.
+/// Returns the refusal of a run, if its line was written: not after a fault of the output.
 fn refusal_told<W: Write>(answer: &Result<u8, RunFault>, output: &WriteSink<W>) -> Option<Refusal>
     ensures { result ≡ told_refusal answer.now output.now.failed }
 {

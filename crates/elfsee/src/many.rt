@@ -1,4 +1,4 @@
-//! What is told of many files: their check, and how they are hardened.
+//! Commands over many files: `check` and `traits`.
 ghost use Rattle.std.specs.Prelude.{◌≡◌, ◌<◌, IfErr};
 ghost use Rattle.elfsee.specs.Ends.{EndsList, EndsWithoutMemory, StopsCheck};
 
@@ -22,11 +22,11 @@ use std::rt::Files;
 /// How many bytes of a list of paths are read at once.
 const LIST_BYTES: usize = 65_536;
 
-/// Checks all files that are asked for, and writes a line for each. Where there is a terminal it is told
-/// how far it is.
+/// Checks all requested files, and writes a line for each. Progress is shown on a terminal, if
+/// there is one.
 ///
 /// # Errors
-/// There is no memory.
+/// Out of memory.
 #[inline(never)]
 pub fn check_many<R: Files + Print + Input + AllocGlobal>(
     rt: &R,
@@ -45,10 +45,10 @@ where
     visit_files(rt, &asked.files, checks, held, asked.style.format, terminal)
 }
 
-/// Tells how all files that are asked for are hardened. Where there is a terminal it is told how far it is.
+/// Prints how all requested files are hardened. Progress is shown on a terminal, if there is one.
 ///
 /// # Errors
-/// There is no memory.
+/// Out of memory.
 #[inline(never)]
 pub fn report_traits<R: Files + Print + Input + AllocGlobal>(
     rt: &R,
@@ -67,7 +67,7 @@ where
     visit_files(rt, &asked.files, lines, held, asked.format, terminal)
 }
 
-/// A check by what is asked for.
+/// Creates a check for a request.
 fn new_checks<'a>(asked: &CheckRequest<'_>, store: HeaderStore<'a>) -> CheckFiles<'a>
     requires { store.slots ≡ asked.now.limits.headers }
     ensures caps { result.caps ≡ record { limits = asked.now.limits; style = asked.now.style } }
@@ -85,7 +85,7 @@ fn new_checks<'a>(asked: &CheckRequest<'_>, store: HeaderStore<'a>) -> CheckFile
     CheckFiles::new(store, rule)
 }
 
-/// The lines of traits by what is asked for.
+/// Creates the trait lines for a request.
 fn new_trait_lines<'a>(asked: &'a TraitsRequest<'a>, store: HeaderStore<'a>) -> TraitReport<'a>
     requires { store.slots ≡ asked.now.limits.headers }
     ensures limits { result.limits ≡ asked.now.limits }
@@ -100,11 +100,11 @@ fn new_trait_lines<'a>(asked: &'a TraitsRequest<'a>, store: HeaderStore<'a>) -> 
     TraitReport::new(store, rule)
 }
 
-/// Makes what memory is needed beside that for headers, and tells of all files that are asked for. `held`
-/// is where bytes of the output may be held back.
+/// Allocates the buffers, except those for headers, and visits all requested files. `held` is where
+/// bytes of the output may be deferred.
 ///
 /// # Errors
-/// There is no memory.
+/// Out of memory.
 pub fn visit_files<R: Files + Print + Input + AllocGlobal, A: FileVisitor + Drop>(
     rt: &R,
     files: &PathArgs<'_>,
@@ -137,8 +137,9 @@ where
     Ok(end_many(ended, many))
 }
 
-/// How many bytes of output are kept before whole lines of them are written: where standard output is a pipe,
-/// or can't be looked at, as many as a pipe takes in one piece, so that lines of several processes don't mix.
+/// Returns how many bytes of output are buffered before whole lines of them are written: if
+/// standard output is a pipe, or cannot be examined, as many as a pipe takes atomically, so that
+/// lines of several processes do not mix.
 fn kept_bytes<R: Files>(rt: &R) -> usize
     ensures { 0 < result }
 {
@@ -148,7 +149,7 @@ fn kept_bytes<R: Files>(rt: &R) -> usize
     }
 }
 
-/// Writes what is left of the output, and answers how the program ends.
+/// Writes the rest of the output, and returns how the program ends.
 fn end_many<W: Sink + Drop, A: FileVisitor + Drop>(
     ended: Result<u8, RunEnd>,
     many: FileRun<LineSink<W>, Stderr, A>,
@@ -162,10 +163,10 @@ fn end_many<W: Sink + Drop, A: FileVisitor + Drop>(
     ending
 }
 
-/// Tells of the paths that are asked for, then of those of the list, and answers the exit status.
+/// Visits the requested paths, then those of the list, and returns the exit status.
 ///
 /// # Errors
-/// How the run ended where the list or the output failed.
+/// How the run ended if the list or the output failed.
 fn visit_all<R: Files + Input, W: Sink, A: FileVisitor + Drop>(
     rt: &R,
     files: &PathArgs<'_>,
@@ -189,7 +190,7 @@ where
     }
 }
 
-/// Tells of files and folders.
+/// Visits files and directories.
 ///
 /// # Errors
 /// The output failed.
@@ -208,10 +209,10 @@ where
     Ok(())
 }
 
-/// Tells of the paths of a list; `-` is standard input.
+/// Visits the paths of a list; `-` is standard input.
 ///
 /// # Errors
-/// How the run ended where the list or the output failed.
+/// How the run ended if the list or the output failed.
 fn visit_listed<R: Files + Input, W: Sink, A: FileVisitor + Drop>(
     rt: &R,
     many: &mut FileRun<W, Stderr, A>,
@@ -232,7 +233,7 @@ where
     }
 }
 
-/// What a list answers, or how the run ended where it came to no end.
+/// Returns the result of reading a list, or how the run ended if it was not read to its end.
 fn listed(answer: Result<(), ListFault>) -> Result<(), RunEnd>
     ensures ends { EndsList answer result }
     ensures stops { IfErr result StopsCheck }

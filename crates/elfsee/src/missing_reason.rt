@@ -1,4 +1,4 @@
-//! What would help behind a refusal of a section, told on standard error.
+//! What would help after a refusal of a section, printed on standard error.
 ghost use Rattle.std.specs.Prelude.{◌≡◌, ◌≤◌, ◌^◌, ℕ, List, None, Some, IfErr, false};
 ghost use Rattle.elf_model.specs.Prelude.{explained, explanation};
 ghost use Rattle.elf_source.specs.Source.{ReadsUpTo, SetsLimit};
@@ -17,9 +17,11 @@ use elf_table::{HeaderStore, NameBuf, NameEnd, RunFault};
 use std::alloc::Global;
 use std::io::{BufWriter, Stderr};
 
-/// Tells what would help where a request to apply was refused, if it asks for that. Where there is no
-/// memory for the line, or it can't be written, the refusal alone tells. The read budget holds for all
-/// that was asked of the source since its count began: where it has no room, nothing is told.
+/// Prints what would help if a request to apply was refused, if the request asks for that.
+///
+/// If there is no memory for the line, or it cannot be written, only the refusal is reported. The
+/// read budget covers all that was requested from the source since its count began: if it is
+/// exhausted, nothing is printed.
 pub fn report_missing_reason<S: Source>(
     alloc: Global,
     request: &Request<'_>,
@@ -40,7 +42,7 @@ pub fn report_missing_reason<S: Source>(
     }
 }
 
-/// Tells what would help where a request to apply was refused, within the rest of the read budget.
+/// Prints what would help if a request to apply was refused, within the rest of the read budget.
 fn report_into<S: Source>(
     request: &Request<'_>,
     refusal: Refusal,
@@ -57,12 +59,12 @@ fn report_into<S: Source>(
     let _ = write_rest(out.into_inner().into_inner(), true);
 }
 
-/// Writes what would help where a request to apply was refused, within the rest of the read budget.
-/// Afterwards no limit is set on the source.
+/// Writes what would help if a request to apply was refused, within the rest of the read budget. On
+/// return no limit is set on the source.
 ///
 /// # Errors
-/// A refusal of the file, or because the budget is used up; a fault of the source or of the output. A
-/// front of the line was written.
+/// A refusal of the file, or because the budget is exhausted; a fault of the source or of the
+/// output. A prefix of the line was written.
 fn report_rest<S: Source, W: Sink>(
     request: &Request<'_>,
     refusal: Refusal,
@@ -83,7 +85,7 @@ fn report_rest<S: Source, W: Sink>(
     told
 }
 
-/// Sets what is left of a budget for the whole account as the limit.
+/// Sets the rest of a budget, less all that was requested so far, as the limit.
 fn limit_rest<S: Source>(src: &mut Counted<S>, budget: Option<u64>)
     ensures { SetsLimit src.old src.new (budget_rest budget src.old.asked) }
 {
@@ -96,7 +98,7 @@ fn limit_rest<S: Source>(src: &mut Counted<S>, budget: Option<u64>)
     }
 }
 
-/// Whether a request asks what would help.
+/// Returns `true` if a request asks what would help.
 #[tactic(auto, unfolding(crate::specs::Explaining::asks_why))]
 fn asks_why(request: &Request<'_>) -> bool
     ensures { result ≡ asks_why request.now.task }
@@ -108,10 +110,10 @@ fn asks_why(request: &Request<'_>) -> bool
     }
 }
 
-/// Writes the line of what the layout of a request lacks, if there is something.
+/// Writes the line of what the layout of a request lacks, if anything.
 ///
 /// # Errors
-/// As [`write_missing`].
+/// As for [`write_missing`].
 #[tactic(auto, unfolding(crate::specs::Explaining::lack_in))]
 fn report_missing<S: Source, W: Sink>(
     request: &Request<'_>,
@@ -143,11 +145,11 @@ fn report_missing<S: Source, W: Sink>(
     }
 }
 
-/// Writes the line of what a layout lacks, if there is something.
+/// Writes the line of what a layout lacks, if anything.
 ///
 /// # Errors
-/// A refusal of the file, or for want of budget; a fault of the source or of the output. A front of the
-/// line was written.
+/// A refusal of the file, or for lack of budget; a fault of the source or of the output. A prefix
+/// of the line was written.
 fn write_missing<S: Source, W: Sink>(
     src: &mut Counted<S>,
     store: &mut HeaderStore<'_>,

@@ -1,4 +1,4 @@
-//! The names of which the rows are shown, and the listing of a file by them.
+//! The names whose rows are shown, and the listing of a file by them.
 ghost use Rattle.std.specs.Prelude.{◌≡◌, ◌++◌, [], IfErr, IfOk};
 ghost use Rattle.std.specs.List.Sorted.{IsPermutation};
 ghost use Rattle.elf_options.specs.Prelude.{NeverDescend, listed_names, texts_of};
@@ -14,11 +14,12 @@ use std::io::{ErrorKind, Stderr};
 use std::os::unix::fs::FileExt;
 use std::rt::Files;
 
-/// Lists those rows of a file that have one of some names. The names are read and sorted, in memory that
-/// their number and their bytes bound, before the file is opened.
+/// Lists those rows of a file that have one of some names. The names are read and sorted, in memory
+/// bounded by their number and their bytes, before the file is opened.
 ///
 /// # Errors
-/// The list of names can't be read, or has a line that can't be looked for. Else as [`answer_request`].
+/// The list of names cannot be read, or has a line that cannot be looked up. Otherwise as for
+/// [`answer_request`].
 #[inline(never)]
 pub fn show_chosen<R: Files + Print + AllocGlobal>(
     rt: &R,
@@ -38,10 +39,10 @@ where
     }
 }
 
-/// Reads the text of the list of names, where one is asked for, into `text`, which is empty.
+/// Reads the text of the list of names, if one is requested, into `text`, which is empty.
 ///
 /// # Errors
-/// The list can't be read, is too large, or there is no memory for it.
+/// The list cannot be read, is too large, or out of memory for it.
 pub fn read_list<R: Files>(rt: &R, asked: &NameArgs<'_>, text: &mut Vec<u8>) -> Result<(), ExitLine>
     requires { text.old.items ≡ [] }
     ensures { IfErr result (λ ending. EndsWithoutNames ending.0 ending.1.now) }
@@ -60,11 +61,11 @@ pub fn read_list<R: Files>(rt: &R, asked: &NameArgs<'_>, text: &mut Vec<u8>) -> 
     }
 }
 
-/// The names that are asked for, those of the list's text behind those of the words, in the rising order
-/// of their bytes.
+/// Returns the requested names, those of the list's text after those of the arguments, sorted by
+/// their bytes.
 ///
 /// # Errors
-/// A line of the list can't be looked for, or there is no memory for the names.
+/// A line of the list cannot be looked up, or out of memory for the names.
 pub fn sorted_names<'a>(
     alloc: Global,
     asked: &NameArgs<'a>,
@@ -82,8 +83,8 @@ pub fn sorted_names<'a>(
     }
 }
 
-/// What is asked for of a file: those rows of a listing that have one of these names, which are in the
-/// rising order of their bytes.
+/// Returns a request for those rows of a listing that have one of these names, which are sorted by
+/// their bytes.
 fn request_by_names<'a>(listing: &ListingRequest<'a>, names: &'a [&'a [u8]]) -> Request<'a>
     requires { NeverDescend names.now }
     ensures file { result.file ≡ listing.now.file }
@@ -101,7 +102,7 @@ fn request_by_names<'a>(listing: &ListingRequest<'a>, names: &'a [&'a [u8]]) -> 
     }
 }
 
-/// How the program ends where there are no names.
+/// Returns how the program ends if there are no names.
 fn lacking(fault: NamesFault) -> ExitLine
     ensures { EndsNames fault result.0 result.1.now }
 {

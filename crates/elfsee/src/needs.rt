@@ -14,10 +14,11 @@ use std::io::{self, BufWriter, ErrorKind, Write};
 use std::os::unix::fs::FileExt;
 use std::rt::Files;
 
-/// Lists the objects that a program needs, and where that is asked for from where their symbols come.
+/// Lists the objects that a program needs and, if requested, which object each of their symbols is
+/// bound to.
 ///
 /// # Errors
-/// There is no memory, or the program can't be opened.
+/// Out of memory, or the program cannot be opened.
 #[inline(never)]
 pub fn report_needs<R: Files + Print + AllocGlobal>(
     rt: &R,
@@ -42,11 +43,12 @@ where
     needs_into(rt, asked, headers.store(), (room, opened), output)
 }
 
-/// Opens the program, and lists the objects that it needs to an output. The folder of the program is told
-/// by its path with all links followed, which takes memory before the program is opened.
+/// Opens the program, and lists the objects that it needs to an output. The directory of the
+/// program is found from its path with all links resolved, which allocates before the program is
+/// opened.
 ///
 /// # Errors
-/// There is no memory, or the program can't be opened.
+/// Out of memory, or the program cannot be opened.
 fn needs_into<R: Files + AllocGlobal, W: Write + Drop>(
     rt: &R,
     asked: &NeedsRequest<'_>,
@@ -91,10 +93,10 @@ where
     Ok(ending)
 }
 
-/// Opens the loader's cache that is looked in, if there is one.
+/// Opens the loader's cache that is searched, if there is one.
 ///
 /// # Errors
-/// A cache is given, and it can't be opened.
+/// Returns how the program ends if a cache is given and can't be opened.
 fn loader_cache<R: Files>(
     rt: &R,
     asked: &NeedsRequest<'_>,
@@ -114,7 +116,7 @@ where
     }
 }
 
-/// What a walk goes by.
+/// Returns the settings of a walk.
 fn settings<'a>(asked: &NeedsRequest<'a>) -> NeedsOptions<'a> {
     NeedsOptions {
         folders: SearchDirs {
@@ -127,7 +129,7 @@ fn settings<'a>(asked: &NeedsRequest<'a>) -> NeedsOptions<'a> {
     }
 }
 
-/// How a run ended, by what a walk answered.
+/// Returns how a run ended, by the result of a walk.
 fn ended(listed: Result<u8, NeedsFault>) -> RunEnd {
     match listed {
         Ok(status) => RunEnd::Status(status),

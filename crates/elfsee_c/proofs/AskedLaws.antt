@@ -1,4 +1,4 @@
--- A listing that is asked for is one in its style.
+-- A requested listing is one in its style.
 use Rattle.std.proofs.Common.{◌≡◌, ◌≤◌, ℕ, List, Option, Some, length, sym, subst, ◌∙◌, arith}
 use Rattle.std.specs.Prelude.{IfSome}
 use Rattle.elf_model.specs.Prelude.{IsBudgeted, ListingStyle, listing_cost}
@@ -33,7 +33,7 @@ module _ (file : List ℕ) (limits : CallerLimits) (room : ℕ) (asked : List �
       subst (λ (style : ListingStyle). n ≤ listing_cost file (headers_of limits room) style (parts_in asked)) (gives.2 limits.name)
       (subst (λ parts. n ≤ listing_cost file (headers_of limits room) (caller_style listing limits.name) parts) gives.1 within)
 
--- what was listed, told as numbers: the counts stay
+-- what was listed, as numbers: the counts are unchanged
 pub told_listing : (May : Type 0) (file : List ℕ) (limits : CallerLimits) (room : ℕ) (style : ListingStyle) (parts status : ℕ) (before out : List ℕ) (old new : CallEnd) (told : CallStatus)
     → ShowsInMemory May file limits room style parts before out old told → old.written ≤ length out → old.asked ≤ listing_cost file (headers_of limits room) style parts
     → IfSome (budget_of limits) (λ bytes. old.asked ≤ bytes) → new.written ≡ old.written → new.asked ≡ old.asked → IsStatus status new told

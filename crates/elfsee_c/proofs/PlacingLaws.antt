@@ -1,4 +1,4 @@
--- What a call in a layout that is lent did with its arguments, by what it tells.
+-- What a call in a borrowed layout did with its arguments, by its result.
 use Rattle.std.proofs.Common.{◌≡◌, ℕ, ◌+◌, ◌≤◌, List, Option}
 use Rattle.std.specs.Prelude.{IfSome}
 use Rattle.elf_model.specs.Prelude.{Layout, apply_cost_by_order}
@@ -11,7 +11,7 @@ use Rattle.elf_capi.specs.declared.lent_layout.CallerLayout.{CallerLayout}
 use Rattle.elf_capi.specs.declared.limits.CallerLimits.{CallerLimits}
 use Rattle.elf_capi.specs.declared.missing.CallerMissing.{CallerMissing}
 
--- by each answer
+-- for each result
 places_by : (file : List ℕ) (limits : CallerLimits) (section : ℕ) (layout : CallerLayout) (room : ℕ) (before out : List ℕ) (end : CallEnd) (missing : CallerMissing) (told : CallStatus)
     → AreInRange limits room → MayBorrowLayout layout → AppliesFor file (headers_of limits room) (budget_of limits) section (lent_layout layout) out end.written told
     → ExplainsTold file (headers_of limits room) (budget_of limits) section (lent_layout layout) (apply_cost_by_order file (headers_of limits room) section (lent_layout layout)) told missing
@@ -25,7 +25,7 @@ places_by file limits section layout room before out end missing Full range lend
     record { permitted = range; lent = lend; applies = applies; explains = explains; cost = cost; budget = within }
 places_by file limits section layout room before out end missing BadCall range lend applies explains cost within = absurd applies
 
--- WHAT A CALL DID, from what it was made with
+-- THE EFFECT OF A CALL, from what it was made with
 pub places : (file : List ℕ) (limits : CallerLimits) (section : ℕ) (layout : CallerLayout) (room : ℕ) (before out : List ℕ) (end : CallEnd) (missing : CallerMissing) (told : CallStatus) (slots : ℕ) (budget : Option ℕ) (given : Layout)
     → slots ≡ headers_of limits room → budget ≡ budget_of limits → given ≡ lent_layout layout → AreInRange limits room → MayBorrowLayout layout
     → AppliesFor file slots budget section given out end.written told → ExplainsTold file slots budget section given (apply_cost_by_order file slots section given) told missing

@@ -3,8 +3,8 @@ ghost use Rattle.std.specs.Prelude.{◌≡◌, ◌≤◌, length};
 ghost use Rattle.elf_capi.specs.Applied.{AppliesInMemory, IsApplied};
 
 use elf_capi::{
-    ApplyCall, ApplyInput, CallEnd, CallOutcome, CallStatus, CallerLimits, layout_from, limits_of,
-    report_status, short, write_section,
+    ApplyCall, ApplyInput, CallEnd, CallOutcome, CallStatus, CallerLimits, checked_limits,
+    layout_from, report_status, short, write_section,
 };
 use elf_layout::{Addresses, Layout};
 use elf_table::HeaderStore;
@@ -12,12 +12,12 @@ use elf_table::HeaderStore;
 /// The largest index of a section.
 const LAST_INDEX: u32 = 65_535;
 
-/// Writes the bytes of a section of a file that lies in memory, with its relocations applied, into
-/// memory of the caller. `room` is where the file's headers lie meanwhile.
+/// Writes the bytes of a section of a file in memory, with its relocations applied, into memory of
+/// the caller. `room` holds the file's headers during the call.
 ///
-/// Answers 0 where it was written, 1 where it is refused or the budget is used up, 3 where the section
-/// has more bytes than `out`, 4 where the limits, the room, the section's index or an item are outside
-/// their ranges, there are too many items, or one is there twice.
+/// Returns 0 if it was written, 1 if it is refused or the budget is exhausted, 3 if the section has
+/// more bytes than `out`, 4 if the limits, the room, the section's index or an item are out of
+/// range, there are too many items, or one occurs twice.
 #[unsafe(no_mangle)]
 pub extern "C" fn elfsee_apply(
     file: &[u8],
@@ -34,7 +34,7 @@ pub extern "C" fn elfsee_apply(
     report_status(told, end)
 }
 
-/// Writes the section, and answers how that ended. The counts are written to `end`.
+/// Writes the section, and returns how that ended. The counts are written to `end`.
 fn apply_to(
     file: &[u8],
     limits: &CallerLimits,
@@ -49,7 +49,7 @@ fn apply_to(
     ensures clear { (end.new.cause ≡ 0) × (end.new.at ≡ 0) × (end.new.none ≡ 0) }
 {
     end.clear();
-    let Some(limits) = limits_of(limits, room.len()) else {
+    let Some(limits) = checked_limits(limits, room.len()) else {
         return CallStatus::BadCall;
     };
     let mut layout = Layout::new();

@@ -1,16 +1,16 @@
-//! The export that tells where a section's bytes lie in a file in memory.
+//! The export that locates a section's bytes in a file in memory.
 ghost use Rattle.elf_memory.specs.SectionBytes.{ReadsSectionBytes};
 ghost use Rattle.elf_capi.specs.Ends.{ReturnsRead};
 
 use elf_capi::{CallEnd, report_row};
 use elf_memory::{ByteRange, section_bytes};
 
-/// Tells where the bytes of a section lie in a file that lies in memory. No other section header is
-/// looked at (gABI 4, Section Header).
+/// Locates the bytes of a section in a file in memory. No other section header is read (gABI 4,
+/// Section Header).
 ///
-/// Answers 0 where they lie in the file, 2 where the file has no such section or its type is NOBITS
-/// or NULL, and 1 where a check fails that a listing makes before it reads the headers, as many of
-/// them permitted as can be, or where the section ends past the end of the file; the first that
+/// Returns 0 if they lie in the file, 2 if the file has no such section or its type is NOBITS or
+/// NULL, and 1 if a check fails that a listing makes before it reads the headers, with the maximum
+/// number of headers allowed, or if the section extends past the end of the file; the first that
 /// fails is in `end`.
 #[unsafe(no_mangle)]
 pub extern "C" fn elfsee_section_bytes(

@@ -1,4 +1,4 @@
-//! The export that tells how much of a file a listing asks for at most.
+//! The export that bounds how much of a file a listing reads.
 ghost use Rattle.std.specs.Prelude.{◌≡◌};
 ghost use Rattle.elf_model.specs.Cost.{ceiling};
 ghost use Rattle.elf_capi.specs.Costs.{IsCost};
@@ -6,8 +6,8 @@ ghost use Rattle.elf_capi.specs.Costs.{IsCost};
 use elf_capi::{CallerLimits, short};
 use elf_table::Caps;
 
-/// How many bytes of a file of `file_len` bytes a listing asks for at most, whatever the bytes are:
-/// at most 2^64 - 1, and that where a limit is outside its range.
+/// Returns the maximum number of bytes that a listing reads of a file of `file_len` bytes, for any
+/// content: at most 2^64 - 1, and that if a limit is out of range.
 #[unsafe(no_mangle)]
 pub extern "C" fn elfsee_cost(file_len: u64, limits: &CallerLimits) -> u64
     ensures { IsCost file_len limits.now result }
@@ -18,7 +18,7 @@ pub extern "C" fn elfsee_cost(file_len: u64, limits: &CallerLimits) -> u64
     }
 }
 
-/// What no listing of a file of so many bytes passes.
+/// Returns an upper bound for the listing of any file of the given size.
 #[tactic(auto, unfolding(elf_model::specs::Cost::ceiling))]
 fn ceiling(size: u64, headers: u16, name: u16) -> u128
     ensures { result ≡ ceiling size headers name }

@@ -1,22 +1,21 @@
-//! The export that looks a name up in a file in memory.
+//! The export that looks up a name in a file in memory.
 ghost use Rattle.std.specs.Prelude.{◌≡◌, ◌≤◌, IfSome, length};
 ghost use Rattle.elf_model.specs.Find.{find_cost};
 ghost use Rattle.elf_capi.specs.Prelude.{CallLooks, HasLookup, budget_of, headers_of};
 
-use elf_capi::{CallEnd, CallerLimits, LookupFields, limits_of, look_in, report_found};
+use elf_capi::{CallEnd, CallerLimits, LookupFields, checked_limits, look_in, report_found};
 use elf_hash::Lookup;
 use elf_record::Refusal;
 use elf_table::HeaderStore;
 
-/// The most bytes of a name that is looked up.
+/// The maximum number of bytes of a name that is looked up.
 const WANTED_NAME_BYTES: usize = 4_096;
 
-/// Looks a name up by the hash table of a file that lies in memory. The name has no NUL at its end.
-/// `room` is where the file's headers lie meanwhile.
+/// Looks up a name by the hash table of a file in memory. The name has no terminating NUL. `room`
+/// holds the file's headers during the call.
 ///
-/// Answers 0 where it was found, 1 where the file is refused or the budget is used up, 2 where there
-/// is no such name, 4 where the limits or the room are outside their ranges, or the name has more than
-/// 4,096 bytes.
+/// Returns 0 if it was found, 1 if the file is refused or the budget is exhausted, 2 if there is no
+/// such name, 4 if the limits or the room are out of range, or the name has more than 4,096 bytes.
 #[unsafe(no_mangle)]
 pub extern "C" fn elfsee_find(
     file: &[u8],
@@ -34,7 +33,8 @@ pub extern "C" fn elfsee_find(
     report_found(&looked, found, end)
 }
 
-/// Looks the name up; None for a call with a number outside its range. The count of bytes that were asked for is written to `end`.
+/// Looks up the name; returns `None` for a call with a number out of range. The number of bytes
+/// requested is written to `end`.
 fn look_up(
     file: &[u8],
     limits: &CallerLimits,
@@ -51,7 +51,7 @@ fn look_up(
     ensures cause { (end.new.cause ≡ end.old.cause) × (end.new.at ≡ end.old.at) }
     ensures none { end.new.none ≡ end.old.none }
 {
-    let limits = limits_of(limits, room.len())?;
+    let limits = checked_limits(limits, room.len())?;
     if name.len() > WANTED_NAME_BYTES {
         return None;
     }

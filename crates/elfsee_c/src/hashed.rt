@@ -1,21 +1,23 @@
-//! The export that opens the symbols which a loader knows of a file in memory.
+//! The export that opens the dynamic symbols of a file in memory, as a loader sees them.
 ghost use Rattle.std.specs.Prelude.{◌≡◌, ◌≤◌, IfSome, length};
 ghost use Rattle.elf_capi.specs.Prelude.{HasHashed, OpensHashed, budget_of, by_flags, hashed_cost, headers_of};
 
-use elf_capi::{CallEnd, CallerLimits, RowPosition, limits_of, open_hashed, report_opened};
+use elf_capi::{CallEnd, CallerLimits, RowPosition, checked_limits, open_hashed, report_opened};
 use elf_record::Refusal;
 use elf_table::HeaderStore;
 
-/// By the program headers also where there are section headers.
+/// By the program headers even if there are section headers.
 const BY_SEGMENTS: u32 = 1;
 
-/// Finds the symbols that the hash table of a file in memory is of, among which a loader looks names up,
-/// and sets `rows` before the first: by the section headers, or where there are none, or `flags` is 1, by
-/// the program headers and their dynamic entries (gABI 5, Dynamic Section). How many there are is told by
-/// the hash table alone. `room` is where the file's headers lie meanwhile.
+/// Finds the symbols that the hash table of a file in memory covers, among which a loader looks up
+/// names, and sets `rows` before the first.
 ///
-/// Answers 0 where they were found, 1 where the file is refused or the budget is used up, and 4 where the
-/// limits, the room or the flags are outside their ranges.
+/// They are found by the section headers, or if there are none, or `flags` is 1, by the program
+/// headers and their dynamic entries (gABI 5, Dynamic Section). Only the hash table gives their
+/// number. `room` holds the file's headers during the call.
+///
+/// Returns 0 if they were found, 1 if the file is refused or the budget is exhausted, and 4 if the
+/// limits, the room or the flags are out of range.
 #[unsafe(no_mangle)]
 pub extern "C" fn elfsee_hashed_symbols(
     file: &[u8],
@@ -35,8 +37,8 @@ pub extern "C" fn elfsee_hashed_symbols(
     status
 }
 
-/// Finds them; None for a call with a number outside its range. The count of bytes that were asked for is
-/// written to `asked`.
+/// Finds them; returns `None` for a call with a number out of range. The number of bytes requested
+/// is written to `asked`.
 fn open_in(
     file: &[u8],
     limits: &CallerLimits,
@@ -50,7 +52,7 @@ fn open_in(
         (headers_of limits.now (length room.old)) }
     ensures budget { IfSome (budget_of limits.now) (λ bytes. asked.new ≤ bytes) }
 {
-    let limits = limits_of(limits, room.len())?;
+    let limits = checked_limits(limits, room.len())?;
     if flags > BY_SEGMENTS {
         return None;
     }

@@ -5,9 +5,9 @@ ghost use Rattle.elf_capi.specs.Ends.{ReturnsRead};
 use elf_capi::{CallEnd, report_row};
 use elf_memory::{Header, Section, Segment, read_header, read_section, read_segment};
 
-/// Reads the file header of a file that lies in memory (gABI 4, ELF Header).
+/// Reads the file header of a file in memory (gABI 4, ELF Header).
 ///
-/// Answers 0 where it was read, and 1 where a check of it fails, with the first that does in `end`.
+/// Returns 0 if it was read, and 1 if a check of it fails, with the first that does in `end`.
 #[unsafe(no_mangle)]
 pub extern "C" fn elfsee_header(file: &[u8], header: &mut Header, end: &mut CallEnd) -> u32
     ensures { ReturnsRead (ReadsHeader file.now) result header.old header.new end.new }
@@ -15,11 +15,11 @@ pub extern "C" fn elfsee_header(file: &[u8], header: &mut Header, end: &mut Call
     report_row(read_header(file), header, end)
 }
 
-/// Reads the section header of an index from a file that lies in memory. No other section header is
-/// looked at (gABI 4, Section Header).
+/// Reads the section header at an index from a file in memory. No other section header is read
+/// (gABI 4, Section Header).
 ///
-/// Answers 0 where it was read, 2 where the file has none of that index, and 1 where a check fails
-/// that a listing makes before it reads the headers, as many of them permitted as can be; the first
+/// Returns 0 if it was read, 2 if the file has none at that index, and 1 if a check fails that a
+/// listing makes before it reads the headers, with the maximum number of headers allowed; the first
 /// that does is in `end`.
 #[unsafe(no_mangle)]
 pub extern "C" fn elfsee_section(
@@ -33,8 +33,8 @@ pub extern "C" fn elfsee_section(
     report_row(read_section(file, index), section, end)
 }
 
-/// Reads the program header of an index, as [`elfsee_section`] does a section header (gABI 5, Program
-/// Header).
+/// Reads the program header at an index, as [`elfsee_section`] does a section header (gABI 5,
+/// Program Header).
 #[unsafe(no_mangle)]
 pub extern "C" fn elfsee_segment(
     file: &[u8],

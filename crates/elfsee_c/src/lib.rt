@@ -1,5 +1,6 @@
-//! elfsee for callers in C, and in all that calls C: each export takes what the caller lends, calls the
-//! library, and states its promise again. What a caller has to guarantee stands in `elfsee.h`.
+//! elfsee for callers in C, and in any language that calls C: each export takes buffers of the
+//! caller, calls the library, and restates its promise. What a caller has to guarantee is in
+//! `elfsee.h`.
 #![tactic(auto)]
 
 mod apply_export;

@@ -1,9 +1,9 @@
-//! The exports that tell where names in string tables lie.
+//! The exports that locate names in string tables.
 ghost use Rattle.std.specs.Prelude.{length};
 ghost use Rattle.elf_memory.specs.Names.{FindsName};
 ghost use Rattle.elf_capi.specs.Prelude.{OpensNames, ReturnsOpened, ReturnsRead};
 
-use elf_capi::{CallEnd, CallerLimits, limits_of, names_in, report_opened, report_row};
+use elf_capi::{CallEnd, CallerLimits, checked_limits, names_in, report_opened, report_row};
 use elf_memory::{ByteRange, find_name};
 
 /// Finds where the name at an offset in a string table lies, without its NUL. The string table is
@@ -11,8 +11,8 @@ use elf_memory::{ByteRange, find_name};
 /// of an empty table has no bytes, and is at 0.
 ///
 /// Returns 0 if there is a name, and 1 if there is none, with the cause in `end`: `NameOutside` if
-/// the offset is not below the table's size, `NameUnended` if no NUL follows it. The offset in `end`
-/// is where the name was to begin, at most 2^64 - 1.
+/// the offset is not below the table's size, `NameUnended` if no NUL follows it. The offset in
+/// `end` is where the name was to begin, at most 2^64 - 1.
 #[unsafe(no_mangle)]
 pub extern "C" fn elfsee_name(
     file: &[u8],
@@ -26,12 +26,12 @@ pub extern "C" fn elfsee_name(
     report_row(find_name(file, *strings, offset), name, end)
 }
 
-/// Tells where the string table of the section names lies. So many headers are permitted as the limits
-/// say, and as the room has 64 bytes for; no byte of it is looked at (gABI 4, ELF Header).
+/// Locates the string table of the section names. The number of headers is limited by the limits,
+/// and by the room, at 64 bytes each; no byte of the room is read (gABI 4, ELF Header).
 ///
-/// Answers 0 where there is one, 2 where there is none, 1 where a check fails that a listing makes
-/// until the section headers are loaded, with the first that does in `end`, and 4 for limits
-/// outside their range or room of less than 64 bytes.
+/// Returns 0 if there is one, 2 if there is none, 1 if a check fails that a listing makes until the
+/// section headers are loaded, with the first that does in `end`, and 4 for limits out of range or
+/// room of less than 64 bytes.
 #[unsafe(no_mangle)]
 pub extern "C" fn elfsee_section_names(
     file: &[u8],
@@ -44,7 +44,7 @@ pub extern "C" fn elfsee_section_names(
         result strings.old strings.new end.new }
 {
     report_opened(
-        limits_of(limits, room.len()).map(|limits| names_in(file, limits.headers)),
+        checked_limits(limits, room.len()).map(|limits| names_in(file, limits.headers)),
         strings,
         end,
     )

@@ -1,4 +1,4 @@
-//! The exports that go over the notes of a file in memory.
+//! The exports that iterate over the notes of a file in memory.
 ghost use Rattle.elf_memory.specs.NoteRows.{ReadsSectionNotes, ReadsSegmentNotes, TakesNote};
 ghost use Rattle.elf_capi.specs.Ends.{ReturnsRead};
 
@@ -6,11 +6,11 @@ use elf_capi::{CallEnd, report_row};
 use elf_memory::{Note, NotePosition, next_note, section_notes, segment_notes};
 
 /// Checks that the notes of a section lie within the file, and sets `notes` before the first. No
-/// other section header is looked at (gABI 5, Note Section).
+/// other section header is read (gABI 5, Note Section).
 ///
-/// Answers 0 where they do, 2 where the file has no such section or its type is not NOTE, and 1
-/// where a check fails that a listing makes before it reads the headers, as many of them permitted
-/// as can be, or where the section ends past the end of the file; the first that fails is in `end`.
+/// Returns 0 if they do, 2 if the file has no such section or its type is not NOTE, and 1 if a
+/// check fails that a listing makes before it reads the headers, with the maximum number of headers
+/// allowed, or if the section extends past the end of the file; the first that fails is in `end`.
 #[unsafe(no_mangle)]
 pub extern "C" fn elfsee_notes(
     file: &[u8],
@@ -39,8 +39,8 @@ pub extern "C" fn elfsee_segment_notes(
 
 /// Reads the next note and steps over it (gABI 5, Note Section).
 ///
-/// Answers 0 where it was read, 2 behind the last, and 1 where no note stands at the place, with
-/// `NoteCut` and the place in `end`. Where it was not read `notes` is as it was.
+/// Returns 0 if it was read, 2 after the last, and 1 if there is no note at the offset, with
+/// `NoteCut` and the offset in `end`. If it was not read, `notes` is unchanged.
 #[unsafe(no_mangle)]
 pub extern "C" fn elfsee_next_note(
     file: &[u8],

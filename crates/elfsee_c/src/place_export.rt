@@ -3,23 +3,26 @@ ghost use Rattle.std.specs.Prelude.{◌≡◌, ◌≤◌, length};
 ghost use Rattle.elf_capi.specs.LentLayouts.{CountsWritten, IsPlaced, PlacesInMemory};
 
 use elf_capi::{
-    ApplyInput, CallEnd, CallStatus, CallerLayout, CallerLimits, CallerMissing, limits_of,
+    ApplyInput, CallEnd, CallStatus, CallerLayout, CallerLimits, CallerMissing, checked_limits,
     place_section, report_status,
 };
 use elf_layout::Addresses;
 use elf_table::HeaderStore;
 
-/// Writes the bytes of a section of a file that lies in memory, with its relocations applied, into
-/// memory of the caller, as [`elfsee_apply`](crate::apply_export::elfsee_apply) does, in a layout of any
-/// size that the caller lends: sections by rising index, and of each sort names in the rising order of
-/// their bytes. Where the section is refused for want of an address, `missing` tells which items would
-/// help, and the name of the symbol; else it is all 0 (psABI 4.4, Relocation). To find that out at most
-/// the headers, the relocation entry, its symbol and the symbol's name are asked for, which count, and
-/// nothing is told where the budget has no room for these.
+/// Writes the bytes of a section of a file in memory, with its relocations applied, in a layout of
+/// any size.
 ///
-/// Answers 0 where it was written, 1 where it is refused or the budget is used up, 3 where the section
-/// has more bytes than `out`, 4 where the limits or the room are outside their ranges, an index or a
-/// name of the layout is not above the one before it, or a name is none of 1 to 255 bytes without a NUL.
+/// They are written into memory of the caller, as
+/// [`elfsee_apply`](crate::apply_export::elfsee_apply) does. The caller's layout has sections
+/// sorted by index, and the names of each type sorted by their bytes. If the section is refused for
+/// lack of an address, `missing` says which items would help, and the name of the symbol; otherwise
+/// it is all 0 (psABI 4.4, Relocation). To find that out, at most the headers, the relocation
+/// entry, its symbol and the symbol's name are read, which count, and nothing is reported if the
+/// budget has no room for them.
+///
+/// Returns 0 if it was written, 1 if it is refused or the budget is exhausted, 3 if the section has
+/// more bytes than `out`, 4 if the limits or the room are out of range, an index or a name of the
+/// layout is not above the one before it, or a name is not one of 1 to 255 bytes without a NUL.
 #[unsafe(no_mangle)]
 pub extern "C" fn elfsee_apply_lent(
     file: &[u8],
@@ -38,7 +41,7 @@ pub extern "C" fn elfsee_apply_lent(
     report_status(told, end)
 }
 
-/// Writes the section, and answers how that ended. The counts are written to `end`.
+/// Writes the section, and returns how that ended. The counts are written to `end`.
 fn place_in(
     file: &[u8],
     limits: &CallerLimits,
@@ -57,7 +60,7 @@ fn place_in(
 {
     end.clear();
     missing.clear();
-    let Some(limits) = limits_of(limits, room.len()) else {
+    let Some(limits) = checked_limits(limits, room.len()) else {
         return CallStatus::BadCall;
     };
     let Some(lent) = layout.lend() else {

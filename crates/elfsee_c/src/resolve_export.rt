@@ -1,24 +1,27 @@
-//! The export that looks a name up in a file in memory as a loader does.
+//! The export that looks up a name in a file in memory as a loader does.
 ghost use Rattle.std.specs.Prelude.{◌≡◌, ◌≤◌, IfSome, length};
 ghost use Rattle.elf_model.specs.LoaderFind.{loader_cost};
 ghost use Rattle.elf_capi.specs.Prelude.{IsPermitted, IsResolved, Resolves, ResolvesIn, ReturnsNone, ReturnsResolved, asks_of, budget_of, file_of, headers_of, nothing_resolved, wanted_by};
 
-use elf_capi::{CallEnd, CallerLimits, Query, Resolved, limits_of, report_resolved, resolve_in};
+use elf_capi::{
+    CallEnd, CallerLimits, Query, Resolved, checked_limits, report_resolved, resolve_in,
+};
 use elf_loader::SymbolLookup;
 use elf_record::Refusal;
 use elf_table::{HeaderStore, NameBuf};
 
-/// Looks a name up in a file that lies in memory, alone or with a version, as a loader of the GNU
-/// system does (gABI 5, Dynamic Linking; Linux Standard Base Core, Symbol Versioning): by the
-/// file's hash table, of the GNU system or else of the gABI, the first symbol of the name's chain
-/// that has the name, is offered to others and whose version fits. Neither the name nor the version
-/// has a NUL at its end; a version of no bytes is none. `flags` adds up 1, for a lookup by the
-/// program headers also where there are section headers, and 2, where the version is to be the
-/// default one. `room` is where the file's headers lie meanwhile.
+/// Looks up a name in a file in memory, alone or with a version, as glibc's dynamic loader does.
 ///
-/// Answers 0 where it was found, 1 where the file is refused or the budget is used up, 2 where no
-/// symbol answers, 4 where the limits, the room or the flags are outside their ranges, or the name
-/// or the version has more than 4,096 bytes.
+/// By the file's hash table, GNU or otherwise SysV, it is the first symbol of the name's chain that
+/// has the name, is exported and whose version matches (gABI 5, Dynamic Linking; Linux Standard
+/// Base Core, Symbol Versioning). Neither the name nor the version has a terminating NUL; a version
+/// of no bytes is none. `flags` is the sum of 1, for a lookup by the program headers even if there
+/// are section headers, and 2, if the version is to be the default one. `room` holds the file's
+/// headers during the call.
+///
+/// Returns 0 if it was found, 1 if the file is refused or the budget is exhausted, 2 if no symbol
+/// matches, 4 if the limits, the room or the flags are out of range, or the name or the version has
+/// more than 4,096 bytes.
 #[unsafe(no_mangle)]
 pub extern "C" fn elfsee_look_up(
     file: &[u8],
@@ -46,8 +49,8 @@ pub extern "C" fn elfsee_look_up(
     report_resolved(&answer, told.bytes().len() as u64, resolved, end)
 }
 
-/// Looks it up; None for a call with a number outside its range. `told` holds what is told of the name
-/// of a version, and the count of bytes that were asked for is written to `end`.
+/// Looks it up; returns `None` for a call with a number out of range. `told` holds the name of a
+/// version, and the number of bytes requested is written to `end`.
 fn resolve(
     file: &[u8],
     limits: &CallerLimits,
@@ -66,7 +69,7 @@ fn resolve(
     ensures cause { (end.new.cause ≡ end.old.cause) × (end.new.at ≡ end.old.at) }
     ensures none { end.new.none ≡ end.old.none }
 {
-    let limits = limits_of(limits, room.len())?;
+    let limits = checked_limits(limits, room.len())?;
     if !query.is_permitted() {
         return None;
     }

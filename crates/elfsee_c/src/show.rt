@@ -4,17 +4,17 @@ ghost use Rattle.elf_model.specs.Cost.{listing_cost};
 ghost use Rattle.elf_capi.specs.Prelude.{AreCaps, AsksListing, BorrowedTexts, GivesListing, HasAskedListing, HasListing, ShowsInMemory, budget_of, caller_style, headers_of, parts_in, style_in};
 
 use elf_capi::{
-    CallEnd, CallOutcome, CallStatus, CallerLimits, CallerListing, caps_of, list, listing_of,
-    named_listing_of, report_status, short,
+    CallEnd, CallOutcome, CallStatus, CallerLimits, CallerListing, caller_listing_of, caps_of,
+    named_listing_of, report_status, short, write_listing,
 };
 use elf_record::Parts;
 use elf_table::HeaderStore;
 
-/// Lists a file that lies in memory into memory of the caller, as far as `parts` has it. `room` is
-/// where the file's headers lie meanwhile.
+/// Lists a file in memory into memory of the caller, the parts that `parts` has. `room` holds the
+/// file's headers during the call.
 ///
-/// Answers 0 where it was listed, 1 where it is refused or the budget is used up, 3 where the listing
-/// has more bytes than `out`, 4 where the limits or the room are outside their ranges.
+/// Returns 0 if it was listed, 1 if it is refused or the budget is exhausted, 3 if the listing has
+/// more bytes than `out`, 4 if the limits or the room are out of range.
 #[unsafe(no_mangle)]
 pub extern "C" fn elfsee_show(
     file: &[u8],
@@ -32,16 +32,17 @@ pub extern "C" fn elfsee_show(
     report_status(told, end)
 }
 
-/// Lists a file that lies in memory into memory of the caller, as `asked` says: the bytes of a struct
-/// of two numbers of 16 bits, the parts, and the sum of flags: 1 finds tables by the program headers
-/// also where there are section headers, 4 names the numbers of the GNU system too, and has the symbol
-/// versions as a part, 8 writes each line as a JSON object, and 16, with 4 alone, puts the version of a
-/// symbol behind its name. `room` is where the file's headers lie meanwhile.
+/// Lists a file in memory into memory of the caller, as `asked` says.
 ///
-/// Answers 0 where it was listed, 1 where it is refused or the budget is used up, 3 where the listing
-/// has more bytes than `out`, 4 where the limits or the room are outside their ranges, or `asked` has
-/// fewer than 4 bytes, a flag or a part that such a listing has not, or behind its fourth byte one that
-/// is not 0.
+/// `asked` is the bytes of a struct of two 16-bit numbers, the parts, and the sum of flags: 1 finds
+/// tables by the program headers even if there are section headers, 4 uses GNU names for numbers
+/// too, and has the symbol versions as a part, 8 writes each line as a JSON object, and 16, only
+/// with 4, puts the version of a symbol after its name. `room` holds the file's headers during the
+/// call.
+///
+/// Returns 0 if it was listed, 1 if it is refused or the budget is exhausted, 3 if the listing has
+/// more bytes than `out`, 4 if the limits or the room are out of range, or `asked` has fewer than 4
+/// bytes, a flag or a part that such a listing does not have, or a nonzero byte after its fourth.
 #[unsafe(no_mangle)]
 pub extern "C" fn elfsee_list(
     file: &[u8],
@@ -54,17 +55,19 @@ pub extern "C" fn elfsee_list(
     ensures { HasAskedListing file.now limits.now
         (length room.old) asked.now None result out.old out.new end.new }
 {
-    let told = list_to(file, limits, listing_of(asked), room, out, end);
+    let told = list_to(file, limits, caller_listing_of(asked), room, out, end);
     report_status(told, end)
 }
 
-/// Lists a file as [`elfsee_list`] does, of its rows those alone whose name is one of some: `asked` has
-/// the part of which they are, symbols, relocation entries or symbol versions. The names are in the rising
-/// order of their bytes, 1 to 4,096 each without a NUL. Where versions stand behind names they may have
-/// one, as NAME@VERSION, or NAME@@VERSION for a default one (Linux Standard Base Core, Symbol Versioning).
+/// Lists a file as [`elfsee_list`] does, but of its rows only those whose name is one of some:
+/// `asked` has the part that they belong to, symbols, relocation entries or symbol versions.
 ///
-/// Answers as that call does, and 4 also where a name can't be looked for, or is below the one before it,
-/// and where the part is none of these.
+/// The names are sorted by their bytes, 1 to 4,096 each without a NUL. If versions follow names
+/// they may have one, as NAME@VERSION, or NAME@@VERSION for a default one (Linux Standard Base
+/// Core, Symbol Versioning).
+///
+/// Returns as that call does, and 4 also if a name cannot be looked up, or is below the one before
+/// it, and if the part is none of these.
 #[unsafe(no_mangle)]
 pub extern "C" fn elfsee_list_names(
     file: &[u8],
@@ -82,8 +85,8 @@ pub extern "C" fn elfsee_list_names(
     report_status(told, end)
 }
 
-/// Lists the file as it is asked for, if it is, and answers how that ended. The counts are written to
-/// `end`.
+/// Lists the file as requested, if the request is valid, and returns how that ended. The counts are
+/// written to `end`.
 fn list_to(
     file: &[u8],
     limits: &CallerLimits,
@@ -111,7 +114,7 @@ fn list_to(
     }
 }
 
-/// Lists the file, and answers how that ended. The counts are written to `end`.
+/// Lists the file, and returns how that ended. The counts are written to `end`.
 fn show_to(
     file: &[u8],
     limits: &CallerLimits,
@@ -139,7 +142,7 @@ fn show_to(
         told: CallStatus::BadCall,
         asked: 0,
     };
-    end.written = list(file, &mut store, caps, listing.parts, out, &mut outcome) as u64;
+    end.written = write_listing(file, &mut store, caps, listing.parts, out, &mut outcome) as u64;
     end.asked = short(outcome.asked);
     outcome.told
 }

@@ -8,8 +8,8 @@ ghost use Rattle.elf_capi.specs.declared.dynamic.Dynamic.{Dynamic as OneDynamic}
 
 use elf_capi::{Dynamic, Relocation, RowPosition, Symbol, Versym, next_rows};
 
-/// Reads the next symbols to the front of `out`, as many as there are and as it has room for, steps
-/// over them, and answers how many (gABI 4, Symbol Table).
+/// Reads the next symbols to the start of `out`, as many as there are and as fit, steps over them,
+/// and returns how many (gABI 4, Symbol Table).
 #[unsafe(no_mangle)]
 pub extern "C" fn elfsee_next_symbols(
     file: &[u8],
@@ -37,7 +37,8 @@ pub extern "C" fn elfsee_next_relocations(
     next_rows(file, rows, out)
 }
 
-/// Reads the next dynamic entries, as [`elfsee_next_symbols`] does symbols (gABI 5, Dynamic Section).
+/// Reads the next dynamic entries, as [`elfsee_next_symbols`] does symbols (gABI 5, Dynamic
+/// Section).
 #[unsafe(no_mangle)]
 pub extern "C" fn elfsee_next_dynamic(
     file: &[u8],
@@ -51,8 +52,8 @@ pub extern "C" fn elfsee_next_dynamic(
     next_rows(file, rows, out)
 }
 
-/// Reads the next words of symbols' versions to the front of `out`, as many as there are and as it has
-/// room for, steps over them, and answers how many (Linux Standard Base Core, Symbol Versioning).
+/// Reads the next entries of symbols' versions to the start of `out`, as many as there are and as
+/// fit, steps over them, and returns how many (Linux Standard Base Core, Symbol Versioning).
 #[unsafe(no_mangle)]
 pub extern "C" fn elfsee_next_version_words(
     file: &[u8],

@@ -4,16 +4,19 @@ ghost use Rattle.elf_capi.specs.Prelude.{OpensRows, ReturnsOpened};
 ghost use Rattle.elf_capi.specs.declared.kind.RowKind.TheVariants.{Relocations, Symbols, VersionWords};
 ghost use Rattle.elf_capi.specs.declared.kind.RowKind.TheVariants.{Dynamic};
 
-use elf_capi::{CallEnd, CallerLimits, RowKind, RowPosition, limits_of, report_opened, rows_in};
+use elf_capi::{
+    CallEnd, CallerLimits, RowKind, RowPosition, checked_limits, report_opened, rows_in,
+};
 
-/// Checks the table of symbols that a section of a file is, and sets `rows` before its first. So many
-/// headers are permitted as the limits say, and as the room has 64 bytes for; no byte of it is looked at.
-/// Of the section headers no more are read than those of the section names, of the section, and of
-/// what it links to (gABI 4, Symbol Table).
+/// Checks the symbol table that a section of a file holds, and sets `rows` before its first row.
 ///
-/// Answers 0 where the checks pass, 2 where the file has no such section or it holds no symbols, 1
-/// where a check fails that a listing makes up to the table's first row, with the first that does
-/// in `end`, and 4 for limits outside their range or room of less than 64 bytes.
+/// The number of headers is limited by the limits, and by the room, at 64 bytes each; no byte of
+/// the room is read. Of the section headers only those of the section names, of the section, and of
+/// what it links to are read (gABI 4, Symbol Table).
+///
+/// Returns 0 if the checks pass, 2 if the file has no such section or it holds no symbols, 1 if a
+/// check fails that a listing makes up to the table's first row, with the first that does in `end`,
+/// and 4 for limits out of range or room of less than 64 bytes.
 #[unsafe(no_mangle)]
 pub extern "C" fn elfsee_symbols(
     file: &[u8],
@@ -27,7 +30,7 @@ pub extern "C" fn elfsee_symbols(
         result rows.old rows.new end.new }
 {
     report_opened(
-        limits_of(limits, room.len()).map(|limits| rows_in(
+        checked_limits(limits, room.len()).map(|limits| rows_in(
             file,
             limits.headers,
             section,
@@ -38,9 +41,9 @@ pub extern "C" fn elfsee_symbols(
     )
 }
 
-/// Checks the table of relocation entries that a section of a file is, as [`elfsee_symbols`] does
-/// symbols; its type is RELA. The string table with it is that of the symbols that the section refers
-/// to (gABI 4, Relocation).
+/// Checks the table of relocation entries that a section of a file holds, as [`elfsee_symbols`]
+/// does symbols; its type is RELA. The string table with it is that of the symbols that the section
+/// refers to (gABI 4, Relocation).
 #[unsafe(no_mangle)]
 pub extern "C" fn elfsee_relocations(
     file: &[u8],
@@ -54,7 +57,7 @@ pub extern "C" fn elfsee_relocations(
         result rows.old rows.new end.new }
 {
     report_opened(
-        limits_of(limits, room.len()).map(|limits| rows_in(
+        checked_limits(limits, room.len()).map(|limits| rows_in(
             file,
             limits.headers,
             section,
@@ -65,8 +68,8 @@ pub extern "C" fn elfsee_relocations(
     )
 }
 
-/// Checks the table of dynamic entries that a section of a file is, as [`elfsee_symbols`] does
-/// symbols; its type is DYNAMIC. There are as many entries as up to and with the first DT_NULL, or
+/// Checks the table of dynamic entries that a section of a file holds, as [`elfsee_symbols`] does
+/// symbols; its type is DYNAMIC. The entries are those up to and including the first DT_NULL, or
 /// all (gABI 5, Dynamic Section).
 #[unsafe(no_mangle)]
 pub extern "C" fn elfsee_dynamic(
@@ -81,7 +84,7 @@ pub extern "C" fn elfsee_dynamic(
         result rows.old rows.new end.new }
 {
     report_opened(
-        limits_of(limits, room.len()).map(|limits| rows_in(
+        checked_limits(limits, room.len()).map(|limits| rows_in(
             file,
             limits.headers,
             section,
@@ -92,9 +95,11 @@ pub extern "C" fn elfsee_dynamic(
     )
 }
 
-/// Checks the table of words of symbols' versions that a section of a file is, as [`elfsee_symbols`] does
-/// symbols; its type is GNU_versym. There is one for each symbol of the table that it links to, as far as
-/// it has words, and no string table with them (Linux Standard Base Core, Symbol Versioning).
+/// Checks the table of symbols' versions that a section of a file holds, as [`elfsee_symbols`] does
+/// symbols; its type is GNU_versym.
+///
+/// There is one entry for each symbol of the table that it links to, as far as it has entries, and
+/// no string table with them (Linux Standard Base Core, Symbol Versioning).
 #[unsafe(no_mangle)]
 pub extern "C" fn elfsee_version_words(
     file: &[u8],
@@ -108,7 +113,7 @@ pub extern "C" fn elfsee_version_words(
         result rows.old rows.new end.new }
 {
     report_opened(
-        limits_of(limits, room.len()).map(|limits| rows_in(
+        checked_limits(limits, room.len()).map(|limits| rows_in(
             file,
             limits.headers,
             section,

@@ -1,4 +1,4 @@
-//! The exports that tell of the library: its version, and the words of causes.
+//! The exports about the library itself: its version, and the words of causes.
 ghost use Rattle.std.specs.Prelude.{◌≡◌, Option};
 ghost use Rattle.elf_model.specs.declared.causes.Cause.{Cause as IsCause};
 ghost use Rattle.elf_capi.specs.Words.{IsNumbered, PutsFront, PutsWord};
@@ -6,7 +6,7 @@ ghost use Rattle.elf_capi.specs.Words.{IsNumbered, PutsFront, PutsWord};
 use elf_format::cause_word;
 use elf_record::Cause;
 
-/// The library's version, 0.1.0: a byte of zeros, and the three numbers in a byte each.
+/// Returns the library's version, 0.1.0: a byte of zeros, and the three numbers in a byte each.
 #[unsafe(no_mangle)]
 pub extern "C" fn elfsee_version() -> u32
     ensures { result ≡ 0x000100 }
@@ -14,9 +14,9 @@ pub extern "C" fn elfsee_version() -> u32
     0x00_01_00
 }
 
-/// Writes the word of a cause, as a listing's last line has it, to the front of `out`, and answers
-/// how many bytes it has; 0, with nothing written, for a number that is no cause, and where `out`
-/// has not so many.
+/// Writes the word of a cause, as in a listing's last line, to the start of `out`, and returns how
+/// many bytes it has; 0, with nothing written, for a number that is not a cause, and if it does not
+/// fit `out`.
 #[unsafe(no_mangle)]
 pub extern "C" fn elfsee_cause_word(cause: u32, out: &mut [u8]) -> usize
     ensures { (named : Option IsCause) × IsNumbered cause named
@@ -28,7 +28,7 @@ pub extern "C" fn elfsee_cause_word(cause: u32, out: &mut [u8]) -> usize
     }
 }
 
-/// Writes some bytes to the front of `out`, where it has as many.
+/// Writes some bytes to the start of `out`, if they fit.
 fn put(word: &[u8], out: &mut [u8]) -> usize
     ensures { PutsFront word.now out.old out.new result }
 {
@@ -39,7 +39,7 @@ fn put(word: &[u8], out: &mut [u8]) -> usize
     word.len()
 }
 
-/// The cause of a number.
+/// Returns the cause of a number.
 fn cause_of(number: u32) -> Option<Cause>
     ensures { IsNumbered number result }
 {

@@ -1,20 +1,22 @@
-//! The exports that go over the version definitions and needs of a file in memory.
+//! The exports that iterate over the version definitions and needs of a file in memory.
 ghost use Rattle.std.specs.Prelude.{length};
 ghost use Rattle.elf_capi.specs.Prelude.{OpensRecords, ReturnsOpened, ReturnsRead, StepsRecord};
 
 use elf_capi::{
-    CallEnd, CallerLimits, RecordRow, VersionRecordPosition, limits_of, next_record, records_in,
-    report_opened, report_row,
+    CallEnd, CallerLimits, RecordRow, VersionRecordPosition, checked_limits, next_record,
+    records_in, report_opened, report_row,
 };
 
-/// Checks the table of version definitions or needs that a section of a file is, and sets `records`
-/// before its first. So many headers are permitted as the limits say, and as the room has 64 bytes for;
-/// no byte of it is looked at. Of the section headers no more are read than those of the section names,
-/// of the section, and of what it links to (Linux Standard Base Core, Symbol Versioning).
+/// Checks the table of version definitions or needs that a section of a file holds, and sets
+/// `records` before its first record.
 ///
-/// Answers 0 where the checks pass, 2 where the file has no such section or it holds neither, 1 where a
-/// check fails that a listing makes up to the table's first record, with the first that does in `end`,
-/// and 4 for limits outside their range or room of less than 64 bytes.
+/// The number of headers is limited by the limits, and by the room, at 64 bytes each; no byte of
+/// the room is read. Of the section headers only those of the section names, of the section, and of
+/// what it links to are read (Linux Standard Base Core, Symbol Versioning).
+///
+/// Returns 0 if the checks pass, 2 if the file has no such section or it holds neither, 1 if a
+/// check fails that a listing makes up to the table's first record, with the first that does in
+/// `end`, and 4 for limits out of range or room of less than 64 bytes.
 #[unsafe(no_mangle)]
 pub extern "C" fn elfsee_version_records(
     file: &[u8],
@@ -28,7 +30,7 @@ pub extern "C" fn elfsee_version_records(
         result records.old records.new end.new }
 {
     report_opened(
-        limits_of(limits, room.len()).map(|limits| records_in(file, limits.headers, section)),
+        checked_limits(limits, room.len()).map(|limits| records_in(file, limits.headers, section)),
         records,
         end,
     )
@@ -36,9 +38,9 @@ pub extern "C" fn elfsee_version_records(
 
 /// Reads the next record and steps over it (Linux Standard Base Core, Symbol Versioning).
 ///
-/// Answers 0 where it was read, 2 behind the last, and 1 where no record is met, with `VersionCut`,
-/// `BadVersion` or `VersionIndex` in `end`, at what led there or at the record. Where it was not read
-/// `records` is as it was.
+/// Returns 0 if it was read, 2 after the last, and 1 if there is no record, with `VersionCut`,
+/// `BadVersion` or `VersionIndex` in `end`, at what led there or at the record. If it was not read,
+/// `records` is unchanged.
 #[unsafe(no_mangle)]
 pub extern "C" fn elfsee_next_version_record(
     file: &[u8],

@@ -8,18 +8,20 @@ ghost use Rattle.elf_capi.specs.declared.dynamic.Dynamic.{Dynamic as OneDynamic}
 ghost use Rattle.elf_capi.specs.declared.kind.RowKind.TheVariants.{Dynamic as DynamicRows};
 
 use elf_capi::{
-    CallEnd, CallerLimits, Dynamic, Relocation, RowPosition, Symbol, Versym, count_entries,
-    dynamic_within, entries_left, limits_of, next_within, report_opened, segment_dynamic_within,
+    CallEnd, CallerLimits, Dynamic, Relocation, RowPosition, Symbol, Versym, checked_limits,
+    count_entries, dynamic_within, entries_left, next_within, report_opened,
+    segment_dynamic_within,
 };
 use elf_record::Refusal;
 
-/// Checks the table of dynamic entries that a section of a file is, as
-/// [`elfsee_dynamic`](crate::tables::elfsee_dynamic) does, within the budget of the limits: each entry
-/// up to and with the first DT_NULL counts 16 bytes in `asked`, which adds up what was asked for by all
-/// calls that are lent it (gABI 5, Dynamic Section).
+/// Checks the table of dynamic entries that a section of a file holds, as
+/// [`elfsee_dynamic`](crate::tables::elfsee_dynamic) does, within the budget of the limits.
 ///
-/// Answers as that call does, and 1 with `Budget` in `end`, at the first entry that was not looked at,
-/// where `asked` would pass the budget. Without a budget it is counted and nothing more.
+/// Each entry up to and including the first DT_NULL counts 16 bytes in `asked`, which adds up what
+/// all calls given it read (gABI 5, Dynamic Section).
+///
+/// Returns as that call does, and 1 with `Budget` in `end`, at the first entry that was not read,
+/// if `asked` would exceed the budget. Without a budget it is only counted.
 #[unsafe(no_mangle)]
 pub extern "C" fn elfsee_dynamic_within(
     file: &[u8],
@@ -65,9 +67,11 @@ pub extern "C" fn elfsee_segment_dynamic_within(
     report_opened(opened, rows, end)
 }
 
-/// Reads the next symbols, as [`elfsee_next_symbols`](crate::steps::elfsee_next_symbols) does, and no
-/// more than the budget of the limits has left: each counts 24 bytes in `asked`. Where more rows are
-/// left, and room for them, the budget ended it: then `Budget` is in `end`, at the next row.
+/// Reads the next symbols, as [`elfsee_next_symbols`](crate::steps::elfsee_next_symbols) does, and
+/// no more than the budget of the limits has left: each counts 24 bytes in `asked`.
+///
+/// If more rows are left, and would fit, the budget ended it: then `Budget` is in `end`, at the
+/// next row.
 #[unsafe(no_mangle)]
 pub extern "C" fn elfsee_next_symbols_within(
     file: &[u8],
@@ -107,7 +111,8 @@ pub extern "C" fn elfsee_next_relocations_within(
     next_within(file, limits, asked, rows, out, end)
 }
 
-/// Reads the next dynamic entries, as [`elfsee_next_symbols_within`] does symbols; each counts 16 bytes.
+/// Reads the next dynamic entries, as [`elfsee_next_symbols_within`] does symbols; each counts 16
+/// bytes.
 #[unsafe(no_mangle)]
 pub extern "C" fn elfsee_next_dynamic_within(
     file: &[u8],
@@ -127,10 +132,12 @@ pub extern "C" fn elfsee_next_dynamic_within(
     next_within(file, limits, asked, rows, out, end)
 }
 
-/// Reads the next words of symbols' versions, as
+/// Reads the next entries of symbols' versions, as
 /// [`elfsee_next_version_words`](crate::steps::elfsee_next_version_words) does, and no more than
-/// the budget of the limits has left: each counts 2 bytes in `asked`. Where more rows are left, and room
-/// for them, the budget ended it: then `Budget` is in `end`, at the next row.
+/// the budget of the limits has left: each counts 2 bytes in `asked`.
+///
+/// If more rows are left, and would fit, the budget ended it: then `Budget` is in `end`, at the
+/// next row.
 #[unsafe(no_mangle)]
 pub extern "C" fn elfsee_next_version_words_within(
     file: &[u8],
@@ -150,8 +157,8 @@ pub extern "C" fn elfsee_next_version_words_within(
     next_within(file, limits, asked, rows, out, end)
 }
 
-/// Checks the table of dynamic entries of which no more than `most` are looked at, with so many bytes
-/// of room; None for a call with a number outside its range.
+/// Checks the table of dynamic entries of which at most `most` are read, with the given bytes of
+/// room; returns `None` for a call with a number out of range.
 fn open_within(
     file: &[u8],
     limits: &CallerLimits,
@@ -161,6 +168,6 @@ fn open_within(
 ) -> Option<Result<Option<RowPosition>, Refusal>>
     ensures { OpensEntries (OpensRows DynamicRows file.now limits.now room section) most result }
 {
-    let limits = limits_of(limits, room)?;
+    let limits = checked_limits(limits, room)?;
     Some(dynamic_within(file, limits.headers, section, most))
 }

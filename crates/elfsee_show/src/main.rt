@@ -1,5 +1,5 @@
-//! The listings of elfsee alone, which are proved and built long before all of it: the commands `show`,
-//! `sample` and `version`, of the same command line and with the same output.
+//! The listings of elfsee alone, proved and built long before the whole program: the commands
+//! `show`, `sample` and `version`, with the same command line and the same output.
 #![tactic(auto)]
 
 ghost use Rattle.std.specs.Prelude.{◌≡◌};
@@ -23,8 +23,8 @@ fn main(rt: HostRuntime) -> ExitCode {
     exit(&rt, answer(&rt, errors))
 }
 
-/// Reads the words, and lists what they ask for, or tells the version. What is wrong with words, and
-/// help, is written to `errors`.
+/// Parses the arguments, and lists what they request, or prints the version. Messages for wrong
+/// arguments, and help, are written to `errors`.
 fn answer<R: Env + Files + Print + AllocGlobal>(
     rt: &R,
     errors: Stderr,
@@ -40,7 +40,7 @@ where
     }
 }
 
-/// Makes what memory is needed, opens the file, and lists it.
+/// Allocates the output, opens the file, and lists it.
 fn list<R: Files + Print + AllocGlobal>(
     rt: &R,
     listing: &ListingRequest<'_>,
@@ -66,8 +66,8 @@ where
     }
 }
 
-/// Lists a file and writes what is left of the output. It is not made part of its caller, whose stack
-/// would hold the buffers of a listing twice, one for each kind of source.
+/// Lists a file and writes the rest of the output. It is not inlined: the stack of its caller would
+/// hold the buffers of a listing twice, once for each type of source.
 #[inline(never)]
 fn write_listing<S: Source + Drop, W: Write + Drop>(
     listing: &ListingRequest<'_>,

@@ -294,7 +294,7 @@ if VERSION[0] != 0:
 # How a name is escaped.
 
 def _encoded(name: Name) -> bytes:
-    """The bytes of a name. Of a number, or of a list of numbers, bytes() would make some too: neither is a name."""
+    """Returns the bytes of a name. bytes() would also accept a number, or a list of numbers: neither is a name."""
     if isinstance(name, str):
         return name.encode("utf-8", "surrogateescape")
     if isinstance(name, (bytes, bytearray, memoryview)):
@@ -303,19 +303,9 @@ def _encoded(name: Name) -> bytes:
 
 
 def spelt(name: Name) -> str:
-<<<<<<< ours
-    """A name as a listing spells it: a backslash doubled, and what is no printing ASCII character as \\x
-    and two hexadecimal digits. So nothing of it acts on a terminal."""
-    text = _encoded(name)
-||||||| base
-    """A name as a listing spells it: a backslash doubled, and what is no printing ASCII character as \\x
-    and two hexadecimal digits. So nothing of it acts on a terminal."""
-    text = name.encode("utf-8", "surrogateescape") if isinstance(name, str) else bytes(name)
-=======
     """Returns a name escaped as in a listing: a backslash is doubled, and a byte that is not a printable ASCII
     character is \\x and two hexadecimal digits. So nothing of it acts on a terminal."""
-    text = name.encode("utf-8", "surrogateescape") if isinstance(name, str) else bytes(name)
->>>>>>> theirs
+    text = _encoded(name)
     return "".join("\\\\" if byte == 92 else chr(byte) if 32 <= byte < 127 else "\\x%02x" % byte for byte in text)
 
 
@@ -593,7 +583,7 @@ class Layout(NamedTuple):
 # Checks that are made here, since C would cut a number or take bytes as they are.
 
 def _within(what: str, number: int, least: int, most: int) -> int:
-    """A number in its range. What is no whole number, as a float or a text, raises TypeError."""
+    """Returns a number in its range. What is not an integer, such as a float or a str, raises TypeError."""
     whole = operator.index(number)
     if not least <= whole <= most:
         raise ValueError("%s is %d, and not %d to %d" % (what, whole, least, most))
@@ -601,7 +591,7 @@ def _within(what: str, number: int, least: int, most: int) -> int:
 
 
 def _flags_of(**flags: Tuple[bool, int]) -> int:
-    """The sum of the flags that are on. On is True, or 1."""
+    """Returns the sum of the flags that are on. On is True, or 1."""
     return sum(flag * _within(what, on, 0, 1) for what, (on, flag) in flags.items())
 
 
@@ -627,7 +617,7 @@ def _content(source: Source) -> bytes:
 
 
 def _regular(path: Union[str, "os.PathLike[str]"], mode: int) -> None:
-    """Raises OSError where a mode is not a regular file's."""
+    """Raises OSError if a mode is not a regular file's."""
     if stat.S_ISDIR(mode):
         raise IsADirectoryError(errno.EISDIR, os.strerror(errno.EISDIR), os.fspath(path))
     if not stat.S_ISREG(mode):
@@ -635,8 +625,8 @@ def _regular(path: Union[str, "os.PathLike[str]"], mode: int) -> None:
 
 
 def _read(path: Union[str, "os.PathLike[str]"]) -> bytes:
-    """The bytes of a regular file. Nothing else is opened, as opening a device may do something; where a pipe or a
-    device takes the file's place between the two calls, opening it does not wait, and none of it is read."""
+    """Returns the bytes of a regular file. Nothing else is opened, as opening a device may do something; if a pipe or a
+    device replaces the file between the two calls, opening it does not wait, and none of it is read."""
     _regular(path, os.stat(path).st_mode)
     opened = os.open(path, os.O_RDONLY | os.O_CLOEXEC | os.O_NONBLOCK | os.O_NOCTTY)
     with open(opened, "rb") as file:
@@ -648,8 +638,8 @@ def _read(path: Union[str, "os.PathLike[str]"]) -> bytes:
 
 
 def _copied(content: memoryview) -> bytes:
-    """The bytes of a buffer that may be a mapped file. The kernel copies them, through a pipe: where the file is cut
-    short meanwhile, that is a fault of the call, and not the end of the process."""
+    """Returns the bytes of a buffer that may be a mapped file. The kernel copies them, through a pipe: if the file is
+    truncated meanwhile, the call fails, and the process does not end."""
     parts, done = [], 0
     source, sink = os.pipe()
     try:
@@ -675,29 +665,17 @@ def _limits_of(headers: int, name_cap: int, budget: Optional[int]) -> Any:
 
 
 def _texts_of(names: Iterable[Name]) -> Tuple[Any, int]:
-<<<<<<< ours
-    """Names as they are lent: in the rising order of their bytes. One name is no list of its characters."""
+    """Names as the library borrows them: in ascending byte order. One name is not a list of its characters."""
     if isinstance(names, (str, bytes, bytearray, memoryview)):
         raise TypeError("names is a list of names, and not one of them")
-||||||| base
-    """Names as they are lent: in the rising order of their bytes."""
-=======
-    """Names as the library borrows them: in ascending byte order."""
->>>>>>> theirs
     texts = [(text, len(text)) for text in sorted({_name_bytes(name, MOST_NAME) for name in names})]
     return (_Text * max(1, len(texts)))(*(texts or [(b"", 0)])), len(texts)
 
 
 def _layout_of(layout: Layout) -> Any:
-<<<<<<< ours
-    """A layout as it is lent: each list in rising order."""
+    """A layout as the library borrows it: each list in ascending order."""
     if not isinstance(layout, Layout) or not all(isinstance(each, abc.Mapping) for each in layout):
         raise TypeError("a layout is a Layout of mappings")
-||||||| base
-    """A layout as it is lent: each list in rising order."""
-=======
-    """A layout as the library borrows it: each list in ascending order."""
->>>>>>> theirs
     numbers = sorted((_within("a section", index, 0, 65535), _within("an address", address, 0, MOST_NUMBER))
                      for index, address in layout.sections.items())
     lists: List[Any] = [(_LentSection * max(1, len(numbers)))(*numbers), len(numbers)]
@@ -763,25 +741,12 @@ class File:
     `longest_name` is how long a name of a row may be: names in rows are never cut, and one that is
     longer raises Full.
 
-<<<<<<< ours
-    Every call but `close` raises Refused where the file is at fault or the budget is used up, and
-    ValueError where an argument is outside its range or the file is closed, and TypeError where one has
-    another type. Of a path, OSError is raised where it is no regular file. Rows come up to the fault, and then it is raised: at the same place and for the same cause as in a listing of that
-    part that shows all names whole. A listing that cuts a name looks no further: where such a name
-    does not end in its string table, it goes on, and here the fault is raised.
-||||||| base
-    Every call but `close` raises Refused where the file is at fault or the budget is used up, and
-    ValueError where an argument is outside its range or the file is closed. Rows come up to the
-    fault, and then it is raised: at the same place and for the same cause as in a listing of that
-    part that shows all names whole. A listing that cuts a name looks no further: where such a name
-    does not end in its string table, it goes on, and here the fault is raised.
-=======
-    Every call except `close` raises Refused if the file is malformed or the budget is exhausted, and
-    ValueError if an argument is outside its range or the file is closed. Rows are given up to the
-    fault, and then it is raised: at the same place and for the same cause as in a listing of that
+    Every call except `close` raises Refused if the file is malformed or the budget is exhausted,
+    ValueError if an argument is outside its range or the file is closed, and TypeError if it has another
+    type. A path that is not a regular file raises OSError. Rows are given up to the fault, and then it is
+    raised: at the same place and for the same cause as in a listing of that
     part that shows all names whole. A listing that cuts a name reads no further: if such a name
     does not end in its string table, the listing continues, and here the fault is raised.
->>>>>>> theirs
     """
 
     def __init__(self, source: Source, *,
@@ -912,31 +877,13 @@ class File:
 
     def look_up(self, name: Name, version: Optional[Name] = None, *, default_only: bool = False,
                 by_segments: bool = False) -> Resolved:
-<<<<<<< ours
-        """Looks a name up as a loader of the GNU system does, alone or with a version: by the file's
-        hash table, of the GNU system or else of the gABI, the first symbol of the name's chain that has
-        the name, is offered to others and whose version fits. Without a version one is taken that is not
-        hidden; with `default_only` the version is to be the symbol's default one. `by_segments` goes by
-        the program headers also where there are section headers. Name and version have at most 4,096
-        bytes and no NUL, and the version has a byte."""
-        text, wanted = _name_bytes(name, MOST_NAME), _name_bytes(b"" if version is None else version, MOST_NAME)
-||||||| base
-        """Looks a name up as a loader of the GNU system does, alone or with a version: by the file's
-        hash table, of the GNU system or else of the gABI, the first symbol of the name's chain that has
-        the name, is offered to others and whose version fits. Without a version one is taken that is not
-        hidden; with `default_only` the version is to be the symbol's default one. `by_segments` goes by
-        the program headers also where there are section headers. Name and version have at most 4,096
-        bytes and no NUL, and the version has a byte."""
-        text, wanted = _name_bytes(name, MOST_NAME), _name_bytes(version or b"", MOST_NAME)
-=======
         """Looks up a name as glibc's dynamic loader does, alone or with a version: returns the first symbol of
         the name's chain, in the file's GNU hash table or otherwise in its SysV one, that has the name, is
         exported and whose version matches. Without a version a symbol is found that is not
         hidden; with `default_only` the version must be the symbol's default one. `by_segments` uses
         the program headers even if there are section headers. Name and version have at most 4,096
         bytes and no NUL, and the version is not empty."""
-        text, wanted = _name_bytes(name, MOST_NAME), _name_bytes(version or b"", MOST_NAME)
->>>>>>> theirs
+        text, wanted = _name_bytes(name, MOST_NAME), _name_bytes(b"" if version is None else version, MOST_NAME)
         if version is not None and not wanted:
             raise ValueError("a version has a byte; None asks for no version")
         found, flags = _Resolved(), _flags_of(by_segments=(by_segments, _BY_SEGMENTS),
@@ -955,28 +902,12 @@ class File:
                                               found.words), found.tried)
 
     def apply(self, section: int, layout: Layout = Layout()) -> bytes:
-<<<<<<< ours
-        """The bytes of a section of a relocatable file for x86-64, with its relocations applied for
-        these addresses. Unapplied is raised where it is refused, with what the layout lacks; ValueError
-        where a name or a number of the layout is outside its range, or two names are the same."""
-        lent, missing, section = _layout_of(layout), _Missing(), _within("section", section, 0, 65535)
-        # A section that is longer than the file is refused, so that this is room enough.
-        length = self._size_in_file(section)
-||||||| base
-        """The bytes of a section of a relocatable file for x86-64, with its relocations applied for
-        these addresses. Unapplied is raised where it is refused, with what the layout lacks; ValueError
-        where a name or a number of the layout is outside its range, or two names are the same."""
-        lent, missing = _layout_of(layout), _Missing()
-        # A section that is longer than the file is refused, so that this is room enough.
-        length = self._size_in_file(_within("section", section, 0, 65535))
-=======
         """Returns the bytes of a section of a relocatable file for x86-64, with its relocations applied for
         these addresses. Raises Unapplied if it is refused, with what the layout lacks; ValueError
         if a name or a number of the layout is outside its range, or two names are the same."""
-        lent, missing = _layout_of(layout), _Missing()
+        lent, missing, section = _layout_of(layout), _Missing(), _within("section", section, 0, 65535)
         # A section that is longer than the file is refused, so this is room enough.
-        length = self._size_in_file(_within("section", section, 0, 65535))
->>>>>>> theirs
+        length = self._size_in_file(section)
         out = ctypes.create_string_buffer(max(1, length))
         try:
             status, end = self._call("apply_lent", self._limits, section, lent, *self._lent(), out, length, missing)
@@ -1042,22 +973,10 @@ class File:
             yield Section(index, text, *numbers)
 
     def content(self, section: int) -> Optional[bytes]:
-<<<<<<< ours
-        """The bytes of a section; None of one whose type is NOBITS or NULL, which has no bytes in the
-        file. Absent where the file has no such section."""
-        found, section = _Range(), _within("section", section, 0, 65535)
-        status, _ = self._call("section_bytes", section, found)
-||||||| base
-        """The bytes of a section; None of one whose type is NOBITS or NULL, which has no bytes in the
-        file. Absent where the file has no such section."""
-        found = _Range()
-        status, _ = self._call("section_bytes", _within("section", section, 0, 65535), found)
-=======
         """Returns the bytes of a section; None if its type is NOBITS or NULL, which has no bytes in the
         file. Raises Absent if the file has no such section."""
-        found = _Range()
-        status, _ = self._call("section_bytes", _within("section", section, 0, 65535), found)
->>>>>>> theirs
+        found, section = _Range(), _within("section", section, 0, 65535)
+        status, _ = self._call("section_bytes", section, found)
         if status == _OK:
             _Asked(self._budget).take(found.len, found.at)
             return self.data[found.at:found.at + found.len]
@@ -1101,7 +1020,7 @@ class File:
         count = most
         while count == most:
             count = step(data, len(data), self._limits, asked.count, rows, out, most, end)
-            # Over a memoryview the interpreter could end, where a fault that holds this frame is collected.
+            # Over a memoryview the interpreter could crash, when an exception that holds this frame is collected.
             yield struct.iter_unpack(form, ctypes.string_at(out, size * count))
         if end.cause:
             raise Refused(end.cause, end.at)

@@ -1,6 +1,6 @@
 """The numbers of the standards, by their names: those of the gABI (Object Files), of the psABI for x86-64, and
-of the GNU system. A name lacks its prefix here: SymbolType.FUNC is STT_FUNC. Types of relocation entries keep
-theirs, as some have a digit behind it. Each is an int: rows hold plain numbers, also such as have no name
+those defined by GNU. A name lacks its prefix here: SymbolType.FUNC is STT_FUNC. Types of relocation entries keep
+theirs, as some have a digit after it. Each is an int: rows hold plain numbers, including those that have no name
 here."""
 
 from __future__ import annotations
@@ -41,7 +41,7 @@ class Machine(enum.IntEnum):
 
 
 class SectionType(enum.IntEnum):
-    """Types of sections: `Section.type`, sh_type (gABI, Sections), and those of the GNU system."""
+    """Types of sections: `Section.type`, sh_type (gABI, Sections), and those defined by GNU."""
 
     NULL = 0
     PROGBITS = 1
@@ -87,7 +87,7 @@ class SectionFlag(enum.IntFlag):
 
 
 class SpecialSection(enum.IntEnum):
-    """Indices that are no section's: `Symbol.section`, st_shndx, and e_shstrndx (gABI, Sections)."""
+    """Indexes that are not a section's: `Symbol.section`, st_shndx, and e_shstrndx (gABI, Sections)."""
 
     UNDEF = 0
     LORESERVE = 0xff00
@@ -97,7 +97,7 @@ class SpecialSection(enum.IntEnum):
 
 
 class SymbolType(enum.IntEnum):
-    """Types of symbols: `Symbol.type`, of st_info (gABI, Symbol Table), and that of the GNU system."""
+    """Types of symbols: `Symbol.type`, of st_info (gABI, Symbol Table), and the one defined by GNU."""
 
     NOTYPE = 0
     OBJECT = 1
@@ -110,7 +110,7 @@ class SymbolType(enum.IntEnum):
 
 
 class SymbolBinding(enum.IntEnum):
-    """Bindings of symbols: `Symbol.binding`, of st_info (gABI, Symbol Table), and that of the GNU system."""
+    """Bindings of symbols: `Symbol.binding`, of st_info (gABI, Symbol Table), and the one defined by GNU."""
 
     LOCAL = 0
     GLOBAL = 1
@@ -128,7 +128,7 @@ class SymbolVisibility(enum.IntEnum):
 
 
 class SegmentType(enum.IntEnum):
-    """Types of segments: `Segment.type`, p_type (gABI, Program Header), and those of the GNU system."""
+    """Types of segments: `Segment.type`, p_type (gABI, Program Header), and those defined by GNU."""
 
     NULL = 0
     LOAD = 1
@@ -199,7 +199,7 @@ class RelocationType(enum.IntEnum):
 
 
 class DynamicTag(enum.IntEnum):
-    """Tags of dynamic entries: `Dynamic.tag`, d_tag (gABI, Dynamic Section), and those of the GNU system."""
+    """Tags of dynamic entries: `Dynamic.tag`, d_tag (gABI, Dynamic Section), and those defined by GNU."""
 
     NULL = 0
     NEEDED = 1
@@ -283,7 +283,7 @@ class DynamicFlag(enum.IntFlag):
 
 
 class DynamicFlag1(enum.IntFlag):
-    """Flags in the value of the tag FLAGS_1, of the GNU system."""
+    """Flags in the value of the tag FLAGS_1, defined by GNU."""
 
     NOW = 1
     GLOBAL = 2

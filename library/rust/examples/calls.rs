@@ -6,18 +6,18 @@
 //!                                 the rows of these names
 //!     calls hashed FILE [by-segments]
 //!                                 the symbols of the hash table, as numbers; names in hexadecimal digits
-//!     calls asked FILE            how many bytes of the file the listing asks for
+//!     calls asked FILE            how many bytes of the file the listing reads
 //!     calls find FILE NAME        the symbol and the steps
 //!     calls resolve FILE NAME[@[@]VERSION] [by-segments]
-//!                                 the symbol as a loader takes it, and its version
+//!                                 the symbol that a loader picks, and its version
 //!     calls place FILE SECTION ITEM..
-//!                                 the section in a layout that is lent, or what that lacks
+//!                                 the section in a borrowed layout, or what that lacks
 //!     calls versions FILE         the version definitions, the needs, and the versions of symbols
 //!     calls contents FILE         how many bytes each section has in the file, and their sum
 //!     calls rows FILE..           all rows, as numbers; names in hexadecimal digits
-//!     calls named FILE PART       the sections, the symbols or the dynamic entries with their names, as a listing
-//!                                 spells them, and the program headers, by the iterators
-//!     calls members ARCHIVE       the members of an archive, so, with the listing of each ELF file
+//!     calls named FILE PART       the sections, the symbols or the dynamic entries with their names, escaped as in a
+//!                                 listing, and the program headers, by the iterators
+//!     calls members ARCHIVE       the members of an archive likewise, with the listing of each ELF file
 
 use elfsee::{DynamicEntries, Error, File, Notes, Refused, Text, Wanted};
 use std::process::exit;
@@ -26,7 +26,7 @@ fn hex(bytes: &[u8]) -> String {
     bytes.iter().map(|byte| format!("{byte:02x}")).collect()
 }
 
-/// The part of a listing that has this name; all of them without one.
+/// The part of a listing that has this name; all parts without a name.
 fn part(name: Option<&String>) -> u16 {
     match name.map(|name| &name[..]) {
         Some("header") => elfsee::HEADER,
@@ -41,7 +41,7 @@ fn part(name: Option<&String>) -> u16 {
     }
 }
 
-/// A listing, or how many bytes it asks for; the memory for it is doubled until it fits.
+/// A listing, or how many bytes it reads; the memory for it is doubled until it fits.
 fn show(file: &File, parts: u16, is_counted: bool) -> Result<(), Error> {
     let (mut room, mut out) = (vec![0; file.room()], vec![0; 4096]);
     loop {
@@ -63,7 +63,7 @@ fn show(file: &File, parts: u16, is_counted: bool) -> Result<(), Error> {
 /// The words of styles.
 const STYLES: [&str; 4] = ["gnu", "by-segments", "json", "versions"];
 
-/// The style that some words name.
+/// The style that some words give.
 fn style(words: &[String]) -> elfsee::Style {
     let has = |word: &str| words.iter().any(|one| one == word);
     let (gnu, by_segments, json, versions) =
@@ -124,7 +124,7 @@ fn find(file: &File, name: &[u8]) -> Result<(), Error> {
     Ok(())
 }
 
-/// What a text NAME, NAME@VERSION or NAME@@VERSION asks for.
+/// The query of a text NAME, NAME@VERSION or NAME@@VERSION.
 fn wanted(text: &str, by_segments: bool) -> Wanted<'_> {
     let (name, version) = match text.split_once('@') {
         None => (text, None),
@@ -210,7 +210,7 @@ fn dynamic(rows: Option<DynamicEntries>, header: u16) {
     }
 }
 
-/// Notes and dynamic entries, those of segments where there are no sections.
+/// Notes and dynamic entries, those of segments if there are no sections.
 fn others(file: &File, sections: u16, segments: u16, room: &mut [u8]) -> Result<(), Error> {
     if sections == 0 {
         (0..segments).try_for_each(|index| notes(file.segment_notes(index)?, index))?;
@@ -242,7 +242,7 @@ fn rows(file: &File) -> Result<(), Error> {
     others(file, tables, header.phnum, &mut room)
 }
 
-/// Rows of one kind with their names; dynamic entries of the segments where there are no sections.
+/// Rows of one kind with their names; dynamic entries of the segments if there are no sections.
 fn named(file: &File, kind: &str) -> Result<(), Error> {
     use elfsee::{abi, spelt};
     let mut room = vec![0; file.room()];
@@ -269,7 +269,7 @@ fn named(file: &File, kind: &str) -> Result<(), Error> {
             for (index, _) in file.segments()? {
                 let Some(rows) = file.segment_dynamic(index)? else { continue };
                 let first = |tag| rows.clone().find(|row| row.tag == tag).map_or(0, |row| row.value);
-                // Where they lie nowhere, the first entry that names a string is refused.
+                // If they are nowhere, the first entry that names a string is refused.
                 let strings = file.mapped(first(abi::DT_STRTAB), first(abi::DT_STRSZ)).ok().flatten();
                 let strings = strings.unwrap_or_default();
                 entries_named(index, rows.named_in(file.names_in(&strings)))?;
@@ -362,7 +362,7 @@ fn versions(file: &File) -> Result<(), Error> {
     Ok(())
 }
 
-/// The members of an archive: where each lies, and what of its listing is the file header.
+/// The members of an archive: where each is, and what its listing has of the file header.
 fn members(file: &File) -> Result<(), Error> {
     for member in file.members()? {
         let member = member?;

@@ -1,11 +1,11 @@
-//! Prints how Rust lays the structs of `elfsee::raw` out: a line `STRUCT FIELD OFFSET SIZE` for each
+//! Prints the layout of the structs of `elfsee::raw` in Rust: a line `STRUCT FIELD OFFSET SIZE` for each
 //! field, and before those of a struct `STRUCT . 0 SIZE` for the whole of it.
 
 use elfsee::raw;
 use std::mem::{size_of, size_of_val, MaybeUninit};
 use std::ptr::addr_of;
 
-/// The name in C of a field: `kind` is its `type`, but for an item's and a version's, which is so in both.
+/// The name in C of a field: `kind` is its `type`, except an item's and a version's, which is `kind` in both.
 fn name_in_c<'a>(of: &str, field: &'a str) -> &'a str {
     if field == "kind" && !["elfsee_item", "elfsee_version_record", "elfsee_version_records"].contains(&of) {
         "type"

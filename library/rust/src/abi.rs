@@ -1,5 +1,5 @@
 //! The numbers of the standards, by their names in C, in capitals: those of the gABI (Object Files), of the
-//! psABI for x86-64, and of the GNU system. Rows hold plain numbers, also such as have no name here.
+//! psABI for x86-64, and those defined by GNU. Rows hold plain numbers, including those that have no name here.
 //!
 //! ```
 //! use elfsee::abi;
@@ -30,7 +30,7 @@ pub const EM_RISCV: u16 = 243;
 pub const EM_BPF: u16 = 247;
 pub const EM_LOONGARCH: u16 = 258;
 
-// Types of sections: `Section::kind`, sh_type (gABI, Sections), and those of the GNU system.
+// Types of sections: `Section::kind`, sh_type (gABI, Sections), and those defined by GNU.
 pub const SHT_NULL: u32 = 0;
 pub const SHT_PROGBITS: u32 = 1;
 pub const SHT_SYMTAB: u32 = 2;
@@ -70,14 +70,14 @@ pub const SHF_GROUP: u64 = 512;
 pub const SHF_TLS: u64 = 1024;
 pub const SHF_COMPRESSED: u64 = 2048;
 
-// Indices that are no section's: `Symbol::section`, st_shndx, and e_shstrndx (gABI, Sections).
+// Indexes that are not a section's: `Symbol::section`, st_shndx, and e_shstrndx (gABI, Sections).
 pub const SHN_UNDEF: u16 = 0;
 pub const SHN_LORESERVE: u16 = 0xff00;
 pub const SHN_ABS: u16 = 0xfff1;
 pub const SHN_COMMON: u16 = 0xfff2;
 pub const SHN_XINDEX: u16 = 0xffff;
 
-// Types of symbols: `Symbol::kind`, of st_info (gABI, Symbol Table), and that of the GNU system.
+// Types of symbols: `Symbol::kind`, of st_info (gABI, Symbol Table), and the one defined by GNU.
 pub const STT_NOTYPE: u8 = 0;
 pub const STT_OBJECT: u8 = 1;
 pub const STT_FUNC: u8 = 2;
@@ -87,7 +87,7 @@ pub const STT_COMMON: u8 = 5;
 pub const STT_TLS: u8 = 6;
 pub const STT_GNU_IFUNC: u8 = 10;
 
-// Bindings of symbols: `Symbol::binding`, of st_info (gABI, Symbol Table), and that of the GNU system.
+// Bindings of symbols: `Symbol::binding`, of st_info (gABI, Symbol Table), and the one defined by GNU.
 pub const STB_LOCAL: u8 = 0;
 pub const STB_GLOBAL: u8 = 1;
 pub const STB_WEAK: u8 = 2;
@@ -99,7 +99,7 @@ pub const STV_INTERNAL: u8 = 1;
 pub const STV_HIDDEN: u8 = 2;
 pub const STV_PROTECTED: u8 = 3;
 
-// Types of segments: `Segment::kind`, p_type (gABI, Program Header), and those of the GNU system.
+// Types of segments: `Segment::kind`, p_type (gABI, Program Header), and those defined by GNU.
 pub const PT_NULL: u32 = 0;
 pub const PT_LOAD: u32 = 1;
 pub const PT_DYNAMIC: u32 = 2;
@@ -161,7 +161,7 @@ pub const R_X86_64_RELATIVE64: u32 = 38;
 pub const R_X86_64_GOTPCRELX: u32 = 41;
 pub const R_X86_64_REX_GOTPCRELX: u32 = 42;
 
-// Tags of dynamic entries: `Dynamic::tag`, d_tag (gABI, Dynamic Section), and those of the GNU system.
+// Tags of dynamic entries: `Dynamic::tag`, d_tag (gABI, Dynamic Section), and those defined by GNU.
 pub const DT_NULL: i64 = 0;
 pub const DT_NEEDED: i64 = 1;
 pub const DT_PLTRELSZ: i64 = 2;
@@ -239,7 +239,7 @@ pub const DF_TEXTREL: u64 = 4;
 pub const DF_BIND_NOW: u64 = 8;
 pub const DF_STATIC_TLS: u64 = 16;
 
-// Flags in the value of the tag FLAGS_1, of the GNU system.
+// Flags in the value of the tag FLAGS_1, defined by GNU.
 pub const DF_1_NOW: u64 = 1;
 pub const DF_1_GLOBAL: u64 = 2;
 pub const DF_1_GROUP: u64 = 4;

@@ -20,19 +20,19 @@ pub enum Cause {
     BadData,
     /// The version of the identification is not 1.
     BadVersion,
-    /// A count or an index stands in section 0, which is not read.
+    /// A count or an index is in section 0, which is not read.
     ExtendedNumbering,
-    /// The file has more section headers or program headers than are permitted, or than the room holds.
+    /// The file has more section headers or program headers than are allowed, or than the room holds.
     TooManyHeaders,
     /// A table's entries have another size than the standard's.
     EntrySize,
     /// A table ends past the end of the file.
     TableOutside,
-    /// A section index names no section, or none of the kind that is needed.
+    /// A section index names no section, or none of the type that is needed.
     BadLink,
-    /// A section that is to be a string table is none.
+    /// A section that should be a string table is not one.
     NotStrings,
-    /// A table's size is no multiple of its entries' size.
+    /// A table's size is not a multiple of its entries' size.
     SizeNotWhole,
     /// A name begins past the end of its string table.
     NameOutside,
@@ -44,27 +44,27 @@ pub enum Cause {
     NoHash,
     /// A hash table's counts do not fit its section.
     HashShape,
-    /// A word of a hash table is no index of a chain and a symbol.
+    /// A word of a hash table is not the index of a chain and a symbol.
     HashIndex,
-    /// A chain of a hash table comes back to itself.
+    /// A chain of a hash table loops.
     HashCycle,
-    /// A relocation type that is not applied.
+    /// A relocation type is not supported.
     Unsupported,
-    /// A value that does not fit the bytes that it is to be stored in.
+    /// A value does not fit the bytes in which it is to be stored.
     Overflow,
-    /// The file is no relocatable file for x86-64.
+    /// The file is not a relocatable file for x86-64.
     NotRel,
     /// A section has no address in the layout.
     Unplaced,
     /// A symbol has no definition.
     Undefined,
-    /// A relocation's bytes lie outside its section.
+    /// A relocation's bytes are outside its section.
     PlaceOutside,
     /// A symbol index is not below the number of symbols.
     SymbolIndex,
     /// The file has 2^63 bytes or more.
     TooLong,
-    /// The read budget is used up.
+    /// The read budget is exhausted.
     Budget,
     /// No segment that is loaded has the bytes at an address.
     Unmapped,
@@ -76,9 +76,9 @@ pub enum Cause {
     Thin,
     /// The file does not begin with an archive's magic string.
     NotArchive,
-    /// No member of an archive stands where one should, or it ends past the end of the file.
+    /// An archive has no member where one should be, or it ends past the end of the file.
     MemberCut,
-    /// A LOAD segment begins on a page of the one before it, or below.
+    /// A LOAD segment begins on a page of the previous one, or below it.
     LoadOverlap,
 }
 
@@ -127,19 +127,19 @@ const CAUSES: [Cause; 38] = [
 ];
 
 impl Cause {
-    /// The cause of a number of `elfsee.h`.
+    /// Returns the cause with a number of `elfsee.h`.
     pub fn of_number(number: u32) -> Cause {
         CAUSES.get(number as usize).copied().unwrap_or(Unknown)
     }
 
-    /// Its number in `elfsee.h`.
+    /// Returns its number in `elfsee.h`.
     pub fn number(self) -> u32 {
         self as u32
     }
 
-    /// The word that a listing's last line has for it, written into `out`; empty for `Unknown`.
+    /// Returns the word that a listing's last line has for it, written into `out`; empty for `Unknown`.
     pub fn word(self, out: &mut [u8; 32]) -> &str {
-        // SAFETY: `out` is as long as is said.
+        // SAFETY: `out` has the length that is passed.
         let length = unsafe { raw::elfsee_cause_word(self.number(), out.as_mut_ptr(), out.len()) };
         core::str::from_utf8(&out[..length]).unwrap_or("")
     }
@@ -175,7 +175,7 @@ impl fmt::Display for Refused {
 /// Why a call has no answer.
 #[derive(Clone, Copy, Debug, PartialEq, Eq, Hash)]
 pub enum Error {
-    /// The file is refused, or the read budget is used up.
+    /// The file is refused, or the read budget is exhausted.
     Refused(Refused),
     /// `out` has no room for all of the answer.
     Full,

@@ -5,7 +5,7 @@ use crate::names::Names;
 use crate::raw;
 use crate::File;
 
-/// The section headers in their order, each with its index, section 0 too: an iterator.
+/// An iterator over the section headers in their order, each with its index, including section 0.
 #[derive(Clone, Debug)]
 pub struct Sections<'a> {
     file: File<'a>,
@@ -19,12 +19,12 @@ impl<'a> Sections<'a> {
         Sections { file, names, first, next: 0 }
     }
 
-    /// The string table of the section names; none where the file has none.
+    /// Returns the string table of the section names; `None` if the file has none.
     pub fn names(&self) -> Option<Names<'a>> {
         self.names
     }
 
-    /// The same sections, each with its name. Names are empty where the file has no string table of them.
+    /// Returns the same sections, each with its name. Names are empty if the file has no string table of them.
     pub fn named(self) -> NamedSections<'a> {
         NamedSections { sections: self, ended: false }
     }
@@ -40,7 +40,7 @@ impl Iterator for Sections<'_> {
     }
 }
 
-/// The section headers, each with its index and its name: an iterator, which ends behind the first refusal. That has
+/// An iterator over the section headers, each with its index and its name. It ends after the first refusal, which has
 /// the place of the section header.
 #[derive(Clone, Debug)]
 pub struct NamedSections<'a> {
@@ -63,7 +63,7 @@ impl<'a> Iterator for NamedSections<'a> {
     }
 }
 
-/// The program headers in their order, each with its index: an iterator.
+/// An iterator over the program headers in their order, each with its index.
 #[derive(Clone, Debug)]
 pub struct Segments<'a> {
     file: File<'a>,

@@ -10,30 +10,30 @@ use core::marker::PhantomData;
 pub use crate::raw::LentSection as SectionAddress;
 
 impl raw::LentSection {
-    /// The section of an index at an address.
+    /// Gives the address of the section with an index.
     pub fn new(index: u16, address: u64) -> SectionAddress {
         raw::LentSection { index, address }
     }
 }
 
-/// The address of a name in a [`Layout`]. Their order is that of the names' bytes.
+/// The address of a name in a [`Layout`]. They are ordered by the bytes of the names.
 #[repr(transparent)]
 #[derive(Clone, Copy, Debug)]
 pub struct NameAddress<'n>(raw::LentName, PhantomData<&'n [u8]>);
 
 impl<'n> NameAddress<'n> {
-    /// A name of 1 to 255 bytes, no NUL, at an address.
+    /// Gives the address of a name of 1 to 255 bytes without a NUL.
     pub fn new(name: &'n [u8], address: u64) -> NameAddress<'n> {
         NameAddress(raw::LentName { name: name.as_ptr(), name_len: name.len(), address }, PhantomData)
     }
 
-    /// The name.
+    /// Returns the name.
     pub fn name(&self) -> &'n [u8] {
-        // SAFETY: they are the pointer and the length of a slice that is lent for as long.
+        // SAFETY: they are the pointer and the length of a slice that is borrowed for as long.
         unsafe { core::slice::from_raw_parts(self.0.name, self.0.name_len) }
     }
 
-    /// The address.
+    /// Returns the address.
     pub fn address(&self) -> u64 {
         self.0.address
     }
@@ -59,8 +59,8 @@ impl Ord for NameAddress<'_> {
     }
 }
 
-/// Addresses for [`File::apply_lent`](crate::File::apply_lent), as many as there are: each list in rising order, sections
-/// by their indices and names by their bytes, none twice. `sort` puts a list into that order.
+/// Addresses for [`File::apply_lent`](crate::File::apply_lent), any number of them: each list in ascending order,
+/// sections by their indexes and names by their bytes, without duplicates. `sort` puts a list into that order.
 #[derive(Clone, Copy, Debug, Default)]
 pub struct Layout<'n> {
     /// The addresses of sections.
@@ -75,7 +75,7 @@ pub struct Layout<'n> {
     pub thread: &'n [NameAddress<'n>],
 }
 
-/// A list of names as C has it.
+/// Returns a list of names in the form of C.
 fn lent(names: &[NameAddress<'_>]) -> *const raw::LentName {
     // A `NameAddress` is a `raw::LentName` and nothing else.
     names.as_ptr().cast::<raw::LentName>()
@@ -98,37 +98,37 @@ impl Layout<'_> {
     }
 }
 
-/// What a layout lacks where a section was refused in it.
+/// What a layout lacks if a section was refused in it.
 #[derive(Clone, Copy, PartialEq, Eq)]
 pub struct Missing(raw::Missing);
 
 impl Missing {
-    /// What was told; none where no address would help.
+    /// Returns what the call said is missing; `None` if no address would help.
     pub(crate) fn of(told: raw::Missing) -> Option<Missing> {
         (told.helpful != 0).then_some(Missing(told))
     }
 
-    /// The index of the section that wants an address; none where a name does.
+    /// Returns the index of the section that needs an address; `None` if a name does.
     pub fn section(&self) -> Option<u16> {
         self.helps(raw::SECTION).then_some(self.0.section as u16)
     }
 
-    /// Whether a definition of the name would help.
+    /// Returns whether a definition of the name would help.
     pub fn definition_helps(&self) -> bool {
         self.helps(raw::DEFINE)
     }
 
-    /// Whether an entry of the name in the procedure linkage table would.
+    /// Returns whether an entry of the name in the procedure linkage table would help.
     pub fn linkage_helps(&self) -> bool {
         self.helps(raw::ENTRY)
     }
 
-    /// Whether an entry of the name in the global offset table would.
+    /// Returns whether an entry of the name in the global offset table would help.
     pub fn table_helps(&self) -> bool {
         self.helps(raw::TABLE)
     }
 
-    /// Whether an entry there of its offset from the thread pointer would.
+    /// Returns whether an entry there of its offset from the thread pointer would help.
     pub fn thread_helps(&self) -> bool {
         self.helps(raw::THREAD)
     }
@@ -137,17 +137,17 @@ impl Missing {
         self.0.helpful & (1 << kind) != 0
     }
 
-    /// The type of the relocation entry that is refused.
+    /// Returns the type of the relocation entry that is refused.
     pub fn relocation(&self) -> u32 {
         self.0.relocation
     }
 
-    /// The name of its symbol, or the first 255 bytes of it. No item can have a name of no bytes.
+    /// Returns the name of its symbol, or the first 255 bytes of it. No item can have an empty name.
     pub fn name(&self) -> &[u8] {
         self.0.name.get(..self.0.name_len as usize).unwrap_or(&[])
     }
 
-    /// Whether the name has more bytes: then no item can have it.
+    /// Returns whether the name has more bytes: then no item can have it.
     pub fn is_cut(&self) -> bool {
         self.0.is_cut != 0
     }
@@ -165,7 +165,7 @@ impl fmt::Debug for Missing {
 pub struct Unapplied {
     /// Why.
     pub error: Error,
-    /// What is missing; none where no address would help, or the budget has no room to find that out.
+    /// What is missing; `None` if no address would help, or the budget has no room to find that out.
     pub missing: Option<Missing>,
 }
 

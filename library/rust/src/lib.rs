@@ -1,8 +1,8 @@
-//! ELF64 files listed, looked up, relocated and read row by row, whatever their bytes are.
+//! Lists ELF64 files, looks up names in them, applies relocations and reads their rows, for any input.
 //!
 //! A file is a slice of bytes, and so is all memory that a call needs: nothing is allocated, and the
-//! crate needs no `std`. Each call comes back, reads nothing outside of the file and writes nothing
-//! outside of what it was lent; the library's own documents say what is proved of it.
+//! crate needs no `std`. Each call terminates, reads nothing outside the file and writes nothing
+//! outside the caller's buffers; the library's own documents say what is proved of it.
 //!
 //! ```
 //! # fn main() -> Result<(), elfsee::Error> {
@@ -23,12 +23,13 @@
 //! # }
 //! ```
 //!
-//! Room is where the headers of a file lie while a call runs: [`File::room`] says how many bytes of it
-//! a file wants. A file that changes while it is read, as a mapped file may, is no slice: read such a
+//! Room has the headers of a file while a call runs: [`File::room`] returns how many bytes of it a file
+//! needs. A file that changes while it is read, as a mapped file may, is not a slice: read such a
 //! file into memory first.
 
-//! Linked is the library that cargo finds by the crate's build script: in the folder that the environment's
-//! `ELFSEE_LIBRARY_DIR` names, else where the repository builds it, else where pkg-config says.
+//! The library that is linked is the one that the crate's build script finds: in the directory that the
+//! environment variable `ELFSEE_LIBRARY_DIR` names, otherwise where the repository builds it, otherwise where
+//! pkg-config says.
 
 #![no_std]
 #![warn(missing_docs)]
@@ -73,21 +74,21 @@ pub const RELOCS: u16 = 16;
 pub const NOTES: u16 = 32;
 /// The dynamic entries.
 pub const DYNAMIC: u16 = 64;
-/// All parts of a listing in the standards' names.
+/// All parts of a listing that the standards define.
 pub const ALL: u16 = 127;
-/// The symbol versions, of listings with the names of the GNU system alone.
+/// The symbol versions, only of listings with the names defined by GNU.
 pub const VERSIONS: u16 = 128;
 
-/// How a listing is made; by default as [`File::show`] makes it.
+/// The style of a listing; the default is that of [`File::show`].
 #[derive(Clone, Copy, Debug, Default, PartialEq, Eq)]
 pub struct Style {
-    /// Whether numbers of the GNU system have names, and [`VERSIONS`] is a part.
+    /// Whether numbers defined by GNU have names, and [`VERSIONS`] is a part.
     pub gnu: bool,
-    /// Whether tables are found by the program headers also where there are section headers.
+    /// Whether tables are found by the program headers even if there are section headers.
     pub by_segments: bool,
     /// Whether each line is a JSON object.
     pub json: bool,
-    /// Whether the version of a symbol stands behind its name, with the names of the GNU system alone.
+    /// Whether the version of a symbol follows its name; only with the names defined by GNU.
     pub versions: bool,
 }
 
@@ -102,29 +103,29 @@ impl Style {
 }
 
 impl raw::Symbol {
-    /// Its type: STT_FUNC and the like (gABI, Symbol Table).
+    /// Returns its type, such as STT_FUNC (gABI, Symbol Table).
     pub fn kind(&self) -> u8 {
         self.info & 15
     }
 
-    /// Its binding: STB_GLOBAL and the like.
+    /// Returns its binding, such as STB_GLOBAL.
     pub fn binding(&self) -> u8 {
         self.info >> 4
     }
 
-    /// Its visibility: STV_HIDDEN and the like.
+    /// Returns its visibility, such as STV_HIDDEN.
     pub fn visibility(&self) -> u8 {
         self.other & 3
     }
 }
 
 impl raw::Relocation {
-    /// The index of its symbol in the linked table; 0 for none (gABI, Relocation).
+    /// Returns the index of its symbol in the linked table; 0 for none (gABI, Relocation).
     pub fn symbol(&self) -> u32 {
         (self.info >> 32) as u32
     }
 
-    /// Its type: R_X86_64_PC32 and the like.
+    /// Returns its type, such as R_X86_64_PC32.
     pub fn kind(&self) -> u32 {
         self.info as u32
     }
@@ -133,12 +134,12 @@ impl raw::Relocation {
 /// How much may be read and shown.
 #[derive(Clone, Copy, Debug, PartialEq, Eq)]
 pub struct Limits {
-    /// Permitted section headers, and as many program headers: 1 to 65,279.
+    /// Maximum number of section headers, and of program headers: 1 to 65,279.
     pub headers: u16,
     /// Bytes of a name that a listing shows: 1 to 4,096.
     pub name: u16,
-    /// How many bytes of the file a listing, a lookup or an applied section may ask for, and rows that are read
-    /// within it, where that is limited.
+    /// How many bytes of the file a listing, a lookup or an applied section may read, and rows that are read
+    /// within it, if there is a limit.
     pub budget: Option<u64>,
 }
 
@@ -149,46 +150,46 @@ impl Default for Limits {
     }
 }
 
-/// A listing that was written into lent memory.
+/// A listing that was written into the caller's buffer.
 #[derive(Clone, Copy, Debug, PartialEq, Eq)]
 pub struct Listing<'o> {
     /// Its lines, in ASCII.
     pub text: &'o str,
-    /// The refusal that its last line tells, if there is one.
+    /// The refusal in its last line, if there is one.
     pub refused: Option<Refused>,
-    /// Bytes of the file that were asked for.
+    /// Bytes of the file that were read.
     pub asked: u64,
 }
 
 /// What a lookup found.
 #[derive(Clone, Copy, Debug, PartialEq, Eq)]
 pub struct Lookup {
-    /// The symbol with its index and the section of symbols that it stands in; none where there is none.
+    /// The symbol with its index and its section of symbols; `None` if there is none.
     pub found: Option<(Symbol, u32, u16)>,
     /// Names that were compared.
     pub steps: u32,
 }
 
-/// What a loader's lookup asks for.
+/// The query of a loader's lookup.
 #[derive(Clone, Copy, Debug, Default, PartialEq, Eq)]
 pub struct Wanted<'n> {
     /// The name of the symbol, of at most 4,096 bytes without a NUL.
     pub name: &'n [u8],
-    /// The name of its version, of 1 to 4,096 bytes without a NUL; none takes a version that is not hidden.
+    /// The name of its version, of 1 to 4,096 bytes without a NUL; `None` finds a version that is not hidden.
     pub version: Option<&'n [u8]>,
-    /// Whether the version is to be the symbol's default version.
+    /// Whether the version must be the symbol's default version.
     pub default_only: bool,
-    /// Whether the lookup goes by the program headers, also where there are section headers.
+    /// Whether the lookup uses the program headers, even if there are section headers.
     pub by_segments: bool,
 }
 
 impl<'n> Wanted<'n> {
-    /// A name alone.
+    /// Creates a query for a name alone.
     pub fn name(name: &'n [u8]) -> Wanted<'n> {
         Wanted { name, ..Wanted::default() }
     }
 
-    /// A name with a version.
+    /// Creates a query for a name with a version.
     pub fn versioned(name: &'n [u8], version: &'n [u8]) -> Wanted<'n> {
         Wanted { name, version: Some(version), ..Wanted::default() }
     }
@@ -197,15 +198,15 @@ impl<'n> Wanted<'n> {
 /// The version of a symbol that a loader's lookup found.
 #[derive(Clone, Copy, Debug, PartialEq, Eq)]
 pub struct SymbolVersion<'a> {
-    /// Its name, or the first 256 bytes of it; of no bytes where its number is 0 or 1.
+    /// Its name, or the first 256 bytes of it; empty if its number is 0 or 1.
     pub name: &'a [u8],
     /// Whether the name has more bytes.
     pub is_cut: bool,
     /// Its number, below 32,768.
     pub number: u16,
-    /// Whether a name alone does not take it.
+    /// Whether a name alone does not find it.
     pub is_hidden: bool,
-    /// The index of the section of symbols' versions, or of the program header of the dynamic entries.
+    /// The index of the section of symbol versions, or of the program header of the dynamic entries.
     pub table: u16,
 }
 
@@ -218,14 +219,14 @@ pub struct FoundSymbol<'a> {
     pub index: u64,
     /// The index of the section of symbols, or of the program header of the dynamic entries.
     pub table: u16,
-    /// Its version; none where the file has no versions of symbols.
+    /// Its version; `None` if the file has no versions of symbols.
     pub version: Option<SymbolVersion<'a>>,
 }
 
 /// What a loader's lookup found.
 #[derive(Clone, Copy, Debug, PartialEq, Eq)]
 pub struct Resolved<'a> {
-    /// The symbol; none where no symbol answers.
+    /// The symbol; `None` if no symbol matches.
     pub found: Option<FoundSymbol<'a>>,
     /// Symbols that were tried.
     pub tried: u64,
@@ -237,27 +238,27 @@ pub struct Resolved<'a> {
 pub struct Item<'n>(raw::Item, PhantomData<&'n [u8]>);
 
 impl<'n> Item<'n> {
-    /// The address of a section.
+    /// Gives the address of a section.
     pub fn section(index: u16, address: u64) -> Item<'static> {
         Item::new(raw::SECTION, b"", index, address)
     }
 
-    /// The address of a symbol that the file does not define. Its name has 1 to 255 bytes, no NUL.
+    /// Gives the address of a symbol that the file does not define. Its name has 1 to 255 bytes, no NUL.
     pub fn define(name: &'n [u8], address: u64) -> Item<'n> {
         Item::new(raw::DEFINE, name, 0, address)
     }
 
-    /// The address of a symbol's entry in the procedure linkage table.
+    /// Gives the address of a symbol's entry in the procedure linkage table.
     pub fn entry(name: &'n [u8], address: u64) -> Item<'n> {
         Item::new(raw::ENTRY, name, 0, address)
     }
 
-    /// The address of a symbol's entry in the global offset table.
+    /// Gives the address of a symbol's entry in the global offset table.
     pub fn table(name: &'n [u8], address: u64) -> Item<'n> {
         Item::new(raw::TABLE, name, 0, address)
     }
 
-    /// The address of the entry in the global offset table of a symbol's offset from the thread pointer.
+    /// Gives the address of the entry in the global offset table of a symbol's offset from the thread pointer.
     pub fn thread(name: &'n [u8], address: u64) -> Item<'n> {
         Item::new(raw::THREAD, name, 0, address)
     }
@@ -269,7 +270,7 @@ impl<'n> Item<'n> {
     }
 }
 
-/// A file in memory, and what may be asked of it.
+/// A file in memory, and the limits of its calls.
 #[derive(Clone, Copy, Debug)]
 pub struct File<'a> {
     bytes: &'a [u8],
@@ -277,12 +278,12 @@ pub struct File<'a> {
 }
 
 impl<'a> File<'a> {
-    /// A file with the limits of [`Limits::default`].
+    /// Creates a file with the limits of [`Limits::default`].
     pub fn new(bytes: &'a [u8]) -> File<'a> {
         File::with_limits(bytes, Limits::default())
     }
 
-    /// A file with limits. One that is outside its range makes each call that needs it [`Error::BadCall`].
+    /// Creates a file with limits. With one outside its range each call that needs it fails with [`Error::BadCall`].
     pub fn with_limits(bytes: &'a [u8], limits: Limits) -> File<'a> {
         let limits = raw::Limits {
             headers: limits.headers,
@@ -293,12 +294,12 @@ impl<'a> File<'a> {
         File { bytes, limits }
     }
 
-    /// The file's bytes.
+    /// Returns the file's bytes.
     pub fn bytes(&self) -> &'a [u8] {
         self.bytes
     }
 
-    /// How many bytes of room the file wants: at least 64, at most 64 for each permitted header.
+    /// Returns how many bytes of room the file needs: at least 64, at most 64 for each header that is allowed.
     ///
     /// ```
     /// assert_eq!(elfsee::File::new(b"").room(), 64);
@@ -312,7 +313,7 @@ impl<'a> File<'a> {
         usize::try_from(room).unwrap_or(usize::MAX)
     }
 
-    /// How many bytes a listing of a file of this length asks for at most, whatever its bytes are.
+    /// Returns how many bytes a listing of a file of this length reads at most, for any bytes.
     ///
     /// ```
     /// # fn main() -> Result<(), Box<dyn std::error::Error>> {
@@ -329,9 +330,9 @@ impl<'a> File<'a> {
         unsafe { raw::elfsee_cost(self.bytes.len() as u64, &self.limits) }
     }
 
-    /// Lists the file, as far as `parts` has it ([`ALL`], or a sum of [`HEADER`] and the like). A
-    /// refusal is the listing's last line, and no error. [`Error::Full`] where `out` is too short; a
-    /// front of the listing stands in it then.
+    /// Lists the parts of the file that `parts` selects ([`ALL`], or a sum such as [`HEADER`] `|` [`SYMBOLS`]). A
+    /// refusal is the listing's last line, and not an error. Fails with [`Error::Full`] if `out` is too short; `out`
+    /// then has a prefix of the listing.
     ///
     /// ```
     /// # fn main() -> Result<(), Box<dyn std::error::Error>> {
@@ -363,9 +364,10 @@ impl<'a> File<'a> {
         listed(status, out, &end)
     }
 
-    /// The same in a style: with names of the numbers of the GNU system, by the program headers, each line as a
-    /// JSON object, or versions behind the names of symbols. With the names of the GNU system [`VERSIONS`] is a
-    /// part too. [`Error::BadCall`] for parts that such a listing has not, and for versions without those names.
+    /// Lists the file in a style: with names of the numbers defined by GNU, by the program headers, each line as a
+    /// JSON object, or versions after the names of symbols. With the names defined by GNU, [`VERSIONS`] is a part
+    /// too. Fails with [`Error::BadCall`] for parts that such a listing does not have, and for versions without those
+    /// names.
     ///
     /// ```
     /// use elfsee::{Style, ALL, VERSIONS};
@@ -408,13 +410,13 @@ impl<'a> File<'a> {
         listed(status, out, &end)
     }
 
-    /// The rows of some names alone, of one part: [`SYMBOLS`], [`RELOCS`] or, with the names of the GNU system,
-    /// [`VERSIONS`]. The names are in rising order, as `sort` puts them. Where versions stand behind names each may
-    /// have one, as `NAME@VERSION`, or `NAME@@VERSION` for a default one. Of a name as many bytes are looked at as
+    /// Lists only the rows with some names, of one part: [`SYMBOLS`], [`RELOCS`] or, with the names defined by GNU,
+    /// [`VERSIONS`]. The names are in ascending order, as `sort` puts them. If versions follow names, each may
+    /// have one, as `NAME@VERSION`, or `NAME@@VERSION` for a default one. As many bytes of a name are compared as
     /// the longest of them has, and with versions at least [`Limits::name`].
     ///
-    /// [`Error::BadCall`] as of [`File::show_in`], for other parts, and for a name that is none or below the one
-    /// before it.
+    /// Fails with [`Error::BadCall`] as [`File::show_in`] does, for other parts, and for a name that is empty or below
+    /// the one before it.
     ///
     /// ```
     /// use elfsee::{Style, Text, SYMBOLS};
@@ -440,7 +442,7 @@ impl<'a> File<'a> {
     ) -> Result<Listing<'o>, Error> {
         let mut end = raw::End::default();
         let listing = raw::Listing { parts: part, flags: style.flags() };
-        // SAFETY: as in `show_in`; the names are slices that are lent for as long as the call runs.
+        // SAFETY: as in `show_in`; the names are slices that are borrowed for the duration of the call.
         let status = unsafe {
             raw::elfsee_list_names(
                 self.bytes.as_ptr(),
@@ -460,8 +462,8 @@ impl<'a> File<'a> {
         listed(status, out, &end)
     }
 
-    /// Looks a name up by the file's own SysV hash table: the first symbol of that name in its chain,
-    /// whatever its version and place. A name has at most 4,096 bytes and no NUL.
+    /// Looks up a name in the file's own SysV hash table: returns the first symbol of that name in its chain,
+    /// with any version and place. A name has at most 4,096 bytes and no NUL.
     ///
     /// ```
     /// use elfsee::{Cause, Error, File};
@@ -501,12 +503,11 @@ impl<'a> File<'a> {
         }
     }
 
-    /// Looks a name up as a loader of the GNU system does, alone or with a version: by the file's hash
-    /// table, of the GNU system or else of the gABI, the first symbol of the name's chain that has the
-    /// name, is offered to others and whose version fits. The name of a version is told with its first 256
-    /// bytes, and the wanted one whole.
+    /// Looks up a name as glibc's dynamic loader does, alone or with a version: returns the first symbol of the
+    /// name's chain, in the file's GNU hash table or otherwise in its SysV one, that has the name, is exported and
+    /// whose version matches. The name of a version is given with its first 256 bytes, and the requested one whole.
     ///
-    /// [`Error::BadCall`] also where the name or the version has a NUL or the version no byte.
+    /// Fails with [`Error::BadCall`] also if the name or the version has a NUL, or the version is empty.
     pub fn look_up<'n>(&self, wanted: &Wanted<'n>, room: &mut [u8]) -> Result<Resolved<'n>, Error>
     where
         'a: 'n,
@@ -542,7 +543,7 @@ impl<'a> File<'a> {
         }
     }
 
-    /// What a loader's lookup told as numbers; the name of a version is that in the file where none is wanted.
+    /// Converts the numbers of a loader's lookup; the name of a version is that in the file if none is requested.
     fn resolved<'n>(&self, told: &raw::Resolved, wanted: Option<&'n [u8]>) -> Resolved<'n>
     where
         'a: 'n,
@@ -560,7 +561,7 @@ impl<'a> File<'a> {
     }
 
     /// Writes a section's bytes with its relocations applied, for the addresses of a layout: at most 64
-    /// sections, 32 definitions and 32 entries of each kind, none twice. `out` has to be as long as the section.
+    /// sections, 32 definitions and 32 entries of each kind, without duplicates. `out` must be as long as the section.
     ///
     /// ```
     /// use elfsee::{Cause, Error, File, Item};
@@ -571,7 +572,7 @@ impl<'a> File<'a> {
     /// let (mut room, mut out) = (vec![0; file.room()], [0; 64]);
     /// match file.apply(1, &layout, &mut room, &mut out) {
     ///     Ok(section) => println!("{section:x?}"),
-    ///     // A program is no object.
+    ///     // A program is not an object.
     ///     Err(error) => assert!(matches!(error, Error::Refused(refused) if refused.cause == Cause::NotRel)),
     /// }
     /// ```
@@ -606,8 +607,8 @@ impl<'a> File<'a> {
         }
     }
 
-    /// Writes a section's bytes with its relocations applied, as [`File::apply`] does, for a layout of any size. Where
-    /// the section is refused for want of an address, the error tells which.
+    /// Writes a section's bytes with its relocations applied, as [`File::apply`] does, for a layout of any size. If
+    /// the section is refused for lack of an address, the error says which.
     ///
     /// ```
     /// use elfsee::{File, Layout, NameAddress, SectionAddress};
@@ -657,7 +658,7 @@ impl<'a> File<'a> {
         }
     }
 
-    /// The file header.
+    /// Returns the file header.
     ///
     /// ```
     /// use elfsee::{abi, File};
@@ -679,7 +680,7 @@ impl<'a> File<'a> {
         }
     }
 
-    /// A section header by its index; none where there is none of that index.
+    /// Returns a section header by its index; `None` if there is none of that index.
     pub fn section(&self, index: u16) -> Result<Option<Section>, Refused> {
         let (mut row, mut end) = (Section::default(), raw::End::default());
         // SAFETY: as in `header`.
@@ -688,7 +689,7 @@ impl<'a> File<'a> {
         row_of(status, row, &end)
     }
 
-    /// The bytes of a section; none where there is none of that index, or its type is NOBITS or NULL, which
+    /// Returns the bytes of a section; `None` if there is none of that index, or its type is NOBITS or NULL, which
     /// has no bytes in the file.
     pub fn content(&self, index: u16) -> Result<Option<&'a [u8]>, Refused> {
         let (mut range, mut end) = (Range::default(), raw::End::default());
@@ -699,7 +700,7 @@ impl<'a> File<'a> {
         Ok(row_of(status, range, &end)?.map(|range| rows::bytes_of(self.bytes, range.at, range.len)))
     }
 
-    /// A program header by its index; none where there is none of that index.
+    /// Returns a program header by its index; `None` if there is none of that index.
     pub fn segment(&self, index: u16) -> Result<Option<Segment>, Refused> {
         let (mut row, mut end) = (Segment::default(), raw::End::default());
         // SAFETY: as in `header`.
@@ -708,7 +709,7 @@ impl<'a> File<'a> {
         row_of(status, row, &end)
     }
 
-    /// Where the string table of the section names lies; none where the file has none.
+    /// Returns where the string table of the section names is; `None` if the file has none.
     pub fn section_names(&self, room: &mut [u8]) -> Result<Option<Range>, Error> {
         let (mut names, mut end) = (Range::default(), raw::End::default());
         // SAFETY: as in `show`.
@@ -726,17 +727,17 @@ impl<'a> File<'a> {
         table_of(status, names, &end)
     }
 
-    /// The name at an offset in a string table, any bytes of the file, without its NUL.
+    /// Returns the name at an offset in a string table, any bytes of the file, without its NUL.
     pub fn name(&self, strings: &Range, offset: u64) -> Result<&'a [u8], Refused> {
         rows::name_in(self.bytes, strings, offset)
     }
 
-    /// A string table: any bytes of the file.
+    /// Returns a string table: any bytes of the file.
     pub fn names_in(&self, strings: &Range) -> Names<'a> {
         Names::new(self.bytes, *strings)
     }
 
-    /// The section headers, each with its index: an iterator, behind the checks that a listing begins with.
+    /// Returns an iterator over the section headers, each with its index, after the checks with which a listing begins.
     /// [`Sections::named`] has their names too.
     ///
     /// ```
@@ -758,8 +759,8 @@ impl<'a> File<'a> {
         Ok(Sections::new(*self, strings.map(|strings| self.names_in(&strings)), first))
     }
 
-    /// The program headers, each with its index: an iterator, behind the checks of the file header and of where they
-    /// lie.
+    /// Returns an iterator over the program headers, each with its index, after the checks of the file header and of
+    /// their range.
     ///
     /// ```
     /// # fn main() -> Result<(), Box<dyn std::error::Error>> {
@@ -777,7 +778,7 @@ impl<'a> File<'a> {
         Ok(Segments::new(*self))
     }
 
-    /// The symbols of a section; none where it holds none.
+    /// Returns the symbols of a section; `None` if it holds none.
     ///
     /// ```
     /// # fn main() -> Result<(), Box<dyn std::error::Error>> {
@@ -803,7 +804,7 @@ impl<'a> File<'a> {
         Ok(rows.map(|rows| Rows::new(self.bytes, rows)))
     }
 
-    /// The symbols that the file's hash table is of, among which a loader looks names up: found as
+    /// Returns the symbols of the file's hash table, among which a loader looks up names: found as
     /// [`File::look_up`] finds them, so also in a file without section headers, and counted by the hash table.
     ///
     /// ```
@@ -837,7 +838,7 @@ impl<'a> File<'a> {
         }
     }
 
-    /// The relocation entries of a section; none where it holds none.
+    /// Returns the relocation entries of a section; `None` if it holds none.
     ///
     /// ```
     /// # fn main() -> Result<(), Box<dyn std::error::Error>> {
@@ -864,21 +865,21 @@ impl<'a> File<'a> {
         Ok(rows.map(|rows| Rows::new(self.bytes, rows)))
     }
 
-    /// The dynamic entries of a section, up to and with the first of tag NULL; none where it holds none.
+    /// Returns the dynamic entries of a section, up to and including the first with tag NULL; `None` if it holds none.
     pub fn dynamic(&self, section: u16, room: &mut [u8]) -> Result<Option<DynamicEntries<'a>>, Error> {
         let rows = self.open(raw::elfsee_dynamic, section, room)?;
         Ok(rows.map(|rows| Rows::new(self.bytes, rows)))
     }
 
-    /// The words of symbols' versions of a section, one for each symbol of the table that it links to; none where it
-    /// holds none. [`File::version_records`] has the names of their numbers.
+    /// Returns the version words of the symbols of a section, one for each symbol of the table that it links to; `None`
+    /// if it holds none. [`File::version_records`] has the names of their numbers.
     ///
     /// ```
     /// # fn main() -> Result<(), Box<dyn std::error::Error>> {
     /// let bytes = std::fs::read("/proc/self/exe")?;
     /// let file = elfsee::File::new(&bytes);
     /// let mut room = vec![0; file.room()];
-    /// // The name of a number is that of the first definition with it, else of the first need.
+    /// // The name of a number is that of the first definition with it, or else of the first need.
     /// let mut names = std::collections::HashMap::new();
     /// for kind in [elfsee::abi::SHT_GNU_VERDEF, elfsee::abi::SHT_GNU_VERNEED] {
     ///     let first = file.sections(&mut room)?.find(|(_, section)| section.kind == kind);
@@ -908,7 +909,7 @@ impl<'a> File<'a> {
         Ok(rows.map(|rows| Rows::new(self.bytes, rows)))
     }
 
-    /// The version definitions of a section, or its needs, each with its name; none where it holds neither.
+    /// Returns the version definitions of a section, or its needs, each with its name; `None` if it holds neither.
     pub fn version_records(&self, section: u16, room: &mut [u8]) -> Result<Option<VersionRecords<'a>>, Error> {
         let (mut records, mut end) = (raw::VersionRecords::default(), raw::End::default());
         // SAFETY: as in `show`.
@@ -928,9 +929,9 @@ impl<'a> File<'a> {
         Ok(records.map(|records| VersionRecords::new(self.bytes, records)))
     }
 
-    /// The dynamic entries of a segment, up to and with the first of tag NULL; none where it holds none.
-    /// No string table goes with these rows: [`File::mapped`] tells where that lies whose address and
-    /// size the first entries of the tags STRTAB (5) and STRSZ (10) tell, and [`Rows::named_in`] has the names.
+    /// Returns the dynamic entries of a segment, up to and including the first with tag NULL; `None` if it holds none.
+    /// No string table goes with these rows: [`File::mapped`] finds the one whose address and size the first entries
+    /// with the tags STRTAB (5) and STRSZ (10) have, and [`Rows::named_in`] has the names.
     ///
     /// ```
     /// # fn main() -> Result<(), Box<dyn std::error::Error>> {
@@ -960,8 +961,9 @@ impl<'a> File<'a> {
         Ok(rows.map(|rows| Rows::new(self.bytes, rows)))
     }
 
-    /// As [`File::dynamic`] does, within the budget of the limits: an opening looks at each entry up to the first of
-    /// tag NULL, which counts 16 bytes in `asked`, over all calls that are lent it, as [`Rows::within`] too.
+    /// Returns dynamic entries as [`File::dynamic`] does, within the budget of the limits: opening them reads each
+    /// entry up to the first with tag NULL, which counts 16 bytes in `asked`, over all calls that are passed it, as
+    /// for [`Rows::within`].
     pub fn dynamic_within(
         &self,
         section: u16,
@@ -988,7 +990,7 @@ impl<'a> File<'a> {
         Ok(rows.map(|rows| Rows::new(self.bytes, rows)))
     }
 
-    /// As [`File::segment_dynamic`] does, within the budget of the limits as [`File::dynamic_within`] does.
+    /// Returns dynamic entries as [`File::segment_dynamic`] does, within the budget as [`File::dynamic_within`] does.
     pub fn segment_dynamic_within(
         &self,
         segment: u16,
@@ -1005,8 +1007,8 @@ impl<'a> File<'a> {
         Ok(rows.map(|rows| Rows::new(self.bytes, rows)))
     }
 
-    /// Where `size` bytes from an address on lie in the file, by the first LOAD program header that holds
-    /// them all among the bytes that it has in the file; none where none does.
+    /// Returns where `size` bytes at an address are in the file, by the first LOAD program header that holds
+    /// them all among the bytes that it has in the file; `None` if none does.
     pub fn mapped(&self, address: u64, size: u64) -> Result<Option<Range>, Refused> {
         let (mut range, mut end) = (Range::default(), raw::End::default());
         // SAFETY: as in `header`.
@@ -1016,12 +1018,12 @@ impl<'a> File<'a> {
         row_of(status, range, &end)
     }
 
-    /// The notes of a section; none where it holds none.
+    /// Returns the notes of a section; `None` if it holds none.
     pub fn notes(&self, section: u16) -> Result<Option<Notes<'a>>, Refused> {
         self.open_notes(raw::elfsee_notes, section)
     }
 
-    /// The notes of a segment; none where it holds none.
+    /// Returns the notes of a segment; `None` if it holds none.
     ///
     /// ```
     /// # fn main() -> Result<(), Box<dyn std::error::Error>> {
@@ -1040,7 +1042,7 @@ impl<'a> File<'a> {
         self.open_notes(raw::elfsee_segment_notes, segment)
     }
 
-    /// The members of an archive, as a static library.
+    /// Returns the members of an archive, such as a static library.
     ///
     /// ```
     /// # fn main() -> Result<(), elfsee::Error> {
@@ -1091,7 +1093,7 @@ impl<'a> File<'a> {
     }
 }
 
-/// The version of the library that is linked, 0x00MMmmpp.
+/// Returns the version of the library that is linked, 0x00MMmmpp.
 pub fn version() -> u32 {
     // SAFETY: the call has no conditions.
     unsafe { raw::elfsee_version() }

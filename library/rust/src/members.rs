@@ -12,8 +12,8 @@ pub struct Member<'a> {
     pub name: &'a [u8],
     /// Whether its name has more bytes.
     pub is_cut: bool,
-    /// Its data, which may be a [`File`](crate::File) of its own, behind the name where that stands at
-    /// their front.
+    /// Its data, which may be a [`File`](crate::File) of its own; it begins after the name if that is at the
+    /// beginning of the data.
     pub content: &'a [u8],
     /// The offset in the archive of its header.
     pub at: u64,
@@ -21,7 +21,7 @@ pub struct Member<'a> {
     pub content_at: u64,
 }
 
-/// The members of an archive: an iterator, which ends behind the first refusal.
+/// An iterator over the members of an archive, which ends after the first refusal.
 #[derive(Clone, Debug)]
 pub struct Members<'a> {
     file: &'a [u8],

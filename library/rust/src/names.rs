@@ -1,11 +1,11 @@
-//! Names: where they are, rows with theirs, and how a terminal is told of them.
+//! Names: where they are, rows with names, and how names are escaped for a terminal.
 
 use crate::error::Refused;
 use crate::raw;
 use crate::rows::{name_in, sealed::Fetch, Rows};
 use core::fmt;
 
-/// A string table of a file. It can be copied, so that names are read while rows are gone through.
+/// A string table of a file. It is `Copy`, so names can be read during an iteration over rows.
 ///
 /// ```
 /// # fn main() -> Result<(), elfsee::Error> {
@@ -27,26 +27,26 @@ impl<'a> Names<'a> {
         Names { file, strings }
     }
 
-    /// The name at an offset in the table, without its NUL. A refusal's offset is where the name was to begin in
-    /// the file.
+    /// Returns the name at an offset in the table, without its NUL. A refusal's offset is the file offset at which the
+    /// name should begin.
     pub fn at(&self, offset: u64) -> Result<&'a [u8], Refused> {
         name_in(self.file, &self.strings, offset)
     }
 
-    /// Where the table lies.
+    /// Returns where the table is.
     pub fn range(&self) -> raw::Range {
         self.strings
     }
 
-    /// The name at an offset; a refusal's offset is that of the row that names it.
+    /// Returns the name at an offset; a refusal's offset is that of the row that names it.
     pub(crate) fn of_row(&self, offset: u64, row: u64) -> Result<&'a [u8], Refused> {
         self.at(offset).map_err(|refused| Refused { at: row, ..refused })
     }
 }
 
-/// A row that tells a name.
+/// A row that has a name.
 pub trait HasName: Fetch {
-    /// Where its name is in the string table that goes with its table; none where it names nothing.
+    /// Returns where its name is in the string table that goes with its table; `None` if it names nothing.
     fn name_offset(&self) -> Option<u64>;
 }
 
@@ -57,13 +57,13 @@ impl HasName for raw::Symbol {
 }
 
 impl HasName for raw::Dynamic {
-    /// Entries of the tags NEEDED, SONAME, RPATH and RUNPATH name something (gABI, Dynamic Section).
+    /// Entries with the tags NEEDED, SONAME, RPATH and RUNPATH name something (gABI, Dynamic Section).
     fn name_offset(&self) -> Option<u64> {
         matches!(self.tag, 1 | 14 | 15 | 29).then(|| self.value)
     }
 }
 
-/// The rows of a table, each with its name: an iterator, which ends behind the first refusal. That has the cause and
+/// An iterator over the rows of a table, each with its name. It ends after the first refusal, which has the cause and
 /// the place of a listing: the place is the row's. The name of a dynamic entry that names nothing is empty.
 #[derive(Clone, Debug)]
 pub struct Named<'a, R> {
@@ -99,8 +99,8 @@ impl<'a, R: HasName> Iterator for Named<'a, R> {
     }
 }
 
-/// A name as a listing spells it, with nothing that acts on a terminal: a backslash is doubled, and what is no printing
-/// character of ASCII is `\x` and two hexadecimal digits.
+/// Returns a name escaped as in a listing, so that nothing acts on a terminal: a backslash is doubled, and a byte that
+/// is not a printable ASCII character is `\x` and two hexadecimal digits.
 ///
 /// ```
 /// assert_eq!(elfsee::spelt(b"\x1b[2J\\\xff").to_string(), r"\x1b[2J\\\xff");
@@ -109,7 +109,7 @@ pub fn spelt(name: &[u8]) -> Spelt<'_> {
     Spelt(name)
 }
 
-/// What [`spelt`] gives: it is told by `Display`.
+/// The result of [`spelt`], for `Display`.
 #[derive(Clone, Copy, Debug, PartialEq, Eq)]
 pub struct Spelt<'n>(&'n [u8]);
 

@@ -7,7 +7,7 @@ use crate::rows::bytes_of;
 /// A note (gABI, Note Section).
 #[derive(Clone, Copy, Debug, PartialEq, Eq)]
 pub struct Note<'a> {
-    /// Its name as the file has it, with any NUL.
+    /// Its name as it is in the file, with any NUL.
     pub name: &'a [u8],
     /// Its descriptor.
     pub descriptor: &'a [u8],
@@ -17,7 +17,7 @@ pub struct Note<'a> {
     pub at: u64,
 }
 
-/// The notes that a header tells of: an iterator, which ends behind the first refusal.
+/// An iterator over the notes that a header describes, which ends after the first refusal.
 #[derive(Clone, Debug)]
 pub struct Notes<'a> {
     file: &'a [u8],

@@ -1,4 +1,4 @@
-//! The library's calls and structs as C has them: `elfsee.h` says what each means, what it promises
+//! The library's calls and structs in the form of C: `elfsee.h` says what each means, what it promises
 //! and what its caller guarantees. [`crate::File`] has the same as safe calls.
 //!
 //! A field that C calls `type` is `kind` here.
@@ -116,7 +116,7 @@ pub struct Job {
     pub none: u32,
 }
 
-/// A section of a layout that is lent. Their order is that of their indices.
+/// A section of a borrowed layout. They are ordered by their indexes.
 #[repr(C)]
 #[derive(Clone, Copy, Debug, Default, PartialEq, Eq, PartialOrd, Ord)]
 pub struct LentSection {
@@ -147,7 +147,7 @@ pub struct Layout {
     pub thread_len: usize,
 }
 
-/// What a layout lacks; all 0 where no address would help.
+/// What a layout lacks; all 0 if no address would help.
 #[repr(C)]
 #[derive(Clone, Copy, Debug, PartialEq, Eq)]
 pub struct Missing {
@@ -165,7 +165,7 @@ impl Default for Missing {
     }
 }
 
-/// The version of a symbol: its number, and 1 where a name alone does not take the symbol.
+/// The version of a symbol: its number, and 1 if a name alone does not find the symbol.
 #[repr(C)]
 #[derive(Clone, Copy, Debug, Default, PartialEq, Eq)]
 pub struct VersionWord {
@@ -190,7 +190,7 @@ pub struct VersionRecord {
     pub kind: u32,
 }
 
-/// A place in a walk over such records: plain numbers.
+/// A position in a walk over such records: plain numbers.
 #[repr(C)]
 #[derive(Clone, Copy, Debug, Default, PartialEq, Eq)]
 pub struct VersionRecords {
@@ -273,7 +273,7 @@ pub struct Dynamic {
     pub value: u64,
 }
 
-/// Bytes of the file: where they begin, and how many they are.
+/// Bytes of the file: their offset and their number.
 #[repr(C)]
 #[derive(Clone, Copy, Debug, Default, PartialEq, Eq)]
 pub struct Range {
@@ -292,7 +292,7 @@ pub struct Rows {
     pub strings_len: u64,
 }
 
-/// A place in a table of notes: plain numbers.
+/// A position in a table of notes: plain numbers.
 #[repr(C)]
 #[derive(Clone, Copy, Debug, Default, PartialEq, Eq)]
 pub struct Notes {
@@ -303,7 +303,7 @@ pub struct Notes {
     pub none: u32,
 }
 
-/// A note: where its name and its descriptor stand in the file, and their sizes.
+/// A note: where its name and its descriptor are in the file, and their sizes.
 #[repr(C)]
 #[derive(Clone, Copy, Debug, Default, PartialEq, Eq)]
 pub struct Note {
@@ -316,7 +316,7 @@ pub struct Note {
     pub header: u32,
 }
 
-/// A place in a walk over the members of an archive: plain numbers.
+/// A position in a walk over the members of an archive: plain numbers.
 #[repr(C)]
 #[derive(Clone, Copy, Debug, Default, PartialEq, Eq)]
 pub struct Members {
@@ -326,7 +326,7 @@ pub struct Members {
     pub none: u32,
 }
 
-/// A member of an archive: where its header, its data and its name stand in the file.
+/// A member of an archive: where its header, its data and its name are in the file.
 #[repr(C)]
 #[derive(Clone, Copy, Debug, Default, PartialEq, Eq)]
 pub struct Member {
@@ -337,10 +337,10 @@ pub struct Member {
     pub none: u32,
 }
 
-/// A call that checks the notes that a header tells of and sets a place before the first.
+/// A call that checks the notes that a header describes and sets a position before the first.
 pub type OpenNotes = unsafe extern "C" fn(*const u8, usize, u16, *mut Notes, *mut End) -> u32;
 
-/// A call that checks a table and sets rows before its first.
+/// A call that checks a table and sets rows before its first one.
 pub type OpenTable =
     unsafe extern "C" fn(*const u8, usize, *const Limits, u16, *mut u8, usize, *mut Rows, *mut End) -> u32;
 

@@ -6,16 +6,16 @@ use crate::error::Refused;
 use crate::names::{HasName, Named, Names};
 use crate::raw;
 
-/// So many rows are fetched by one call.
+/// The number of rows that one call fetches.
 const BATCH: usize = 32;
 
 pub(crate) mod sealed {
-    /// What fetches rows of one kind.
+    /// Fetches rows of one kind.
     pub trait Fetch: Copy + Default {
-        /// Fetches up to so many next rows, and tells how many.
+        /// Fetches up to `out.len()` next rows, and returns how many.
         fn fetch(file: &[u8], rows: &mut super::raw::Rows, out: &mut [Self]) -> usize;
 
-        /// The same within a budget. Where that ended it the second answer says so.
+        /// The same within a budget. The second value says whether the budget ended it.
         fn fetch_within(
             file: &[u8],
             limits: &super::raw::Limits,
@@ -59,8 +59,8 @@ fetched!(raw::Relocation, raw::elfsee_next_relocations, raw::elfsee_next_relocat
 fetched!(raw::Dynamic, raw::elfsee_next_dynamic, raw::elfsee_next_dynamic_within);
 fetched!(raw::VersionWord, raw::elfsee_next_version_words, raw::elfsee_next_version_words_within);
 
-/// The rows of a table of symbols, relocation entries, dynamic entries or versions: an iterator. Its rows are numbers, and hold
-/// no borrow of it; [`Rows::names`] and [`Rows::named`] have their names.
+/// An iterator over the rows of a table of symbols, relocation entries, dynamic entries or versions. Its rows are
+/// numbers, and do not borrow from it; [`Rows::names`] and [`Rows::named`] have their names.
 #[derive(Clone, Debug)]
 pub struct Rows<'a, R> {
     file: &'a [u8],
@@ -76,7 +76,7 @@ pub type Symbols<'a> = Rows<'a, raw::Symbol>;
 pub type Relocations<'a> = Rows<'a, raw::Relocation>;
 /// The dynamic entries of a section.
 pub type DynamicEntries<'a> = Rows<'a, raw::Dynamic>;
-/// The words of symbols' versions of a section.
+/// The version words of the symbols of a section.
 pub type VersionWords<'a> = Rows<'a, raw::VersionWord>;
 
 impl<'a, R: Fetch> Rows<'a, R> {
@@ -84,32 +84,33 @@ impl<'a, R: Fetch> Rows<'a, R> {
         Rows { file, rows, batch: [R::default(); BATCH], next: 0, fetched: 0 }
     }
 
-    /// How many rows the table has, those too that the iterator has passed.
+    /// Returns how many rows the table has, including those that the iterator has passed.
     pub fn total(&self) -> u64 {
         self.rows.count
     }
 
-    /// Where the table's first row stands in the file, and how many bytes a row has.
+    /// Returns where the table's first row is in the file, and how many bytes a row has.
     pub fn place(&self) -> (u64, u64) {
         (self.rows.at, self.rows.entry)
     }
 
-    /// The name at an offset in the string table that goes with these rows, without its NUL. A refusal's
-    /// offset is where the name was to begin in the file.
+    /// Returns the name at an offset in the string table that goes with these rows, without its NUL. A refusal's
+    /// offset is the file offset at which the name should begin.
     pub fn name(&self, offset: u64) -> Result<&'a [u8], Refused> {
         self.names().at(offset)
     }
 
-    /// The string table that goes with these rows. It borrows the file alone: so names can be read while the
-    /// iterator is used up, by `for` too.
+    /// Returns the string table that goes with these rows. It borrows only from the file, so names can be read while
+    /// the iterator is consumed, also by `for`.
     pub fn names(&self) -> Names<'a> {
         let strings = raw::Range { at: self.rows.strings_at, len: self.rows.strings_len };
         Names::new(self.file, strings)
     }
 
-    /// The rows that are left, within a budget: what each takes of the file counts in `asked`, over all tables whose
-    /// rows are lent it, and those that [`File::dynamic_within`](crate::File::dynamic_within) opens. The first row
-    /// that would pass `budget` is refused, with the cause `budget`, and the last. Names count nothing.
+    /// Returns the rows that are left, within a budget: what each reads from the file counts in `asked`, over all
+    /// tables whose rows are passed it, and those that [`File::dynamic_within`](crate::File::dynamic_within) opens.
+    /// The first row that would exceed `budget` is refused, with the cause `budget`, and is the last. Names are not
+    /// counted.
     ///
     /// ```
     /// # fn main() -> Result<(), Box<dyn std::error::Error>> {
@@ -136,7 +137,7 @@ impl<'a, R: Fetch> Rows<'a, R> {
         Within { file: self.file, rows, limits, asked, batch, next: 0, fetched: 0, refused: None, is_over: false }
     }
 
-    /// The row of an index, wherever the iterator is; none where the table has no such row.
+    /// Returns the row with an index, wherever the iterator is; `None` if the table has no such row.
     ///
     /// ```
     /// # fn main() -> Result<(), Box<dyn std::error::Error>> {
@@ -160,7 +161,7 @@ impl<'a, R: Fetch> Rows<'a, R> {
 }
 
 impl<'a, R: HasName> Rows<'a, R> {
-    /// The rows that are left, each with its name.
+    /// Returns the rows that are left, each with its name.
     ///
     /// ```
     /// # fn main() -> Result<(), Box<dyn std::error::Error>> {
@@ -185,7 +186,7 @@ impl<'a, R: HasName> Rows<'a, R> {
         self.named_in(names)
     }
 
-    /// The same by another string table, as dynamic entries of a segment want it.
+    /// The same with another string table, which dynamic entries of a segment need.
     pub fn named_in(self, names: Names<'a>) -> Named<'a, R> {
         let passed = self.rows.index.saturating_sub((self.fetched - self.next) as u64);
         Named::new(self, names, passed)
@@ -206,7 +207,7 @@ impl<'a, R: Fetch> Iterator for Rows<'a, R> {
     }
 }
 
-/// Rows within a budget, as [`Rows::within`] gives them: an iterator, which ends behind the row that the budget
+/// An iterator over rows within a budget, as [`Rows::within`] returns it. It ends after the row that the budget
 /// refuses.
 #[derive(Clone, Debug)]
 pub struct Within<'a, 'c, R> {
@@ -241,7 +242,7 @@ impl<R: Fetch> Iterator for Within<'_, '_, R> {
     }
 }
 
-/// The name at an offset in some bytes of a file.
+/// Returns the name at an offset in some bytes of a file.
 pub(crate) fn name_in<'a>(file: &'a [u8], strings: &raw::Range, offset: u64) -> Result<&'a [u8], Refused> {
     let (mut name, mut end) = (raw::Range::default(), raw::End::default());
     // SAFETY: a slice's own pointer and length, and structs that are initialised and nobody else's.
@@ -252,7 +253,7 @@ pub(crate) fn name_in<'a>(file: &'a [u8], strings: &raw::Range, offset: u64) -> 
     }
 }
 
-/// Bytes of a file that a call told; none where it has not so many.
+/// Returns bytes of a file that a call gave; `None` if the file is shorter.
 pub(crate) fn bytes_of(file: &[u8], at: u64, len: u64) -> &[u8] {
     let end = at.checked_add(len).unwrap_or(u64::MAX);
     match (usize::try_from(at), usize::try_from(end)) {

@@ -6,20 +6,20 @@ use core::fmt;
 use core::marker::PhantomData;
 
 /// A name of which rows are listed by [`File::show_names`](crate::File::show_names): 1 to 4,096 bytes without a NUL.
-/// Their order is that of their bytes.
+/// They are ordered by their bytes.
 #[repr(transparent)]
 #[derive(Clone, Copy)]
 pub struct Text<'n>(raw::Text, PhantomData<&'n [u8]>);
 
 impl<'n> Text<'n> {
-    /// These bytes.
+    /// Creates a name from its bytes.
     pub fn new(bytes: &'n [u8]) -> Text<'n> {
         Text(raw::Text { bytes: bytes.as_ptr(), len: bytes.len() }, PhantomData)
     }
 
-    /// Its bytes.
+    /// Returns its bytes.
     pub fn bytes(&self) -> &'n [u8] {
-        // SAFETY: they are the pointer and the length of a slice that is lent for as long.
+        // SAFETY: they are the pointer and the length of a slice that is borrowed for as long.
         unsafe { core::slice::from_raw_parts(self.0.bytes, self.0.len) }
     }
 }
@@ -55,7 +55,7 @@ impl Ord for Text<'_> {
     }
 }
 
-/// Names as C has them.
+/// Returns names in the form of C.
 pub(crate) fn lent(names: &[Text<'_>]) -> *const raw::Text {
     // A `Text` is a `raw::Text` and nothing else.
     names.as_ptr().cast::<raw::Text>()

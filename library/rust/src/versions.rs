@@ -4,14 +4,14 @@ use crate::error::Refused;
 use crate::raw;
 use crate::rows::name_in;
 
-/// What a record of symbol versions is.
+/// The type of a record of symbol versions.
 #[derive(Clone, Copy, Debug, PartialEq, Eq, Hash)]
 pub enum VersionKind {
     /// A version that the file defines.
     Definition,
     /// A file of which it needs versions.
     File,
-    /// A version that it needs of the file before.
+    /// A version that it needs of the preceding file.
     Need,
 }
 
@@ -19,13 +19,13 @@ pub enum VersionKind {
 /// hash: these are 0.
 #[derive(Clone, Copy, Debug, PartialEq, Eq)]
 pub struct VersionRecord<'a> {
-    /// What it is.
+    /// Its type.
     pub kind: VersionKind,
     /// Its name.
     pub name: &'a [u8],
     /// Its number, below 32,768.
     pub number: u16,
-    /// Whether a name alone does not take it.
+    /// Whether a name alone does not find it.
     pub is_hidden: bool,
     /// Its flags; a definition with the flag 1 names the file and no version.
     pub flags: u16,
@@ -36,7 +36,7 @@ pub struct VersionRecord<'a> {
 }
 
 impl VersionRecord<'_> {
-    /// Whether it names the version that has its number.
+    /// Returns whether it names the version that has its number.
     pub fn names_version(&self) -> bool {
         match self.kind {
             VersionKind::Definition => self.flags & 1 == 0,
@@ -46,7 +46,7 @@ impl VersionRecord<'_> {
     }
 }
 
-/// The records of a section: an iterator, which ends behind the first refusal.
+/// An iterator over the records of a section, which ends after the first refusal.
 #[derive(Clone, Debug)]
 pub struct VersionRecords<'a> {
     file: &'a [u8],
@@ -59,7 +59,7 @@ impl<'a> VersionRecords<'a> {
         VersionRecords { file, records, ended: false }
     }
 
-    /// A record with its name.
+    /// Returns a record with its name.
     fn named(&self, row: &raw::VersionRecord) -> Result<VersionRecord<'a>, Refused> {
         let strings = raw::Range { at: self.records.strings_at, len: self.records.strings_len };
         let name = name_in(self.file, &strings, row.name.into());

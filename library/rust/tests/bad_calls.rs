@@ -177,7 +177,7 @@ fn each_kind_of_item_is_its_own() {
         Item::table(b"f", 0x2000),
         Item::thread(b"f", 0x2000),
     ];
-    // R_X86_64_PC32, PLT32, GOTPCREL and GOTTPOFF: which of the items each takes, and the cause where it takes none.
+    // R_X86_64_PC32, PLT32, GOTPCREL and GOTTPOFF: which of the items each takes, and the cause if it takes none.
     let types = [
         (2, [true, false, false, false], Cause::Undefined),
         (4, [true, true, false, false], Cause::Undefined),
@@ -266,7 +266,7 @@ fn notes_end_behind_the_first_refusal() {
     assert_eq!(notes.next(), None);
 }
 
-/// A member of an archive: a header of 60 bytes of text, the data, and a byte where their size is odd.
+/// A member of an archive: a header of 60 bytes of text, the data, and one more byte if their size is odd.
 fn member(name: &str, content: &str) -> String {
     let padding = if content.len() % 2 == 1 { "\n" } else { "" };
     format!("{name:<48}{:<10}`\n{content}{padding}", content.len())
@@ -315,7 +315,7 @@ fn headers_are_gone_through() {
     assert_eq!(sections.next(), None);
 }
 
-/// A file with dynamic entries in a segment, and bytes behind them.
+/// A file with dynamic entries in a segment, and bytes after them.
 fn dynamic(entries: &[(u64, u64)], strings: &[u8]) -> Vec<u8> {
     let words = entries.iter().flat_map(|(tag, value)| [tag.to_le_bytes(), value.to_le_bytes()]);
     let mut bytes = segment(2, &words.flatten().collect::<Vec<u8>>());
@@ -379,7 +379,7 @@ fn names_lie_in_any_bytes() {
     assert!(file.name(&beyond, u64::MAX).is_err());
 }
 
-/// The word that a cause has by its name: its parts in small letters, joined by hyphens.
+/// The word of a cause from its name: its parts in lower case, joined by hyphens.
 fn word_of_name(cause: Cause) -> String {
     let mut word = String::new();
     for letter in format!("{cause:?}").chars() {

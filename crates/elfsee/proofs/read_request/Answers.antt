@@ -1,4 +1,4 @@
--- What is told of words ends as those of bad words do, or for want of memory.
+-- What is reported of arguments ends as bad arguments do, or for lack of memory.
 use Rattle.std.proofs.Common.{inl, inr}
 use Rattle.elf_cli.specs.declared.faults.RequestFault.TheVariants.{Memory}
 use Rattle.elfsee.proofs.read_request.Goals as goal

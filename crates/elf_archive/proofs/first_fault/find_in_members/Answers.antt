@@ -1,4 +1,4 @@
--- Each step goes through the next member behind those before it.
+-- Each step visits the next member after those before it.
 use Rattle.std.proofs.Common.{rules, ◌≡◌, ℕ, ◌+◌, length, None, Ok, Err, refl, sym, ◌∙◌, subst, arith}
 use Rattle.std.proofs.lemmas.Result.{err_from_is_err_and}
 use Rattle.elf_model.specs.Prelude.{Member, before_members, header_cost, member_cost, next_member, style_ceiling}

@@ -1,4 +1,5 @@
--- The members before the cursor's have no fault, and what may still be asked for is left for those behind.
+-- The members before the cursor's have no fault, and what may still be read is left for those
+-- after.
 use Rattle.std.proofs.Common.{◌≡◌, ℕ, ◌+◌, ◌-◌, ◌≤◌, List, length, Some}
 use Rattle.elf_model.specs.Prelude.{allowance, before_members}
 use Rattle.elf_source.specs.Prelude.{OutGrows, ReadsUpTo}

@@ -1,4 +1,4 @@
--- The magic string is read first, and the members are listed behind it.
+-- The magic string is read first, and the members are listed after it.
 use Rattle.std.proofs.Common.{◌-◌, length, refl, ap, ◌∙◌, arith}
 use Rattle.std.proofs.lemmas.Result.{err_from_is_err_and}
 use Rattle.elf_model.specs.Prelude.{allowance, before_members, members_cost}

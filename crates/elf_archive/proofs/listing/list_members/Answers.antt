@@ -1,4 +1,4 @@
--- Each step lists the next member behind those before it.
+-- Each step lists the next member after those before it.
 use Rattle.std.proofs.Common.{rules, ◌≡◌, ℕ, ◌+◌, ◌||◌, List, length, None, Some, Ok, Err, refl, sym, ap, ◌∙◌, subst, arith}
 use Rattle.std.proofs.lemmas.Result.{err_from_is_err_and}
 use Rattle.elf_model.specs.Archive.{before_members}

@@ -1,4 +1,4 @@
--- What was listed so far are the members before the cursor's, and what may still be asked for is left for those behind.
+-- The members before the cursor's were listed, and what may still be read is left for those after.
 use Rattle.std.proofs.Common.{◌≡◌, ℕ, ◌+◌, ◌-◌, ◌≤◌, List, length, Some}
 use Rattle.elf_model.specs.Prelude.{allowance, before_members}
 use Rattle.elf_source.specs.Prelude.{OutGrows, ReadsUpTo}

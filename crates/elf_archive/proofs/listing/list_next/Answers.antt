@@ -1,4 +1,4 @@
--- A member's line stands behind those before it, and its listing behind that.
+-- A member's line follows those before it, and its listing after that.
 use Rattle.std.proofs.Common.{rules, ◌≡◌, ℕ, ◌+◌, Ok, Err, None, refl, subst, ◌∙◌, arith}
 use Rattle.std.proofs.lemmas.Result.{err_from_is_err_and}
 use Rattle.elf_model.specs.Prelude.{Member, header_cost, member_cost, style_ceiling}

@@ -1,4 +1,4 @@
--- The line of a member stands before its listing, alone or only where a line follows.
+-- The line of a member is before its listing, alone or only if a line follows.
 use Rattle.std.proofs.Common.{refl, ℕ}
 use Rattle.std.proofs.lemmas.Result.{err_from_is_err_and}
 use Rattle.elf_model.specs.Archive.{Member, is_refused, member_items, member_line, member_listing, told}

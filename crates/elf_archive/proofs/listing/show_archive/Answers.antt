@@ -1,4 +1,4 @@
--- What stopped the listing is told behind its lines.
+-- What stopped the listing is reported after its lines.
 use Rattle.std.proofs.Common.{rules, ◌≡◌, ℕ, ap, sym, ◌∙◌, Ok, Err}
 use Rattle.elf_model.specs.ArchiveCost.{archive_ceiling}
 use Rattle.elf_source.specs.Source.{SourceState}

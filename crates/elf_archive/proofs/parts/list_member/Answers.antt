@@ -1,4 +1,5 @@
--- A member that is an ELF file is listed behind the four bytes that tell it, and its listing is that of a file of its own.
+-- A member that is an ELF file is listed after the four bytes that identify it, and its listing is
+-- that of a file of its own.
 use Rattle.std.proofs.Common.{rules, ◌≡◌, true, false, refl, ap, ◌∙◌, arith}
 use Rattle.std.proofs.lemmas.Result.{err_from_is_err_and}
 use Rattle.elf_model.specs.Prelude.{bytes_in, is_elf, listing_cost, lists_members, style_ceiling}

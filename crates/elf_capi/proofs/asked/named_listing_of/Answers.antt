@@ -1,4 +1,4 @@
--- The same bytes ask for a listing of the rows of some names as for one of every row.
+-- The same bytes request a listing of the rows of some names as one of every row.
 use Rattle.std.proofs.Common.{ap}
 use Rattle.elf_options.specs.Prelude.{named_style, texts_of}
 use Rattle.elf_capi.proofs.AskedLaws.{asks_named, every_row, no_names, no_part}

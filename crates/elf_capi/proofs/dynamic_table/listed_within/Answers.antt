@@ -1,4 +1,4 @@
--- The first entry that is not looked at is one of the table's.
+-- The first entry that is not read is one of the table's.
 use Rattle.std.proofs.Common.{arith}
 use Rattle.elf_capi.proofs.ListedLaws.{count_fitting}
 use Rattle.elf_capi.proofs.dynamic_table.listed_within.Goals as goal

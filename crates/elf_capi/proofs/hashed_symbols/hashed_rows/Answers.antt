@@ -1,4 +1,4 @@
--- What a lookup is made in, the counts of its table, and what the words of that tell.
+-- The lookup tables, the counts of the hash table, and what its words give.
 use Rattle.std.proofs.Common.{refl, ap, arith}
 use Rattle.std.proofs.lemmas.Result.{err_from_is_err_and}
 use Rattle.elf_hash.specs.declared.place.HashTableLocation.{HashTableLocation}

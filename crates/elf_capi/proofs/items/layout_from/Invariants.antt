@@ -1,4 +1,4 @@
--- The items that are left are put behind the layout so far.
+-- The remaining items are added after the layout so far.
 use Rattle.std.proofs.Common.{length, ◌-◌, ◌≤◌, drop}
 use Rattle.elf_model.specs.Placing.{Layout, no_items}
 use Rattle.elf_capi.specs.Items.{LaysItems}

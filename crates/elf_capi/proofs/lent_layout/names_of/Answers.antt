@@ -1,4 +1,4 @@
--- An item that does not follow the one before it cannot be lent.
+-- An item that does not follow the one before it cannot be borrowed.
 use Rattle.elf_capi.proofs.LackLaws.{name_follows}
 use Rattle.elf_capi.proofs.lent_layout.names_of.Goals as goal
 

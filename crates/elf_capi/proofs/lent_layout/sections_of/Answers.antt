@@ -1,4 +1,4 @@
--- An item that does not follow the one before it cannot be lent.
+-- An item that does not follow the one before it cannot be borrowed.
 use Rattle.std.proofs.Common.{nat_cmp}
 use Rattle.elf_layout.specs.Lent.{borrowed_index}
 use Rattle.elf_capi.proofs.LackLaws.{each_follows}

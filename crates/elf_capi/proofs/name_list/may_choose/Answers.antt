@@ -1,4 +1,4 @@
--- Names may be chosen by where each may stand at its place.
+-- Names may be selected by if each is allowed at its index.
 use Rattle.std.proofs.Common.{arith}
 use Rattle.elf_capi.proofs.NameLaws.{all_stand, each_stands, stand_more}
 use Rattle.elf_capi.proofs.name_list.may_choose.Goals as goal

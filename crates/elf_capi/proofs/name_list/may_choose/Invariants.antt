@@ -1,4 +1,4 @@
--- Each name before this one may stand there.
+-- Each name before this one is allowed.
 use Rattle.std.proofs.Common.{length, ℕ, ◌-◌, ◌<◌, ◌≤◌}
 use Rattle.elf_capi.specs.Asked.{IsLendableNameAt}
 use Rattle.elf_capi.proofs.name_list.may_choose.Given as goal

@@ -1,4 +1,4 @@
--- A name may stand where it can be looked for, and is not below the one before it.
+-- A name is allowed if it can be looked up, and is not below the one before it.
 use Rattle.std.proofs.Common.{arith}
 use Rattle.elf_capi.proofs.NameLaws.{no_name_stands, stands_by}
 use Rattle.elf_capi.proofs.name_list.may_stand.Goals as goal

@@ -1,4 +1,4 @@
--- What is told is what the layout lacks, or nothing.
+-- What is reported is what the layout lacks, or nothing.
 use Rattle.std.proofs.Common.{rules, ◌≡◌, ◌-◌, Some, None, Ok, Err, inl, inr, option_map, ap, length, subst, ◌∙◌, arith}
 use Rattle.elf_source.specs.Source.{SourceState, SetsLimit}
 use Rattle.elf_table.specs.declared.fault.Fault.TheVariants.{Refused as Refuses}

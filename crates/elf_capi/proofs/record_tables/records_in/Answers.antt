@@ -1,4 +1,4 @@
--- All records of the section are left where its table passes its checks.
+-- All records of the section are left if its table passes its checks.
 use Rattle.std.proofs.Common.{◌≡◌, ◌<◌, List, ℕ, None, Some, sym, subst, ◌∙◌, arith}
 use Rattle.elf_model.specs.Prelude.{e_shnum, section_at}
 use Rattle.elf_model.specs.declared.versions.VersionKind.{VersionKind}

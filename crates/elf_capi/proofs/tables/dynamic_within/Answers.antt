@@ -1,4 +1,4 @@
--- More entries are listed than may be looked at.
+-- More entries are listed than may be read.
 use Rattle.std.proofs.Common.{◌≡◌, ◌<◌, true, sym, ◌∙◌, arith}
 use Rattle.elf_model.specs.Records.{e_shnum, section_at}
 use Rattle.elf_capi.specs.Prelude.{holds}

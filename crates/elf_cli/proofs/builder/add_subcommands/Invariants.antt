@@ -3,6 +3,6 @@ use Rattle.clap.specs.Words.{app_of}
 use Rattle.elf_cli.specs.Described.{add_subcommands}
 use Rattle.elf_cli.proofs.builder.add_subcommands.Given as goal
 
--- the rest of the commands makes of the command so far what all of them make of the first
+-- the remaining commands add to the command so far what all of them add to the first
 abbrev pub invariant-loop-one : goal.invariant-loop-one
 invariant-loop-one l = add_subcommands l.part (app_of l.whole) (drop l.one-index l.below) ≡ add_subcommands l.part (app_of l.fn.command) l.below

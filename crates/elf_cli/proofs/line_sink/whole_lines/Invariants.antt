@@ -1,4 +1,4 @@
--- No line ends behind the place that was come to.
+-- No line ends after the place reached.
 use Rattle.std.proofs.Common.{◌≡◌, ◌≤◌, length}
 use Rattle.elf_cli.specs.Lines.{NoLineFrom}
 use Rattle.elf_cli.proofs.line_sink.whole_lines.Given as goal

@@ -1,4 +1,4 @@
--- The file header's checks stand before all, and its line before what is loaded.
+-- The file header's checks come first, and its line before what is loaded.
 use Rattle.elf_options.specs.Permitted.{style_of}
 use Rattle.elf_model.specs.Prelude.{known_parts, load_items, style_ceiling, viewed as view_of}
 use Rattle.std.proofs.Common.{◌≡◌, ℕ, Ok, Err, sym, ap, arith, ◌∙◌}
@@ -11,7 +11,7 @@ use Rattle.elf_source.proofs.GrowthLaws.{grows_not, grows_then}
 use Rattle.elf_table.proofs.LoadLaws.{header_most}
 use Rattle.elf_listing.proofs.show_file.list.Goals as goal
 
--- what is answered is no fault
+-- what is returned is no fault
 no_fault : {X E : Type 0} {x : X} {fault : E} → Ok x ≡ Err fault → ⊥
 no_fault same = cc
 

@@ -1,4 +1,4 @@
--- The load's checks stand before the tables, and what is asked for is added up.
+-- The load's checks come before the tables, and what is read is added up.
 use Rattle.elf_options.specs.Permitted.{style_of}
 use Rattle.std.proofs.Common.{◌≡◌, true, false, sym, ap, arith, ◌∙◌}
 use Rattle.std.proofs.lemmas.Bool.{false≢true}

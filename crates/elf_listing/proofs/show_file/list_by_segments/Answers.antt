@@ -1,4 +1,4 @@
--- The file as it is, or with what its header tells of section headers hidden meanwhile.
+-- The file as it is, or with the section header fields of its header masked meanwhile.
 use Rattle.std.proofs.Common.{List, ℕ, refl, sym}
 use Rattle.elf_model.specs.Style.{without_sections}
 use Rattle.elf_model.proofs.StyleLemmas.{view_tells_of_none}

@@ -1,4 +1,4 @@
--- What stopped the listing is told behind its lines.
+-- What stopped the listing is reported after its lines.
 use Rattle.std.proofs.Common.{ℕ, ap, sym, ◌∙◌}
 use Rattle.elf_source.specs.Source.{SourceState}
 use Rattle.elf_model.specs.Cost.{style_ceiling}

@@ -1,4 +1,4 @@
--- The program headers are checked where the style goes by them, and else not.
+-- The program headers are checked if the style uses them, and otherwise not.
 use Rattle.std.proofs.Common.{sym, ◌∙◌}
 use Rattle.elf_options.specs.Permitted.{style_of}
 use Rattle.elf_listing.proofs.ViewedLaws.{all_viewed, checked, unchecked}

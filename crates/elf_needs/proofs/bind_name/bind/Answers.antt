@@ -1,4 +1,5 @@
--- One file more: it answers, or its lookup fails, or the name isn't in it; and no file is left.
+-- One more file: it defines the name, or its lookup fails, or the name is not in it; and no file is
+-- left.
 use Rattle.std.proofs.Common.{refl, arith}
 use Rattle.elf_options.specs.Wants.{query_of}
 use Rattle.elf_needs.proofs.BindLaws.{binds_fault, binds_found, binds_more, binds_none}

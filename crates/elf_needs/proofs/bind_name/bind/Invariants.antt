@@ -1,4 +1,4 @@
--- The objects before this one were looked in, and none of them answers.
+-- The objects before this one were searched, and none of them defines the name.
 use Rattle.std.proofs.Common.{◌≡◌, ◌≤◌, length}
 use Rattle.elf_needs.proofs.BindLaws.{BindsSoFar}
 use Rattle.elf_options.specs.Wants.{query_of}

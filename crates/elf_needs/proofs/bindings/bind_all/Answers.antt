@@ -1,4 +1,4 @@
--- One object more, whose lines are all written, or not; and no object is left.
+-- One more object, whose lines are all written, or not; and no object is left.
 use Rattle.std.proofs.Common.{◌<◌, ◌+◌, [], drop, get_or, length, refl, sym, ◌∙◌, arith}
 use Rattle.std.proofs.lemmas.Result.{err_from_is_err_and}
 use Rattle.elf_table.proofs.Absent.{none-of}

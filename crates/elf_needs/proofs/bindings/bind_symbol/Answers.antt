@@ -1,4 +1,4 @@
--- The symbol asks for nothing, its line is written, or the line of a fault.
+-- The symbol references nothing, its line is written, or the line of a fault.
 use Rattle.std.proofs.Common.{[], get_or}
 use Rattle.elf_needs.specs.Bound.{IsBudgetShort, bound_among}
 use Rattle.elf_model.specs.BoundSymbols.{bound_item}

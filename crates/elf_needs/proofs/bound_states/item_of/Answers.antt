@@ -1,4 +1,4 @@
--- The symbol is read, and what binds it is looked for.
+-- The symbol is read, and what binds it is looked up.
 use Rattle.std.proofs.Common.{true, [], None, get_or, ap, ◌∙◌, arith}
 use Rattle.std.proofs.lemmas.Result.{err_from_is_err_and}
 use Rattle.elf_table.proofs.Absent.{none-of}

@@ -1,4 +1,4 @@
--- The object of a name is found or not, and looked in.
+-- The object with a name is found or not, and searched.
 use Rattle.std.proofs.Common.{◌<◌, [], length, get_or, Ok, sym, ap, ◌∙◌, arith}
 use Rattle.elf_table.proofs.Absent.{none-of}
 use Rattle.elf_model.specs.LoaderScope.{lookup_tables_of}

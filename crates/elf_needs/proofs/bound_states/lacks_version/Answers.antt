@@ -1,4 +1,4 @@
--- The needed file's name is read, and its object looked in.
+-- The needed file's name is read, and its object searched.
 use Rattle.std.proofs.Common.{[], get_or, ap, ◌∙◌, arith}
 use Rattle.std.proofs.lemmas.Result.{err_from_is_err_and}
 use Rattle.elf_table.proofs.Absent.{none-of}

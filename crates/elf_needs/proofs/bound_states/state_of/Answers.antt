@@ -1,4 +1,5 @@
--- The lookup over all objects answers, or fails, or the object of the version's file is asked.
+-- The lookup over all objects has a result, or fails, or the object of the version's file is
+-- searched.
 use Rattle.std.proofs.Common.{[], get_or}
 use Rattle.std.proofs.lemmas.Result.{err_from_is_err_and}
 use Rattle.elf_needs.specs.Prelude.{asked_if, bound_among}

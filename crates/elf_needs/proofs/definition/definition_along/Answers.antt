@@ -1,4 +1,4 @@
--- The walk, and what is answered by it.
+-- The walk, and its result.
 use Rattle.std.proofs.Common.{◌/◌, refl, ap, arith}
 use Rattle.std.proofs.lemmas.Result.{err_from_is_err_and}
 use Rattle.elf_table.proofs.LedgerLaws.{CallDid-as}

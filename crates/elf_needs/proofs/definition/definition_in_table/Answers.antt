@@ -1,4 +1,4 @@
--- The numbers of the version that is asked for, and the walk.
+-- The indices of the wanted version, and the walk.
 use Rattle.std.proofs.Common.{arith}
 use Rattle.std.proofs.lemmas.Result.{err_from_is_err_and}
 use Rattle.elf_table.proofs.LedgerLaws.{CallDid-as, CallDid-then}

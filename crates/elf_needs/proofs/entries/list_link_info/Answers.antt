@@ -1,4 +1,4 @@
--- Each entry is the file's, and what it tells is kept behind what those before it did.
+-- Each entry is the file's, and what it gives is stored after what those before it did.
 use Rattle.std.proofs.Common.{◌≡◌, ℕ, ◌+◌, ◌*◌, ap, sym, ◌∙◌, arith}
 use Rattle.std.proofs.lemmas.Result.{err_from_is_err_and}
 use Rattle.elf_model.specs.Bytes.{slice}

@@ -1,4 +1,4 @@
--- The entries that are gone by are kept, and those that are left tell the rest.
+-- The entries that were processed are stored, and those that are left give the rest.
 use Rattle.std.proofs.Common.{◌≡◌, ◌+◌, ◌*◌, ◌≤◌, ℕ, List, None, Some}
 use Rattle.elf_model.specs.Prelude.{dynamic_count, linked_from, no_link_info}
 use Rattle.elf_source.specs.Source.{ReadsUpTo}

@@ -1,4 +1,5 @@
--- An entry without a text, one whose strings or text are refused, one whose text is kept, and one that is a need too.
+-- An entry without a text, one whose strings or text are refused, one whose text is stored, and one
+-- that is a need too.
 use Rattle.std.proofs.Common.{sym, ◌∙◌, arith, ap}
 use Rattle.std.proofs.lemmas.Result.{err_from_is_err_and}
 use Rattle.elf_table.proofs.LedgerLaws.{CallDid-as, CallDid-none, CallDid-stop}

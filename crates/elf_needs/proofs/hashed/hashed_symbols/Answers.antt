@@ -1,4 +1,4 @@
--- The counts of the table, and what its words tell.
+-- The counts of the table, and what its words give.
 use Rattle.std.proofs.Common.{◌≡◌, ap, arith}
 use Rattle.std.proofs.lemmas.Result.{err_from_is_err_and}
 use Rattle.elf_hash.specs.Prelude.{place_of_table}

@@ -1,4 +1,4 @@
--- What a lookup is made in, if there is a hash table.
+-- The lookup tables, if there is a hash table.
 use Rattle.std.proofs.Common.{arith}
 use Rattle.elf_table.proofs.LedgerLaws.{CallDid-as}
 use Rattle.elf_needs.proofs.ReadingLaws.{lookup_passes, passed_did, passed_tells}

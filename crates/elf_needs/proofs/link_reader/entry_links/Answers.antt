@@ -1,4 +1,4 @@
--- The first segment of dynamic entries, where these have their strings, and what they tell.
+-- The first segment of dynamic entries, where these have their strings, and what they give.
 use Rattle.std.proofs.Common.{ℕ, ◌/◌, ap, sym, ◌∙◌, arith}
 use Rattle.std.proofs.lemmas.Result.{err_from_is_err_and}
 use Rattle.elf_table.proofs.Absent.{none-of}

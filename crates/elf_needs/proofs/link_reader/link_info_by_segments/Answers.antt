@@ -1,4 +1,4 @@
--- What a lookup is made in, then the entries.
+-- The lookup tables, then the entries.
 use Rattle.std.proofs.Common.{ℕ, ◌/◌, ap, arith}
 use Rattle.std.proofs.lemmas.Result.{err_from_is_err_and}
 use Rattle.elf_table.proofs.LedgerLaws.{CallDid-as, CallDid-then}

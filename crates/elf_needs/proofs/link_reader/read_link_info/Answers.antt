@@ -1,4 +1,4 @@
--- What the file header tells of section headers is hidden meanwhile.
+-- The section header fields of the file header are masked meanwhile.
 use Rattle.std.proofs.Common.{sym}
 use Rattle.elf_model.specs.Links.{links_ceiling}
 use Rattle.elf_source.specs.Source.{MasksSectionHeaders}

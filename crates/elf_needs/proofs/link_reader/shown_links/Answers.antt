@@ -1,4 +1,4 @@
--- The load, and what stands behind.
+-- The load, and what follows.
 use Rattle.std.proofs.Common.{ℕ, ◌/◌, ap, arith}
 use Rattle.std.proofs.lemmas.Result.{err_from_is_err_and}
 use Rattle.elf_table.proofs.LedgerLaws.{CallDid-as, CallDid-then}

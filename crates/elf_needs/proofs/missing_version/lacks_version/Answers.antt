@@ -1,4 +1,4 @@
--- No words, no definitions, or the definitions are compared.
+-- No entries, no definitions, or the definitions are compared.
 use Rattle.std.proofs.Common.{arith}
 use Rattle.std.proofs.lemmas.Result.{err_from_is_err_and}
 use Rattle.elf_table.proofs.LedgerLaws.{CallDid-as, CallDid-none}

@@ -1,4 +1,4 @@
--- What the objects that are gone by name, with what those that are left do, is all.
+-- What the objects that were processed give, with what those that are left do, is all.
 use Rattle.std.proofs.Common.{◌≡◌, ◌≤◌, ◌++◌, length, drop}
 use Rattle.elf_needs.specs.Prelude.{dirs_in, needers_of, rpath_dirs}
 use Rattle.elf_needs.proofs.needers.gather_rpaths.Given as goal

@@ -1,4 +1,4 @@
--- What was put so far, with what is left of the text, comes to the whole.
+-- What was written so far, with what is left of the text, is the whole.
 use Rattle.std.proofs.Common.{length, drop, ◌-◌, ◌≤◌}
 use Rattle.elf_needs.specs.Searching.{expanded}
 use Rattle.elf_needs.proofs.TokenLaws.{IsWalkAlive}

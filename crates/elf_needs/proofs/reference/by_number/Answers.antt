@@ -1,4 +1,4 @@
--- The record of the number is found, and its name is read.
+-- The record with the index is found, and its name is read.
 use Rattle.std.proofs.Common.{[], arith}
 use Rattle.std.proofs.lemmas.Result.{err_from_is_err_and}
 use Rattle.elf_table.proofs.Absent.{none-of}

@@ -1,4 +1,4 @@
--- The word of the symbol is read, where there is one, and the version by its number.
+-- The entry of the symbol is read, if there is one, and the version with its index.
 use Rattle.std.proofs.Common.{◌∙◌, arith}
 use Rattle.std.proofs.lemmas.Result.{err_from_is_err_and}
 use Rattle.elf_table.proofs.Absent.{none-of}

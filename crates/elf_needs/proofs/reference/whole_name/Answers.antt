@@ -1,4 +1,4 @@
--- The name is read, and refused where it is longer.
+-- The name is read, and refused if it is longer.
 use Rattle.std.proofs.Common.{arith}
 use Rattle.std.proofs.lemmas.Result.{err_from_is_err_and}
 use Rattle.elf_table.proofs.LedgerLaws.{CallDid-as, CallDid-of, CallDid-stop}

@@ -15,8 +15,8 @@ returns-then-has_no_bytes-clause-held c = λ bytes belongs.
     let plain : is_compressed bytes at ≡ false = sym (c.is_compressed.ensures bytes at stands) ∙ c.if-is_compressed.false in
     holds_none bytes c.args.section relocatable machine index plain (sym (c.has_no_bytes.ensures bytes at stands) ∙ c.if-has_no_bytes.true)
 
-pub returns-then-ends_outside-clause-held : goal.returns-then-ends_outside-clause-held
-returns-then-ends_outside-clause-held c = λ bytes belongs.
+pub returns-then-is_out_of_bounds-clause-held : goal.returns-then-is_out_of_bounds-clause-held
+returns-then-is_out_of_bounds-clause-held c = λ bytes belongs.
     let at = section_at bytes c.args.section in
     let stands = c.section-found.ensures.stands bytes belongs in
     let relocatable : not (e_type bytes == ET_REL) ≡ false = grind (arith, nat_tests) in
@@ -25,8 +25,8 @@ returns-then-ends_outside-clause-held c = λ bytes belongs.
     let plain : is_compressed bytes at ≡ false = sym (c.is_compressed.ensures bytes at stands) ∙ c.if-is_compressed.false in
     let some = sym (c.has_no_bytes.ensures bytes at stands) ∙ c.if-has_no_bytes.false in
     let outside : is_section_outside bytes at ≡ true = grind (arith, nat_tests) in
-    let here : at ≡ c.place-then-ends_outside.result = grind arith in
-    rw c.refused-then-ends_outside.ensures (rw here at (lies_outside bytes c.args.section relocatable machine index plain some outside))
+    let here : at ≡ c.place-then-is_out_of_bounds.result = grind arith in
+    rw c.refused-then-is_out_of_bounds.ensures (rw here at (lies_outside bytes c.args.section relocatable machine index plain some outside))
 
 pub returns-clause-held : goal.returns-clause-held
 returns-clause-held c = λ bytes belongs.

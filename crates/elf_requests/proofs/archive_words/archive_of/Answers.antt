@@ -1,4 +1,4 @@
--- Where no archive is asked for, nothing is.
+-- If no archive is requested, nothing is.
 use Rattle.std.proofs.Common.{refl}
 use Rattle.clap.specs.Walk.{rows_of}
 use Rattle.clap.specs.Words.{found_of}

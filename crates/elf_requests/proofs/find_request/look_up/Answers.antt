@@ -1,4 +1,4 @@
--- What the lookup gives is the answer, or the budget ends it.
+-- The lookup's result is the answer, or the budget ends it.
 use Rattle.std.proofs.Common.{length, rules, ◌≡◌, Ok, Err}
 use Rattle.elf_model.specs.Prelude.{find_answer, find_cost, looked}
 use Rattle.elf_hash.specs.Lookups.{find_bytes}

@@ -1,4 +1,4 @@
--- The lines are written one behind the other.
+-- The lines are written one after the other.
 use Rattle.std.proofs.lemmas.Result.{err_from_is_err_and}
 use Rattle.elf_source.proofs.GrowthLaws.{grows_put, grows_then}
 use Rattle.elf_source.proofs.PutsLaws.{SinkTakesPrefix-more}

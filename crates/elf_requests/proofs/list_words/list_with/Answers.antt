@@ -1,4 +1,4 @@
--- Without a path and a list nothing is asked for.
+-- Without a path and a list nothing is requested.
 use Rattle.std.proofs.Common.{Ok, ap}
 use Rattle.clap.specs.Walk.{rows_of}
 use Rattle.clap.specs.Words.{found_of}

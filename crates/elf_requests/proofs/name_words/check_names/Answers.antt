@@ -1,4 +1,4 @@
--- The words that are looked at are those of the option.
+-- The arguments that are checked are those of the option.
 use Rattle.std.proofs.Common.{ap, subst, ◌∙◌, ◌≤◌, [], codes, length, unwrap_or, IfOk, IfErr}
 use Rattle.clap.specs.Walk.{rows_of}
 use Rattle.clap.specs.Words.{found_of}

@@ -1,4 +1,4 @@
--- Where no needs are asked for, nothing is.
+-- If no needs are requested, nothing is.
 use Rattle.std.proofs.Common.{refl}
 use Rattle.clap.specs.Walk.{rows_of}
 use Rattle.clap.specs.Words.{found_of}

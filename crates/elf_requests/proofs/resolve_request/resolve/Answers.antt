@@ -1,4 +1,4 @@
--- What the lookup gives is the answer, or the budget ends it.
+-- The lookup's result is the answer, or the budget ends it.
 use Rattle.std.proofs.Common.{rules, ◌≡◌, ℕ, List, Ok, Err, sym, ap, subst}
 use Rattle.elf_model.specs.Prelude.{SymbolQuery, VersionQuery, loader_answer, loader_ceiling, loader_cost, loader_looked, looked_at, parse_query}
 use Rattle.elf_loader.specs.Lookups.{AnswersLoaderLookup, AreShort}

@@ -1,4 +1,4 @@
--- The symbol's line, and behind it that of its version.
+-- The symbol's line, and after it that of its version.
 use Rattle.std.proofs.Common.{◌≡◌, false, subst}
 use Rattle.elf_model.specs.Prelude.{named_line}
 use Rattle.elf_model.specs.Names.{Whole}

@@ -1,4 +1,4 @@
--- What the task is decides which call's promise is taken.
+-- The task decides which call's contract is used.
 use Rattle.elf_requests.proofs.run_request.run.Goals as goal
 
 pub returns-in-Show-clause-runs : goal.returns-in-Show-clause-runs

@@ -3,7 +3,7 @@ use Rattle.elf_options.specs.Prelude.{parsed_trait_word, required_words}
 use Rattle.elf_requests.specs.AskedTraits.{pieces}
 use Rattle.elf_requests.proofs.trait_words.required_in.Given as goal
 
--- the words so far, and what the pieces of the rest spell, are what all pieces spell
+-- the traits so far, and those that the pieces of the rest name, are those that all pieces name
 abbrev pub invariant-loop-piece : goal.invariant-loop-piece
 invariant-loop-piece l =
     (map Some (required_words l.required.items) ++ map parsed_trait_word (pieces l.rest) ≡ map parsed_trait_word (pieces l.fn.text)) × IsUtf8 l.rest

@@ -1,4 +1,4 @@
--- What `apply` asks for is of one file.
+-- What `apply` requests is of one file.
 use Rattle.std.proofs.Common.{Some, Ok, subst, codes}
 use Rattle.clap.specs.Walk.{rows_of}
 use Rattle.clap.specs.Words.{found_of}

@@ -1,4 +1,4 @@
--- What another command asks for is of one file.
+-- What another command requests is of one file.
 use Rattle.std.proofs.Common.{Some, Ok, subst}
 use Rattle.clap.specs.Walk.{rows_of}
 use Rattle.clap.specs.Words.{found_of}

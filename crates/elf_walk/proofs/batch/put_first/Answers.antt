@@ -1,4 +1,4 @@
--- A name more, where those before it are not enough.
+-- One more name, if those before it are not enough.
 use Rattle.std.proofs.Common.{rules, arith, sym, subst}
 use Rattle.std.proofs.lemmas.Grind.{common_steps}
 use Rattle.elf_walk.specs.Held.{IsWithinKept}

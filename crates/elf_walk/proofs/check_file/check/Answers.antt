@@ -1,4 +1,4 @@
--- The state is that of the fault that the listing answers.
+-- The state is that of the fault that the listing returns.
 use Rattle.std.proofs.Common.{rules, arith, ◌≡◌, false, refl, Err}
 use Rattle.elf_options.specs.Permitted.{style_of}
 use Rattle.elf_table.specs.declared.run_fault.RunFault.TheVariants.{Refused, Source, Out}

@@ -1,4 +1,4 @@
--- The check that the rule tells.
+-- The check that the rule specifies.
 use Rattle.elf_walk.proofs.checks.find_state.Goals as goal
 
 pub returns-then-rule : goal.returns-then-rule

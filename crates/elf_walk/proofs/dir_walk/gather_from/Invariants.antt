@@ -1,4 +1,4 @@
--- What came was put.
+-- What was read was put.
 use Rattle.elf_walk.proofs.GatherLaws.{GatheredSoFar}
 use Rattle.elf_walk.proofs.dir_walk.gather_from.Given as goal
 

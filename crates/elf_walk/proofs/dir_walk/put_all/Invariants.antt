@@ -1,4 +1,4 @@
--- Each entry before the place is put, or counted, or dots.
+-- Each entry before the place is put, or counted, or is `.` or `..`.
 use Rattle.std.proofs.Common.{◌≡◌, ◌-◌, length}
 use Rattle.elf_walk.proofs.GatherLaws.{PutSoFar}
 use Rattle.elf_walk.proofs.dir_walk.put_all.Given as goal

@@ -1,4 +1,4 @@
--- What the search for traits answered is found within the budget.
+-- The result of the search for traits is found within the budget.
 use Rattle.std.proofs.Common.{◌≡◌, Err, ap, arith, rules, ◌∙◌}
 use Rattle.elf_source.specs.Source.{SourceState}
 use Rattle.elf_table.specs.declared.fault.Fault.TheVariants.{Refused}

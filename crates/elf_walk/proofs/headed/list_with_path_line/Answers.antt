@@ -1,4 +1,4 @@
--- The line of a path, and the listing behind it.
+-- The line of a path, and the listing after it.
 use Rattle.std.proofs.Common.{rules, ◌≡◌, true, false, ap, refl, ◌∙◌}
 use Rattle.std.specs.Prelude.{map}
 use Rattle.std.proofs.lemmas.Result.{err_from_is_err_and}

@@ -1,4 +1,4 @@
--- What is told of the source is told of the file.
+-- What is reported of the source is reported of the file.
 use Rattle.std.proofs.Common.{inr}
 use Rattle.elf_walk.proofs.open_file.visit_file.Goals as goal
 

@@ -1,4 +1,4 @@
--- A range of all bytes of a source, of which nothing was asked.
+-- A range of all bytes of a source, from which nothing was requested.
 use Rattle.std.proofs.Common.{arith, subst, sym}
 use Rattle.elf_source.specs.Ranges.{IsWholeRange}
 use Rattle.elf_walk.proofs.open_file.whole.Goals as goal

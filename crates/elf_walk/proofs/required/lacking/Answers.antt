@@ -1,4 +1,4 @@
--- The words before one that is lacking are not.
+-- The required traits before one that is lacking are not lacking.
 use Rattle.std.proofs.Common.{◌∙◌, ◌+◌, arith, sym}
 use Rattle.elf_options.specs.Required.{required_words}
 use Rattle.elf_walk.proofs.LackingLaws.{had, lacked, of_program}

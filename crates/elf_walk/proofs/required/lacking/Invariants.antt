@@ -1,4 +1,4 @@
--- The words so far are not lacking: the answer is that of those that are left.
+-- The required traits so far are not lacking: the result is that of those that are left.
 use Rattle.std.proofs.Common.{◌≡◌, drop}
 use Rattle.elf_model.specs.TraitWords.{first_lacking}
 use Rattle.elf_options.specs.Required.{required_words}

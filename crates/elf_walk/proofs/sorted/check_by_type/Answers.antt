@@ -1,4 +1,4 @@
--- The state of a file by its sort.
+-- The state of a file by its type.
 use Rattle.std.proofs.Common.{refl, arith}
 use Rattle.elf_walk.proofs.FileMagicLaws.{asks_as_archive, asks_nothing}
 use Rattle.elf_walk.proofs.sorted.check_by_type.Goals as goal

@@ -1,4 +1,4 @@
--- The state of a file behind the bytes that tell its sort.
+-- The state of a file after the magic bytes that identify its type.
 use Rattle.std.proofs.Common.{ℕ, true, List, Option, Some, refl, sym, ap, subst, ◌∙◌, arith}
 use Rattle.elf_model.specs.declared.states.FileMagic.{FileMagic}
 use Rattle.elf_options.specs.Permitted.{style_of}

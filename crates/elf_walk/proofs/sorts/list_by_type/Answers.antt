@@ -1,4 +1,4 @@
--- A file's listing by its sort.
+-- A file's listing by its type.
 use Rattle.std.proofs.Common.{Bool, subst}
 use Rattle.std.proofs.lemmas.Result.{err_from_is_err_and}
 use Rattle.elf_archive.specs.Listed.{ReportsArchive}

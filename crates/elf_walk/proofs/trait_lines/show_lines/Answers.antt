@@ -1,4 +1,4 @@
--- At a fault of the second line a front of both was written.
+-- At a fault of the second line a prefix of both was written.
 use Rattle.std.proofs.Common.{subst, sym, ◌∙◌}
 use Rattle.elf_source.specs.Output.{SinkTakesPrefix}
 use Rattle.elf_source.proofs.PutsLaws.{SinkTakesPrefix-then}

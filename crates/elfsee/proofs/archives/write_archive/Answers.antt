@@ -1,4 +1,5 @@
--- A new source over all bytes of an archive is whole, and hides nothing; what its listing did ends the program.
+-- A new source over all bytes of an archive is whole, and hides nothing; what its listing did ends
+-- the program.
 use Rattle.std.proofs.Common.{◌∙◌, ap, sym}
 use Rattle.std.specs.Io.Buffered.{writer_contents}
 use Rattle.elfsee.proofs.EndLaws.{all_below, archive_runs}

@@ -1,4 +1,4 @@
--- What the arguments permit and lend is what the call is made with.
+-- What the arguments allow and provide is what the call is made with.
 use Rattle.std.proofs.Common.{◌≡◌, length, ap, ◌∙◌}
 use Rattle.elf_table.specs.Store.{StoreState}
 use Rattle.elf_capi.specs.Limits.{headers_of}

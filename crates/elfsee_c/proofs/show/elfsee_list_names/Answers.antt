@@ -1,4 +1,4 @@
--- What was listed is told as numbers.
+-- What was listed is returned as numbers.
 use Rattle.std.proofs.Common.{Some, length}
 use Rattle.elf_capi.specs.Prelude.{AreCaps, AsksListing, parts_in, style_in}
 use Rattle.elfsee_c.proofs.AskedLaws.{told_listing}

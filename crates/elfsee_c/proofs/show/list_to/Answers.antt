@@ -1,4 +1,4 @@
--- What is asked for is listed; else nothing is.
+-- What is requested is listed; otherwise nothing is.
 use Rattle.std.proofs.Common.{length, subst}
 use Rattle.elf_capi.specs.Asked.{GivesListing}
 use Rattle.elfsee_c.proofs.AskedLaws.{costs_asked, shows_asked}

@@ -1,4 +1,4 @@
--- What was opened is told, and its entries count.
+-- What was opened is returned, and its entries count.
 use Rattle.std.proofs.Common.{ap, Some, ◌∙◌, ◌*◌}
 use Rattle.elf_capi.specs.Within.{asked_more, entries_looked}
 use Rattle.elfsee_c.proofs.within.elfsee_segment_dynamic_within.Goals as goal

@@ -1,4 +1,4 @@
--- The section that is linked to holds symbols, and what they answer is the answer.
+-- The linked section holds symbols, and their result is the result.
 use Rattle.std.proofs.Common.{sym, ◌∙◌, arith}
 use Rattle.std.proofs.lemmas.Result.{err_from_is_err_and}
 use Rattle.elf_model.specs.Records.{section_at}

@@ -1,4 +1,4 @@
--- The name is told by how it ended.
+-- The name is reported by how it ended.
 use Rattle.std.proofs.Common.{length, refl}
 use Rattle.elf_capi.proofs.LackLaws.{tells_symbol}
 use Rattle.elf_capi.specs.declared.missing.CallerMissing.{CallerMissing}

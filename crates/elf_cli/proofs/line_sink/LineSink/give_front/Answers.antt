@@ -1,4 +1,4 @@
--- A front of what is kept goes out, and the rest moves up.
+-- A prefix of the buffer is written, and the rest moves up.
 use Rattle.std.proofs.Common.{rules, ◌≡◌, ◌≤◌, sym, drop, length, take, arith}
 use Rattle.std.proofs.lemmas.List.{length-take-le}
 use Rattle.elf_cli.proofs.LineLaws.{front_kept, given_front, moved_up}

@@ -1,4 +1,4 @@
--- Each header is shown behind those before it.
+-- Each header is shown after those before it.
 use Rattle.elf_options.specs.Prelude.{style_of}
 use Rattle.elf_options.specs.declared.caps.ListingStyle.{ListingStyle}
 use Rattle.std.proofs.Common.{◌≡◌, ℕ, List, refl, arith}
@@ -12,7 +12,7 @@ use Rattle.elf_listing.proofs.LoopLaws.{rows_none}
 use Rattle.elf_listing.proofs.PartsLaws.{headers_stopped, headers_then}
 use Rattle.elf_listing.proofs.listing.Listing.headers.Goals as goal
 
--- what a header asks for, and its items
+-- what a header reads, and its items
 abbrev costs : Part → SectionView → ListingStyle → ℕ → ℕ
 costs part f style = (listed_by part).cost f.loaded f.store.now style.cap.bytes
 

@@ -1,4 +1,4 @@
--- What was shown so far are the headers before the index.
+-- The headers before the index were shown.
 use Rattle.elf_options.specs.Permitted.{style_of}
 use Rattle.std.proofs.Common.{◌≡◌, ℕ, ◌-◌, ◌≤◌, List, Ok}
 use Rattle.elf_model.specs.Prelude.{each, sum_over}

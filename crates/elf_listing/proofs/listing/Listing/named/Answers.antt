@@ -1,4 +1,4 @@
--- As the style has it.
+-- As the style says.
 use Rattle.std.proofs.Common.{true, false}
 use Rattle.elf_listing.proofs.PartsLaws.{Pair-as}
 use Rattle.elf_listing.proofs.listing.Listing.named.Goals as goal

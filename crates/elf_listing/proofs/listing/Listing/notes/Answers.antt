@@ -1,4 +1,4 @@
--- Each note that the cursor gives is the file's, and is shown behind those before it.
+-- Each note that the cursor reads is the file's, and is shown after those before it.
 use Rattle.std.proofs.Common.{◌+◌, refl, ap, sym, ◌∙◌, arith}
 use Rattle.std.proofs.lemmas.Result.{err_from_is_err_and}
 use Rattle.elf_options.specs.Permitted.{style_of}

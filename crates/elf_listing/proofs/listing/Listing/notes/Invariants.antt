@@ -1,4 +1,4 @@
--- What was shown so far are the notes before the cursor's, and what may still be asked for is counted.
+-- The notes before the cursor's were shown, and what may still be read is counted.
 use Rattle.std.proofs.Common.{◌≡◌, ℕ, ◌+◌, ◌≤◌, List, None, Some}
 use Rattle.elf_options.specs.Permitted.{style_of}
 use Rattle.elf_model.specs.Prelude.{note_align, slice, walk_rows, walked}

@@ -1,4 +1,4 @@
--- The definitions are taken in before the needs.
+-- The definitions are added before the needs.
 use Rattle.std.proofs.Common.{rules, ◌≡◌, ◌+◌, [], refl, ◌∙◌, arith}
 use Rattle.std.proofs.lemmas.Result.{err_from_is_err_and}
 use Rattle.elf_model.specs.Prelude.{SHT_GNU_VERDEF, first_versions, walks_cost}

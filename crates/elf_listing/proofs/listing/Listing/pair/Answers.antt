@@ -1,4 +1,4 @@
--- Two parts one behind the other.
+-- Two parts one after the other.
 use Rattle.std.proofs.lemmas.Result.{err_from_is_err_and}
 use Rattle.elf_listing.proofs.PartsLaws.{Parts-more, Parts-then, cost_asked, items_asked}
 use Rattle.elf_listing.proofs.listing.Listing.pair.Goals as goal

@@ -1,4 +1,4 @@
--- The word is the file's.
+-- The entry is the file's.
 use Rattle.std.proofs.Common.{◌≡◌, ◌+◌, refl, ◌∙◌, arith}
 use Rattle.elf_table.proofs.OpenLaws.{still_open}
 use Rattle.elf_note.proofs.HeldLaws.{still_held}

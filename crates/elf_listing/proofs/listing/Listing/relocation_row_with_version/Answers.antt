@@ -1,4 +1,4 @@
--- The name of the symbol and then its version are read before the line is put.
+-- The name of the symbol and then its version are read before the line is written.
 use Rattle.std.proofs.Common.{◌≡◌, ℕ, ◌+◌, ◌*◌, ◌/◌, ◌^◌, ◌==◌, not, refl, sym, ap, ◌∙◌, [], Ok, Err, arith}
 use Rattle.std.proofs.lemmas.Result.{err_from_is_err_and}
 use Rattle.elf_options.specs.Permitted.{style_of}

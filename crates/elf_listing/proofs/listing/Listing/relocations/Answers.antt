@@ -1,4 +1,4 @@
--- The table's checks and those of the symbols that it refers to stand before its rows.
+-- The table's checks and those of the symbols that it refers to come before its rows.
 use Rattle.elf_options.specs.Permitted.{style_of}
 use Rattle.std.proofs.Common.{rules, refl, sym, ap, ◌∙◌}
 use Rattle.std.proofs.lemmas.Bool.{eq-eqb, ne_eqb}

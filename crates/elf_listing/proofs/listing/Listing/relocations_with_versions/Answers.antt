@@ -1,4 +1,5 @@
--- The table's checks, those of the symbols that it refers to, and then what finds the versions stand before its rows.
+-- The table's checks, those of the symbols that it refers to, and then the version lookup come
+-- before its rows.
 use Rattle.std.proofs.Common.{rules, ◌≡◌, ℕ, ◌+◌, ◌*◌, ◌<◌, ◌≤◌, ◌==◌, false, true, Option, None, Ok, Err, refl, sym, ap, ◌∙◌, arith}
 use Rattle.std.proofs.lemmas.Bool.{eq-eqb, false≢true, ne_eqb}
 use Rattle.std.proofs.lemmas.Result.{err_from_is_err_and}

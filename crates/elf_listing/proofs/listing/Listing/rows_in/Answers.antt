@@ -1,4 +1,4 @@
--- Each row that the cursor gives is the file's, and is shown behind those before it.
+-- Each row that the cursor reads is the file's, and is shown after those before it.
 use Rattle.elf_options.specs.Permitted.{style_of}
 use Rattle.std.proofs.Common.{◌≡◌, ◌+◌, length, refl, ap, ◌∙◌, arith}
 use Rattle.std.proofs.lemmas.Result.{err_from_is_err_and}

@@ -1,4 +1,4 @@
--- The table's checks and its string table's stand before its entries.
+-- The table's checks and its string table's come before its entries.
 use Rattle.elf_options.specs.Permitted.{style_of}
 use Rattle.std.proofs.Common.{rules, ◌≡◌, ◌==◌, false, refl, sym, ◌∙◌}
 use Rattle.std.proofs.lemmas.Bool.{eq-eqb, ne_eqb}

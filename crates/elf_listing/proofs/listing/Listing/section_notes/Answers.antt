@@ -1,4 +1,4 @@
--- The check of the section's range stands before its notes.
+-- The check of the section's range comes before its notes.
 use Rattle.elf_options.specs.Permitted.{style_of}
 use Rattle.std.proofs.Common.{rules, refl, sym, ap, ◌∙◌, arith}
 use Rattle.std.proofs.lemmas.Bool.{eq-eqb, ne_eqb}

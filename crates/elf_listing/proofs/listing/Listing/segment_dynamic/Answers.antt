@@ -1,4 +1,4 @@
--- The checks of the table and the first pass over its entries stand before the entries.
+-- The checks of the table and the first pass over its entries come before the entries.
 use Rattle.elf_options.specs.Permitted.{style_of}
 use Rattle.std.proofs.Common.{rules, ◌≡◌, ◌*◌, refl, sym, ap, ◌∙◌, arith}
 use Rattle.std.proofs.lemmas.Bool.{eq-eqb, ne_eqb}

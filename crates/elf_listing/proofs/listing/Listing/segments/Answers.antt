@@ -1,4 +1,4 @@
--- The program headers of a file without sections are in the store, and those ask for nothing.
+-- The program headers of a file without sections are in the store, and reading those costs nothing.
 use Rattle.elf_options.specs.Permitted.{style_of}
 use Rattle.std.proofs.Common.{◌≡◌, ◌≤◌, ◌==◌, ℕ, true, false, [], sym, ap, ◌∙◌, arith}
 use Rattle.std.proofs.lemmas.Bool.{ne_eqb}
@@ -12,7 +12,7 @@ use Rattle.elf_listing.proofs.SectionCosts.{sum_of_equal}
 use Rattle.elf_listing.proofs.ShowLaws.{SpentCredit-within}
 use Rattle.elf_listing.proofs.listing.Listing.segments.Goals as goal
 
--- the rows of a file with sections are asked for as they are counted
+-- the rows of a file with sections are read as they are counted
 rows_within : (parts : ℕ) (loaded : LoadedFile) (table : TableRange) (cap : ℕ) → has parts SEGMENTS ≡ true → (loaded.header.e_shnum == 0) ≡ false
     → table ≡ rows loaded.header.e_phoff loaded.header.e_phnum 56 → rows_cost Segments table cap ≤ segments_listed parts loaded
 rows_within parts loaded table cap asked some is = rw (is, asked, some) (omega arith)

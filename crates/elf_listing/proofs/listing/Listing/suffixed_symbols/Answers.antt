@@ -1,4 +1,4 @@
--- The table's checks and its string table's, and then what finds the versions, stand before its rows.
+-- The table's checks and its string table's, and then the version lookup, come before its rows.
 use Rattle.std.proofs.Common.{rules, ◌≡◌, ℕ, ◌+◌, ◌*◌, ◌≤◌, false, true, Option, None, Some, Ok, Err, refl, sym, ap, ◌∙◌, subst, arith}
 use Rattle.std.proofs.lemmas.Result.{err_from_is_err_and}
 use Rattle.elf_options.specs.Permitted.{style_of}

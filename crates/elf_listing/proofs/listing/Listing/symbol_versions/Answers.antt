@@ -1,4 +1,5 @@
--- The checks of the section stand before its rows, and the names of their numbers are found first.
+-- The checks of the section come before its rows, and the names of their version indices are found
+-- first.
 use Rattle.std.proofs.Common.{rules, ◌≡◌, ◌+◌, ◌*◌, ◌==◌, true, false, [], refl, sym, ap, ◌∙◌, arith}
 use Rattle.std.proofs.lemmas.Bool.{eq-eqb, ne_eqb}
 use Rattle.std.proofs.lemmas.Result.{err_from_is_err_and}

@@ -1,4 +1,4 @@
--- The table's checks and its string table's stand before its rows.
+-- The table's checks and its string table's come before its rows.
 use Rattle.elf_options.specs.Permitted.{style_of}
 use Rattle.std.proofs.Common.{rules, ◌≡◌, false, true, refl, sym, ap, ◌∙◌}
 use Rattle.std.proofs.lemmas.Result.{err_from_is_err_and}

@@ -1,4 +1,4 @@
--- The parts one behind the other.
+-- The parts one after the other.
 use Rattle.elf_options.specs.Prelude.{style_of}
 use Rattle.elf_options.specs.declared.caps.ListingStyle.{ListingStyle}
 use Rattle.std.proofs.Common.{ℕ, ◌+◌, List, ◌++◌}
@@ -12,7 +12,7 @@ use Rattle.elf_listing.proofs.FileShown.{segment_part, tables_are}
 use Rattle.elf_listing.proofs.PartsLaws.{Parts-as, Parts-more, Parts-then, cost_asked, items_asked, versions_await}
 use Rattle.elf_listing.proofs.listing.Listing.tables.Goals as goal
 
--- what the program headers ask for, and their items; and those of two parts
+-- what the program headers read, and their items; and those of two parts
 abbrev segments_cost : ℕ → SectionView → ListingStyle → ℕ
 segments_cost parts f style = segments_listed parts f.loaded
 
@@ -25,7 +25,7 @@ pair_cost parts first second f style = cost_asked parts first f style + cost_ask
 abbrev pair_items : ℕ → Part → Part → SectionView → ListingStyle → List ℕ → List ListingItem
 pair_items parts first second f style file = items_asked parts first f style file ++ items_asked parts second f style file
 
--- those of the symbols and the relocation entries, as the style has it
+-- those of the symbols and the relocation entries, as the style says
 abbrev named_cost : ℕ → SectionView → ListingStyle → ℕ
 named_cost parts f style = pair_cost parts (symbols_part style.versions) (relocations_part style.versions) f style
 

@@ -1,4 +1,4 @@
--- The records of the first section are taken in, where its checks pass.
+-- The records of the first section are added, if its checks pass.
 use Rattle.std.proofs.Common.{rules, ◌≡◌, ℕ, ◌==◌, true, false, Some, None, refl, sym, ap, ◌∙◌, arith}
 use Rattle.std.proofs.lemmas.Bool.{ne_eqb}
 use Rattle.std.proofs.lemmas.Result.{err_from_is_err_and}

@@ -1,4 +1,4 @@
--- Each record that the cursor gives is the file's, and is shown behind those before it.
+-- Each record that the cursor reads is the file's, and is shown after those before it.
 use Rattle.std.proofs.Common.{◌+◌, None, Ok, refl, ◌∙◌, ap, arith}
 use Rattle.std.proofs.lemmas.Result.{err_from_is_err_and}
 use Rattle.elf_options.specs.Permitted.{style_of}

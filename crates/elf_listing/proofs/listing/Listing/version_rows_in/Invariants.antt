@@ -1,4 +1,4 @@
--- What was shown so far are the records before the cursor's, and what may still be asked for is counted.
+-- The records before the cursor's were shown, and what may still be read is counted.
 use Rattle.std.proofs.Common.{◌≡◌, ◌+◌, ◌≤◌, List, ℕ, None, Some}
 use Rattle.elf_options.specs.Permitted.{style_of}
 use Rattle.elf_note.specs.Prelude.{IsCursorOf, ReadsOnCredit, versions_left}

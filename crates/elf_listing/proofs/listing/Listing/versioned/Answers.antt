@@ -1,4 +1,4 @@
--- The rows stand before the refusal of a symbol without an entry.
+-- The rows come before the refusal of a symbol without an entry.
 use Rattle.std.proofs.Common.{rules, ◌≡◌, ◌+◌, ◌*◌, nat_lt, true, false, refl, sym, ap, ◌∙◌, append-nil, arith}
 use Rattle.std.proofs.lemmas.Bool.Decides.{nat_tests}
 use Rattle.std.proofs.lemmas.Result.{err_from_is_err_and}

@@ -1,4 +1,4 @@
--- The trial of all symbols tells of one, and it is passed over where it is undefined.
+-- The matcher for all symbols finds one, and it is skipped if it is undefined.
 use Rattle.std.proofs.Common.{refl, arith}
 use Rattle.std.proofs.lemmas.Result.{err_from_is_err_and}
 use Rattle.elf_table.proofs.LedgerLaws.{CallDid-as}

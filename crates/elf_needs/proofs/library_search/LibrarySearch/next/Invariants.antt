@@ -1,4 +1,4 @@
--- The paths that are left of a text, and those of the texts behind it, are those that there were.
+-- The paths that are left of a text, and those of the texts after it, are those that there were.
 use Rattle.std.proofs.Common.{◌≡◌, ◌++◌, ◌-◌, length, drop}
 use Rattle.elf_needs.specs.Prelude.{dirs_in, searched_paths}
 use Rattle.elf_needs.proofs.library_search.LibrarySearch.next.Given as goal

@@ -1,4 +1,4 @@
--- The look for a version, between a limit that is set and taken away.
+-- The search for a version, between a limit that is set and removed.
 use Rattle.std.proofs.Common.{◌*◌, ◌/◌, refl, arith, mul-le-mul_right}
 use Rattle.elf_table.proofs.LedgerLaws.{CallReads-more}
 use Rattle.elf_loader.proofs.ReadLaws.{most_all}

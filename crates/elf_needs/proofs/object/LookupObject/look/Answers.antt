@@ -1,4 +1,4 @@
--- A lookup between a limit that is set and taken away.
+-- A lookup between a limit that is set and removed.
 use Rattle.elf_options.specs.Wants.{query_of}
 use Rattle.elf_needs.proofs.SpendLaws.{looks_kept}
 use Rattle.elf_needs.proofs.object.LookupObject.look.Goals as goal

@@ -1,4 +1,4 @@
--- The name of a needed file, between a limit that is set and taken away.
+-- The name of a needed file, between a limit that is set and removed.
 use Rattle.std.proofs.Common.{◌≡◌, refl, arith}
 use Rattle.elf_table.specs.Tables.{strings_in}
 use Rattle.elf_needs.proofs.SpendLaws.{spent_off}

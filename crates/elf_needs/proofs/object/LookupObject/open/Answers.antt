@@ -1,4 +1,4 @@
--- What is found is kept, or the source is given back.
+-- What is found is kept, or the source is returned.
 use Rattle.elf_needs.proofs.KeptLaws.{back_tells, kept_of}
 use Rattle.elf_needs.proofs.object.LookupObject.open.Goals as goal
 

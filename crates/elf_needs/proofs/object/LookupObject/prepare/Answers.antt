@@ -1,4 +1,4 @@
--- What lookups have in common is read between a limit that is set and taken away.
+-- What lookups have in common is read between a limit that is set and removed.
 use Rattle.std.proofs.Common.{ap}
 use Rattle.elf_source.specs.Source.{SourceState}
 use Rattle.elf_needs.specs.Ready.{ready_bytes}

@@ -1,4 +1,4 @@
--- The count between a limit that is set and taken away.
+-- The count between a limit that is set and removed.
 use Rattle.std.proofs.Common.{◌+◌, ◌≤◌, refl, arith}
 use Rattle.elf_table.proofs.LedgerLaws.{CallReads-more}
 use Rattle.elf_needs.proofs.SpendLaws.{spent_off}

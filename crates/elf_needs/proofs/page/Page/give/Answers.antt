@@ -1,4 +1,4 @@
--- What is given stands within what is held, and so in the file.
+-- What is copied is within what is held, and so in the file.
 use Rattle.std.proofs.Common.{◌≡◌, ◌+◌, ◌-◌, ◌≤◌, ℕ, List, length, take, sym, ap, ◌∙◌, arith, rules}
 use Rattle.elf_model.specs.Bytes.{slice}
 use Rattle.elf_model.proofs.Slices.{slice-slice}

@@ -1,4 +1,5 @@
--- What is left of the budget falls by no less than what the files of the objects before this one were asked for.
+-- What is left of the budget decreases by at least what was requested from the files of the objects
+-- before this one.
 use Rattle.elf_needs.specs.Budget.{AsksFiles}
 use Rattle.elf_needs.proofs.walk.DependencyWalk.list.Given as goal
 

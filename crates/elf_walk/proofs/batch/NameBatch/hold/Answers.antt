@@ -1,4 +1,4 @@
--- A name that is wanted is put among those that are kept, and another one changes nothing.
+-- A name that is wanted is inserted among those that are kept, and another one changes nothing.
 use Rattle.std.proofs.Common.{rules, ◌≡◌, [], refl, true, false, not, ◌&&◌, ◌||◌}
 use Rattle.std.specs.Ordering.{is_gt, is_lt}
 use Rattle.elf_walk.specs.Prelude.{in_order, order}

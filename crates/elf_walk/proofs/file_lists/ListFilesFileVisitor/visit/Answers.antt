@@ -1,4 +1,4 @@
--- What is told of a file, by what it is.
+-- What is reported of a file, by its type.
 use Rattle.std.proofs.Common.{rules, ◌≡◌, None, Some, Ok, false, refl, sym, subst, ◌∙◌, arith}
 use Rattle.elf_model.specs.declared.states.FileMagic.TheVariants as sort
 use Rattle.elf_walk.specs.Prelude.{ReturnsListing}

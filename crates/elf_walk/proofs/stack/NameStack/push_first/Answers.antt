@@ -1,4 +1,4 @@
--- From the last of the names to the first, each is put on those behind it.
+-- From the last of the names to the first, each is pushed on those after it.
 use Rattle.std.proofs.Common.{rules, arith, ◌≡◌, ◌≤◌, ◌∙◌, ◌-◌, All, length, [], ap, drop, take, subst, sym}
 use Rattle.std.proofs.Math.Seq.{take-length}
 use Rattle.std.proofs.lemmas.List.Elements.{All-nil}
