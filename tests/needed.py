@@ -8,6 +8,7 @@ import struct
 
 from applied import Refused, is_named, load, refuse_where
 from listed_rows import spelt
+from loader_caches import Cache
 from looked_up import Lookup, Scope, hashed_count
 
 NULL, NEEDED, STRTAB, STRSZ, SONAME, RPATH, RUNPATH = 0, 1, 5, 10, 14, 15, 29
@@ -143,10 +144,11 @@ class Known:
 
 
 class Program:
-    """A program with its objects, found in these directories."""
+    """A program with its objects, found in these directories and in a loader's cache, whose bytes are given."""
 
-    def __init__(self, path, library=b"", default=DEFAULT.encode(), most=4096):
+    def __init__(self, path, library=b"", default=DEFAULT.encode(), most=4096, cache=b""):
         self.library, self.default, self.most, self.texts = library, default, most, Texts()
+        self.cache = Cache(cache)
         self.end, self.lines, self.status, self.ended = None, [], 0, False
         with open(path, "rb") as file:
             content = file.read()
@@ -183,8 +185,7 @@ class Program:
 
     def find(self, needer, name):
         """The path of the first file that fits, and what it holds; or None."""
-        paths = [name] if b"/" in name else [b"%s/%s" % (folder, name) for folder in self.folders(needer)]
-        for path in paths:
+        for path in [name] if b"/" in name else self.paths(needer, name):
             if len(path) >= TEXT_BYTES or not os.path.isfile(path):
                 continue
             with open(path, "rb") as file:
@@ -192,6 +193,13 @@ class Program:
             if machine_of(content) == self.machine is not None:
                 return path, content
         return None
+
+    def paths(self, needer, name):
+        yield from (b"%s/%s" % (folder, name) for folder in self.folders(needer))
+        cached = self.cache.path(name)
+        if cached is not None:
+            yield cached
+        yield from (b"%s/%s" % (folder, name) for folder in parts(self.default))
 
     def folders(self, needer):
         known = self.objects[needer]
@@ -204,7 +212,6 @@ class Program:
         yield from parts(self.library)
         if known.links.runpath is not None:
             yield from expanded(known.links.runpath, known.path)
-        yield from parts(self.default)
 
     # From where symbols come.
 
@@ -338,9 +345,18 @@ def machine_of(content):
     return struct.unpack_from("<H", content, 18)[0]
 
 
-def answer(path, library=b"", default=DEFAULT.encode(), symbols=True):
-    """The status and the bytes."""
-    program = Program(path, library, default)
+def system_cache():
+    """The bytes of the machine's loader cache; none if there is no such file."""
+    try:
+        with open("/etc/ld.so.cache", "rb") as file:
+            return file.read()
+    except OSError:
+        return b""
+
+
+def answer(path, library=b"", default=None, symbols=True):
+    """The status and the bytes. Without default directories the machine's cache is searched too."""
+    program = Program(path, library, DEFAULT.encode() if default is None else default, cache=system_cache() if default is None else b"")
     if symbols:
         program.bind()
     return program.status, "".join(program.lines).encode()
