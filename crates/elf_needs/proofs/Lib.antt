@@ -21,3 +21,4 @@ pub mod AskLaws
 pub mod StateLaws
 pub mod WriteLaws
 pub mod RequestLaws
+pub mod NameRankLaws

@@ -35,6 +35,7 @@ impl<'a> NameRanks<'a> {
     fn next(&mut self) -> Option<u64>
         ensures next { IfSome result (λ rank. self.old ≡ rank ∷ self.new) }
         ensures none { result ≡ None → self.old ≡ [] }
+        ensures small { IfSome result (λ rank. rank < 256 + 2 ^ 32) }
     {
         if self.ended {
             return None;

@@ -1,0 +1,10 @@
+use Rattle.std.proofs.Common.{sym, ap, ◌∙◌}
+use Rattle.std.proofs.lemmas.List.{take_rest}
+use Rattle.byteorder.specs.Endian.{little_number}
+use Rattle.elf_record.proofs.FieldReads.{field_read}
+use Rattle.elf_needs.proofs.cache_entries.u32_at.Goals as goal
+
+pub returns : goal.returns
+returns c =
+    c.read_u32.ensures
+    ∙ (ap (little_number 4) (take_rest c.args.bytes.now c.args.at) ∙ sym (field_read c.args.bytes.now c.args.at 4 c.requires))
