@@ -18,4 +18,5 @@ pub mod ExamplesBindings
 pub mod ExamplesBoundSymbols
 pub mod ExamplesLinks
 pub mod ExamplesLoaderCache
+pub mod ExamplesInterpreters
 pub mod Prelude

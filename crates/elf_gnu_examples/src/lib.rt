@@ -9,6 +9,7 @@ mod bound_rows;
 mod chain_rows;
 mod choice_rows;
 mod hash_rows;
+mod interpreter_rows;
 mod library_rows;
 mod link_rows;
 mod listed_versions;
