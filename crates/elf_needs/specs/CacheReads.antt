@@ -1,5 +1,5 @@
 -- What calls read of a loader's cache.
-use Rattle.std.specs.Prelude.{ℕ, ◌≡◌, ◌+◌, ◌*◌, ◌≤◌, ◌⊎◌, List, Bool, true, false, Option, None, Some, Result, Ok, Err}
+use Rattle.std.specs.Prelude.{ℕ, ◌≡◌, ◌+◌, ◌*◌, ◌^◌, ◌<◌, ◌≤◌, ◌⊎◌, List, Bool, true, false, Option, None, Some, Result, Ok, Err}
 use Rattle.elf_model.specs.LoaderCache.{LoaderCache, NEW_ENTRY_SIZE, NEW_HEADER_SIZE, OLD_ENTRY_SIZE, OLD_HEADER_SIZE, cache_entry_flags, cache_entry_hwcap, cache_entry_key, cache_entry_value, is_new_header, is_old_header, new_cache, old_cache}
 use Rattle.elf_model.specs.Prelude.{slice}
 use Rattle.elf_table.specs.declared.fault.Fault.{Fault}
@@ -11,6 +11,7 @@ use Rattle.elf_needs.specs.declared.cache_entries.CacheEntry.{CacheEntry}
 pub record CacheInBounds (size : ℕ) (cache : LoaderCache) : Type 0 where
   pub entries : cache.entries + cache.entry_size * cache.count ≤ size
   pub strings : cache.strings ≤ size
+  pub small : size < 2 ^ 64
   pub sizes : (cache.entry_size ≡ NEW_ENTRY_SIZE) ⊎ (cache.entry_size ≡ OLD_ENTRY_SIZE)
 
 -- an entry has the fields of these bytes

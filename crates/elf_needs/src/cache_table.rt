@@ -35,10 +35,18 @@ impl Model for CacheTable {
     ghost Value = { LoaderCache };
 
     ghost view = { λ t. record {
-      entries = t.entries; count = t.count; entry_size = t.entry_size; strings = t.strings } };
+      entries = t.entries;
+      count = t.count;
+      entry_size = t.entry_size;
+      strings = t.strings;
+    } };
 
     ghost inverse = { λ t. record {
-      entries = t.entries; count = t.count; entry_size = t.entry_size; strings = t.strings } };
+      entries = t.entries;
+      count = t.count;
+      entry_size = t.entry_size;
+      strings = t.strings;
+    } };
 }
 
 impl CacheTable {

@@ -19,7 +19,7 @@ loop-count-preserved c =
     let name = c.args.name.now in
     let l = c.loop-count in
     let value : (10 * l.number + (get_or name l.count 0 - 48)) % 2 ^ 32 ≡ (l.number * 10 % 2 ^ 32 + c.from-digit.result) % 2 ^ 32 =
-        omega (arith, c.from-digit.ensures, c.type_inv.name l.count) in
+    omega (arith, c.from-digit.ensures, c.type_inv.name l.count) in
     record {
       in_range = omega (arith, c.loop-count-test.true);
       same = l.invariant.same ∙ ranks-more (Some l.number) name l.count (omega (arith, c.loop-count-test.true)) (sym c.if-is_digit.ensures) ∙ ap (λ (n : ℕ). name_ranks (Some n) (drop (l.count + 1) name)) value;
