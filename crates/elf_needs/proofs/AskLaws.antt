@@ -100,11 +100,11 @@ used_up old new l0 l1 n refusal says budget pays size =
     record { inside = omega (arith, inside, size); bytes = used.0; is_left = used.1; few = used.2 }
 
 -- of an object that was read, among others
-pub short_one : (objects : List LookupObjectState) (n : ℕ) (d new : LookupObjectState) {l0 l1 : Option ℕ} {most : ℕ} (fault : Fault) → n < length objects → SpendsAtMost (get_or objects n d).src new.src l0 (Some fault) most
+pub short_one : (objects : List LookupObjectState) (n : ℕ) (d new : LookupObjectState) (l1 : Option ℕ) {l0 : Option ℕ} {most : ℕ} (fault : Fault) → n < length objects → SpendsAtMost (get_or objects n d).src new.src l0 (Some fault) most
     → SpendsBudget l0 l1 (get_or objects n d).src.asked new.src.asked → OnlyShort (set objects n new) l1 fault
-short_one objects n d new {l0} {l1} {most} (Refused refusal) less spends pays = λ budget.
+short_one objects n d new l1 {l0} {most} (Refused refusal) less spends pays = λ budget.
     (n, λ e. subst (λ (o : LookupObjectState). UsesUp o l1 refusal) (sym (get_or-set_same objects n new e less)) (used_up (get_or objects n d) new l0 l1 most refusal spends.says budget pays spends.keeps.same_size))
-short_one objects n d new (Source fault at) less spends pays = tt
+short_one objects n d new l1 (Source fault at) less spends pays = tt
 
 -- of the object that a lookup over all stopped in
 pub short_bind : {wanted : SymbolQuery} {old new : List LookupObjectState} {l0 l1 : Option ℕ} (blame : BindFault) → BindsAcross wanted old new l0 l1 (Err blame) → OnlyShort new l1 blame.fault

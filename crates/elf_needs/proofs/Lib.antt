@@ -23,3 +23,4 @@ pub mod WriteLaws
 pub mod RequestLaws
 pub mod NameRankLaws
 pub mod CacheLaws
+pub mod MachineLaws

@@ -207,28 +207,25 @@ module _ (file : List ℕ) (told : AreSymbolsOf) (symbols : DynamicSymbols) (ind
     nameless weak name version (Source fault at) tells = tt
 
     module _ (name : List ℕ) (named : whole_name (strings_in file symbols.names) symbol.st_name (row_at symbols.table index) ≡ Ok name) where
-      pub unnamed : length name ≡ 0 → reference_at file told index ≡ Ok None
+      pub unnamed : (length name == 0) ≡ true → reference_at file told index ≡ Ok None
       unfolding reference_at
-      unnamed none =
+      unnamed empty =
           let e = sym name_as ∙ named in
-          let empty : (length name == 0) ≡ true = rw none refl in
           rw (sought, reference_at) (rw (e, empty) refl)
 
-      pub versionless : (length name ≡ 0 → ⊥) → (weak : Bool) (version : List ℕ) (fault : Fault) → RefusesAs (reference_version file told index) fault → ReturnsSought (reference_at file told index) weak name version (Err fault)
+      pub versionless : (length name == 0) ≡ false → (weak : Bool) (version : List ℕ) (fault : Fault) → RefusesAs (reference_version file told index) fault → ReturnsSought (reference_at file told index) weak name version (Err fault)
       unfolding reference_at
-      versionless some weak version (Refused refusal) tells = λ unless.
+      versionless full weak version (Refused refusal) tells = λ unless.
           let e = sym name_as ∙ named in
           let v = tells unless in
-          let full : (length name == 0) ≡ false = grind (arith, nat_tests, some) in
           rw (sought, reference_at) (rw (e, full) (rw v refl))
-      versionless some weak version (Source fault at) tells = tt
+      versionless full weak version (Source fault at) tells = tt
 
-      pub asks : (length name ≡ 0 → ⊥) → (version : List ℕ) (versioned : Bool) → reference_version file told index ≡ Ok (asked_if versioned version)
+      pub asks : (length name == 0) ≡ false → (version : List ℕ) (versioned : Bool) → reference_version file told index ≡ Ok (asked_if versioned version)
           → reference_at file told index ≡ Ok (Some (record { name = name; asked = asked_if versioned version }))
       unfolding reference_at
-      asks some version versioned v =
+      asks full version versioned v =
           let e = sym name_as ∙ named in
-          let full : (length name == 0) ≡ false = grind (arith, nat_tests, some) in
           rw (sought, reference_at) (rw (e, full) (rw v refl))
 
 -- HOW MANY SYMBOLS a file has

@@ -22,15 +22,15 @@ pub record IsCacheEntry (bytes : List ℕ) (entry : CacheEntry) : Type 0 where
   pub hwcap : entry.hwcap ≡ cache_entry_hwcap bytes
 
 -- a call returns this value, or a fault
-abbrev pub ReturnsValue : {X : Type 0} → X → Result X Fault → Type 0
-ReturnsValue value (Ok x) = x ≡ value
-ReturnsValue value (Err fault) = Unit {0}
+abbrev pub ReturnsCacheValue : {X : Type 0} → X → Result X Fault → Type 0
+ReturnsCacheValue value (Ok x) = x ≡ value
+ReturnsCacheValue value (Err fault) = Unit {0}
 
 -- a call returns whether there is a text, and holds it, or a fault
-abbrev pub ReturnsText : Option (List ℕ) → List ℕ → Result Bool Fault → Type 0
-ReturnsText text held (Ok true) = text ≡ Some held
-ReturnsText text held (Ok false) = text ≡ None
-ReturnsText text held (Err fault) = Unit {0}
+abbrev pub ReturnsCacheText : Option (List ℕ) → List ℕ → Result Bool Fault → Type 0
+ReturnsCacheText text held (Ok true) = text ≡ Some held
+ReturnsCacheText text held (Ok false) = text ≡ None
+ReturnsCacheText text held (Err fault) = Unit {0}
 
 -- the cache that a header at an offset begins, if there is one of that shape
 abbrev pub new_cache_in : List ℕ → ℕ → Option LoaderCache

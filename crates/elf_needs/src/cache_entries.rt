@@ -2,7 +2,7 @@
 ghost use Rattle.std.specs.Prelude.{◌≡◌, ◌+◌, ◌<◌, ◌≤◌, length, IfOk, IfErr};
 ghost use Rattle.elf_model.specs.Prelude.{field, slice};
 ghost use Rattle.elf_model.specs.LoaderCache.{cache_entry, cache_text};
-ghost use Rattle.elf_needs.specs.CacheReads.{CacheInBounds, IsCacheEntry, ReturnsText};
+ghost use Rattle.elf_needs.specs.CacheReads.{CacheInBounds, IsCacheEntry, ReturnsCacheText};
 ghost use Rattle.elf_table.specs.Prelude.{CallDid, IsOfRead, fault_of_result};
 
 use crate::cache_table::CacheTable;
@@ -109,7 +109,7 @@ pub(crate) fn read_text<S: Source>(
 ) -> Result<bool, Fault>
     requires bounds { CacheInBounds src.old.seen.size cache.now }
     ensures did { CallDid src.old src.new (fault_of_result result) 4096
-        (λ file. ReturnsText (cache_text file cache.now off) text.new result) }
+        (λ file. ReturnsCacheText (cache_text file cache.now off) text.new result) }
     ensures fault { IfErr result IsOfRead }
 {
     let size = src.length();

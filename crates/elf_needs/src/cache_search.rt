@@ -1,7 +1,7 @@
 //! The search for a name in a loader's cache.
 ghost use Rattle.std.specs.Prelude.{◌≡◌, ◌+◌, ◌-◌, ◌*◌, ◌<◌, ◌≤◌, Some, None, IfOk, IfErr, IfSome};
 ghost use Rattle.elf_model.specs.LoaderCache.{bisected, cache_text, cached_path, first_path, first_same, key_order, path_of_entry};
-ghost use Rattle.elf_needs.specs.CacheReads.{CacheInBounds, ReturnsText, ReturnsValue};
+ghost use Rattle.elf_needs.specs.CacheReads.{CacheInBounds, ReturnsCacheText, ReturnsCacheValue};
 ghost use Rattle.elf_table.specs.Prelude.{CallDid, IsOfRead, fault_of_result};
 
 use crate::cache_entries::{read_entry, read_text};
@@ -39,7 +39,7 @@ fn compare_key<S: Source>(
     requires bounds { CacheInBounds src.old.seen.size cache.now }
     requires below { index < cache.now.count }
     ensures did { CallDid src.old src.new (fault_of_result result) 4120
-        (λ file. ReturnsValue (key_order file cache.now name.now index) result) }
+        (λ file. ReturnsCacheValue (key_order file cache.now name.now index) result) }
     ensures fault { IfErr result IsOfRead }
 {
     let entry = read_entry(src, cache, index)?;
@@ -138,7 +138,7 @@ fn read_path<S: Source>(
     requires bounds { CacheInBounds src.old.seen.size cache.now }
     requires below { index < cache.now.count }
     ensures did { CallDid src.old src.new (fault_of_result result) 4120
-        (λ file. ReturnsText (path_of_entry file cache.now index) text.new result) }
+        (λ file. ReturnsCacheText (path_of_entry file cache.now index) text.new result) }
     ensures fault { IfErr result IsOfRead }
 {
     let entry = read_entry(src, cache, index)?;

@@ -2,7 +2,7 @@
 ghost use Rattle.std.specs.Prelude.{◌≡◌, ◌+◌, ◌*◌, ◌<◌, ◌≤◌, ◌^◌, Some, None, IfOk, IfErr, IfSome};
 ghost use Rattle.elf_model.specs.Prelude.{slice};
 ghost use Rattle.elf_model.specs.LoaderCache.{NEW_HEADER_SIZE, OLD_HEADER_SIZE, after_old_cache, aligned_to_8, if_within, is_new_header, is_old_header, loader_cache, new_cache, old_cache};
-ghost use Rattle.elf_needs.specs.CacheReads.{CacheInBounds, ReturnsValue, new_cache_in, old_cache_in};
+ghost use Rattle.elf_needs.specs.CacheReads.{CacheInBounds, ReturnsCacheValue, new_cache_in, old_cache_in};
 ghost use Rattle.elf_table.specs.Prelude.{CallDid, IsOfRead, fault_of_result};
 
 use crate::cache_entries::u32_at;
@@ -87,7 +87,7 @@ impl CacheTable {
 #[tactic(auto, unfolding(elf_model::specs::LoaderCache::loader_cache))]
 pub(crate) fn find_table<S: Source>(src: &mut Counted<S>) -> Result<Option<CacheTable>, Fault>
     ensures did { CallDid src.old src.new (fault_of_result result) 112
-        (λ file. ReturnsValue (loader_cache file) result) }
+        (λ file. ReturnsCacheValue (loader_cache file) result) }
     ensures bounds { IfOk result (λ found. IfSome found (CacheInBounds src.old.seen.size)) }
     ensures fault { IfErr result IsOfRead }
 {
@@ -124,7 +124,7 @@ fn within(table: CacheTable, size: u64) -> Option<CacheTable>
 /// Returns a fault of a read, or the refusal `Budget`.
 fn new_table<S: Source>(src: &mut Counted<S>, at: u64) -> Result<Option<CacheTable>, Fault>
     ensures did { CallDid src.old src.new (fault_of_result result) 48
-        (λ file. ReturnsValue (new_cache_in file at) result) }
+        (λ file. ReturnsCacheValue (new_cache_in file at) result) }
     ensures fault { IfErr result IsOfRead }
 {
     let size = src.length();
@@ -158,7 +158,7 @@ fn is_new_header(header: &[u8; NEW_HEADER_BYTES]) -> bool
 /// Returns a fault of a read, or the refusal `Budget`.
 fn old_table<S: Source>(src: &mut Counted<S>) -> Result<Option<CacheTable>, Fault>
     ensures did { CallDid src.old src.new (fault_of_result result) 16
-        (λ file. ReturnsValue (old_cache_in file) result) }
+        (λ file. ReturnsCacheValue (old_cache_in file) result) }
     ensures fault { IfErr result IsOfRead }
 {
     if src.length() < OLD_HEADER_BYTES as u64 {

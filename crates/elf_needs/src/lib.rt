@@ -61,7 +61,7 @@ pub use known_object::MOST_OBJECTS;
 pub use library_search::LibrarySearch;
 pub use link_reader::{machine_of, read_link_info};
 pub use links::{LinkInfo, LinkInfoStore, NeededLibrary};
-pub use loader_cache::{LoaderCache, system_cache};
+pub use loader_cache::{LibraryCache, system_cache};
 pub use needers::{NeedingObject, SearchPaths, gather_dirs};
 pub use object::LookupObject;
 pub use object_rows::{show_object, show_too_many};

@@ -20,17 +20,17 @@ const CACHE_PATH: &[u8] = b"/etc/ld.so.cache";
 /// A loader's cache: a file that says where libraries are (glibc, elf/dl-cache.c). Where its entries are is
 /// found when a name is looked for first, and kept.
 #[derive(Drop)]
-pub struct LoaderCache<S: Source + Drop> {
+pub struct LibraryCache<S: Source + Drop> {
     source: Counted<S>,
     table: Option<CacheTable>,
     /// Whether it is known where its entries are.
     known: bool,
 }
 
-impl<S: Source + Drop> LoaderCache<S> {
+impl<S: Source + Drop> LibraryCache<S> {
     /// Creates a cache over a file, of which nothing was read yet.
-    pub fn new(source: S) -> LoaderCache<S> {
-        LoaderCache {
+    pub fn new(source: S) -> LibraryCache<S> {
+        LibraryCache {
             source: Counted::new(source),
             table: None,
             known: false,
@@ -78,7 +78,7 @@ impl<S: Source + Drop> LoaderCache<S> {
 }
 
 /// Opens the loader's cache of a system below a root, if it is a regular file that can be opened.
-pub fn system_cache<R: Files>(rt: &R, root: &[u8]) -> Option<LoaderCache<FileSource<R::File>>>
+pub fn system_cache<R: Files>(rt: &R, root: &[u8]) -> Option<LibraryCache<FileSource<R::File>>>
 where
     R::File: FileExt,
 {
@@ -97,7 +97,7 @@ where
         return None;
     };
     match StreamSource::over(FileReader::new(file)) {
-        Ok(source) => Some(LoaderCache::new(source)),
+        Ok(source) => Some(LibraryCache::new(source)),
         Err(_) => None,
     }
 }

@@ -6,7 +6,7 @@ ghost use Rattle.elf_needs.specs.Budget.{AsksFound};
 use crate::candidates::{FileSource, candidate};
 use crate::known_object::{KnownObject, MOST_OBJECTS, ObjectList};
 use crate::library_search::LibrarySearch;
-use crate::loader_cache::LoaderCache;
+use crate::loader_cache::LibraryCache;
 use crate::needers::{NeedingObject, SearchPaths, gather_dirs};
 use crate::object_file::{ObjectFile, ReadAccount};
 use crate::paths::{CandidatePath, named_path};
@@ -36,7 +36,7 @@ pub struct SystemFiles<'f, R, S: Source + Drop> {
     /// The system.
     pub rt: &'f R,
     /// Its loader's cache, if one is searched.
-    pub cache: Option<LoaderCache<S>>,
+    pub cache: Option<LibraryCache<S>>,
 }
 
 /// Why a search for a library ended early.

@@ -3,7 +3,7 @@ use Rattle.std.proofs.Common.{◌≡◌, ℕ, Bool, suc, ◌<◌, List, [], ◌�
 use Rattle.std.proofs.lemmas.Bool.Decides.{nat_tests}
 use Rattle.std.proofs.lemmas.List.Elements.{All-cons}
 use Rattle.elf_options.specs.Prelude.{IsNoNames, IsRowName, line_names}
-use Rattle.elf_options.specs.declared.names_fault.NamesFault.TheVariants.{BadName, Memory, Read, TooLarge}
+use Rattle.elf_options.specs.declared.names_fault.NamesFault.TheVariants.{NoNames, BadName, Memory, Read, TooLarge}
 use Rattle.elf_options.specs.declared.names_fault.NamesFault.{NamesFault}
 
 module _ (versions : Bool) where
@@ -42,6 +42,7 @@ module _ (versions : Bool) where
   bad_first line rest Memory bad = bad
   bad_first line rest Read bad = bad
   bad_first line rest TooLarge bad = bad
+  bad_first line rest NoNames bad = bad
 
   pub bad_rest : (line : List ℕ) (rest : List (List ℕ)) (fault : NamesFault) → IsNoNames versions (line_names rest) fault → IsNoNames versions (line_names (line ∷ rest)) fault
   bad_rest [] rest fault bad = bad
@@ -49,6 +50,7 @@ module _ (versions : Bool) where
   bad_rest (b ∷ line) rest Memory bad = bad
   bad_rest (b ∷ line) rest Read bad = bad
   bad_rest (b ∷ line) rest TooLarge bad = bad
+  bad_rest (b ∷ line) rest NoNames bad = bad
 
   -- a line's names are appended to those that are there
   pub put_line : (line : List ℕ) (rest left old new all : List (List ℕ)) → left ≡ line ∷ rest → new ≡ old ++ line_names (line ∷ [])

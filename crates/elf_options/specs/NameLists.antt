@@ -1,10 +1,10 @@
 -- The names of a list, one per line.
-use Rattle.std.specs.Prelude.{ℕ, Bool, true, ◌≡◌, ◌≤◌, ◌<◌, ◌+◌, ◌==◌, ⊤, nat_lt, List, [], length, filter, All, Option, None, Some, Result, Ok, Err}
+use Rattle.std.specs.Prelude.{◌++◌, ℕ, Bool, true, ◌≡◌, ◌≤◌, ◌<◌, ◌+◌, ◌==◌, ⊤, nat_lt, List, [], length, filter, All, Option, None, Some, Result, Ok, Err}
 use Rattle.std.specs.Borrow.{Bor}
 use Rattle.std.specs.List.{slice_split}
 use Rattle.elf_model.specs.Prelude.{IsWanted, is_complete, parse_query}
 use Rattle.elf_options.specs.declared.names_fault.NamesFault.{NamesFault}
-use Rattle.elf_options.specs.declared.names_fault.NamesFault.TheVariants.{Read, TooLarge, BadName, Memory}
+use Rattle.elf_options.specs.declared.names_fault.NamesFault.TheVariants.{NoNames, Read, TooLarge, BadName, Memory}
 
 -- the lines of a text: what is between its newlines, before the first and after the last
 abbrev pub text_lines : List ℕ → List (List ℕ)
@@ -31,12 +31,18 @@ IsListText file text (Err TooLarge) = 67108864 < length file
 IsListText file text (Err Read) = ⊤
 IsListText file text (Err Memory) = ⊤
 IsListText file text (Err BadName) = ⊥
+IsListText file text (Err NoNames) = ⊥
 
 -- why a list gives no names: one is not a valid row name, or memory is exhausted
 abbrev pub IsNoNames : (versions : Bool) → List (List ℕ) → NamesFault → Type 0
 IsNoNames versions names BadName = All (IsRowName versions) names → ⊥
 IsNoNames versions names Memory = ⊤
 IsNoNames versions names _ = ⊥
+
+-- why there are none of some arguments and a list: neither has one, or it is the reason of the list
+abbrev pub AreNoNames : (versions : Bool) → (words listed : List (List ℕ)) → NamesFault → Type 0
+AreNoNames versions words listed NoNames = words ++ listed ≡ []
+AreNoNames versions words listed fault = IsNoNames versions listed fault
 
 -- the lines of the rest of a text; none if nothing is left
 abbrev pub after_lines : Option (Bor (List ℕ)) → List (List ℕ)

@@ -9,6 +9,8 @@ pub enum NamesFault {
     TooLarge,
     /// A line of the list is not a valid row name.
     BadName,
+    /// Neither the arguments nor the list have a name.
+    NoNames,
     /// Memory is exhausted.
     Memory,
 }

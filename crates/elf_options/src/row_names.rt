@@ -1,5 +1,6 @@
 //! The names of the arguments and of a list together.
-ghost use Rattle.std.specs.Prelude.{◌≡◌, ◌++◌, ◌∷◌, [], All, IfErr, IfOk, true, false};
+ghost use Rattle.std.specs.Prelude.{◌≡◌, ◌++◌, ◌∷◌, [], All, IfErr, IfOk, true, false, ◌<◌, length};
+ghost use Rattle.elf_options.specs.NameLists.{AreNoNames};
 ghost use Rattle.std.specs.Prelude.{is_some};
 ghost use Rattle.std.specs.List.Sorted.{IsPermutation};
 ghost use Rattle.elf_model.specs.Names.{nul_in};
@@ -36,11 +37,16 @@ pub fn gather_names<'a>(
         IsPermutation (texts_of words.now ++ listed_names list.now) (texts_of names.items)) }
     ensures sorted { IfOk result (λ names. NeverDescend names.items) }
     ensures each { IfOk result (λ _. All (IsRowName versions) (listed_names list.now)) }
-    ensures refused { IfErr result (IsNoNames versions (listed_names list.now)) }
+    ensures some { IfOk result (λ names. 0 < length names.items) }
+    ensures refused { IfErr result
+        (AreNoNames versions (texts_of words.now) (listed_names list.now)) }
 {
     let mut names = Vec::new(alloc);
     push_words(&mut names, words)?;
     push_lines(&mut names, list, versions)?;
+    if names.is_empty() {
+        return Err(NamesFault::NoNames);
+    }
     sort_strings(&mut names);
     Ok(names)
 }

@@ -1,13 +1,13 @@
--- The names of a directory, as they are read.
-use Rattle.std.specs.Prelude.{ℕ, suc, ◌≡◌, ◌-◌, ◌^◌, ◌⊎◌, true, false, List, [], ◌∷◌, ◌++◌, min, Option, IfSome}
+-- The names of a folder, as they come.
+use Rattle.std.specs.Prelude.{ℕ, suc, ◌≡◌, ◌-◌, ◌^◌, ◌⊎◌, true, false, List, [], ◌∷◌, ◌++◌, min}
 use Rattle.std.specs.List.{flat_map}
 use Rattle.elf_walk.specs.Entries.{list_entries}
 use Rattle.elf_walk.specs.declared.batch.Insertion.{Insertion}
 use Rattle.elf_walk.specs.declared.batch.Insertion.TheVariants.{Placed, Unnamed}
 use Rattle.elf_walk.specs.Kept.{IsNameable, KeptNames, KeepsFirstNames, is_dot_entry}
 
--- the names of a directory among its entries, in the order in which they were read, and how many
--- entries cannot be represented; `.` and `..` are neither
+-- the names of a folder among its entries, in the order in which they came, and how many entries are none that can be named;
+-- those of the folder itself and of the one above it are neither
 abbrev pub AreNamesOf : List (List ℕ) → List (List ℕ) → ℕ → Type 0
 AreNamesOf [] names unnamed = (names ≡ []) × (unnamed ≡ 0)
 AreNamesOf (entry ∷ entries) names unnamed =
@@ -15,16 +15,16 @@ AreNamesOf (entry ∷ entries) names unnamed =
     ⊎ (((more : List (List ℕ)) × (is_dot_entry entry ≡ false) × IsNameable entry × (names ≡ entry ∷ more) × AreNamesOf entries more unnamed)
     ⊎ ((others : ℕ) × (is_dot_entry entry ≡ false) × (¬ (IsNameable entry)) × (unnamed ≡ suc others) × AreNamesOf entries names others))
 
--- a count, saturating at 64 bits
+-- a count, as far as 64 bits go
 abbrev pub saturated : ℕ → ℕ
 saturated n = min n (2 ^ 64 - 1)
 
--- how many that is for one entry
+-- how many that is of one entry
 abbrev pub unnamed_count : Insertion → ℕ
 unnamed_count Placed = 0
 unnamed_count Unnamed = 1
 
--- EACH ENTRY of some bytes is put among the names of a directory, or counted, or is `.` or `..`
+-- EACH ENTRY of some bytes is put among the names of a folder, or saturated, or is that of the folder itself or the one above it
 pub record PutsNames (bytes : List ℕ) (unnamed : ℕ) (old new : KeptNames) : Type 0 where
   pub names : List (List ℕ)
   pub others : ℕ
@@ -32,11 +32,9 @@ pub record PutsNames (bytes : List ℕ) (unnamed : ℕ) (old new : KeptNames) : 
   pub counts : unnamed ≡ saturated others
   pub keeps : (before : List (List ℕ)) → KeepsFirstNames before old → KeepsFirstNames (before ++ names) new
 
--- WHAT IS GATHERED of a directory, of which some bytes came at each read: these are all that it gives, where that is known, and
--- what is kept of its names is in order
-pub record GathersNames (gives : Option (List ℕ)) (unnamed : ℕ) (old new : KeptNames) : Type 0 where
+-- WHAT IS GATHERED of a folder, of which some bytes came at each read: what is kept of its names is in order
+pub record GathersNames (unnamed : ℕ) (old new : KeptNames) : Type 0 where
   pub reads : List (List ℕ)
-  pub whole : IfSome gives (λ bytes. flat_map (λ read. read) reads ≡ bytes)
   pub names : List (List ℕ)
   pub others : ℕ
   pub sorted : AreNamesOf (flat_map list_entries reads) names others
@@ -44,7 +42,3 @@ pub record GathersNames (gives : Option (List ℕ)) (unnamed : ℕ) (old new : K
   pub keeps : KeepsFirstNames names new
   pub order : new.held ≡ new.names
   pub after : new.after ≡ old.after
-
--- the same of a directory that was opened at a path, of which nothing says what it gives
-abbrev pub GathersDir : ℕ → (old new : KeptNames) → Type 0
-GathersDir unnamed old new = (gives : Option (List ℕ)) × GathersNames gives unnamed old new

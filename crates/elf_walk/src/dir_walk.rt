@@ -1,6 +1,6 @@
-//! The names in a directory, read in passes.
+//! The names in a folder, read in passes.
 ghost use Rattle.std.specs.Prelude.{◌≡◌, IfOk, List, ℕ, []};
-ghost use Rattle.elf_walk.specs.Gathered.{GathersDir, GathersNames, PutsNames, unnamed_count};
+ghost use Rattle.elf_walk.specs.Gathered.{GathersNames, PutsNames, unnamed_count};
 ghost use Rattle.elf_walk.specs.Kept.{KeepsFirstNames};
 
 use crate::batch::{Insertion, NameBatch};
@@ -11,12 +11,12 @@ use std::alloc::AllocError;
 use std::io::{ErrorKind, Read};
 use std::rt::Files;
 
-/// Goes once through the directory at a path, and puts its names into a batch, which has them in order then.
+/// Goes once through the folder at a path, and puts its names into a batch, which has them in order then.
 /// `room` is where they are read. Answers how many names there are that can't be named. What names the
 /// system gives is not known; what came is.
 ///
 /// # Errors
-/// The state of a directory that can't be opened or read, or for whose names there is no memory.
+/// The state of a folder that can't be opened or read.
 pub fn gather<R: Files>(
     rt: &R,
     path: &str,
@@ -24,7 +24,7 @@ pub fn gather<R: Files>(
     batch: &mut NameBatch,
 ) -> Result<u64, FileStatus>
     requires { KeepsFirstNames [] batch.old }
-    ensures gathers { IfOk result (λ unnamed. GathersDir unnamed batch.old batch.new) }
+    ensures gathers { IfOk result (λ unnamed. GathersNames unnamed batch.old batch.new) }
 {
     match rt.open_dir(path) {
         Ok(mut folder) => gather_from(&mut folder, room, batch),
@@ -32,22 +32,18 @@ pub fn gather<R: Files>(
     }
 }
 
-/// Puts all names that an open directory gives into a batch.
+/// Puts the names that an open folder gives into a batch.
 ///
 /// # Errors
-/// The state of a directory that can't be read, or for whose names there is no memory.
+/// The state of a folder that can't be read, or for whose names there is no memory.
 fn gather_from<D: Read>(
     folder: &mut D,
     room: &mut [u8],
     batch: &mut NameBatch,
 ) -> Result<u64, FileStatus>
     requires { KeepsFirstNames [] batch.old }
-    ensures gathers { IfOk result (λ unnamed.
-        GathersNames (D.remaining folder.old) unnamed batch.old batch.new) }
+    ensures gathers { IfOk result (λ unnamed. GathersNames unnamed batch.old batch.new) }
 {
-    if room.is_empty() {
-        return Err(FileStatus::Memory);
-    }
     let mut unnamed: u64 = 0;
     for _turn in 0..u64::MAX {
         let count = match folder.read(room) {
@@ -64,10 +60,10 @@ fn gather_from<D: Read>(
     Err(FileStatus::Unread)
 }
 
-/// Ends a pass, in which `unnamed` names cannot be represented.
+/// Ends a pass, of which so many names can't be named.
 ///
 /// # Errors
-/// The state of a directory for whose names there is no memory.
+/// The state of a folder for whose names there is no memory.
 fn ended(batch: &mut NameBatch, unnamed: u64) -> Result<u64, FileStatus>
     ensures count { IfOk result (λ count. count ≡ unnamed) }
     ensures order { IfOk result (λ count. batch.new.held ≡ batch.new.names) }
@@ -81,10 +77,10 @@ fn ended(batch: &mut NameBatch, unnamed: u64) -> Result<u64, FileStatus>
     }
 }
 
-/// Puts names, each ended by NUL, into a batch, and returns how many cannot be represented.
+/// Puts names, each ended by NUL, into a batch, and answers how many can't be named.
 ///
 /// # Errors
-/// Out of memory.
+/// Where memory is refused.
 fn put_all(names: &[u8], batch: &mut NameBatch) -> Result<u64, AllocError>
     ensures puts { IfOk result (λ unnamed. PutsNames names.now unnamed batch.old batch.new) }
     ensures after { batch.new.after ≡ batch.old.after }
@@ -100,7 +96,7 @@ fn put_all(names: &[u8], batch: &mut NameBatch) -> Result<u64, AllocError>
     Ok(unnamed)
 }
 
-/// Returns how many names cannot be represented, for one that was inserted: 0 or 1.
+/// How many names can't be named, of one that was put.
 fn unnamed_of(put: Insertion) -> u64
     ensures { result ≡ unnamed_count put }
 {

@@ -1,7 +1,7 @@
 -- A listing of the rows of some names.
 use Rattle.std.specs.Prelude.{ℕ, ◌≡◌, List, codes}
 use Rattle.elf_options.specs.Prelude.{named_style, style_of}
-use Rattle.elf_options.specs.declared.names_fault.NamesFault.TheVariants.{BadName, Memory, Read, TooLarge}
+use Rattle.elf_options.specs.declared.names_fault.NamesFault.TheVariants.{NoNames, BadName, Memory, Read, TooLarge}
 use Rattle.elf_options.specs.declared.caps.ListingStyle.{ListingStyle}
 use Rattle.elf_options.specs.declared.names_fault.NamesFault.{NamesFault}
 use Rattle.elf_record.specs.declared.parts.Parts.{Parts}
@@ -20,6 +20,7 @@ abbrev pub EndsNames : NamesFault → ℕ → List ℕ → Type 0
 EndsNames Read status line = (status ≡ 2) × (line ≡ codes "elfsee: cannot read names")
 EndsNames TooLarge status line = (status ≡ 2) × (line ≡ codes "elfsee: names too large")
 EndsNames BadName status line = (status ≡ 2) × (line ≡ codes "elfsee: bad name")
+EndsNames NoNames status line = (status ≡ 2) × (line ≡ codes "elfsee: no names")
 EndsNames Memory status line = EndsWithoutMemory status line
 
 -- there were no names

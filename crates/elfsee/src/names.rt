@@ -110,6 +110,7 @@ fn lacking(fault: NamesFault) -> ExitLine
         NamesFault::Read => (2, "elfsee: cannot read names"),
         NamesFault::TooLarge => (2, "elfsee: names too large"),
         NamesFault::BadName => (2, "elfsee: bad name"),
+        NamesFault::NoNames => (2, "elfsee: no names"),
         NamesFault::Memory => OUT_OF_MEMORY,
     }
 }

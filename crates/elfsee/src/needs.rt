@@ -6,7 +6,7 @@ use elf_cli::{
     CANNOT_OPEN, ExitLine, OUT_OF_MEMORY, OUTPUT_BYTES, READ_FAULT, RunEnd, end_run, open,
 };
 use elf_needs::{
-    DependencyWalk, LoaderCache, MOST_OBJECTS, NeedsBuffers, NeedsFault, NeedsOptions, OpenFiles,
+    DependencyWalk, LibraryCache, MOST_OBJECTS, NeedsBuffers, NeedsFault, NeedsOptions, OpenFiles,
     OpenObjects, SearchDirs, SystemFiles, system_cache,
 };
 use elf_requests::NeedsRequest;
@@ -102,7 +102,7 @@ where
 fn loader_cache<R: Files>(
     rt: &R,
     asked: &NeedsRequest<'_>,
-) -> Result<Option<LoaderCache<StreamSource<FileReader<R::File>>>>, ExitLine>
+) -> Result<Option<LibraryCache<StreamSource<FileReader<R::File>>>>, ExitLine>
 where
     R::File: FileExt,
 {
@@ -112,7 +112,7 @@ where
     match asked.cache.file {
         None => Ok(system_cache(rt, asked.root.as_bytes())),
         Some(path) => match open(rt, path) {
-            Ok(source) => Ok(Some(LoaderCache::new(source))),
+            Ok(source) => Ok(Some(LibraryCache::new(source))),
             Err(ending) => Err(ending),
         },
     }

@@ -15,8 +15,8 @@ pub returns-then-length-clause-finds : goal.returns-then-length-clause-finds
 returns-then-length-clause-finds g c = record {
   slots = refl;
   grows = grows_not _;
-  ceiling = long_takes _ _ _;
-  cost = λ file held. long_takes _ _ _;
+  ceiling = long_takes c.args.src.now c.args.out.now _;
+  cost = λ file held. long_takes c.args.src.now c.args.out.now _;
   shows = λ file held.
       let sized = c.args.src.now.seen.sized file held in
       λ other. long_fault file c.args.store.now.slots (style_of c.args.style) c.args.parts.0 (omega (arith, sized, c.length.ensures.value, c.if-length.true));

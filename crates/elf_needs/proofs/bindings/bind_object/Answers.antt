@@ -24,7 +24,7 @@ returns-in-Err-clause-known g c =
     faulted_lines c.args.among.now.format (object_items objects c.args.place (get_or files c.args.place [])) (IsBudgetShort (set c.args.objects.now c.args.place c.symbol_count.new.self) c.symbol_count.new.left) c.in-Err.fault c.args.out.now c.tell.new.out c.tell.result
     (items_refused objects c.args.place (get_or files c.args.place []) told.0 scope c.in-Err.fault (rw c.in-Err.is at told.2))
     (only_of (set c.args.objects.now c.args.place c.symbol_count.new.self) c.symbol_count.new.left c.in-Err.fault
-    (short_one c.args.objects.now c.args.place c.index-objects-place.result c.symbol_count.new.self c.in-Err.fault c.requires (rw c.in-Err.is at c.symbol_count.ensures.costs) c.symbol_count.ensures.pays)) c.tell.ensures
+    (short_one c.args.objects.now c.args.place c.index-objects-place.result c.symbol_count.new.self _ c.in-Err.fault c.requires (rw c.in-Err.is at c.symbol_count.ensures.costs) c.symbol_count.ensures.pays)) c.tell.ensures
 
 pub loop-symbol-init : goal.loop-symbol-init
 loop-symbol-init g c =

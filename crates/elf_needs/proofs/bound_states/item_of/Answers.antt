@@ -78,4 +78,4 @@ returns-clause-known g c =
 pub returns-in_err-sought-clause-short : goal.returns-in_err-sought-clause-short
 returns-in_err-sought-clause-short g c =
     let p = err_from_is_err_and c.from_residual.result c.from_residual.ensures.1 in
-    rw (p.1, p.2) (short_one c.args.objects.now c.args.at.place c.index-objects-at.result c.sought.new.self _ c.requires c.in_err-sought.ensures.costs c.in_err-sought.ensures.pays)
+    rw (p.1, p.2) (short_one c.args.objects.now c.args.at.place c.index-objects-at.result c.sought.new.self _ _ c.requires c.in_err-sought.ensures.costs c.in_err-sought.ensures.pays)

@@ -47,7 +47,7 @@ returns-in-Err-clause-asks g c =
 pub returns-in-Err-clause-short : goal.returns-in-Err-clause-short
 returns-in-Err-clause-short g c =
     let costs = rw c.in-Err.is at c.lacks_version.ensures.costs in
-    short_one c.args.objects.now c.in-Some-place_of.place c.index-objects-place.result c.lacks_version.new.self c.in-Err.fault (omega (arith, c.if-place-objects.false)) costs c.lacks_version.ensures.pays
+    short_one c.args.objects.now c.in-Some-place_of.place c.index-objects-place.result c.lacks_version.new.self _ c.in-Err.fault (omega (arith, c.if-place-objects.false)) costs c.lacks_version.ensures.pays
 
 pub returns-in-Err-2-clause-asks : goal.returns-in-Err-2-clause-asks
 returns-in-Err-2-clause-asks g c =

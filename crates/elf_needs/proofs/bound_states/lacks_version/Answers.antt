@@ -60,4 +60,4 @@ returns-clause-known g c =
 pub returns-in_err-needed_file-clause-short : goal.returns-in_err-needed_file-clause-short
 returns-in_err-needed_file-clause-short g c =
     let p = err_from_is_err_and c.from_residual.result c.from_residual.ensures.1 in
-    rw (p.1, p.2) (short_one c.args.objects.now c.args.at.place c.index-objects-at.result c.needed_file.new.self _ (omega (arith, c.requires)) c.in_err-needed_file.ensures.costs c.in_err-needed_file.ensures.pays)
+    rw (p.1, p.2) (short_one c.args.objects.now c.args.at.place c.index-objects-at.result c.needed_file.new.self _ _ (omega (arith, c.requires)) c.in_err-needed_file.ensures.costs c.in_err-needed_file.ensures.pays)

@@ -3,7 +3,7 @@ use Rattle.std.proofs.Common.{sym, ◌∙◌, arith}
 use Rattle.std.proofs.lemmas.Result.{err_from_is_err_and}
 use Rattle.elf_table.proofs.LedgerLaws.{CallDid-as, CallDid-of, CallDid-then}
 use Rattle.elf_model.specs.Prelude.{is_weak, symbol_offset}
-use Rattle.elf_needs.proofs.SoughtLaws.{asks, nameless, nothing, symbol_is, versionless}
+use Rattle.elf_needs.proofs.SoughtLaws.{asks, nameless, nothing, symbol_is, unnamed, versionless}
 use Rattle.elf_needs.proofs.reference.reference_symbol.Goals as goal
 
 pub returns-then-not-is_reference-clause-did : goal.returns-then-not-is_reference-clause-did
@@ -35,7 +35,7 @@ returns-in_err-asked-clause-did g c =
     (λ file read costs told is.
     let here = symbol_is file told c.args.symbols.now c.args.index c.in_ok-symbol.symbol is c.args.symbols.now.rows c.requires.below read.0.0 in
     versionless file told c.args.symbols.now c.args.index c.in_ok-symbol.symbol is c.args.symbols.now.rows c.requires.below read.0.0 (sym (c.is_reference.ensures file _ here) ∙ c.if-not-is_reference.false)
-    c.whole_name.new.name (rw (off, place) at read.0.1) (is_weak file (symbol_offset told c.args.index)) c.reference_version.new.version _ (read.1 told is)))
+    c.whole_name.new.name (rw (off, place) at read.0.1) (rw (c.bytes.ensures.value) at (sym c.is_empty.ensures ∙ c.if-is_empty.false)) (is_weak file (symbol_offset told c.args.index)) c.reference_version.new.version _ (read.1 told is)))
 
 pub returns-clause-did : goal.returns-clause-did
 returns-clause-did g c =
@@ -45,7 +45,7 @@ returns-clause-did g c =
     (λ file read costs told is.
     let here = symbol_is file told c.args.symbols.now c.args.index c.in_ok-symbol.symbol is c.args.symbols.now.rows c.requires.below read.0.0 in (
       asks file told c.args.symbols.now c.args.index c.in_ok-symbol.symbol is c.args.symbols.now.rows c.requires.below read.0.0 (sym (c.is_reference.ensures file _ here) ∙ c.if-not-is_reference.false)
-          c.whole_name.new.name (rw (off, place) at read.0.1) c.reference_version.new.version c.in_ok-asked.asked.versioned (read.1 told is),
+          c.whole_name.new.name (rw (off, place) at read.0.1) (rw (c.bytes.ensures.value) at (sym c.is_empty.ensures ∙ c.if-is_empty.false)) c.reference_version.new.version c.in_ok-asked.asked.versioned (read.1 told is),
       c.is_weak.ensures file _ here,
     ))
 
@@ -54,3 +54,13 @@ returns-clause-file g c =
     λ file held told is.
     c.in_ok-asked.ensures.file file
     (c.in_ok-whole_name.ensures.costs.reads.keeps.same_file ∙ c.symbol.ensures.reads.keeps.same_file ∙ held) told is
+
+pub returns-then-is_empty-clause-did : goal.returns-then-is_empty-clause-did
+returns-then-is_empty-clause-did g c =
+    let off = c.from.ensures in
+    let place = c.place-place.ensures in
+    CallDid-as _ (omega arith) (CallDid-then (CallDid-of c.symbol.ensures.reads tt c.in_ok-symbol.ensures.read) c.in_ok-whole_name.ensures)
+    (λ file read costs told is.
+    let here = symbol_is file told c.args.symbols.now c.args.index c.in_ok-symbol.symbol is c.args.symbols.now.rows c.requires.below read.0 in
+    unnamed file told c.args.symbols.now c.args.index c.in_ok-symbol.symbol is c.args.symbols.now.rows c.requires.below read.0 (sym (c.is_reference.ensures file _ here) ∙ c.if-not-is_reference.false)
+    c.whole_name.new.name (rw (off, place) at read.1) (rw (c.bytes.ensures.value) at (sym c.is_empty.ensures ∙ c.if-is_empty.true)))
