@@ -13,7 +13,7 @@ from looked_up import Lookup, Scope, hashed_count
 NULL, NEEDED, STRTAB, STRSZ, SONAME, RPATH, RUNPATH = 0, 1, 5, 10, 14, 15, 29
 DYNAMIC, UNDEFINED = 2, 0
 WEAK, ASKED_BINDINGS = 2, (1, 2, 10)
-MOST_OBJECTS, TEXT_BYTES = 512, 4096
+MOST_OBJECTS, TEXT_BYTES, MOST_TRIES = 512, 4096, 100000
 # Texts of all objects together, and how many of them and of needs there are.
 ALL_TEXT_BYTES, ALL_TEXTS = MOST_OBJECTS * 8192, MOST_OBJECTS * 64
 # A token of RPATH and RUNPATH: its name in braces, or such that no further byte of a name follows.
@@ -46,6 +46,10 @@ class BySegments:
     def check_counts(self):
         """The check of the hash table's counts, which each lookup makes."""
         Scope.check_counts(self.scope)
+
+
+class TooManyPaths(Exception):
+    """One more path was to be tried than may be."""
 
 
 class Texts:
@@ -147,7 +151,7 @@ class Program:
 
     def __init__(self, path, library=b"", default=DEFAULT.encode(), most=4096):
         self.library, self.default, self.most, self.texts = library, default, most, Texts()
-        self.end, self.lines, self.status, self.ended = None, [], 0, False
+        self.end, self.lines, self.status, self.ended, self.tries = None, [], 0, False, 0
         with open(path, "rb") as file:
             content = file.read()
         self.machine = machine_of(content)
@@ -161,7 +165,12 @@ class Program:
                     self.status, self.ended = 1, True
                     self.lines.append("! %016x too-many-objects\n" % at)
                     return
-                self.add(index, name)
+                try:
+                    self.add(index, name)
+                except TooManyPaths:
+                    self.status, self.ended = 1, True
+                    self.lines.append("! %016x too-many-paths\n" % at)
+                    return
 
     def add(self, needer, name):
         found = self.find(needer, name)
@@ -183,9 +192,12 @@ class Program:
 
     def find(self, needer, name):
         """The path of the first file that fits, and what it holds; or None."""
-        paths = [name] if b"/" in name else [b"%s/%s" % (folder, name) for folder in self.folders(needer)]
+        paths = [name] if b"/" in name else (folder and b"%s/%s" % (folder, name) for folder in self.folders(needer))
         for path in paths:
-            if len(path) >= TEXT_BYTES or not os.path.isfile(path):
+            self.tries += 1
+            if self.tries > MOST_TRIES:
+                raise TooManyPaths()
+            if path is None or len(path) >= TEXT_BYTES or not os.path.isfile(path):
                 continue
             with open(path, "rb") as file:
                 content = file.read()
@@ -324,12 +336,12 @@ def parts(text):
 
 
 def expanded(text, path):
-    """The directories of an RPATH or RUNPATH; one with an unknown `$` is skipped."""
+    """The folders of an RPATH or RUNPATH; None for one with an unknown `$`, which is passed over."""
     origin = os.path.dirname(os.fsencode(path)) or (b"/" if os.fsencode(path).startswith(b"/") else b".")
     values = {b"ORIGIN": origin, b"LIB": b"lib/x86_64-linux-gnu", b"PLATFORM": b"x86_64"}
     for folder in parts(text):
-        if b"$" not in TOKEN.sub(b"", folder):
-            yield TOKEN.sub(lambda found: values[found[1] or found[2]], folder)
+        known = b"$" not in TOKEN.sub(b"", folder)
+        yield TOKEN.sub(lambda found: values[found[1] or found[2]], folder) if known else None
 
 
 def machine_of(content):

@@ -9,7 +9,7 @@ use Rattle.elf_model.specs.declared.causes.Refusal.{Refusal}
 use Rattle.elf_needs.specs.Prelude.{AreObjectFiles, CountsHashed, LookupObjectState, RefusesAs}
 use Rattle.elf_needs.specs.declared.search_scope.WriteEnd.TheVariants.{Cut, Ended, Whole}
 use Rattle.elf_needs.specs.declared.walk.NeedsFault.{NeedsFault}
-use Rattle.elf_needs.specs.declared.walk.NeedsFault.TheVariants.{Out, Read}
+use Rattle.elf_needs.specs.declared.walk.NeedsFault.TheVariants.{Open, Out, Read}
 use Rattle.elf_needs.specs.declared.search_scope.WriteEnd.{WriteEnd}
 use Rattle.elf_source.specs.Prelude.{IsOutFault, OutState, SinkTakes, SinkTakesPrefix}
 use Rattle.elf_source.specs.declared.faults.OutFault.{OutFault}
@@ -98,6 +98,7 @@ module _ {format : Format} {all : List BoundItem} (left items rest : List BoundI
         ∙ sym (append_assoc before.front writes.front (writes.rest ++ rest));
     takes = subst (λ (text : List ℕ). SinkTakes a c text) (sym (text_then format before.front writes.front)) (SinkTakes-then _ _ before.takes writes.takes);
   }
+  ends_fault Open writes = absurd writes
   ends_fault (Out fault) writes = go writes.1
     where
       go : (writes.0 ≡ bound_text format items) ⊎ (IsCutText format items short writes.0) → WritesLines format all short a c (Err (Out fault))
@@ -155,6 +156,7 @@ module _ (format : Format) (all : List BoundItem) (short : Refusal → Type 0) w
       (subst (λ (t : List ℕ). SinkTakes a b t) (sym line.0) told.1, line.1)
   faulted_lines (Refused refusal) a b (Ok Cut) tells only told = (refusal_line format refusal, cut_first refusal told.0 (only refusal refl told.0), told.1)
   faulted_lines (Refused refusal) a b (Err Read) tells only told = absurd told
+  faulted_lines (Refused refusal) a b (Err Open) tells only told = absurd told
   faulted_lines (Refused refusal) a b (Err (Out fault)) tells only told = go (is_budget_fault refusal.cause)
     where
       go : (IsBudgetRefusal refusal) ⊎ (IsBudgetRefusal refusal → ⊥) → WritesLines format all short a b (Err (Out fault))

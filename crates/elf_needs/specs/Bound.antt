@@ -19,7 +19,7 @@ use Rattle.elf_needs.specs.declared.search_scope.WriteEnd.{WriteEnd}
 use Rattle.elf_needs.specs.declared.search_scope.WriteEnd.TheVariants.{Cut, Ended, Whole}
 use Rattle.elf_needs.specs.declared.known_object.ObjectList.{ObjectList}
 use Rattle.elf_needs.specs.declared.walk.NeedsFault.{NeedsFault}
-use Rattle.elf_needs.specs.declared.walk.NeedsFault.TheVariants.{Out, Read}
+use Rattle.elf_needs.specs.declared.walk.NeedsFault.TheVariants.{Open, Out, Read}
 
 -- the objects whose files these are, with a given number of headers allowed in each, their indices
 -- among all objects, and all objects
@@ -96,12 +96,13 @@ pub record WritesFront (format : Format) (all : List BoundItem) (old new : OutSt
 
 -- THE EFFECT OF WRITING THE LINES: all of them are written; or, only if the budget is short, a
 -- prefix of them and the line that reports it; or a read failed after a prefix; or the output
--- failed in one of these texts
+-- failed in one of these texts. No file is opened for it
 abbrev pub WritesLines : Format → List BoundItem → (short : Refusal → Type 0) → OutState → OutState → Result WriteEnd NeedsFault → Type 0
 WritesLines format all short old new (Ok (Whole fails)) = SinkTakes old new (bound_text format all) × (fails ≡ any_unbound all)
 WritesLines format all short old new (Ok Ended) = SinkTakes old new (bound_text format all) × (any_unbound all ≡ true)
 WritesLines format all short old new (Ok Cut) = (text : List ℕ) × IsCutText format all short text × SinkTakes old new text
 WritesLines format all short old new (Err Read) = WritesFront format all old new
+WritesLines format all short old new (Err Open) = ⊥
 WritesLines format all short old new (Err (Out fault)) =
     (text : List ℕ) × ((text ≡ bound_text format all) ⊎ (IsCutText format all short text)) × SinkTakesPrefix old new text × IsOutFault new fault
 
@@ -124,6 +125,7 @@ ReturnsFault format (Refused refusal) old new (Ok (Whole fails)) = ⊥
 ReturnsFault format (Refused refusal) old new (Ok Ended) = (IsBudgetRefusal refusal → ⊥) × SinkTakes old new (refusal_line format refusal)
 ReturnsFault format (Refused refusal) old new (Ok Cut) = IsBudgetRefusal refusal × SinkTakes old new (refusal_line format refusal)
 ReturnsFault format (Refused refusal) old new (Err Read) = ⊥
+ReturnsFault format (Refused refusal) old new (Err Open) = ⊥
 ReturnsFault format (Refused refusal) old new (Err (Out fault)) = SinkTakesPrefix old new (refusal_line format refusal) × IsOutFault new fault
 ReturnsFault format (Source fault at) old new result = (result ≡ Err Read) × (new ≡ old)
 

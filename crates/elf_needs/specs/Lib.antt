@@ -10,6 +10,7 @@ pub mod Definers
 pub mod Kept
 pub mod Lacking
 pub mod Looks
+pub mod OpenFailures
 pub mod Opens
 pub mod Ready
 pub mod Sought

@@ -40,8 +40,15 @@ object_front format index needer found = front format (codes "path") (object_fie
 abbrev pub object_line : Format → ℕ → Option ℕ → ObjectState → List ℕ → List ℕ
 object_line format index needer found path = named_line (object_front format index needer found) (Whole path)
 
--- the line that ends the objects if there are more than are listed: the place of the dynamic entry
--- that needs one more
-unfoldable pub too_many_line : Format → ℕ → List ℕ
-too_many_line format place =
-    closed_line format (record { letter = codes "!"; fields = Hexadecimal (codes "place") 16 place ∷ [] }) (ArgSpec (codes "cause") 0 (codes "too-many-objects"))
+-- the line that ends the objects: the offset of the dynamic entry that leads to it, and why
+unfoldable pub objects_end_line : Format → ℕ → (cause : List ℕ) → List ℕ
+objects_end_line format place cause =
+    closed_line format (record { letter = codes "!"; fields = Hexadecimal (codes "place") 16 place ∷ [] }) (ArgSpec (codes "cause") 0 cause)
+
+-- one more is needed than are listed
+abbrev pub too_many_line : Format → ℕ → List ℕ
+too_many_line format place = objects_end_line format place (codes "too-many-objects")
+
+-- one more path is to be tried than may be
+abbrev pub too_many_paths_line : Format → ℕ → List ℕ
+too_many_paths_line format place = objects_end_line format place (codes "too-many-paths")

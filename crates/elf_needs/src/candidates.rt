@@ -1,11 +1,15 @@
 //! Files that may be the one that is searched for.
-ghost use Rattle.std.specs.Prelude.{◌≡◌, IfOk, IfSome};
+ghost use Rattle.std.specs.Prelude.{◌≡◌, if◌then◌else◌, Err, IfOk, IfSome, None, Ok};
 ghost use Rattle.elf_needs.specs.Budget.{AsksFile, AsksFound};
+ghost use Rattle.elf_needs.specs.OpenFailures.{is_no_file};
+ghost use Rattle.elf_needs.specs.declared.walk.NeedsFault.TheVariants.{Open};
 
 use crate::object_file::{ObjectFile, ReadAccount};
+use crate::open_failures::is_no_file;
 use crate::walk::NeedsFault;
 use elf_source::{FileReader, Source, StreamSource};
 use elf_table::Fault;
+use std::io::ErrorKind;
 use std::os::unix::fs::FileExt;
 use std::rt::Files;
 use std::{fs, str};
@@ -18,7 +22,7 @@ pub(crate) type FileSource<F> = StreamSource<FileReader<F>>;
 /// requested are subtracted. A file that is skipped is closed.
 ///
 /// # Errors
-/// A read failed.
+/// A read failed, or the path cannot be opened for a fault of the system.
 pub(crate) fn candidate<R: Files>(
     rt: &R,
     path: &[u8],
@@ -67,7 +71,7 @@ fn fits<S: Source>(
 /// Opens the file at a path, if it is a regular one that can be opened.
 ///
 /// # Errors
-/// Its length cannot be determined.
+/// It cannot be opened for a fault of the system, or its length cannot be determined.
 fn opened<R: Files>(
     rt: &R,
     path: &[u8],
@@ -81,13 +85,29 @@ where
     };
     match fs::metadata(rt, path) {
         Ok(found) if found.is_file() => {}
-        _ => return Ok(None),
+        Ok(_) => return Ok(None),
+        Err(error) => return unopened(error.kind()),
     }
-    let Ok(file) = fs::open(rt, path) else {
-        return Ok(None);
+    let file = match fs::open(rt, path) {
+        Ok(file) => file,
+        Err(error) => return unopened(error.kind()),
     };
     match StreamSource::over(FileReader::new(file)) {
         Ok(source) => Ok(Some(ObjectFile::new(source))),
         Err(_) => Err(NeedsFault::Read),
+    }
+}
+
+/// Returns no file for a path that cannot be opened.
+///
+/// # Errors
+/// It is for a fault of the system.
+fn unopened<T>(kind: ErrorKind) -> Result<Option<T>, NeedsFault>
+    ensures { result ≡ (if is_no_file kind then Ok None else Err Open) }
+{
+    if is_no_file(kind) {
+        Ok(None)
+    } else {
+        Err(NeedsFault::Open)
     }
 }

@@ -1,9 +1,10 @@
 //! The paths that are tried in all directories.
-ghost use Rattle.std.specs.Prelude.{◌≡◌, ◌∷◌, [], true, false};
+ghost use Rattle.std.specs.Prelude.{◌≡◌, ◌<◌, ◌≤◌, ◌∷◌, [], true, false};
 ghost use Rattle.elf_needs.specs.Searching.{searched_paths};
 ghost use Rattle.elf_needs.specs.Steps.{dirs_in};
 
 use crate::folders::SearchPathList;
+use crate::path_budget::PathBudget;
 use crate::paths::CandidatePath;
 use crate::tries::CandidatePaths;
 use std::marker::Model;
@@ -46,13 +47,18 @@ impl<'a> LibrarySearch<'a> {
         }
     }
 
-    /// Composes the next path. Returns whether there is one; otherwise the contents of the path are
-    /// unspecified.
-    pub fn next(&mut self, path: &mut CandidatePath) -> bool
+    /// Composes the next path. Returns whether there is one that may be tried; otherwise the
+    /// contents of the path are unspecified.
+    pub(crate) fn next(&mut self, path: &mut CandidatePath, tries: &mut PathBudget) -> bool
         ensures next { result ≡ true → self.old ≡ path.new.items ∷ self.new }
-        ensures none { result ≡ false → self.old ≡ [] }
+        ensures none { result ≡ false → tries.new.is_over ≡ false → self.old ≡ [] }
+        ensures counted { result ≡ true → tries.new.left < tries.old.left }
+        ensures few { tries.new.left ≤ tries.old.left }
     {
-        while !self.tries.next(path) {
+        while !self.tries.next(path, tries) {
+            if tries.is_over {
+                return false;
+            }
             if self.at >= self.lists.len() {
                 return false;
             }

@@ -2,7 +2,7 @@
 ghost use Rattle.std.specs.Prelude.{◌≡◌, ◌≤◌, length};
 ghost use Rattle.elf_source.specs.Output.{OutPuts};
 ghost use Rattle.elf_format.specs.Fronts.{front_of};
-ghost use Rattle.elf_needs.specs.ObjectLines.{file_state, object_front, object_line, object_state_name, too_many_line};
+ghost use Rattle.elf_needs.specs.ObjectLines.{file_state, object_front, object_line, object_state_name, objects_end_line, too_many_line, too_many_paths_line};
 
 use crate::states::ObjectState;
 use elf_format::{
@@ -93,21 +93,53 @@ pub fn show_object<W: Sink>(
 pub fn show_too_many<W: Sink>(place: u64, format: Format, out: &mut Out<W>) -> Result<(), OutFault>
     ensures puts { OutPuts out.old out.new result (too_many_line format place) }
 {
+    show_end(place, "too-many-objects", format, out)
+}
+
+/// Writes the line that ends the objects if one more path would be tried than may be: the file
+/// offset of the dynamic entry whose library is searched for.
+///
+/// # Errors
+/// A fault of the output, with a prefix of the line written.
+pub fn show_too_many_paths<W: Sink>(
+    place: u64,
+    format: Format,
+    out: &mut Out<W>,
+) -> Result<(), OutFault>
+    ensures puts { OutPuts out.old out.new result (too_many_paths_line format place) }
+{
+    show_end(place, "too-many-paths", format, out)
+}
+
+/// Writes the line that ends the objects.
+///
+/// # Errors
+/// A fault of the output, with a prefix of the line written.
+fn show_end<W: Sink>(
+    place: u64,
+    cause: &'static str,
+    format: Format,
+    out: &mut Out<W>,
+) -> Result<(), OutFault>
+    requires short { length cause.now ≤ 16 }
+    ensures puts { OutPuts out.old out.new result (objects_end_line format place cause.now) }
+{
     match format {
-        Format::Columns => out.put(&too_many_row::<Columns>(place)),
-        Format::Object => out.put(&too_many_row::<Json>(place)),
+        Format::Columns => out.put(&end_row::<Columns>(place, cause)),
+        Format::Object => out.put(&end_row::<Json>(place, cause)),
     }
 }
 
 /// Returns the line that ends the objects.
-#[tactic(auto, unfolding(crate::specs::ObjectLines::too_many_line))]
-fn too_many_row<R: Render>(place: u64) -> LineBuf
-    ensures { result.items ≡ too_many_line R.FORMAT place }
+#[tactic(auto, unfolding(crate::specs::ObjectLines::objects_end_line))]
+fn end_row<R: Render>(place: u64, cause: &str) -> LineBuf
+    requires short { length cause.now ≤ 16 }
+    ensures { result.items ≡ objects_end_line R.FORMAT place cause.now }
 {
     let mut line = LineBuf::new();
     begin::<R>(&mut line, b"!");
     put_hex_field::<R>(&mut line, b"place", 16, place, b' ');
-    put_text::<R>(&mut line, b"cause", 0, b"too-many-objects", b'\n');
+    put_text::<R>(&mut line, b"cause", 0, cause.as_bytes(), b'\n');
     put_closing::<R>(&mut line);
     line
 }

@@ -7,6 +7,7 @@ use crate::known_object::{KnownObject, MOST_OBJECTS, ObjectList};
 use crate::library_search::LibrarySearch;
 use crate::needers::{NeedingObject, SearchPaths, gather_dirs};
 use crate::object_file::{ObjectFile, ReadAccount};
+use crate::path_budget::PathBudget;
 use crate::paths::{CandidatePath, named_path};
 use crate::walk::NeedsFault;
 use memchr::memchr;
@@ -36,12 +37,14 @@ pub(crate) struct Search<'s> {
     pub path: CandidatePath,
     /// What is left of the budget, and what was requested.
     pub account: ReadAccount,
+    /// How many paths may still be tried.
+    pub tries: PathBudget,
 }
 
 impl Search<'_> {
     /// Searches for the library with a name that an object needs. If it is found, its path is in
-    /// the search's. It is not inlined: the stack of its caller would hold its lists while a file
-    /// is read.
+    /// the search's; none is found if one more path would be tried than may be. It is not inlined:
+    /// the stack of its caller would hold its lists while a file is read.
     ///
     /// # Errors
     /// A read failed.
@@ -55,9 +58,13 @@ impl Search<'_> {
     ) -> Result<Option<ObjectFile<FileSource<R::File>>>, NeedsFault>
     where
         R::File: FileExt,
-        ensures { AsksFound self.old.account self.new.account result }
+        ensures asks { AsksFound self.old.account self.new.account result }
+        ensures few { self.new.tries.left ≤ self.old.tries.left }
     {
         if memchr(b'/', name).is_some() {
+            if !self.tries.take() {
+                return Ok(None);
+            }
             if !named_path(&mut self.path, self.folders.root, name) {
                 return Ok(None);
             }
@@ -76,10 +83,11 @@ impl Search<'_> {
     ) -> Result<Option<ObjectFile<FileSource<R::File>>>, NeedsFault>
     where
         R::File: FileExt,
-        ensures { AsksFound self.old.account self.new.account result }
+        ensures asks { AsksFound self.old.account self.new.account result }
+        ensures few { self.new.tries.left ≤ self.old.tries.left }
     {
         let mut search = search;
-        while search.next(&mut self.path) {
+        while search.next(&mut self.path, &mut self.tries) {
             if let Some(found) = candidate(rt, &self.path, self.machine, &mut self.account)? {
                 return Ok(Some(found));
             }

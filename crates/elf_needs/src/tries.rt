@@ -1,10 +1,11 @@
 //! The paths that are tried in a list of directories.
-ghost use Rattle.std.specs.Prelude.{◌≡◌, ◌∷◌, [], true, false};
+ghost use Rattle.std.specs.Prelude.{◌≡◌, ◌<◌, ◌≤◌, ◌∷◌, [], true, false};
 ghost use Rattle.elf_needs.specs.Searching.{dir_paths};
 ghost use Rattle.elf_needs.specs.Steps.{dirs_of};
 
 use crate::folder_entries::first_entry;
 use crate::folders::SearchPathList;
+use crate::path_budget::PathBudget;
 use crate::paths::{CandidatePath, put_entry};
 use std::marker::Model;
 
@@ -61,13 +62,19 @@ impl<'a> CandidatePaths<'a> {
         }
     }
 
-    /// Composes the next path. Returns whether there is one; otherwise the contents of the path are
-    /// unspecified.
-    pub fn next(&mut self, path: &mut CandidatePath) -> bool
+    /// Composes the next path. Returns whether there is one that may be tried; otherwise the
+    /// contents of the path are unspecified. Each directory counts as a try, also if it gives no
+    /// path.
+    pub(crate) fn next(&mut self, path: &mut CandidatePath, tries: &mut PathBudget) -> bool
         ensures next { result ≡ true → self.old ≡ path.new.items ∷ self.new }
-        ensures none { result ≡ false → self.old ≡ [] }
+        ensures none { result ≡ false → tries.new.is_over ≡ false → self.old ≡ [] }
+        ensures counted { result ≡ true → tries.new.left < tries.old.left }
+        ensures few { tries.new.left ≤ tries.old.left }
     {
         while let Some(text) = self.left {
+            if !tries.take() {
+                return false;
+            }
             let entry = first_entry(text);
             self.left = entry.behind;
             if put_entry(path, self.root, self.name, entry.text, self.origin) {

@@ -8,8 +8,9 @@ use crate::candidates::FileSource;
 use crate::known_object::{KnownObject, MOST_OBJECTS, ObjectList};
 use crate::links::{LinkInfo, NeededLibrary};
 use crate::object_file::{ObjectFile, ReadAccount};
-use crate::object_rows::{show_object, show_too_many};
+use crate::object_rows::{show_object, show_too_many, show_too_many_paths};
 use crate::open_objects::OpenObjects;
+use crate::path_budget::PathBudget;
 use crate::paths::CandidatePath;
 use crate::search_dirs::{Search, SearchDirs};
 use crate::states::ObjectState;
@@ -30,6 +31,8 @@ type CachedFile<F> = CachedSource<FileSource<F>>;
 pub enum NeedsFault {
     /// A read failed.
     Read,
+    /// A path cannot be opened, for a fault of the system.
+    Open,
     /// The output failed.
     Out(OutFault),
 }
@@ -41,6 +44,8 @@ pub struct NeedsOptions<'a> {
     pub folders: SearchDirs<'a>,
     /// How many bytes may be read, of all files together, if limited.
     pub budget: Option<u64>,
+    /// How many paths may be tried.
+    pub tries: u64,
     /// How a line is written.
     pub format: Format,
 }
@@ -59,7 +64,8 @@ struct ObjectReport {
 pub struct Listed {
     /// The exit status.
     pub status: u8,
-    /// Whether all objects are listed: otherwise there are more than 512, which ends the listing.
+    /// Whether all objects are listed: otherwise there are more than 512, or more paths to try than
+    /// may be tried, which ends the listing.
     pub whole: bool,
 }
 
@@ -68,7 +74,7 @@ pub struct Listed {
 enum ControlFlow {
     /// It does.
     Yes,
-    /// There are more objects than are listed.
+    /// There are more objects than are listed, or more paths to try than may be.
     TooMany,
 }
 
@@ -107,6 +113,7 @@ impl<'w, 's, W: Sink> DependencyWalk<'w, 's, W> {
                     left: settings.budget,
                     spent: 0,
                 },
+                tries: PathBudget::new(settings.tries),
             },
             objects,
             store,
@@ -130,13 +137,13 @@ impl<W: Sink> DependencyWalk<'_, '_, W> {
     /// object in order each library that it needs and that is not one of those before.
     ///
     /// A line for each. Returns the exit status, 1 if one is missing or refused, or there are more
-    /// than 512, and whether all are listed. Requests at most the budget, if there is one, from all
-    /// files together. `path` is the program's as it is shown, and the directory of `real` replaces
-    /// `$ORIGIN`. The files of those that are found are kept open, as far as there is room for
-    /// them.
+    /// than 512, or more paths to try than may be tried, and whether all are listed. Requests at
+    /// most the budget, if there is one, from all files together. `path` is the program's as it is
+    /// shown, and the directory of `real` replaces `$ORIGIN`. The files of those that are found are
+    /// kept open, as far as there is room for them.
     ///
     /// # Errors
-    /// A read or the output failed.
+    /// A read or the output failed, or a path cannot be opened for a fault of the system.
     pub fn list<R: Files>(
         &mut self,
         rt: &R,
@@ -234,11 +241,15 @@ impl<W: Sink> DependencyWalk<'_, '_, W> {
                 return Ok(ControlFlow::TooMany);
             }
             self.take(rt, index, known, need, opened)?;
+            if self.search.tries.is_over {
+                return Ok(ControlFlow::TooMany);
+            }
         }
         Ok(ControlFlow::Yes)
     }
 
-    /// Searches for a library that an object needs, reads it, and writes its line.
+    /// Searches for a library that an object needs, reads it, and writes its line; or the line that
+    /// ends the objects, if more paths would be tried than may be.
     fn take<R: Files>(
         &mut self,
         rt: &R,
@@ -257,9 +268,19 @@ impl<W: Sink> DependencyWalk<'_, '_, W> {
         let found = self.search.find(rt, objects, needer, name)?;
         let by = u16::try_from(index).ok();
         match found {
+            None if self.search.tries.is_over => self.end_tries(need.at),
             None => self.add_missing(by, need.name),
             Some(file) => self.add_found(by, need.name, file, opened),
         }
+    }
+
+    /// Writes the line that ends the objects if more paths would be tried than may be.
+    fn end_tries(&mut self, at: u64) -> Result<(), NeedsFault>
+        ensures account { self.new.search.account ≡ self.old.search.account }
+        ensures status { self.new.status ≡ 1 }
+    {
+        self.status = 1;
+        show_too_many_paths(at, self.format, &mut self.out).map_err(NeedsFault::Out)
     }
 
     /// Adds a library that is not found, and writes its line.

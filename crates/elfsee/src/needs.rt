@@ -14,6 +14,9 @@ use std::io::{self, BufWriter, ErrorKind, Write};
 use std::os::unix::fs::FileExt;
 use std::rt::Files;
 
+/// How many paths may be tried.
+const MOST_TRIES: u64 = 100_000;
+
 /// Lists the objects that a program needs and, if requested, which object each of their symbols is
 /// bound to.
 ///
@@ -97,6 +100,7 @@ fn settings<'a>(asked: &NeedsRequest<'a>) -> NeedsOptions<'a> {
             root: asked.root.as_bytes(),
         },
         budget: asked.limits.budget,
+        tries: MOST_TRIES,
         format: asked.format,
     }
 }
@@ -106,6 +110,7 @@ fn ended(listed: Result<u8, NeedsFault>) -> RunEnd {
     match listed {
         Ok(status) => RunEnd::Status(status),
         Err(NeedsFault::Read) => RunEnd::Told(READ_FAULT),
+        Err(NeedsFault::Open) => RunEnd::Told(CANNOT_OPEN),
         Err(NeedsFault::Out(OutFault { .. })) => RunEnd::Unwritten,
     }
 }

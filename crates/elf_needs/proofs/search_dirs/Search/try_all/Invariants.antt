@@ -7,6 +7,7 @@ use Rattle.elf_needs.proofs.search_dirs.Search.try_all.Given as goal
 abbrev pub invariant-loop-search : goal.invariant-loop-search
 invariant-loop-search g l = record {
   spends : l.fn.self.account.spent ≤ l.self.account.spent;
+  few : l.self.tries.left ≤ l.fn.self.tries.left;
   pays : SpendsBudgetAtLeast l.fn.self.account.left l.self.account.left l.fn.self.account.spent l.self.account.spent;
 }
 
