@@ -9,6 +9,7 @@ import made_archives
 from reported import MAGIC, report, shown
 
 ARCHIVE = made_archives.MAGIC
+THIN = b"!<thin>\n"
 
 
 def archived(content, wish, is_held):
@@ -54,6 +55,8 @@ def checked(path, content, wish, has_members):
         fault = refusal and refusal.args
     elif sort == "archive":
         fault = archived(content, wish, False)[1]
+    elif has_members and content[:8] == THIN:
+        sort, fault = "thin", (0, "thin")
     if sort:
         state = "refused" if fault else "ok"
     return "C %-12s %s %s\n" % (state, "%016x %s" % fault if fault else "-", shown((path, True))), 1 if fault else 0

@@ -1,7 +1,9 @@
 -- A check over members finds the first fault of them and of the walk.
-use Rattle.std.proofs.Common.{◌≡◌, ℕ, zero, suc, ◌+◌, ◌<◌, ◌≤◌, ◌^◌, false, List, length, Option, None, Some, Result, Ok, Err, option_map, refl, sym, ap, subst, ◌∙◌, inl, inr, ◌⊎◌, arith}
+use Rattle.std.proofs.Common.{◌≡◌, ℕ, zero, suc, ◌+◌, ◌<◌, ◌≤◌, ◌^◌, false, nat_lt, List, length, Option, None, Some, Result, Ok, Err, option_map, refl, sym, ap, subst, ◌∙◌, inl, inr, ◌⊎◌, arith}
 use Rattle.std.specs.Prelude.{IfErr}
-use Rattle.elf_model.specs.Prelude.{IsBudgetRefusal, ListingStyle, Member, MemberWalkState, NextMember, OneMember, archive_checks, archive_cost, archive_fault, before_members, behind, first_fault, first_refusal, header_cost, member_cost, member_fault, member_listing, members_cost, members_from, members_of, next_member, placed_after}
+use Rattle.elf_model.specs.Prelude.{IsBudgetRefusal, ListingStyle, Member, MemberWalkState, NextMember, OneMember, archive_checks, archive_fault, before_members, behind, first_fault, first_refusal, header_cost, member_cost, member_fault, member_listing, members_cost, members_from, members_of, next_member, placed_after}
+use Rattle.std.proofs.lemmas.Bool.Decides.{nat_tests}
+use Rattle.elf_model.specs.declared.causes.Cause.TheVariants.{TooLong}
 use Rattle.elf_model.specs.declared.causes.Refusal.{Refusal}
 use Rattle.elf_model.specs.Archive.{Ends, Broken}
 use Rattle.elf_model.proofs.BudgetLaws.{is_budget_fault}
@@ -16,7 +18,8 @@ use Rattle.elf_table.specs.declared.run_fault.RunFault.{RunFault}
 use Rattle.elf_table.specs.declared.fault.Fault.TheVariants.{Refused as Refuses, Source as Unread}
 use Rattle.elf_table.specs.declared.run_fault.RunFault.TheVariants.{Refused, Source}
 use Rattle.elf_listing.specs.Shows.{WroteUntilRefusal}
-use Rattle.elf_archive.specs.Prelude.{BudgetSays, FindsFault, FindsFirst, IsArchiveFault, ListsMember, MagicRead, ReadTells, ReadsAtMostIn, ReturnsMember, StopTells, fault_from, next_cost}
+use Rattle.elf_archive.specs.Prelude.{BudgetSays, FindsFault, FindsAfterMagic, IsArchiveFault, ListsMember, ReadTells, ReadsAtMostIn, ReturnsMember, StopTells, fault_from, next_cost}
+use Rattle.elf_archive.specs.FirstFault.{before_magic, cost_after_magic}
 use Rattle.elf_archive.proofs.MemberLaws.{next-ends}
 use Rattle.elf_archive.proofs.ReportLaws.{over_budget}
 use Rattle.elf_archive.proofs.ToldLaws.{part_fault}
@@ -129,12 +132,17 @@ stop_of_member v w file headers style parts m (Refused refusal) fault p = λ oth
 stop_of_member v w file headers style parts m (Source cause at) fault p = tt
 stop_of_member v w file headers style parts m (Out cause) fault p = tt
 
--- the checks before the members
-pub magic_fault : (file : List ℕ) (headers : ℕ) (style : ListingStyle) (parts : ℕ) (fault : Fault) → MagicRead {X = Unit {0}} file (Err fault)
-    → FindsFault {X = Unit {0}} (archive_fault file headers style parts) (Err (stop_of fault))
+-- an archive whose length is too large is refused for it
+pub long_fault : (file : List ℕ) (headers : ℕ) (style : ListingStyle) (parts : ℕ) → 2 ^ 63 ≤ length file
+    → archive_fault file headers style parts ≡ Some (record { at = 0; cause = TooLong })
 unfolding archive_fault
-magic_fault file headers style parts (Refuses refusal) read = λ other. rw (read other, archive_fault) refl
-magic_fault file headers style parts (Unread fault at) read = tt
+long_fault file headers style parts long =
+    let above : nat_lt (length file) (2 ^ 63) ≡ false = grind (arith, nat_tests) in
+    rw (above, archive_fault) refl
+
+-- nothing is read of it
+pub long_takes : (a : CountedState) (w : OutState) (n : ℕ) → ReadsAtMostIn {X = Unit {0}} a a w (Err (Refused (record { at = 0; cause = TooLong }))) n
+long_takes a w n = (ReadsUpTo-none a n, λ is. absurd (cc))
 
 pub passed_fault : (file : List ℕ) (headers : ℕ) (style : ListingStyle) (parts : ℕ) → first_refusal (archive_checks file) ≡ None
     → archive_fault file headers style parts ≡ fault_from file headers style parts (length file) before_members
@@ -149,18 +157,18 @@ own_fault (Some budget) file headers style parts fault is = inl (sym is)
 
 -- a refusal that a check returns is a fault within the budget
 pub answered_fault : (file : List ℕ) (caps : Caps) (parts : ℕ) (refusal : Refusal) (before limited after : CountedState) → before.asked ≤ 2 ^ 127 → SetsLimit before limited caps.limits.budget
-    → before.seen.size ≡ length file → BudgetSays limited after (archive_cost file caps.limits.headers (style_of caps.style) parts) refusal
+    → before.seen.size ≡ length file → BudgetSays limited after (cost_after_magic file caps.limits.headers (style_of caps.style) parts) refusal
     → FindsFault {X = Unit {0}} (archive_fault file caps.limits.headers (style_of caps.style) parts) (Err (Refused refusal))
-    → IsArchiveFault caps.limits.budget file caps.limits.headers (style_of caps.style) parts (Some refusal)
+    → IsArchiveFault (before_magic caps.limits.budget) file caps.limits.headers (style_of caps.style) parts (Some refusal)
 answered_fault file caps parts refusal before limited after small limits sized says finds = by_cause (is_budget_fault refusal.cause)
   where
-    by_cause : (IsBudgetRefusal refusal) ⊎ (IsBudgetRefusal refusal → ⊥) → IsArchiveFault caps.limits.budget file caps.limits.headers (style_of caps.style) parts (Some refusal)
+    by_cause : (IsBudgetRefusal refusal) ⊎ (IsBudgetRefusal refusal → ⊥) → IsArchiveFault (before_magic caps.limits.budget) file caps.limits.headers (style_of caps.style) parts (Some refusal)
     by_cause (inl for_budget) =
         let said = says for_budget in
-        let over = over_budget caps.limits.budget (archive_cost file caps.limits.headers (style_of caps.style) parts) before limited after small limits said.1 in
+        let over = over_budget caps.limits.budget (cost_after_magic file caps.limits.headers (style_of caps.style) parts) before limited after small limits said.1 in
         let size = ap (λ seen. seen.size) limits.seen in
         rw over.1 (inr (
-          over.2,
+          omega (arith, over.2),
           record {
             refusal = refusal;
             is = refl;
@@ -168,13 +176,13 @@ answered_fault file caps parts refusal before limited after small limits sized s
             inside = omega (arith, said.0, size, sized);
           },
         ))
-    by_cause (inr other) = own_fault caps.limits.budget file caps.limits.headers (style_of caps.style) parts (Some refusal) (finds other)
+    by_cause (inr other) = own_fault (before_magic caps.limits.budget) file caps.limits.headers (style_of caps.style) parts (Some refusal) (finds other)
 
 -- what is found within the budget
 pub found_first : {X : Type 0} (file : List ℕ) (caps : Caps) (parts : ℕ) (result : Result X RunFault) (out : OutState) (before limited after : CountedState) → before.asked ≤ 2 ^ 127 → SetsLimit before limited caps.limits.budget
-    → before.seen.size ≡ length file → out.failed ≡ false → IfErr result (StopTells limited after out (archive_cost file caps.limits.headers (style_of caps.style) parts))
-    → FindsFault (archive_fault file caps.limits.headers (style_of caps.style) parts) result → FindsFirst caps parts file result
-found_first file caps parts (Ok x) out before limited after small limits sized well says finds = own_fault caps.limits.budget file caps.limits.headers (style_of caps.style) parts None finds
+    → before.seen.size ≡ length file → out.failed ≡ false → IfErr result (StopTells limited after out (cost_after_magic file caps.limits.headers (style_of caps.style) parts))
+    → FindsFault (archive_fault file caps.limits.headers (style_of caps.style) parts) result → FindsAfterMagic caps parts file result
+found_first file caps parts (Ok x) out before limited after small limits sized well says finds = own_fault (before_magic caps.limits.budget) file caps.limits.headers (style_of caps.style) parts None finds
 found_first file caps parts (Err (Refused refusal)) out before limited after small limits sized well says finds =
     answered_fault file caps parts refusal before limited after small limits sized says finds
 found_first file caps parts (Err (Source fault at)) out before limited after small limits sized well says finds = tt

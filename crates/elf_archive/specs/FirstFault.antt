@@ -1,8 +1,10 @@
 -- The first fault of an archive: of itself, of a member's listing, or of the walk over its members.
-use Rattle.std.specs.Prelude.{ℕ, ◌≡◌, ◌<◌, ◌⊎◌, List, length, Option, None, Some, Result, Ok, Err}
+use Rattle.std.specs.Prelude.{ℕ, ◌≡◌, ◌<◌, ◌⊎◌, List, length, Option, None, Some, Result, Ok, Err, ◌≤◌, ◌+◌, ◌-◌, option_map}
 use Rattle.elf_model.specs.Prelude.{IsBudgetRefusal, ListingStyle, MemberWalkState, archive_cost, archive_fault, first_fault, members_from}
+use Rattle.elf_model.specs.Archive.{ARCHIVE_MAGIC, MAGIC_SIZE}
+use Rattle.elf_model.specs.Bytes.{field}
 use Rattle.elf_model.specs.declared.causes.Refusal.{Refusal}
-use Rattle.elf_source.specs.Source.{CountedState, IsSourceFault}
+use Rattle.elf_source.specs.Source.{CountedState, IsSourceFault, SourceState}
 use Rattle.elf_options.specs.Prelude.{style_of}
 use Rattle.elf_options.specs.declared.caps.Caps.{Caps}
 use Rattle.elf_table.specs.declared.run_fault.RunFault.TheVariants.{Out}
@@ -36,14 +38,26 @@ IsArchiveFault (Some budget) file headers style parts fault =
     (fault ≡ archive_fault file headers style parts)
     ⊎ ((budget < archive_cost file headers style parts) × IsOverBudget (length file) fault)
 
--- WHAT IS FOUND of an archive with these caps and parts: its fault within the budget, or that there
--- is none, unless a read failed
-abbrev pub FindsFirst : {X : Type 0} → Caps → ℕ → List ℕ → Result X RunFault → Type 0
-FindsFirst caps parts file (Ok x) = IsArchiveFault caps.limits.budget file caps.limits.headers (style_of caps.style) parts None
-FindsFirst caps parts file (Err (Refused refusal)) =
-    IsArchiveFault caps.limits.budget file caps.limits.headers (style_of caps.style) parts (Some refusal)
-FindsFirst caps parts file (Err (Source fault at)) = Unit {0}
-FindsFirst caps parts file (Err (Out fault)) = ⊥
+-- a source is of a file that begins with the magic string of an archive
+pub record BeginsArchive (seen : SourceState) : Type 0 where
+  pub size : MAGIC_SIZE ≤ seen.size
+  pub magic : (file : List ℕ) → seen.file ≡ Some file → field file 0 MAGIC_SIZE ≡ ARCHIVE_MAGIC
+
+-- a budget as it was before the magic string was read, by what that left of it
+abbrev pub before_magic : Option ℕ → Option ℕ
+before_magic left = option_map (λ bytes. MAGIC_SIZE + bytes) left
+
+-- WHAT IS FOUND of an archive whose magic string was read, with what that left of the budget
+abbrev pub FindsAfterMagic : {X : Type 0} → Caps → ℕ → List ℕ → Result X RunFault → Type 0
+FindsAfterMagic left parts file (Ok x) = IsArchiveFault (before_magic left.limits.budget) file left.limits.headers (style_of left.style) parts None
+FindsAfterMagic left parts file (Err (Refused refusal)) =
+    IsArchiveFault (before_magic left.limits.budget) file left.limits.headers (style_of left.style) parts (Some refusal)
+FindsAfterMagic left parts file (Err (Source fault at)) = Unit {0}
+FindsAfterMagic left parts file (Err (Out fault)) = ⊥
+
+-- what an archive may ask for besides its magic string
+abbrev pub cost_after_magic : List ℕ → ℕ → ListingStyle → ℕ → ℕ
+cost_after_magic file headers style parts = archive_cost file headers style parts - MAGIC_SIZE
 
 -- what a fault implies for the source if nothing is written
 abbrev pub ReadTells : CountedState → CountedState → RunFault → Type 0

@@ -1,30 +1,28 @@
 //! The first fault of an archive and its members.
 ghost use Rattle.std.specs.Prelude.{◌≡◌, ℕ, ◌+◌, ◌-◌, ◌^◌, ◌<◌, ◌≤◌, List, length, Some, IfErr};
-ghost use Rattle.elf_model.specs.Prelude.{allowance, archive_ceiling, archive_cost, archive_fault, archive_length_checks, before_members, first_refusal, members_cost};
+ghost use Rattle.elf_model.specs.Prelude.{allowance, archive_ceiling, archive_fault, archive_length_checks, before_members, first_refusal, members_cost};
 ghost use Rattle.elf_model.specs.declared.causes.Refusal.{Refusal as Refuses};
 ghost use Rattle.elf_options.specs.Permitted.{style_of};
 ghost use Rattle.elf_listing.specs.Reports.{KeepsSourceUnlimited};
-ghost use Rattle.elf_archive.specs.FirstFault.{FindsFault, FindsFirst, ReadTells, fault_from};
+ghost use Rattle.elf_archive.specs.FirstFault.{BeginsArchive, FindsAfterMagic, FindsFault, ReadTells};
+ghost use Rattle.elf_archive.specs.FirstFault.{cost_after_magic, fault_from};
 ghost use Rattle.elf_archive.specs.Listed.{AsksInArchive, GoesThrough, IsAll};
 
 use crate::cursor::MemberCursor;
-use crate::magic_strings::magic;
 use crate::parts::{list_member, placed};
-use elf_record::Parts;
+use elf_record::{Cause, Parts, Refusal};
 use elf_source::{Counted, NullSink, Out, RangeSource, Sink, Source};
 use elf_table::{Caps, HeaderStore, ListingStyle, NameBuf, RunFault};
 
-/// Reads an archive and the listing of each member that is an ELF file, the parts that `parts` has,
-/// up to the first fault.
-///
-/// Nothing is written. The source is a range of all bytes of the archive, with nothing masked, and
-/// is one again on return. The store has a slot for each header that the caps allow, and at most
-/// 2^127 bytes were requested from the source. If the caps have a budget, it is one over all
-/// members; on return no limit is set.
+/// Goes over an archive whose magic string was read, and through the listing of each member that is an ELF
+/// file, as far as `parts` has it, up to the first fault. Nothing is written. The source is a range of all
+/// bytes of the archive, with nothing hidden, and is one again afterwards. The store has a slot for each
+/// header that the caps permit, and at most 2^127 bytes were asked of the source. If the caps have a budget
+/// it is what the magic string left of it, one over all members; afterwards no limit is set.
 ///
 /// # Errors
-/// The first fault, with an offset in the archive: its own refusal, that of a member's listing, or
-/// of an offset without a valid member; or a refusal for lack of budget. A fault of the source.
+/// The first fault, with an offset of the archive: its own refusal, that of a member's listing, or of the
+/// place where no member is; or a refusal for want of budget. A fault of the source.
 pub fn find_fault<S: Source>(
     src: &mut Counted<RangeSource<S>>,
     store: &mut HeaderStore,
@@ -33,14 +31,15 @@ pub fn find_fault<S: Source>(
 ) -> Result<(), RunFault>
     requires small { (store.old.slots ≡ caps.limits.headers) × (src.old.asked ≤ 2 ^ 127) }
     requires whole { IsAll src.old }
+    requires begins { BeginsArchive src.old.seen }
     ensures slots { store.new.slots ≡ store.old.slots }
     ensures leaves { KeepsSourceUnlimited src.old src.new }
     ensures says { IfErr result (ReadTells src.old src.new) }
     ensures finds { (file : List ℕ) → src.old.seen.file ≡ Some file →
-        FindsFirst caps.entry parts.0 file result }
+        FindsAfterMagic caps.entry parts.0 file result }
     ensures cost { (file : List ℕ) → src.old.seen.file ≡ Some file →
         src.new.asked ≤ src.old.asked
-        + archive_cost file caps.entry.limits.headers (style_of caps.entry.style) parts.0 }
+        + cost_after_magic file caps.entry.limits.headers (style_of caps.entry.style) parts.0 }
     // For any source.
     ensures asks { AsksInArchive caps.entry src.old src.new result }
 {
@@ -52,10 +51,11 @@ pub fn find_fault<S: Source>(
     found
 }
 
-/// Reads an archive within the limit set on the source, up to its first fault.
+/// Goes over an archive whose magic string was read, within the limit that is set on the source, up to its
+/// first fault.
 ///
 /// # Errors
-/// As for [`find_fault`], or a fault of the output.
+/// As [`find_fault`], or a fault of the output.
 fn find_in_archive<S: Source, W: Sink>(
     src: &mut Counted<RangeSource<S>>,
     store: &mut HeaderStore,
@@ -63,15 +63,21 @@ fn find_in_archive<S: Source, W: Sink>(
     parts: Parts,
     out: &mut Out<W>,
 ) -> Result<(), RunFault>
-    requires { IsAll src.old }
+    requires whole { IsAll src.old }
+    requires begins { BeginsArchive src.old.seen }
     ensures finds { GoesThrough store.old.slots store.new.slots (style_of style.entry) parts.0
-        src.old src.new out.old out.new result (archive_ceiling src.old.seen.size) archive_cost
+        src.old src.new out.old out.new result (archive_ceiling src.old.seen.size) cost_after_magic
         (λ file headers style parts. FindsFault (archive_fault file headers style parts) result) }
     ensures unread { (refusal : Refuses) →
         first_refusal (archive_length_checks src.old.seen.size) ≡ Some refusal →
         src.new ≡ src.old }
 {
-    magic(src)?;
+    if src.length() >= 1 << 63 {
+        return Err(RunFault::Refused(Refusal {
+            at: 0,
+            cause: Cause::TooLong,
+        }));
+    }
     find_in_members(src, store, style, parts, out)
 }
 

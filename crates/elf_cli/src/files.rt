@@ -7,11 +7,12 @@ use std::fs;
 use std::os::unix::fs::{FileExt, FileTypeExt};
 use std::rt::Files;
 
-/// Opens a file that can be read at an offset; for `-`, standard input. Directories, pipes and
-/// sockets are not opened, so that opening never blocks.
+/// Opens a file that can be read at an offset; for `-` that on standard input. Directories, pipes and
+/// sockets are not opened, so that opening does not block, unless another process puts a pipe at the path
+/// after it was looked at: the standard library can't open without blocking.
 ///
 /// # Errors
-/// How the program ends if there is no such file, or if its size cannot be determined.
+/// How the program ends where there is no such file, or where its size can't be found.
 pub fn open<R: Files>(rt: &R, path: &str) -> Result<StreamSource<FileReader<R::File>>, ExitLine>
 where
     R::File: FileExt,

@@ -2,8 +2,7 @@
 use Rattle.std.proofs.Common.{◌≡◌, ℕ, zero, suc, ◌+◌, ◌<◌, ◌≤◌, ◌-◌, ◌^◌, ◌⊎◌, min, List, [], ◌∷◌, length, length-set, get_or, get_or-set_other, get_or-set_same, set, inl, inr, Option, None, Some, Result, Err, refl, sym, ap, subst, ◌∙◌, arith}
 use Rattle.std.proofs.lemmas.Bool.{cases_eq, cases_lt}
 use Rattle.std.proofs.lemmas.List.Sums.{sum_by-set}
-use Rattle.elf_model.specs.Loader.{SymbolQuery}
-use Rattle.elf_model.specs.Budget.{IsBudgetRefusal}
+use Rattle.elf_model.specs.Prelude.{IsBudgetRefusal, SymbolQuery}
 use Rattle.elf_model.specs.declared.causes.Refusal.{Refusal}
 use Rattle.elf_source.specs.Source.{counted}
 use Rattle.elf_table.specs.declared.fault.Fault.{Fault}

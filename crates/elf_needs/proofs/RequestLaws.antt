@@ -1,11 +1,9 @@
 -- A line written in pieces ends in the name and the referenced version.
 use Rattle.std.proofs.Common.{◌≡◌, ℕ, List, ◌++◌, refl, sym, ap, ◌∙◌, append_assoc}
 use Rattle.std.specs.Prelude.{codes}
+use Rattle.elf_model.specs.Prelude.{closing, escaped, member_key, name_member, name_text, quoted, string_text, version_member}
 use Rattle.elf_model.specs.BindingLines.{line_requested}
-use Rattle.elf_model.specs.Fields.{closing, member_key, quoted, string_text}
-use Rattle.elf_model.specs.Lines.{escaped, name_member, name_text}
 use Rattle.elf_model.specs.Names.DisplayedName.{Whole}
-use Rattle.elf_model.specs.Suffixes.{version_member}
 use Rattle.elf_model.specs.declared.formats.Format.{Format}
 use Rattle.elf_model.specs.declared.formats.Format.TheVariants.{Columns, Object}
 use Rattle.elf_format.specs.Named.{escaped_bytes, line_tailed}

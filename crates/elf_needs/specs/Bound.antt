@@ -1,5 +1,5 @@
 -- The effect of binding the symbols of a program's objects, over files that are kept open.
-use Rattle.std.specs.Prelude.{ℕ, ◌≡◌, ◌<◌, ◌≤◌, ◌⊎◌, Bool, true, false, List, [], ◌++◌, length, get_or, Option, None, Some, Result, Ok, Err}
+use Rattle.std.specs.Prelude.{ℕ, ◌≡◌, ◌+◌, ◌<◌, ◌≤◌, ◌⊎◌, Bool, true, false, List, [], ◌++◌, length, get_or, Option, None, Some, Result, Ok, Err}
 use Rattle.elf_model.specs.Prelude.{BoundItem, BoundObjects, Faulty, IsBudgetRefusal, LookupTables as IsScopeOf, Told, any_unbound, before_items, bound_text, file_of_version, is_weak, lookup_tables_of, refusal_line, symbol_offset}
 use Rattle.elf_model.specs.declared.states.BindingState.{BindingState}
 use Rattle.elf_source.specs.Source.{counted}

@@ -1,6 +1,7 @@
 -- The names of the objects of a program.
-use Rattle.std.specs.Prelude.{ℕ, ◌^◌, ◌||◌, if◌then◌else◌, nat_lt, Bool, false, List, [], option_map, position, slice_index_or, Option, None, Some}
+use Rattle.std.specs.Prelude.{ℕ, ◌≡◌, ◌^◌, ◌||◌, if◌then◌else◌, nat_lt, Bool, false, List, [], codes, option_map, position, slice_get, slice_index_or, Option, None, Some}
 use Rattle.std.specs.Str.{bytes_eq}
+use Rattle.elf_needs.specs.Searching.{IsDirOf}
 use Rattle.elf_needs.specs.declared.known_object.KnownObject.{KnownObject}
 use Rattle.elf_needs.specs.declared.known_object.ObjectList.{ObjectList}
 
@@ -24,3 +25,12 @@ index_by_short_name (Some index) = if nat_lt index (2 ^ 16) then Some index else
 -- the index of the first object that has a name
 abbrev pub called_by : ObjectList → List ℕ → Option ℕ
 called_by objects name = index_by_short_name (position (is_called objects.links.held.texts name) objects.known.items)
+
+-- the directory of an object: that of its path, and the current one where its path is not kept
+abbrev pub IsDirOfObject : (paths : List (List ℕ)) → Option ℕ → List ℕ → Type 0
+IsDirOfObject paths None folder = folder ≡ codes "."
+IsDirOfObject paths (Some path) folder = IsDirOf (slice_index_or paths path []) folder
+
+-- the object that first needed another, if one did
+abbrev pub above_of : ObjectList → KnownObject → Option KnownObject
+above_of objects known = elim known.needer [ None ↦ None | Some needer ↦ slice_get objects.known.items needer ]

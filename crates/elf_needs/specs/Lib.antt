@@ -19,5 +19,6 @@ pub mod Bound
 pub mod Requests
 pub mod Budget
 pub mod Called
+pub mod Walked
 pub mod ObjectLines
 pub mod Prelude

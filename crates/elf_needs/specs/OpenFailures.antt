@@ -1,7 +1,7 @@
 -- Why a path cannot be opened (POSIX, open: its errors).
 use Rattle.std.specs.Prelude.{Bool, true, false}
-use Rattle.std_io.specs.declared.io.kind.ErrorKind.{ErrorKind}
-use Rattle.std_io.specs.declared.io.kind.ErrorKind.TheVariants as kind
+use Rattle.std.specs.declared.io.ErrorKind.{ErrorKind}
+use Rattle.std.specs.declared.io.ErrorKind.TheVariants as kind
 
 -- THERE IS NO FILE, or none that this process may open, so that the next path is tried; otherwise the
 -- system has a fault, or lacks room

@@ -14,6 +14,11 @@ SpendsBudgetAtLeast (Some left_old) None asked_old asked_new = ⊥
 abbrev pub KeepsOne : (old new : List LookupObjectState) → LookupObjectState → Type 0
 KeepsOne old new object = (new ≡ old) ⊎ (new ≡ old ++ object ∷ [])
 
+-- its index is kept beside it, and no other
+abbrev pub KeepsIndex : (old new : List LookupObjectState) → (indexes_old indexes_new : List ℕ) → (index : ℕ) → Type 0
+KeepsIndex old new indexes_old indexes_new index =
+    (indexes_new ≡ indexes_old ++ index ∷ []) ⊎ ((new ≡ old) × (indexes_new ≡ indexes_old))
+
 -- what keeping an object requested, for any source: what is left of the budget decreases by at
 -- least what was requested from it
 pub record AsksKept (old new : List LookupObjectState) (left_old left_new : Option ℕ) : Type 0 where

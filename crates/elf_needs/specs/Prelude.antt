@@ -1,6 +1,6 @@
 -- The words of this crate, for one import elsewhere.
 pub use Rattle.elf_needs.specs.Binds.{AreObjectFiles, AskedFirst, AskedOf, BindsAcross, ReturnsBinding, asked_of_all, reached}
-pub use Rattle.elf_needs.specs.Bound.{AsksAll, ReturnsItem, SameObject, WritesSoFar, bound_among}
+pub use Rattle.elf_needs.specs.Bound.{AsksAll, IsBudgetShort, ReturnsItem, SameObject, WritesSoFar, bound_among}
 pub use Rattle.elf_needs.specs.Definers.{DefinesAfter, ReturnsDefiner}
 pub use Rattle.elf_needs.specs.Entries.{AreNeeds, IsHeldText, IsNeed, KeepsLinks, KeepsText, ReturnsLinks, ReturnsStrings, ReturnsText, first_index, text_by, with_index}
 pub use Rattle.elf_needs.specs.Held.{LinkInfoState}

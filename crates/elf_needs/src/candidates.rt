@@ -1,7 +1,8 @@
 //! Files that may be the one that is searched for.
-ghost use Rattle.std.specs.Prelude.{◌≡◌, if◌then◌else◌, Err, IfOk, IfSome, None, Ok};
+ghost use Rattle.std.specs.Prelude.{◌≡◌, ℕ, List, if◌then◌else◌, Err, IfOk, IfSome, None, Ok, Some};
 ghost use Rattle.elf_needs.specs.Budget.{AsksFile, AsksFound};
 ghost use Rattle.elf_needs.specs.OpenFailures.{is_no_file};
+ghost use Rattle.elf_needs.specs.Reading.{ReturnsMachineFit};
 ghost use Rattle.elf_needs.specs.declared.walk.NeedsFault.TheVariants.{Open};
 
 use crate::object_file::{ObjectFile, ReadAccount};
@@ -47,8 +48,9 @@ where
     }
 }
 
-/// Checks whether a file is 64-bit, little-endian and for this machine. Requests at most the bytes
-/// left of the budget, if there is one; those requested are subtracted.
+/// Returns whether a file is of 64 bits, little-endian and of this machine, or the budget has no room to
+/// tell. No more is asked for than what is left of the budget, if there is one; what was asked for is taken
+/// off.
 ///
 /// # Errors
 /// A read failed.
@@ -57,7 +59,9 @@ fn fits<S: Source>(
     machine: u16,
     account: &mut ReadAccount,
 ) -> Result<bool, NeedsFault>
-    ensures { AsksFile file.old file.new account.old account.new }
+    ensures asks { AsksFile file.old file.new account.old account.new }
+    ensures known { (bytes : List ℕ) → file.old.seen.file ≡ Some bytes →
+        ReturnsMachineFit machine account.old.left bytes result }
 {
     match file.machine(account) {
         Ok(Some(found)) => Ok(found == machine),

@@ -1,6 +1,7 @@
 //! The objects that are known so far.
-ghost use Rattle.std.specs.Prelude.{◌≡◌, is_some, option_map, position};
-ghost use Rattle.elf_needs.specs.Called.{called_by, is_called, is_text, index_by_short_name, text_told};
+ghost use Rattle.std.specs.Prelude.{◌≡◌, ◌++◌, ◌∷◌, [], IfSome, is_some, length, option_map, position, slice_get};
+ghost use Rattle.elf_needs.specs.Held.{with_text};
+ghost use Rattle.elf_needs.specs.Called.{IsDirOfObject, called_by, is_called, is_text, index_by_short_name, text_told};
 
 use crate::links::{LinkInfo, LinkInfoStore, NeededLibrary};
 use crate::paths::dir_of_path;
@@ -59,12 +60,16 @@ impl ObjectList {
     }
 
     /// Returns the number of objects.
-    pub(crate) fn len(&self) -> usize {
+    pub(crate) fn len(&self) -> usize
+        ensures { result ≡ length self.now.known.items }
+    {
         self.known.len()
     }
 
     /// Returns the object at an index, if there is one.
-    pub(crate) fn get(&self, index: usize) -> Option<KnownObject> {
+    pub(crate) fn get(&self, index: usize) -> Option<KnownObject>
+        ensures { result ≡ slice_get self.now.known.items index }
+    {
         match self.known.get(index) {
             Some(known) => Some(*known),
             None => None,
@@ -72,12 +77,21 @@ impl ObjectList {
     }
 
     /// Stores a path, and returns its index, or `None` if there is no room for it.
-    pub(crate) fn keep_path(&mut self, path: &[u8]) -> Option<u32> {
+    pub(crate) fn keep_path(&mut self, path: &[u8]) -> Option<u32>
+        ensures kept { IfSome result (λ index. self.new.paths ≡ with_text self.old.paths path.now) }
+        ensures index { IfSome result (λ index. index ≡ length self.old.paths.texts) }
+        ensures same { (self.new.known ≡ self.old.known) × (self.new.links ≡ self.old.links) }
+    {
         self.paths.push(path)
     }
 
     /// Adds an object after the others. Returns its index, or `None` if there are 512.
-    pub(crate) fn add(&mut self, known: KnownObject) -> Option<u16> {
+    pub(crate) fn add(&mut self, known: KnownObject) -> Option<u16>
+        ensures added { IfSome result (λ index.
+            self.new.known.items ≡ self.old.known.items ++ known ∷ []) }
+        ensures index { IfSome result (λ index. index ≡ length self.old.known.items) }
+        ensures same { (self.new.paths ≡ self.old.paths) × (self.new.links ≡ self.old.links) }
+    {
         if self.known.len() >= MOST_OBJECTS {
             return None;
         }
@@ -91,7 +105,9 @@ impl ObjectList {
     }
 
     /// Returns the need at an index, if there is one.
-    pub(crate) fn need(&self, index: usize) -> Option<NeededLibrary> {
+    pub(crate) fn need(&self, index: usize) -> Option<NeededLibrary>
+        ensures { result ≡ slice_get self.now.links.needs index }
+    {
         self.links.need(index)
     }
 
@@ -107,7 +123,9 @@ impl ObjectList {
     }
 
     /// Returns the directory of an object, which replaces `$ORIGIN`.
-    pub(crate) fn folder(&self, known: &KnownObject) -> &[u8] {
+    pub(crate) fn folder(&self, known: &KnownObject) -> &[u8]
+        ensures { IsDirOfObject self.now.paths.texts known.now.path result.now }
+    {
         match known.path {
             Some(path) => dir_of_path(self.paths.get(path)),
             None => b".",

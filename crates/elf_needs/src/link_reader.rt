@@ -1,10 +1,9 @@
 //! What one file needs.
-ghost use Rattle.std.specs.Prelude.{◌≡◌, ◌<◌, ◌^◌, ◌+◌, ◌*◌, ◌/◌, ℕ, List};
+ghost use Rattle.std.specs.Prelude.{◌≡◌, ◌<◌, ◌≤◌, ◌^◌, ◌+◌, ◌*◌, ◌/◌, ℕ, List, length};
 ghost use Rattle.elf_table.specs.Prelude.{CallDid, HoldsProgramHeaders, fault_of_result};
-ghost use Rattle.elf_model.specs.Prelude.{e_shnum, links_by_segments, links_ceiling, links_of, loaded_links, lookup_refusal};
-ghost use Rattle.elf_source.specs.Source.{ReadsUpTo};
+ghost use Rattle.elf_model.specs.Prelude.{e_shnum, field, links_by_segments, links_ceiling, links_of, loaded_links, lookup_refusal};
 ghost use Rattle.elf_needs.specs.Entries.{ReturnsLinks};
-ghost use Rattle.elf_needs.specs.Reading.{ReturnsLookupRefusal, linked_in_segments, lookup_passed};
+ghost use Rattle.elf_needs.specs.Reading.{ReturnsLookupRefusal, ReturnsMachine, linked_in_segments, lookup_passed, machine_by};
 
 use crate::entries::{DynamicTexts, list_link_info, no_link_info};
 use crate::links::{LinkInfo, LinkInfoStore};
@@ -29,20 +28,45 @@ const LITTLE_ENDIAN: u8 = 1;
 /// # Errors
 /// A read fault, or a refusal for lack of budget.
 pub fn machine_of<S: Source>(src: &mut Counted<S>) -> Result<Option<u16>, Fault>
-    ensures { ReadsUpTo src.old src.new 20 }
+    ensures { CallDid src.old src.new (fault_of_result result) 20
+        (λ file. ReturnsMachine file result) }
 {
     if src.length() < FRONT_BYTES as u64 {
         return Ok(None);
     }
     let mut front = [0; FRONT_BYTES];
     fill(src, 0, &mut front)?;
-    if word(&[front[0], front[1], front[2], front[3]]) != MAGIC
-        || front[4] != CLASS_64
-        || front[5] != LITTLE_ENDIAN
+    Ok(machine_by(&front))
+}
+
+/// Returns the machine that the first bytes of a file tell.
+fn machine_by(front: &[u8; FRONT_BYTES]) -> Option<u16>
+    ensures { result ≡ machine_by front.now }
+{
+    if magic_in(front) == MAGIC
+        && byte_at(front, 4) == CLASS_64
+        && byte_at(front, 5) == LITTLE_ENDIAN
     {
-        return Ok(None);
+        return Some(u16_at(front, 18));
     }
-    Ok(Some(u16_at(&front, 18)))
+    None
+}
+
+/// Returns the number of the first four bytes.
+fn magic_in(front: &[u8; FRONT_BYTES]) -> u32
+    ensures { result ≡ field front.now 0 4 }
+{
+    let mut magic = [0; 4];
+    magic.copy_from_slice(&front[..4]);
+    word(&magic)
+}
+
+/// Returns the byte at a place.
+fn byte_at(bytes: &[u8], place: usize) -> u8
+    requires { place + 1 ≤ length bytes.now }
+    ensures { result ≡ field bytes.now place 1 }
+{
+    bytes[place]
 }
 
 /// Reads how a file is linked, as a loader sees it: by its program headers, ignoring its section
@@ -161,7 +185,7 @@ fn check_lookup<S: Source>(src: &mut Counted<S>, view: &ExecutionView<'_>) -> Re
 }
 
 /// Returns no fault if there is no hash table, otherwise the fault.
-fn without_hash(fault: Fault) -> Result<(), Fault>
+pub(crate) fn without_hash(fault: Fault) -> Result<(), Fault>
     ensures { result ≡ lookup_passed fault }
 {
     match fault {

@@ -1,6 +1,7 @@
 //! The file of an object, before names are looked up in it.
-ghost use Rattle.std.specs.Prelude.{◌≡◌, ◌≤◌};
+ghost use Rattle.std.specs.Prelude.{◌≡◌, ◌≤◌, ℕ, List, Some};
 ghost use Rattle.elf_needs.specs.Budget.{AsksFile};
+ghost use Rattle.elf_needs.specs.Reading.{ReturnsMachineWithin};
 ghost use Rattle.elf_source.specs.Source.{counted};
 
 use crate::budget::spend_budget;
@@ -50,7 +51,9 @@ impl<S: Source> ObjectFile<S> {
     /// # Errors
     /// Those of [`machine_of`].
     pub(crate) fn machine(&mut self, account: &mut ReadAccount) -> Result<Option<u16>, Fault>
-        ensures { AsksFile self.old self.new account.old account.new }
+        ensures asks { AsksFile self.old self.new account.old account.new }
+        ensures known { (file : List ℕ) → self.old.seen.file ≡ Some file →
+            ReturnsMachineWithin account.old.left file result }
     {
         let asked = self.source.asked();
         self.source.limit(account.left);

@@ -1,11 +1,11 @@
 //! The objects of a program whose files are kept open, so that names can be looked up in them.
 ghost use Rattle.std.specs.Prelude.{◌≡◌, [], IfOk};
-ghost use Rattle.elf_needs.specs.Opens.{AsksKept, KeepsOne};
+ghost use Rattle.elf_needs.specs.Opens.{AsksKept, KeepsIndex, KeepsOne};
 
 use crate::budget::spend_budget;
 use crate::cached_source::CachedSource;
+use crate::link_reader::without_hash;
 use crate::object::LookupObject;
-use elf_record::{Cause, Refusal};
 use elf_source::{Counted, Source};
 use elf_table::{Fault, HeaderStore};
 use std::alloc::{AllocError, Global};
@@ -40,7 +40,9 @@ impl<S: Source + Drop> OpenObjects<S> {
 
     /// Adds an object after the others.
     fn push(&mut self, index: u16, object: LookupObject<S>)
-        ensures { KeepsOne self.old.objects.items self.new.objects.items object }
+        ensures one { KeepsOne self.old.objects.items self.new.objects.items object }
+        ensures index { KeepsIndex self.old.objects.items self.new.objects.items
+            self.old.indexes.items self.new.indexes.items index }
     {
         if self.indexes.push(index).is_ok() {
             let _ = self.objects.push(object);
@@ -84,21 +86,8 @@ impl<S: Source + Drop> OpenObjects<CachedSource<S>> {
             }
             Err((source, fault)) => {
                 spend_budget(left, source.asked());
-                unless_no_hash(fault)
+                without_hash(fault)
             }
         }
-    }
-}
-
-/// Returns a fault, unless it is that there is no hash table.
-fn unless_no_hash(fault: Fault) -> Result<(), Fault> {
-    match fault {
-        Fault::Refused(
-            Refusal {
-                at: _,
-                cause: Cause::NoHash,
-            },
-        ) => Ok(()),
-        _ => Err(fault),
     }
 }

@@ -1,5 +1,6 @@
 //! The search for a library.
-ghost use Rattle.std.specs.Prelude.{◌≤◌, length};
+ghost use Rattle.std.specs.Prelude.{◌≡◌, ◌≤◌, length};
+ghost use Rattle.elf_needs.specs.Called.{above_of};
 ghost use Rattle.elf_needs.specs.Budget.{AsksFound};
 
 use crate::candidates::{FileSource, candidate};
@@ -142,7 +143,9 @@ fn put_chain<'a>(
 }
 
 /// Returns the object that first needed another, if there is one.
-fn above(objects: &ObjectList, known: &KnownObject) -> Option<KnownObject> {
+fn above(objects: &ObjectList, known: &KnownObject) -> Option<KnownObject>
+    ensures { result ≡ above_of objects.now known.now }
+{
     match known.needer {
         Some(needer) => objects.get(usize::from(needer)),
         None => None,

@@ -1,6 +1,7 @@
 //! The objects of a program, in a loader's order.
 ghost use Rattle.std.specs.Prelude.{◌≡◌};
 ghost use Rattle.elf_needs.specs.Budget.{AsksFile, AsksFiles};
+ghost use Rattle.elf_needs.specs.Walked.{status_with, told_alone};
 
 use crate::buffers::NeedsBuffers;
 use crate::cached_source::CachedSource;
@@ -383,6 +384,8 @@ impl<W: Sink> DependencyWalk<'_, '_, W> {
         told: &ObjectReport,
     ) -> u16
         ensures account { self.new.search.account ≡ self.old.search.account }
+        ensures status { self.new.status ≡ status_with told.now.state self.old.status }
+        ensures same { (self.new.format ≡ self.old.format) × (self.new.out ≡ self.old.out) }
     {
         if !matches!(told.state, ObjectState::Found) {
             self.status = 1;
@@ -400,7 +403,9 @@ impl<W: Sink> DependencyWalk<'_, '_, W> {
 }
 
 /// Returns the result for an object of which nothing but its state is known.
-fn told_alone(state: ObjectState) -> ObjectReport {
+fn told_alone(state: ObjectState) -> ObjectReport
+    ensures { result ≡ told_alone state }
+{
     ObjectReport {
         state,
         links: LinkInfo {

@@ -1,13 +1,17 @@
 -- The check of a file by its type, and what that reads.
-use Rattle.std.proofs.Common.{◌≡◌, ℕ, ◌+◌, ◌≤◌, nat_lt, Bool, true, false, if◌then◌else◌, List, Option, None, Some, arith}
+use Rattle.std.proofs.Common.{◌≡◌, ℕ, ◌+◌, ◌≤◌, nat_lt, Bool, true, false, if◌then◌else◌, List, Option, None, Some, sym, ◌∙◌, arith}
 use Rattle.std.specs.Prelude.{IfSome}
 use Rattle.elf_model.specs.Prelude.{ListingStyle, archive_ceiling, front_size, style_ceiling}
+use Rattle.elf_model.specs.declared.states.FileMagic.TheVariants as sort
+use Rattle.elf_model.specs.declared.states.FileMagic.{FileMagic}
 use Rattle.elf_model.specs.declared.states.FileStatus.{FileStatus}
 use Rattle.elf_model.specs.declared.states.FileStatus.TheVariants as state
-use Rattle.elf_source.specs.Source.{CountedState}
+use Rattle.elf_source.specs.Source.{CountedState, KeepsSource, SourceState}
 use Rattle.elf_options.specs.Prelude.{style_of}
 use Rattle.elf_options.specs.declared.caps.Caps.{Caps}
 use Rattle.elf_walk.specs.Prelude.{AsksNoMore, FailsRead, FindsSorted, FindsSortedState, check_ceiling, front_asked}
+use Rattle.elf_archive.specs.FirstFault.{BeginsArchive}
+use Rattle.elf_walk.specs.Members.{unlisted_state}
 
 -- what a check reads, by the ceiling of an archive of as many bytes
 check_most : (short : Bool) (size headers : ℕ) (style : ListingStyle) → (if short then 4 else style_ceiling size headers style) ≤ archive_ceiling size headers style
@@ -23,7 +27,7 @@ asks_as_archive caps old new asks =
     record { ceiling = omega (arith, asks.ceiling, most); budget = asks.budget }
 
 -- nothing more is read
-some_within : (budget : Option ℕ) (old new : ℕ) → new ≡ old → IfSome budget (λ bytes. new ≤ old + bytes)
+pub some_within : (budget : Option ℕ) (old new : ℕ) → new ≡ old → IfSome budget (λ bytes. new ≤ old + bytes)
 some_within None old new is = tt
 some_within (Some bytes) old new is = omega (arith, is)
 
@@ -42,6 +46,29 @@ size_few false = omega arith
 
 pub front_eight : (budget : Option ℕ) (size : ℕ) → front_asked true budget size ≤ 8
 front_eight budget size = front_few (nat_lt size 4) _ (front_size true size) (size_few (nat_lt size 8))
+
+pub front_four : (budget : Option ℕ) (size : ℕ) → front_asked false budget size ≤ 4
+front_four budget size = by (nat_lt size 4) _
+  where
+    by : (short room : Bool) → (if short then 0 else if room then 4 else 0) ≤ 4
+    by true room = omega arith
+    by false true = omega arith
+    by false false = omega arith
+
+-- an archive begins as one behind reads
+pub begins_kept : (a b : SourceState) → KeepsSource a b → BeginsArchive a → BeginsArchive b
+begins_kept a b keeps begins = record {
+  size = let least = begins.size in omega (arith, keeps.same_size, least);
+  magic = λ file held. begins.magic file (sym keeps.same_file ∙ held);
+}
+
+-- the state of a file of which nothing is listed is not that of one that was not read
+pub unlisted_read : (a b : CountedState) (kind : FileMagic) (found : FileStatus) → found ≡ unlisted_state kind → FailsRead a b found
+unlisted_read a b sort.Elf found is = rw is tt
+unlisted_read a b sort.Archive found is = rw is tt
+unlisted_read a b sort.Thin found is = rw is tt
+unlisted_read a b sort.Foreign found is = rw is tt
+unlisted_read a b sort.Undecided found is = rw is tt
 
 -- a state that is found
 pub sorted_found : (caps : Caps) (parts : ℕ) (file : List ℕ) (found : FileStatus) → FindsSortedState caps parts file found → FindsSorted caps parts file found

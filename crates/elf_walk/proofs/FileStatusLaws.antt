@@ -7,13 +7,17 @@ use Rattle.elf_options.specs.declared.caps.Caps.{Caps}
 use Rattle.std.proofs.Common.{◌≡◌, ℕ, ◌+◌, ◌<◌, ◌≤◌, Bool, true, false, if◌then◌else◌, List, length, Option, None, Some, inl, refl, sym, ap, ◌∙◌, nat_lt, arith, ◌^◌}
 use Rattle.std.specs.Prelude.{Ok, Err, IfSome}
 use Rattle.std.proofs.lemmas.Bool.Decides.{nat_tests}
+use Rattle.elf_model.specs.declared.states.FileMagic.TheVariants as sort
+use Rattle.elf_model.specs.Checking.{listed_state, short_state}
+use Rattle.elf_model.specs.declared.causes.Cause.TheVariants.{Short}
 use Rattle.elf_model.specs.declared.states.FileStatus.TheVariants as state
 use Rattle.elf_model.proofs.ListingLemmas.{header_fault}
 use Rattle.elf_source.specs.Prelude.{CountedState, OutState}
 use Rattle.elf_table.specs.declared.run_fault.RunFault.TheVariants.{Refused as StopRefused}
 use Rattle.elf_listing.specs.Reports.{WroteReport}
 use Rattle.elf_walk.specs.Prelude.{AsksNoMore, FailsRead, FindsShort, FindsState, check_ceiling, check_cost, short_refusal}
-use Rattle.elf_walk.proofs.StateLaws.{judged_long}
+use Rattle.elf_walk.proofs.StateLaws.{judged_long, long_state}
+use Rattle.elf_walk.specs.CheckedFile.{FindsElf, IsElfState, elf_cost}
 
 short_first : (file : List ℕ) → length file < 64 → first_refusal (header_checks file) ≡ Some (short_refusal file)
 short_first file short =
@@ -46,13 +50,13 @@ short_found caps parts file state.Unread short is = tt
 short_found caps parts file state.Memory short is = short_file_status caps.limits.budget file caps.limits.headers (style_of caps.style) parts _ short is
 
 -- a listing that was read to its end
-pub ended : {X : Type 0} (file : List ℕ) (caps : Caps) (parts : ℕ) (old new : OutState) (x : X) → WroteReport file caps parts old new (Ok x)
+pub ended : {X : Type 0} (file : List ℕ) (caps : Caps) (parts : ℕ) (old new : OutState) (x : X) → 64 ≤ length file → WroteReport file caps parts old new (Ok x)
     → IsStateOf caps.limits.budget file caps.limits.headers (style_of caps.style) parts state.Ok
-ended file caps parts old new x reports = record {
+ended file caps parts old new x long reports = record {
   text = reports.text;
   fault = reports.fault;
   listed = reports.listed;
-  state_is = ap (state_of caps.limits.budget file) reports.wrote.1;
+  state_is = ap listed_state reports.wrote.1 ∙ sym (long_state caps.limits.budget file reports.fault long);
 }
 
 -- a listing that was refused, of a file large enough for a file header
@@ -95,3 +99,29 @@ pub asks_long : (caps : Caps) (old new : CountedState) → 64 ≤ old.seen.size 
 asks_long caps old new long ceiling budget =
     let more : nat_lt old.seen.size 64 ≡ false = grind (arith, nat_tests) in
     record { ceiling = rw more ceiling; budget = budget }
+
+-- the state of an ELF file that is too short
+pub short_elf : (caps : Caps) (parts : ℕ) (file : List ℕ) (at : ℕ) (found : FileStatus) → length file ≡ at → at < 64 → found ≡ short_state at sort.Elf → FindsElf caps parts file found
+short_elf caps parts file at found sized short is = rw is (record {
+  text = report_of (style_of caps.style).format (listing file caps.limits.headers (style_of caps.style) parts);
+  fault = Some (short_refusal file);
+  listed = reported caps.limits.budget file caps.limits.headers (style_of caps.style) parts (short_refusal file) (short_first file (omega (arith, sized, short)));
+  state_is = ap (λ n. state.Refused (record { at = n; cause = Short })) (sym sized);
+})
+
+-- that of one that has room for a file header
+elf_state : (caps : Caps) (parts : ℕ) (file : List ℕ) (found : FileStatus) → 64 ≤ length file
+    → IsStateOf caps.limits.budget file caps.limits.headers (style_of caps.style) parts found
+    → IsElfState caps.limits.budget file caps.limits.headers (style_of caps.style) parts found
+elf_state caps parts file found long p =
+    record { text = p.text; fault = p.fault; listed = p.listed; state_is = p.state_is ∙ long_state caps.limits.budget file p.fault long }
+
+pub long_elf : (caps : Caps) (parts : ℕ) (file : List ℕ) (found : FileStatus) → 64 ≤ length file → FindsState caps parts file found → FindsElf caps parts file found
+long_elf caps parts file state.Ok long p = elf_state caps parts file _ long p
+long_elf caps parts file (state.Refused refusal) long p = elf_state caps parts file _ long p
+long_elf caps parts file state.NoElf long p = elf_state caps parts file _ long p
+long_elf caps parts file state.Unread long p = tt
+long_elf caps parts file state.Memory long p = elf_state caps parts file _ long p
+
+pub elf_cost_long : (file : List ℕ) (headers : ℕ) (style : ListingStyle) (parts : ℕ) → 64 ≤ length file → check_cost file headers style parts ≡ elf_cost file headers style parts
+elf_cost_long file headers style parts long = let more : nat_lt (length file) 64 ≡ false = grind (arith, nat_tests) in rw more refl

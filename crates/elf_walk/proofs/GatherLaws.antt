@@ -3,10 +3,12 @@ use Rattle.std.proofs.Common.{◌≡◌, ◌≢◌, ℕ, suc, ◌+◌, ◌-◌, 
 use Rattle.std.proofs.lemmas.Bool.{cases_lt}
 use Rattle.std.proofs.lemmas.Grind.{flat_map-append}
 use Rattle.std.proofs.lemmas.List.{take_all, drop_all, drop-drop}
+use Rattle.std.specs.Io.KnownBytes.{Consumes, IsAtEnd, Keeps}
 use Rattle.std.specs.List.{flat_map}
 use Rattle.elf_walk.specs.Prelude.{AreNamesOf, GathersNames, IsNameable, KeepsFirstNames, KeptNames, PutsNames, is_dot_entry, last_entry, list_entries, rest_from, saturated, unnamed_count, whole_entries}
 use Rattle.elf_walk.specs.declared.batch.Insertion.{Insertion}
 use Rattle.elf_walk.specs.declared.batch.Insertion.TheVariants.{Placed, Unnamed}
+use Rattle.std.specs.Prelude.{Option, None, Some, IfSome}
 use Rattle.elf_walk.proofs.EntryLaws.{all_left, first_ends, none_ends}
 
 -- entries, and then others
@@ -171,9 +173,32 @@ put_whole bytes at unnamed old new so all =
     so.entries ∙ ap (λ d. so.done ++ list_entries d) behind ∙ ap (λ es. so.done ++ es) none_of_none ∙ append-nil so.done in
     record { names = so.names; others = so.others; sorted = subst (λ es. AreNamesOf es so.names so.others) (sym entries) so.sorted; counts = so.counts; keeps = so.keeps }
 
+-- what was read, and what is left
+came_none : (had : Option (List ℕ)) → Consumes had had []
+came_none None = tt
+came_none (Some xs) = refl
+
+came_more : (had mid left : Option (List ℕ)) (first second : List ℕ) → Consumes had mid first → Consumes mid left second → Consumes had left (first ++ second)
+came_more None mid left first second p q = tt
+came_more (Some xs) None left first second p q = absurd p
+came_more (Some xs) (Some ys) None first second p q = absurd q
+came_more (Some xs) (Some ys) (Some zs) first second p q = p ∙ ap (λ l. first ++ l) q ∙ sym (append_assoc first second zs)
+
+came_keeps : (had mid left : Option (List ℕ)) (bytes : List ℕ) → Consumes had mid bytes → Keeps mid left → Consumes had left bytes
+came_keeps None mid left bytes p q = tt
+came_keeps (Some xs) None left bytes p q = absurd p
+came_keeps (Some xs) (Some ys) None bytes p q = absurd q
+came_keeps (Some xs) (Some ys) (Some zs) bytes p q = p ∙ ap (λ l. bytes ++ l) (sym q)
+
+came_all : (had left : Option (List ℕ)) (bytes : List ℕ) → Consumes had left bytes → IsAtEnd left → IfSome had (λ all. bytes ≡ all)
+came_all None left bytes p q = tt
+came_all (Some xs) None bytes p q = absurd p
+came_all (Some xs) (Some ys) bytes p q = sym (p ∙ ap (λ l. bytes ++ l) q ∙ append-nil bytes)
+
 -- what was gathered at some reads
-pub record GatheredSoFar (unnamed : ℕ) (old new : KeptNames) : Type 0 where
+pub record GatheredSoFar (had left : Option (List ℕ)) (unnamed : ℕ) (old new : KeptNames) : Type 0 where
   pub reads : List (List ℕ)
+  pub came : Consumes had left (flat_map (λ read. read) reads)
   pub names : List (List ℕ)
   pub others : ℕ
   pub sorted : AreNamesOf (flat_map list_entries reads) names others
@@ -181,13 +206,29 @@ pub record GatheredSoFar (unnamed : ℕ) (old new : KeptNames) : Type 0 where
   pub keeps : KeepsFirstNames names new
   pub after : new.after ≡ old.after
 
-pub gathered_none : (old : KeptNames) → KeepsFirstNames [] old → GatheredSoFar 0 old old
-gathered_none old h = record { reads = []; names = []; others = 0; sorted = (refl, refl); counts = refl; keeps = h; after = refl }
+pub gathered_none : (had : Option (List ℕ)) (old : KeptNames) → KeepsFirstNames [] old → GatheredSoFar had had 0 old old
+gathered_none had old h = record { reads = []; came = came_none had; names = []; others = 0; sorted = (refl, refl); counts = refl; keeps = h; after = refl }
 
-pub gathered_more : (bytes : List ℕ) (unnamed more count : ℕ) (old mid new : KeptNames) → GatheredSoFar unnamed old mid → PutsNames bytes more mid new → new.after ≡ mid.after
-    → count ≡ min (unnamed + more) (2 ^ 64 - 1) → GatheredSoFar count old new
-gathered_more bytes unnamed more count old mid new so puts after counts = record {
+-- a read that gave nothing
+pub gathered_still : (had mid left : Option (List ℕ)) (unnamed : ℕ) (old new : KeptNames) → GatheredSoFar had mid unnamed old new → Keeps mid left → GatheredSoFar had left unnamed old new
+gathered_still had mid left unnamed old new so keeps = record {
+  reads = so.reads;
+  came = came_keeps had mid left _ so.came keeps;
+  names = so.names;
+  others = so.others;
+  sorted = so.sorted;
+  counts = so.counts;
+  keeps = so.keeps;
+  after = so.after;
+}
+
+pub gathered_more : (had before left : Option (List ℕ)) (bytes : List ℕ) (unnamed more count : ℕ) (old mid new : KeptNames) → GatheredSoFar had before unnamed old mid → Consumes before left bytes
+    → PutsNames bytes more mid new → new.after ≡ mid.after → count ≡ min (unnamed + more) (2 ^ 64 - 1) → GatheredSoFar had left count old new
+gathered_more had before left bytes unnamed more count old mid new so consumes puts after counts = record {
   reads = so.reads ++ bytes ∷ [];
+  came =
+      subst (λ all. Consumes had left all) (sym (flat_map-append (λ read. read) so.reads (bytes ∷ []) ∙ ap (λ l. flat_map (λ read. read) so.reads ++ l) (append-nil bytes)))
+      (came_more had before left _ bytes so.came consumes);
   names = so.names ++ puts.names;
   others = so.others + puts.others;
   sorted =
@@ -199,10 +240,12 @@ gathered_more bytes unnamed more count old mid new so puts after counts = record
   after = after ∙ so.after;
 }
 
-pub gathers_all : (unnamed : ℕ) (old mid new : KeptNames) → GatheredSoFar unnamed old mid → new.held ≡ new.names → ((names : List (List ℕ)) → KeepsFirstNames names mid → KeepsFirstNames names new)
-    → new.after ≡ mid.after → GathersNames unnamed old new
-gathers_all unnamed old mid new so order keeps after = record {
+pub gathers_all : (had before left : Option (List ℕ)) (unnamed : ℕ) (old mid new : KeptNames) → GatheredSoFar had before unnamed old mid → Consumes before left [] → IsAtEnd left → new.held ≡ new.names → ((names : List (List ℕ)) → KeepsFirstNames names mid → KeepsFirstNames names new)
+    → new.after ≡ mid.after → GathersNames had unnamed old new
+gathers_all had before left unnamed old mid new so none ends order keeps after = record {
   reads = so.reads;
+  whole =
+      came_all had left _ (subst (λ all. Consumes had left all) (append-nil (flat_map (λ read. read) so.reads)) (came_more had before left _ [] so.came none)) ends;
   names = so.names;
   others = so.others;
   sorted = so.sorted;

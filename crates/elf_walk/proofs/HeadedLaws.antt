@@ -1,7 +1,10 @@
 -- A listing after the line of a path, by what was written of both.
-use Rattle.std.proofs.Common.{◌≡◌, ℕ, Bool, false, List, [], ◌∷◌, Option, None, Some, Result, Ok, Err, refl, ◌∙◌, inl}
+use Rattle.std.proofs.Common.{◌≡◌, ℕ, Bool, false, List, [], ◌∷◌, Option, None, Some, Result, Ok, Err, refl, ap, ◌∙◌, inl}
 use Rattle.std.specs.Prelude.{IfErr}
 use Rattle.elf_model.specs.Prelude.{EveryRow, ListingStyle, RowFilter, RowsOf, SymbolQuery, archive_items, fault_of, headed, listing, members_alone, report_of}
+use Rattle.elf_model.specs.FileLists.{undecided}
+use Rattle.elf_model.specs.Lines.{refusal_line}
+use Rattle.elf_model.specs.declared.formats.Format.{Format}
 use Rattle.elf_model.specs.declared.states.FileMagic.{FileMagic}
 use Rattle.elf_model.specs.declared.causes.Refusal.{Refusal}
 use Rattle.elf_model.specs.declared.states.FileMagic.TheVariants as sort
@@ -16,7 +19,7 @@ use Rattle.elf_options.specs.declared.caps.Limits.{Limits}
 use Rattle.elf_table.specs.declared.run_fault.RunFault.TheVariants.{Out}
 use Rattle.elf_table.specs.declared.run_fault.RunFault.{RunFault}
 use Rattle.elf_table.specs.declared.run_fault.RunFault.TheVariants.{Refused, Source}
-use Rattle.elf_listing.specs.Reports.{WroteReport, WroteText}
+use Rattle.elf_listing.specs.Reports.{WroteReport, WroteText, ReturnsStop}
 use Rattle.elf_archive.specs.Listed.{AnswersAfter, ArchiveSays, ReportsArchive}
 use Rattle.elf_walk.specs.Lists.{IsListedText, ListsHeaded, ListsSort, ReturnsRefused, WroteHeaded, lists_refused}
 
@@ -51,6 +54,8 @@ some_listed kind file limits style parts = by_kind kind limits.budget refl
       listed = rw is (inl record { text_is = refl; fault_is = refl });
     }
     by_kind sort.Foreign budget is = record { text = []; fault = None; listed = (refl, refl) }
+    by_kind sort.Thin budget is = record { text = []; fault = None; listed = (refl, refl) }
+    by_kind sort.Undecided budget is = record { text = refusal_line style.format undecided; fault = Some undecided; listed = (refl, refl) }
 
 -- the output failed at the line
 pub path_stops : (kind : FileMagic) (line file : List ℕ) (limits : Limits) (style : ListingStyle) (parts : ℕ) (old new : OutState) (fault : OutFault)
@@ -135,3 +140,19 @@ pub archive_listed : (file : List ℕ) (caps : Caps) (parts : ℕ) (old new : Ou
     → ListsSort sort.Archive file caps.limits (style_of caps.style) parts old new result
 archive_listed file caps parts old new (Ok any) q = record { text = q.text; fault = q.fault; listed = q.listed; wrote = q.wrote; refused = q.refused any refl }
 archive_listed file caps parts old new (Err stop) q = record { text = q.text; fault = q.fault; listed = q.listed; wrote = q.wrote; refused = tt }
+
+-- a file that is not decided within the budget
+pub undecided_listed : (file : List ℕ) (limits : Limits) (style : ListingStyle) (parts : ℕ) (old new : OutState) (told : RunFault) → ReturnsStop style.format old new (Refused undecided) told
+    → ListsSort sort.Undecided file limits style parts old new (Err told)
+undecided_listed file limits style parts old new told tells =
+    record { text = refusal_line style.format undecided; fault = Some undecided; listed = (refl, refl); wrote = by_told told tells; refused = tt }
+  where
+    by_told : (told : RunFault) → ReturnsStop style.format old new (Refused undecided) told → WroteText {X = Bool} old new (Err told) (refusal_line style.format undecided) (Some undecided)
+    by_told (Refused refusal) tells = (tells.1, ap Some tells.0)
+    by_told (Source fault at) tells = absurd tells
+    by_told (Out fault) tells = tells.1
+
+pub undecided_says : (format : Format) (a b : CountedState) (old new : OutState) (told : RunFault) → ReturnsStop format old new (Refused undecided) told → ArchiveSays a b new told
+undecided_says format a b old new (Refused refusal) tells = tt
+undecided_says format a b old new (Source fault at) tells = absurd tells
+undecided_says format a b old new (Out fault) tells = tells.0

@@ -17,6 +17,7 @@ use Rattle.elf_table.specs.declared.run_fault.RunFault.TheVariants.{Out}
 use Rattle.elf_table.specs.declared.run_fault.RunFault.{RunFault}
 use Rattle.elf_table.specs.declared.run_fault.RunFault.TheVariants.{Refused, Source}
 use Rattle.elf_archive.specs.Listed.{ArchiveSays}
+use Rattle.elf_walk.specs.ToldListings.{is_unlisted}
 
 -- the magic bytes of a file, and what is left after them, are within a budget
 within_both : (members : Bool) (bytes size : ℕ) (t u : Bool) → nat_lt size 4 ≡ t → nat_lt bytes (front_size members size) ≡ u
@@ -47,11 +48,21 @@ pub fault_after : (a b c : CountedState) → KeepsSource a.seen b.seen → Fails
 fault_after a b c keeps fails = λ honest. let rose = fails honest in omega (arith, keeps.no_fewer, rose)
 
 -- what is reported of a file that is not of another type
-pub file_told : (kind : FileMagic) (rule : ListOptions) (path : List ℕ) (before : CountedState) (old new : OutState) (answer : Result ℕ OutFault) → (kind ≡ sort.Foreign → ⊥)
+pub file_told : (kind : FileMagic) (rule : ListOptions) (path : List ℕ) (before : CountedState) (old new : OutState) (answer : Result ℕ OutFault) → is_unlisted kind ≡ false
     → ListsFile kind rule path before old new answer → ToldOf (Some kind) rule path before old new answer
 file_told sort.Elf rule path before old new answer other lists = lists
 file_told sort.Archive rule path before old new answer other lists = lists
-file_told sort.Foreign rule path before old new answer other lists = absurd (other refl)
+file_told sort.Undecided rule path before old new answer other lists = lists
+file_told sort.Foreign rule path before old new answer other lists = absurd (cc)
+file_told sort.Thin rule path before old new answer other lists = absurd (cc)
+
+-- and of one of which nothing is written
+pub nothing_told : (kind : FileMagic) (rule : ListOptions) (path : List ℕ) (before : CountedState) (old : OutState) → is_unlisted kind ≡ true → ToldOf (Some kind) rule path before old old (Ok 0)
+nothing_told sort.Elf rule path before old is = absurd (cc)
+nothing_told sort.Archive rule path before old is = absurd (cc)
+nothing_told sort.Undecided rule path before old is = absurd (cc)
+nothing_told sort.Foreign rule path before old is = (refl, refl)
+nothing_told sort.Thin rule path before old is = (refl, refl)
 
 -- a listing that ended in a failed read
 pub end_fails : (format : Format) (path : List ℕ) (result : Result Bool RunFault) (old new : OutState) (answer : Result ℕ OutFault) (a b : CountedState) → EndsListing format path result old new answer

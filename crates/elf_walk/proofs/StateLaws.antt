@@ -1,38 +1,46 @@
 -- The state of a file that is too short, or refused.
-use Rattle.std.proofs.Common.{◌≡◌, ℕ, ◌<◌, ◌≤◌, Bool, true, false, not, if◌then◌else◌, List, length, Option, None, Some, refl, sym, ap, ◌∙◌, nat_lt, arith}
+use Rattle.std.proofs.Common.{◌≡◌, ℕ, ◌<◌, ◌≤◌, true, false, if◌then◌else◌, List, length, Option, Some, refl, sym, ap, ◌∙◌, nat_lt, arith}
 use Rattle.std.proofs.lemmas.Bool.Decides.{nat_tests}
-use Rattle.elf_model.specs.Prelude.{has_elf_magic, is_not_elf, may_read_magic, state_of}
+use Rattle.elf_model.specs.Prelude.{is_not_elf, state_of}
+use Rattle.elf_model.specs.declared.states.FileMagic.TheVariants as sort
+use Rattle.elf_model.specs.Checking.{listed_state, short_state}
+use Rattle.elf_model.specs.FileLists.{file_magic}
+use Rattle.elf_model.specs.declared.states.FileMagic.{FileMagic}
 use Rattle.elf_model.specs.declared.states.FileStatus.{FileStatus}
 use Rattle.elf_model.specs.declared.causes.Refusal.{Refusal}
 use Rattle.elf_model.specs.declared.causes.Cause.TheVariants.{Short}
 use Rattle.elf_model.specs.declared.states.FileStatus.TheVariants as state
-use Rattle.elf_source.specs.Source.{SourceState}
-use Rattle.elf_walk.specs.Checked.{short_refusal}
+use Rattle.elf_source.specs.Source.{CountedState}
+use Rattle.elf_walk.specs.Checked.{FailsRead, FindsShort, short_refusal}
 
--- the length that is requested is the file's
-pub length_is : (was now : SourceState) (file : List ℕ) (at : ℕ) → now ≡ was → was.file ≡ Some file → at ≡ now.size → length file ≡ at
-length_is was now file at same held is = let sized = was.sized file held in let size = ap (λ (seen : SourceState). seen.size) same in omega (arith, sized, size, is)
-
-pub tiny : (budget : Option ℕ) (file : List ℕ) → length file < 4 → state.NoElf ≡ state_of budget file (Some (short_refusal file))
-tiny budget file small =
-    let four : nat_lt (length file) 4 ≡ true = grind (arith, nat_tests) in
+-- the state of a file that is too short, by what it is
+pub short_is : (budget : Option ℕ) (file : List ℕ) (at : ℕ) (kind : FileMagic) (found : FileStatus) → length file ≡ at → at < 64 → kind ≡ file_magic false budget file
+    → found ≡ short_state at kind → FindsShort budget file found
+short_is budget file at kind found sized short decides is = finds_short budget file found (
     let few : nat_lt (length file) 64 ≡ true = grind (arith, nat_tests) in
-    rw (few, four) refl
+    rw few (is ∙ (ap (λ n. short_state n kind) (sym sized) ∙ ap (short_state (length file)) decides))
+    )
+  where
+    finds_short : (budget : Option ℕ) (file : List ℕ) (found : FileStatus) → found ≡ state_of budget file (Some (short_refusal file)) → FindsShort budget file found
+    finds_short budget file state.Ok is = is
+    finds_short budget file (state.Refused refusal) is = is
+    finds_short budget file state.NoElf is = is
+    finds_short budget file state.Unread is = tt
+    finds_short budget file state.Memory is = is
 
-pub unlooked : (budget : Option ℕ) (file : List ℕ) (at : ℕ) → length file ≡ at → 4 ≤ at → at < 64 → may_read_magic budget ≡ false
-    → state.Refused (record { at = at; cause = Short }) ≡ state_of budget file (Some (short_refusal file))
-unlooked budget file at is most short none =
-    let four : nat_lt (length file) 4 ≡ false = grind (arith, nat_tests) in
-    let few : nat_lt (length file) 64 ≡ true = grind (arith, nat_tests) in
-    rw (few, four, none) (ap (λ n. state.Refused (record { at = n; cause = Short })) (sym is))
+-- such a state is not that of a file that was not read
+pub short_read : (a b : CountedState) (size : ℕ) (kind : FileMagic) (found : FileStatus) → found ≡ short_state size kind → FailsRead a b found
+short_read a b size sort.Elf found is = rw is tt
+short_read a b size sort.Archive found is = rw is tt
+short_read a b size sort.Thin found is = rw is tt
+short_read a b size sort.Foreign found is = rw is tt
+short_read a b size sort.Undecided found is = rw is tt
 
-pub looked : (budget : Option ℕ) (file : List ℕ) (at : ℕ) (begins : Bool) → length file ≡ at → 4 ≤ at → at < 64 → may_read_magic budget ≡ true
-    → begins ≡ has_elf_magic file
-    → (if not begins then state.NoElf else state.Refused record { at = at; cause = Short }) ≡ state_of budget file (Some (short_refusal file))
-looked budget file at begins is most short some told =
-    let four : nat_lt (length file) 4 ≡ false = grind (arith, nat_tests) in
-    let few : nat_lt (length file) 64 ≡ true = grind (arith, nat_tests) in
-    rw (few, four, some, ← told) (ap (λ n. if not begins then state.NoElf else state.Refused (record { at = n; cause = Short })) (sym is))
+-- the state of one that has room for a file header is that of its listing
+pub long_state : (budget : Option ℕ) (file : List ℕ) (fault : Option Refusal) → 64 ≤ length file → state_of budget file fault ≡ listed_state fault
+long_state budget file fault long =
+    let few : nat_lt (length file) 64 ≡ false = grind (arith, nat_tests) in
+    rw few refl
 
 pub judged_long : (budget : Option ℕ) (file : List ℕ) (refusal : Refusal) → 64 ≤ length file
     → (if is_not_elf refusal.cause then state.NoElf else state.Refused refusal) ≡ state_of budget file (Some refusal)

@@ -1,6 +1,9 @@
 -- The effect of the check of one file.
 use Rattle.std.specs.Prelude.{ℕ, ◌≡◌, ◌+◌, ◌≤◌, nat_lt, if◌then◌else◌, List, length, Option, Some, IfSome, ⊤}
 use Rattle.elf_model.specs.Prelude.{ELF_MAGIC_SIZE, FILE_HEADER_SIZE, IsStateOf, ListingStyle, listing_cost, style_ceiling}
+use Rattle.elf_model.specs.Budget.{IsBudgeted}
+use Rattle.elf_model.specs.Checking.{listed_state}
+use Rattle.elf_model.specs.declared.causes.Refusal.{Refusal}
 use Rattle.elf_model.specs.declared.states.FileStatus.{FileStatus}
 use Rattle.elf_model.specs.declared.states.FileStatus.TheVariants as state
 use Rattle.elf_source.specs.Source.{CountedState}
@@ -13,6 +16,22 @@ use Rattle.elf_walk.specs.Checked.{FailsRead}
 abbrev pub FindsState : Caps → ℕ → List ℕ → FileStatus → Type 0
 FindsState caps parts file state.Unread = ⊤
 FindsState caps parts file found = IsStateOf caps.limits.budget file caps.limits.headers (style_of caps.style) parts found
+
+-- a state is that of the listing of an ELF file within a budget
+pub record IsElfState (budget : Option ℕ) (file : List ℕ) (headers : ℕ) (style : ListingStyle) (parts : ℕ) (found : FileStatus) : Type 0 where
+  pub text : List ℕ
+  pub fault : Option Refusal
+  pub listed : IsBudgeted budget file headers style parts text fault
+  pub state_is : found ≡ listed_state fault
+
+-- THE STATE that is found of a file that begins with the magic number: that of its listing within the budget, unless a read failed
+abbrev pub FindsElf : Caps → ℕ → List ℕ → FileStatus → Type 0
+FindsElf caps parts file state.Unread = ⊤
+FindsElf caps parts file found = IsElfState caps.limits.budget file caps.limits.headers (style_of caps.style) parts found
+
+-- what its check may ask for
+abbrev pub elf_cost : List ℕ → ℕ → ListingStyle → ℕ → ℕ
+elf_cost file headers style parts = if nat_lt (length file) FILE_HEADER_SIZE then 0 else listing_cost file headers style parts
 
 -- what a file's check may request: of one that is too short for a file header its first bytes
 abbrev pub check_cost : List ℕ → ℕ → ListingStyle → ℕ → ℕ

@@ -1,5 +1,5 @@
 -- The names of a directory, as they are read.
-use Rattle.std.specs.Prelude.{ℕ, suc, ◌≡◌, ◌-◌, ◌^◌, ◌⊎◌, true, false, List, [], ◌∷◌, ◌++◌, min}
+use Rattle.std.specs.Prelude.{ℕ, suc, ◌≡◌, ◌-◌, ◌^◌, ◌⊎◌, true, false, List, [], ◌∷◌, ◌++◌, min, Option, IfSome}
 use Rattle.std.specs.List.{flat_map}
 use Rattle.elf_walk.specs.Entries.{list_entries}
 use Rattle.elf_walk.specs.declared.batch.Insertion.{Insertion}
@@ -32,10 +32,11 @@ pub record PutsNames (bytes : List ℕ) (unnamed : ℕ) (old new : KeptNames) : 
   pub counts : unnamed ≡ saturated others
   pub keeps : (before : List (List ℕ)) → KeepsFirstNames before old → KeepsFirstNames (before ++ names) new
 
--- WHAT IS GATHERED of a directory, of which some bytes were read each time: what is kept of its
--- names is sorted
-pub record GathersNames (unnamed : ℕ) (old new : KeptNames) : Type 0 where
+-- WHAT IS GATHERED of a directory, of which some bytes came at each read: these are all that it gives, where that is known, and
+-- what is kept of its names is in order
+pub record GathersNames (gives : Option (List ℕ)) (unnamed : ℕ) (old new : KeptNames) : Type 0 where
   pub reads : List (List ℕ)
+  pub whole : IfSome gives (λ bytes. flat_map (λ read. read) reads ≡ bytes)
   pub names : List (List ℕ)
   pub others : ℕ
   pub sorted : AreNamesOf (flat_map list_entries reads) names others
@@ -43,3 +44,7 @@ pub record GathersNames (unnamed : ℕ) (old new : KeptNames) : Type 0 where
   pub keeps : KeepsFirstNames names new
   pub order : new.held ≡ new.names
   pub after : new.after ≡ old.after
+
+-- the same of a directory that was opened at a path, of which nothing says what it gives
+abbrev pub GathersDir : ℕ → (old new : KeptNames) → Type 0
+GathersDir unnamed old new = (gives : Option (List ℕ)) × GathersNames gives unnamed old new

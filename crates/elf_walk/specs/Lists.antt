@@ -1,6 +1,8 @@
 -- What is listed of one file among many, by its type.
 use Rattle.std.specs.Prelude.{ℕ, ◌≡◌, List, [], ◌++◌, Option, None, Some, Bool, false, Result, Ok, Err}
 use Rattle.elf_model.specs.Prelude.{IsArchiveBudgeted, IsBudgeted, ListingStyle, RowFilter, any_refused, archive_ceiling, archive_cost, headed, listing_cost, members_alone, style_ceiling}
+use Rattle.elf_model.specs.FileLists.{undecided}
+use Rattle.elf_model.specs.Lines.{refusal_line}
 use Rattle.elf_model.specs.declared.states.FileMagic.{FileMagic}
 use Rattle.elf_model.specs.declared.causes.Refusal.{Refusal}
 use Rattle.elf_model.specs.declared.states.FileMagic.TheVariants as sort
@@ -11,12 +13,14 @@ use Rattle.elf_table.specs.declared.run_fault.RunFault.{RunFault}
 use Rattle.elf_table.specs.declared.run_fault.RunFault.TheVariants.{Refused, Source}
 use Rattle.elf_listing.specs.Reports.{WroteText}
 
--- a text with this fault is what is listed of a file of a type within a budget: its listing, or
--- that of an archive, whose members' lines are written alone if all rows are shown
+-- a text with this fault is what is listed of a file of a sort within a budget: its listing, or that of an archive, whose members'
+-- lines stand alone where all rows are shown; of one that is not decided within the budget the line of that
 abbrev pub IsListedText : FileMagic → Option ℕ → List ℕ → ℕ → ListingStyle → ℕ → List ℕ → Option Refusal → Type 0
 IsListedText sort.Elf = IsBudgeted
 IsListedText sort.Archive = λ budget file headers style. IsArchiveBudgeted (members_alone style.choice) budget file headers style
-IsListedText sort.Foreign = λ budget file headers style parts text fault. (text ≡ []) × (fault ≡ None)
+IsListedText sort.Undecided = λ budget file headers style parts text fault.
+    (text ≡ refusal_line style.format undecided) × (fault ≡ Some undecided)
+IsListedText _ = λ budget file headers style parts text fault. (text ≡ []) × (fault ≡ None)
 
 -- the listing of a member is refused
 abbrev pub lists_refused : FileMagic → List ℕ → ℕ → ListingStyle → ℕ → Bool
@@ -27,13 +31,13 @@ lists_refused _ = λ file headers style parts. false
 abbrev pub sort_cost : FileMagic → List ℕ → ℕ → ListingStyle → ℕ → ℕ
 sort_cost sort.Elf = listing_cost
 sort_cost sort.Archive = archive_cost
-sort_cost sort.Foreign = λ file headers style parts. 0
+sort_cost _ = λ file headers style parts. 0
 
 -- the same for any source
 abbrev pub sort_ceiling : FileMagic → (size headers : ℕ) → ListingStyle → ℕ
 sort_ceiling sort.Elf = style_ceiling
 sort_ceiling sort.Archive = archive_ceiling
-sort_ceiling sort.Foreign = λ size headers style. 0
+sort_ceiling _ = λ size headers style. 0
 
 -- the result is whether the listing of a member was refused
 abbrev pub ReturnsRefused : Result Bool RunFault → Bool → Type 0

@@ -1,5 +1,5 @@
 -- What is reported of one listed file among many.
-use Rattle.std.specs.Prelude.{ℕ, ◌≡◌, ◌+◌, ◌≤◌, List, Option, None, Some, Bool, false, Result, Ok, Err, IfOk, IfSome}
+use Rattle.std.specs.Prelude.{ℕ, ◌≡◌, ◌+◌, ◌≤◌, List, Option, None, Some, Bool, false, Result, Ok, Err, IfOk, IfSome, true}
 use Rattle.elf_model.specs.Prelude.{budget_after, check_line, file_magic, front_size, list_status, path_line}
 use Rattle.elf_model.specs.declared.states.FileMagic.{FileMagic}
 use Rattle.elf_model.specs.declared.formats.Format.{Format}
@@ -45,11 +45,18 @@ pub record ListsFile (kind : FileMagic) (rule : ListOptions) (path : List ℕ) (
       → ListsHeaded kind (path_line rule.caps.style.format path) file limits (style_of rule.caps.style) rule.parts.0 old between result
   pub ends : EndsListing rule.caps.style.format path result between new answer
 
+-- nothing is written of a file of another kind, nor of an archive without its members' bytes
+abbrev pub is_unlisted : FileMagic → Bool
+is_unlisted sort.Foreign = true
+is_unlisted sort.Thin = true
+is_unlisted _ = false
+
 -- what is reported by the type of a file: nothing of one of another type; if a read of its first
 -- bytes failed, that it is not read
 abbrev pub ToldOf : Option FileMagic → ListOptions → List ℕ → CountedState → (old new : OutState) → Result ℕ OutFault → Type 0
 ToldOf None rule path before old new answer = PutsUnread rule.caps.style.format path old new answer
 ToldOf (Some sort.Foreign) rule path before old new answer = (new ≡ old) × (answer ≡ Ok 0)
+ToldOf (Some sort.Thin) rule path before old new answer = (new ≡ old) × (answer ≡ Ok 0)
 ToldOf (Some kind) rule path before old new answer = ListsFile kind rule path before old new answer
 
 -- how many bytes the listing of a file of a type reads at most

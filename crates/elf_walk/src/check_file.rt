@@ -1,10 +1,11 @@
 //! The check of one file.
 ghost use Rattle.std.specs.Prelude.{◌≡◌, ◌≤◌, ◌^◌};
-ghost use Rattle.elf_walk.specs.CheckedFile.{ChecksFile, FindsState, check_ceiling, check_cost};
+ghost use Rattle.elf_walk.specs.CheckedFile.{ChecksFile, FindsElf, FindsState};
+ghost use Rattle.elf_walk.specs.CheckedFile.{check_ceiling, check_cost, elf_cost};
 
-use crate::short::{refused_state, short_file_status};
+use crate::short::{refused_state, short_file_status, short_state};
 use elf_listing::show;
-use elf_model::FileStatus;
+use elf_model::{FileMagic, FileStatus};
 use elf_record::Parts;
 use elf_source::{Counted, NullSink, Out, Source};
 use elf_table::{Caps, HeaderStore, RunFault};
@@ -41,4 +42,24 @@ pub fn check<S: Source>(
         // Unreachable: the sink never fails.
         Err(RunFault::Out(_)) => FileStatus::Unread,
     }
+}
+
+/// Checks one file that begins with the magic number, as [`check`] does; of one that is too short for a file
+/// header nothing is read.
+pub fn check_elf<S: Source>(
+    src: &mut Counted<S>,
+    store: &mut HeaderStore,
+    caps: Caps,
+    parts: Parts,
+) -> FileStatus
+    requires { (store.old.slots ≡ caps.limits.headers) × (src.old.asked ≤ 2 ^ 127) }
+    ensures { ChecksFile store.old.slots store.new.slots caps.entry parts.0 src.old src.new result
+        FindsElf elf_cost check_ceiling }
+{
+    let size = src.length();
+    if size < HEADER_BYTES {
+        src.limit(None);
+        return short_state(size, FileMagic::Elf);
+    }
+    check(src, store, caps, parts)
 }

@@ -1,6 +1,6 @@
 //! The names in a directory, read in passes.
 ghost use Rattle.std.specs.Prelude.{◌≡◌, IfOk, List, ℕ, []};
-ghost use Rattle.elf_walk.specs.Gathered.{GathersNames, PutsNames, unnamed_count};
+ghost use Rattle.elf_walk.specs.Gathered.{GathersDir, GathersNames, PutsNames, unnamed_count};
 ghost use Rattle.elf_walk.specs.Kept.{KeepsFirstNames};
 
 use crate::batch::{Insertion, NameBatch};
@@ -11,13 +11,12 @@ use std::alloc::AllocError;
 use std::io::{ErrorKind, Read};
 use std::rt::Files;
 
-/// Reads the directory at a path once, and puts its names into a batch, which sorts them.
-///
-/// `room` is the buffer they are read into. Returns how many names cannot be represented. The
-/// contract does not say which names the system returns, only what happens to them.
+/// Goes once through the directory at a path, and puts its names into a batch, which has them in order then.
+/// `room` is where they are read. Answers how many names there are that can't be named. What names the
+/// system gives is not known; what came is.
 ///
 /// # Errors
-/// The state of a directory that cannot be opened or read.
+/// The state of a directory that can't be opened or read, or for whose names there is no memory.
 pub fn gather<R: Files>(
     rt: &R,
     path: &str,
@@ -25,7 +24,7 @@ pub fn gather<R: Files>(
     batch: &mut NameBatch,
 ) -> Result<u64, FileStatus>
     requires { KeepsFirstNames [] batch.old }
-    ensures gathers { IfOk result (λ unnamed. GathersNames unnamed batch.old batch.new) }
+    ensures gathers { IfOk result (λ unnamed. GathersDir unnamed batch.old batch.new) }
 {
     match rt.open_dir(path) {
         Ok(mut folder) => gather_from(&mut folder, room, batch),
@@ -33,18 +32,22 @@ pub fn gather<R: Files>(
     }
 }
 
-/// Puts the names of an open directory into a batch.
+/// Puts all names that an open directory gives into a batch.
 ///
 /// # Errors
-/// The state of a directory that cannot be read, or for whose names there is no memory.
+/// The state of a directory that can't be read, or for whose names there is no memory.
 fn gather_from<D: Read>(
     folder: &mut D,
     room: &mut [u8],
     batch: &mut NameBatch,
 ) -> Result<u64, FileStatus>
     requires { KeepsFirstNames [] batch.old }
-    ensures gathers { IfOk result (λ unnamed. GathersNames unnamed batch.old batch.new) }
+    ensures gathers { IfOk result (λ unnamed.
+        GathersNames (D.remaining folder.old) unnamed batch.old batch.new) }
 {
+    if room.is_empty() {
+        return Err(FileStatus::Memory);
+    }
     let mut unnamed: u64 = 0;
     for _turn in 0..u64::MAX {
         let count = match folder.read(room) {

@@ -1,8 +1,7 @@
 //! The listing of each of many files.
-ghost use Rattle.std.specs.Prelude.{◌≡◌, true, false};
-ghost use Rattle.elf_walk.specs.ToldListings.{LeavesLimits, EndsListing, PutsUnread};
+ghost use Rattle.std.specs.Prelude.{◌≡◌};
+ghost use Rattle.elf_walk.specs.ToldListings.{LeavesLimits, EndsListing, PutsUnread, is_unlisted};
 ghost use Rattle.elf_model.specs.Prelude.{budget_after};
-ghost use Rattle.elf_model.specs.declared.states.FileMagic.TheVariants.{Foreign};
 
 use crate::each_file::FileVisitor;
 use crate::headed::list_with_path_line;
@@ -66,7 +65,7 @@ impl<'a> FileVisitor for ListFiles<'a> {
             Ok(sort) => sort,
             Err(_) => return report_unread(path, format, out),
         };
-        if lacks_elf_magic(sort) {
+        if is_unlisted(sort) {
             return Ok(0);
         }
         let rule = behind(&self.rule, size);
@@ -75,14 +74,13 @@ impl<'a> FileVisitor for ListFiles<'a> {
     }
 }
 
-/// Returns `true` if a file is of another type.
-fn lacks_elf_magic(sort: FileMagic) -> bool
-    ensures yes { result ≡ true → sort ≡ Foreign }
-    ensures no { result ≡ false → sort ≡ Foreign → ⊥ }
+/// Whether nothing is written of a file: one of another kind, or an archive without its members' bytes.
+fn is_unlisted(sort: FileMagic) -> bool
+    ensures { result ≡ is_unlisted sort }
 {
     match sort {
-        FileMagic::Foreign => true,
-        FileMagic::Elf | FileMagic::Archive => false,
+        FileMagic::Foreign | FileMagic::Thin => true,
+        FileMagic::Elf | FileMagic::Archive | FileMagic::Undecided => false,
     }
 }
 

@@ -35,7 +35,7 @@ mod trait_lines;
 mod walk;
 
 pub use batch::{DirEntryName, Insertion, NameBatch};
-pub use check_file::check;
+pub use check_file::{check, check_elf};
 pub use checks::{CheckFiles, CheckOptions};
 pub use dir_entries::{ends_at, entry_end};
 pub use dir_laws::{all_names, entry_is_found, last_is_found, order_ascends, pass_keeps};
@@ -55,7 +55,7 @@ pub use path::{PATH_BYTES, PathText, join};
 pub use path_lines::{HELD_BYTES, show_path};
 pub use paths::visit_path;
 pub use required::lacking;
-pub use short::{refused_state, short_file_status};
+pub use short::{UNDECIDED, refused_state, short_file_status, short_state};
 pub use sorted::check_sorted;
 pub use sorts::list_by_type;
 pub use stack::{NameStack, STACK_BYTES, count_fitting};

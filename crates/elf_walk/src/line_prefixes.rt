@@ -1,7 +1,9 @@
 //! The type of a file, by its first bytes.
-ghost use Rattle.std.specs.Prelude.{◌≡◌, ◌+◌, ◌≤◌, ◌==◌, ℕ, List, None, Some, IfErr, IfOk, if◌then◌else◌};
+ghost use Rattle.std.specs.Prelude.{◌≡◌, ◌+◌, ◌≤◌, ◌==◌, ℕ, List, None, Some, IfErr, IfOk, if◌then◌else◌, Ok};
 ghost use Rattle.elf_model.specs.Prelude.{ARCHIVE_MAGIC, field, file_magic, front_size, has_elf_magic, may_read_bytes};
-ghost use Rattle.elf_model.specs.declared.states.FileMagic.TheVariants.{Archive, Elf, Foreign};
+ghost use Rattle.elf_model.specs.declared.states.FileMagic.TheVariants.{Archive, Elf, Foreign, Thin};
+ghost use Rattle.elf_archive.specs.FirstFault.{BeginsArchive};
+ghost use Rattle.elf_model.specs.Archive.{THIN_MAGIC};
 ghost use Rattle.elf_source.specs.Source.{IsSourceFault, FillsUnlimited, KeepsSource};
 ghost use Rattle.elf_walk.specs.Fronts.{front_asked};
 
@@ -19,8 +21,12 @@ const ARCHIVE_MAGIC: u64 = 0x0a3e_6863_7261_3c21;
 
 const ARCHIVE_MAGIC_BYTES: u64 = 8;
 
-/// Returns the type of a file by its first bytes: four or, if members are read and there are as
-/// many, eight. One read, or none if the file or the budget has fewer. On return no limit is set.
+/// That of an archive whose members are in other files, `!<thin>` and a newline.
+const THIN_MAGIC: u64 = 0x0a3e_6e69_6874_3c21;
+
+/// Returns what a file is, by its first bytes: four, or if archives are gone into and it has as many, eight.
+/// One read; or none of a file that has fewer, which is of another kind, and none if the budget has fewer, which
+/// decides nothing. Afterwards no limit is set.
 ///
 /// # Errors
 /// A fault of the source.
@@ -37,6 +43,7 @@ pub fn find_file_type<S: Source>(
     ensures fails { IfErr result (IsSourceFault src.old.seen src.new.seen) }
     ensures finds { (file : List ℕ) → src.old.seen.file ≡ Some file →
         IfOk result (λ sort. sort ≡ file_magic members budget file) }
+    ensures begins { result ≡ Ok Archive → BeginsArchive src.old.seen }
 {
     src.limit(None);
     let size = src.length();
@@ -45,7 +52,7 @@ pub fn find_file_type<S: Source>(
     }
     let front = front_bytes(members, size);
     if !may_read_bytes(budget, front) {
-        return Ok(FileMagic::Elf);
+        return Ok(FileMagic::Undecided);
     }
     let sort = if front == ARCHIVE_MAGIC_BYTES {
         sort_with_members(src)
@@ -107,17 +114,21 @@ fn sort_with_members<S: Source>(src: &mut Counted<S>) -> Result<FileMagic, Sourc
     ensures fails { IfErr result (IsSourceFault src.old.seen src.new.seen) }
     ensures finds { (file : List ℕ) → src.old.seen.file ≡ Some file →
         IfOk result (λ sort. sort ≡ (if has_elf_magic file then Elf
-        else if field file 0 8 == ARCHIVE_MAGIC then Archive else Foreign)) }
+        else if field file 0 8 == ARCHIVE_MAGIC then Archive
+        else if field file 0 8 == THIN_MAGIC then Thin else Foreign)) }
+    ensures begins { result ≡ Ok Archive → (file : List ℕ) → src.old.seen.file ≡ Some file →
+        field file 0 8 ≡ ARCHIVE_MAGIC }
 {
     let mut bytes = [0; 8];
     src.fill(0, &mut bytes)?;
     if first_word(&bytes) == ELF_MAGIC {
         return Ok(FileMagic::Elf);
     }
-    if u64_at(&bytes, 0) == ARCHIVE_MAGIC {
-        return Ok(FileMagic::Archive);
+    match u64_at(&bytes, 0) {
+        ARCHIVE_MAGIC => Ok(FileMagic::Archive),
+        THIN_MAGIC => Ok(FileMagic::Thin),
+        _ => Ok(FileMagic::Foreign),
     }
-    Ok(FileMagic::Foreign)
 }
 
 /// Returns the number in the first four of eight bytes.

@@ -11,8 +11,9 @@ use std::io::Write;
 use std::os::unix::fs::{FileExt, FileTypeExt};
 use std::rt::Files;
 
-/// Visits the file at a path, or all files in the directory there; for `-`, standard input. A link
-/// at the path is followed. Pipes and sockets are not opened, so that opening never blocks.
+/// Tells of the file at a path, or of all files in the folder there; for `-` those on standard input. A link
+/// at the path is followed. Pipes and sockets are not opened, so that opening does not block, unless another
+/// process puts a pipe at the path after it was looked at.
 ///
 /// # Errors
 /// A fault of the output.

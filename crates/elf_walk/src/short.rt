@@ -1,23 +1,23 @@
 //! The state of a file that is too short for a file header, and of one that is refused.
-ghost use Rattle.std.specs.Prelude.{◌≡◌, ◌+◌, ◌<◌, ◌≤◌, ◌^◌, ℕ, List, IfOk, IfErr, IfSome, None, Some, true, if◌then◌else◌};
-ghost use Rattle.elf_model.specs.Prelude.{has_elf_magic, is_not_elf, may_read_magic};
-ghost use Rattle.elf_model.specs.declared.states.FileStatus.TheVariants.{NoElf};
-ghost use Rattle.elf_model.specs.declared.states.FileStatus.TheVariants.{Refused};
-ghost use Rattle.elf_source.specs.Source.{IsSourceFault, FillsUnlimited, KeepsSource};
+ghost use Rattle.std.specs.Prelude.{◌≡◌, ◌+◌, ◌<◌, ◌≤◌, ◌^◌, ℕ, List, IfSome, None, Some, if◌then◌else◌};
+ghost use Rattle.elf_model.specs.Prelude.{is_not_elf};
+ghost use Rattle.elf_model.specs.declared.states.FileStatus.TheVariants.{NoElf, Refused};
+ghost use Rattle.elf_source.specs.Source.{KeepsSource};
+ghost use Rattle.elf_model.specs.Checking.{short_state};
 ghost use Rattle.elf_walk.specs.Checked.{FailsRead, FindsShort};
 
-use elf_model::{Cause, FileStatus, Refusal};
-use elf_record::word;
-use elf_source::{Counted, Source, SourceFault};
+use crate::line_prefixes::find_file_type;
+use elf_model::{Cause, FileMagic, FileStatus, Refusal};
+use elf_source::{Counted, Source};
 
-/// The value of the four magic bytes (gABI 4, ELF Identification).
-const MAGIC: u32 = 0x464c_457f;
+/// The refusal of a file for which the budget ends before it is decided what it is.
+pub const UNDECIDED: Refusal = Refusal {
+    at: 0,
+    cause: Cause::Budget,
+};
 
-/// The size of the magic number in bytes.
-const MAGIC_BYTES: u64 = 4;
-
-/// Returns the state of a file with fewer bytes than a file header: by one read of its first four,
-/// if both the file and the budget have four. On return no limit is set.
+/// Returns the state of a file with fewer bytes than a file header, by what it is, which is decided within the
+/// budget. Afterwards no limit is set.
 pub fn short_file_status<S: Source>(src: &mut Counted<S>, budget: Option<u64>) -> FileStatus
     requires short { src.old.seen.size < 64 }
     requires few { src.old.asked ≤ 2 ^ 127 }
@@ -29,52 +29,25 @@ pub fn short_file_status<S: Source>(src: &mut Counted<S>, budget: Option<u64>) -
     ensures state { (file : List ℕ) → src.old.seen.file ≡ Some file →
         FindsShort budget file result }
 {
-    src.limit(None);
-    let at = src.length();
-    if at < MAGIC_BYTES {
-        return FileStatus::NoElf;
-    }
-    let short = Refusal {
-        at,
-        cause: Cause::Short,
-    };
-    if !may_read_magic(budget) {
-        return FileStatus::Refused(short);
-    }
-    let begins = has_elf_magic(src);
-    src.limit(None);
-    match begins {
-        Ok(true) => FileStatus::Refused(short),
-        Ok(false) => FileStatus::NoElf,
+    let size = src.length();
+    match find_file_type(src, false, budget) {
+        Ok(magic) => short_state(size, magic),
         Err(_) => FileStatus::Unread,
     }
 }
 
-/// Returns `true` if a budget has the magic number's bytes.
-fn may_read_magic(budget: Option<u64>) -> bool
-    ensures value { result ≡ may_read_magic budget }
-    ensures four { result ≡ true → IfSome budget (λ bytes. 4 ≤ bytes) }
+/// Returns the state of a file of so few bytes that it has no room for a file header, by what it is.
+pub fn short_state(size: u64, magic: FileMagic) -> FileStatus
+    ensures { result ≡ short_state size magic }
 {
-    match budget {
-        None => true,
-        Some(bytes) => bytes >= MAGIC_BYTES,
+    match magic {
+        FileMagic::Elf => FileStatus::Refused(Refusal {
+            at: size,
+            cause: Cause::Short,
+        }),
+        FileMagic::Undecided => FileStatus::Refused(UNDECIDED),
+        FileMagic::Archive | FileMagic::Thin | FileMagic::Foreign => FileStatus::NoElf,
     }
-}
-
-/// Checks whether a file of four bytes or more begins with the magic number.
-///
-/// # Errors
-/// The source's own.
-fn has_elf_magic<S: Source>(src: &mut Counted<S>) -> Result<bool, SourceFault>
-    requires { 4 ≤ src.old.seen.size }
-    ensures fills { FillsUnlimited src.old src.new 4 }
-    ensures fails { IfErr result (IsSourceFault src.old.seen src.new.seen) }
-    ensures value { (file : List ℕ) → src.old.seen.file ≡ Some file →
-        IfOk result (λ begins. begins ≡ has_elf_magic file) }
-{
-    let mut bytes = [0; 4];
-    src.fill(0, &mut bytes)?;
-    Ok(word(&bytes) == MAGIC)
 }
 
 /// Returns the state of a file large enough for a file header, by its refusal.

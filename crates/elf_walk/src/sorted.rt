@@ -1,23 +1,26 @@
 //! The check of a file by its type, if members are checked.
 ghost use Rattle.std.specs.Prelude.{◌≡◌, ◌≤◌, ◌^◌};
+ghost use Rattle.elf_archive.specs.FirstFault.{BeginsArchive};
 ghost use Rattle.elf_archive.specs.Listed.{IsAll};
 ghost use Rattle.elf_model.specs.ArchiveCost.{archive_ceiling};
+ghost use Rattle.elf_model.specs.declared.states.FileMagic.TheVariants.{Archive};
 ghost use Rattle.elf_walk.specs.CheckedFile.{ChecksFile};
 ghost use Rattle.elf_walk.specs.Members.{FindsBySort, FindsSorted, IsCapsAfter};
-ghost use Rattle.elf_walk.specs.Members.{cost_by, sorted_ceiling, sorted_cost};
+ghost use Rattle.elf_walk.specs.Members.{cost_by, sorted_ceiling, sorted_cost, unlisted_state};
 
-use crate::check_file::check;
+use crate::check_file::check_elf;
 use crate::members::check_archive;
+use crate::short::UNDECIDED;
 use crate::{budget_after, find_file_type, front_bytes};
-use elf_model::{FileMagic, FileStatus};
+use elf_model::{Cause, FileMagic, FileStatus, Refusal};
 use elf_record::Parts;
 use elf_source::{Counted, RangeSource, Source};
 use elf_table::{Caps, HeaderStore, Limits};
 
-/// Checks one file by the type that its first bytes identify: an ELF file as [`check`] does, an
-/// archive with its members as [`check_archive`] does; a file of another type is not an ELF file.
-///
-/// These bytes count towards the budget. The source and the store are as for `check_archive`.
+/// Checks one file, whose first bytes decide what it is: an ELF file as [`check_elf`] does, an archive
+/// with its members as [`check_archive`] does; a file of another kind is no ELF file. These bytes count
+/// towards the budget, and are not read again of an archive. If the budget ends before them the file is refused
+/// for it. Of the source and the store the same holds as for `check_archive`.
 pub fn check_sorted<S: Source>(
     src: &mut Counted<RangeSource<S>>,
     store: &mut HeaderStore,
@@ -48,16 +51,31 @@ fn check_by_type<S: Source>(
 ) -> FileStatus
     requires small { (store.old.slots ≡ caps.limits.headers) × (src.old.asked ≤ 2 ^ 127) }
     requires whole { IsAll src.old }
+    requires begins { sort ≡ Archive → BeginsArchive src.old.seen }
     ensures { ChecksFile store.old.slots store.new.slots caps.entry parts.0 src.old src.new result
         (FindsBySort sort) (cost_by sort) archive_ceiling }
 {
     match sort {
-        FileMagic::Elf => check(src, store, caps, parts),
+        FileMagic::Elf => check_elf(src, store, caps, parts),
         FileMagic::Archive => check_archive(src, store, caps, parts),
-        FileMagic::Foreign => {
+        FileMagic::Thin | FileMagic::Foreign | FileMagic::Undecided => {
             src.limit(None);
-            FileStatus::NoElf
+            unlisted_state(sort)
         }
+    }
+}
+
+/// Returns the state of a file of which nothing is listed, by what it is.
+fn unlisted_state(sort: FileMagic) -> FileStatus
+    ensures { result ≡ unlisted_state sort }
+{
+    match sort {
+        FileMagic::Undecided => FileStatus::Refused(UNDECIDED),
+        FileMagic::Thin => FileStatus::Refused(Refusal {
+            at: 0,
+            cause: Cause::Thin,
+        }),
+        FileMagic::Elf | FileMagic::Archive | FileMagic::Foreign => FileStatus::NoElf,
     }
 }
 

@@ -2,28 +2,29 @@
 ghost use Rattle.std.specs.Prelude.{◌≡◌, ◌+◌, ◌≤◌, ◌^◌, ℕ, List, Some, IfErr};
 ghost use Rattle.elf_archive.specs.Listed.{ArchiveSays, IsAll};
 ghost use Rattle.elf_options.specs.Permitted.{style_of};
-ghost use Rattle.elf_listing.specs.Reports.{KeepsSourceUnlimited};
+ghost use Rattle.elf_listing.specs.Reports.{KeepsSourceUnlimited, ReturnsStop};
 ghost use Rattle.elf_walk.specs.CheckedFile.{AsksNoMore};
 ghost use Rattle.elf_walk.specs.Lists.{ListsSort, sort_ceiling, sort_cost};
-ghost use Rattle.elf_model.specs.FileLists.{members_alone};
+ghost use Rattle.elf_model.specs.FileLists.{members_alone, undecided};
 ghost use Rattle.elf_source.specs.Growth.{OutGrows};
+ghost use Rattle.elf_table.specs.declared.run_fault.RunFault.TheVariants.{Refused};
 
+use crate::short::UNDECIDED;
 use elf_archive::show_archive;
-use elf_listing::show;
-use elf_model::FileMagic;
+use elf_listing::{show, show_stop};
+use elf_model::{FileMagic, Format};
 use elf_record::Parts;
 use elf_source::{Counted, DeferredSink, Out, RangeSource, Sink, Source};
 use elf_table::{Caps, HeaderStore, ListingStyle, RunFault};
 
-/// Writes the listing of a file of a type: for an ELF file its own, for an archive that of its
-/// members, whose lines are written alone if all rows are shown, for another file nothing.
-///
-/// The last line is that of its refusal, if it has one. Returns whether the listing of a member was
-/// refused. The source is a range of all bytes of the file, with nothing masked; it and the store
-/// are as for [`show_archive`].
+/// Writes the listing of a file of a sort: of an ELF file its own, of an archive that of its members, whose
+/// lines stand alone where all rows are shown, of one that the budget ends before it is decided the line of that,
+/// of another file nothing. The last line is that of its refusal, if it has one. Answers whether the listing
+/// of a member was refused. The source is a range of all bytes of the file, with nothing hidden; of it and
+/// the store the same holds as for [`show_archive`].
 ///
 /// # Errors
-/// As for [`show`] and [`show_archive`].
+/// As of [`show`] and [`show_archive`].
 pub fn list_by_type<S: Source, W: Sink>(
     src: &mut Counted<RangeSource<S>>,
     store: &mut HeaderStore,
@@ -56,11 +57,24 @@ pub fn list_by_type<S: Source, W: Sink>(
             let alone = are_alone(&caps.style);
             show_archive(src, store, caps, parts, alone, out)
         }
-        FileMagic::Foreign => {
+        FileMagic::Undecided => {
+            src.limit(None);
+            Err(report_undecided(caps.style.format, out))
+        }
+        FileMagic::Thin | FileMagic::Foreign => {
             src.limit(None);
             Ok(false)
         }
     }
+}
+
+/// Writes the line of a file for which the budget ends before it is decided what it is, and returns its refusal;
+/// or the output's fault, with a front of the line written.
+fn report_undecided<W: Sink>(format: Format, out: &mut Out<W>) -> RunFault
+    ensures grows { OutGrows out.old out.new }
+    ensures tells { ReturnsStop format out.old out.new (Refused undecided) result }
+{
+    show_stop(RunFault::Refused(UNDECIDED), format, out)
 }
 
 /// Returns `true` if the lines of members are written alone.

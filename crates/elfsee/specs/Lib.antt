@@ -2,3 +2,4 @@ pub mod Ends
 pub mod Explaining
 pub mod Layouts
 pub mod Naming
+pub mod Needs

@@ -1,4 +1,6 @@
 //! What a program needs.
+ghost use Rattle.std.specs.Prelude.{◌≡◌};
+ghost use Rattle.elfsee.specs.Needs.{EndsNeeds};
 
 use elf_cli::{
     CANNOT_OPEN, ExitLine, OUT_OF_MEMORY, OUTPUT_BYTES, READ_FAULT, RunEnd, end_run, open,
@@ -92,7 +94,13 @@ where
 }
 
 /// Returns the settings of a walk.
-fn settings<'a>(asked: &NeedsRequest<'a>) -> NeedsOptions<'a> {
+fn settings<'a>(asked: &NeedsRequest<'a>) -> NeedsOptions<'a>
+    ensures library { result.folders.library.now ≡ asked.now.library_path.now }
+    ensures default { result.folders.default.now ≡ asked.now.default.now }
+    ensures root { result.folders.root.now ≡ asked.now.root.now }
+    ensures budget { result.budget ≡ asked.now.limits.budget }
+    ensures format { result.format ≡ asked.now.format }
+{
     NeedsOptions {
         folders: SearchDirs {
             library: asked.library_path.as_bytes(),
@@ -106,7 +114,9 @@ fn settings<'a>(asked: &NeedsRequest<'a>) -> NeedsOptions<'a> {
 }
 
 /// Returns how a run ended, by the result of a walk.
-fn ended(listed: Result<u8, NeedsFault>) -> RunEnd {
+fn ended(listed: Result<u8, NeedsFault>) -> RunEnd
+    ensures { EndsNeeds listed result }
+{
     match listed {
         Ok(status) => RunEnd::Status(status),
         Err(NeedsFault::Read) => RunEnd::Told(READ_FAULT),

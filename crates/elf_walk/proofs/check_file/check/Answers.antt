@@ -36,7 +36,9 @@ returns-in-Ok g c =
     record {
       slots = did.slots;
       leaves = did.leaves;
-      state = λ file held. ended file caps c.args.parts.0 _ _ _ (c.in-Ok.ensures.text file held);
+      state = λ file held.
+          let sized = c.args.src.now.seen.sized file held in
+          ended file caps c.args.parts.0 _ _ _ (omega (arith, sized, c.length.ensures.value, c.if-length-lt-HEADER_BYTES.false)) (c.in-Ok.ensures.text file held);
       cost = λ file held.
           let sized = c.args.src.now.seen.sized file held in
           let most = cost_long file caps.limits.headers (style_of caps.style) c.args.parts.0 (omega (arith, sized, c.length.ensures.value, c.if-length-lt-HEADER_BYTES.false)) in

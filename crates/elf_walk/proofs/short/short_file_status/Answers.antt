@@ -1,33 +1,30 @@
--- The state of a short file is that of its one refusal.
-use Rattle.std.proofs.Common.{rules, arith, ◌≡◌, true, false, ap, sym, ◌∙◌}
-use Rattle.elf_model.specs.Checking.{may_read_magic}
-use Rattle.elf_source.specs.Source.{SourceState}
-use Rattle.elf_walk.proofs.StateLaws.{length_is, looked, tiny, unlooked}
+-- The state of a short file is that of what it is.
+use Rattle.std.proofs.Common.{◌≡◌, false, sym, ◌∙◌, arith}
+use Rattle.elf_walk.proofs.FileMagicLaws.{front_four}
+use Rattle.elf_walk.proofs.ListingToldLaws.{fault_fails, front_within}
+use Rattle.elf_walk.proofs.StateLaws.{short_is, short_read}
 use Rattle.elf_walk.proofs.short.short_file_status.Goals as goal
 
-pub returns-then-at-lt-MAGIC_BYTES-clause-state : goal.returns-then-at-lt-MAGIC_BYTES-clause-state
-returns-then-at-lt-MAGIC_BYTES-clause-state g c = λ file held.
-    let at = length_is _ _ file _ c.limit.ensures.seen held c.length-at.ensures.value in
-    tiny c.args.budget file (omega (arith, at))
+pub returns-in-Ok-clause-state : goal.returns-in-Ok-clause-state
+returns-in-Ok-clause-state g c = λ file held.
+    let sized = c.args.src.now.seen.sized file held in
+    short_is c.args.budget file c.length-size.result c.in-Ok.magic c.short_state.result (omega (arith, sized, c.length-size.ensures.value)) (omega (arith, c.length-size.ensures.value, c.requires.short))
+    (c.in-Ok.ensures.finds file held) c.short_state.ensures
 
-pub returns-then-not-may_read_magic-clause-state : goal.returns-then-not-may_read_magic-clause-state
-returns-then-not-may_read_magic-clause-state g c = λ file held.
-    let at = length_is _ _ file _ c.limit.ensures.seen held c.length-at.ensures.value in
-    let none : may_read_magic c.args.budget ≡ false = search rules in
-    unlooked c.args.budget file _ at (omega arith) (omega (arith, at, c.args.src.now.seen.sized file held)) none
+pub returns-in-Ok-clause-read : goal.returns-in-Ok-clause-read
+returns-in-Ok-clause-read g c = short_read _ _ c.length-size.result c.in-Ok.magic c.short_state.result c.short_state.ensures
 
-pub returns-in-Ok-true-clause-state : goal.returns-in-Ok-true-clause-state
-returns-in-Ok-true-clause-state g c = λ file held.
-    let at = length_is _ _ file _ c.limit.ensures.seen held c.length-at.ensures.value in
-    let some : may_read_magic c.args.budget ≡ true = search rules in
-    let now = ap (λ (seen : SourceState). seen.file) c.limit.ensures.seen ∙ held in
-    looked c.args.budget file _ true at (omega arith) (omega (arith, at, c.args.src.now.seen.sized file held)) some
-    (sym c.in-Ok-true.field-0-test ∙ c.in-Ok-true.ensures.value file now)
+pub returns-in-Ok-clause-asks : goal.returns-in-Ok-clause-asks
+returns-in-Ok-clause-asks g c = let few = front_four c.args.budget c.args.src.now.seen.size in omega (arith, few, c.in-Ok.ensures.asks)
 
-pub returns-in-Ok-false-clause-state : goal.returns-in-Ok-false-clause-state
-returns-in-Ok-false-clause-state g c = λ file held.
-    let at = length_is _ _ file _ c.limit.ensures.seen held c.length-at.ensures.value in
-    let some : may_read_magic c.args.budget ≡ true = search rules in
-    let now = ap (λ (seen : SourceState). seen.file) c.limit.ensures.seen ∙ held in
-    looked c.args.budget file _ false at (omega arith) (omega (arith, at, c.args.src.now.seen.sized file held)) some
-    (sym c.in-Ok-false.field-0-test ∙ c.in-Ok-false.ensures.value file now)
+pub returns-in-Ok-clause-within : goal.returns-in-Ok-clause-within
+returns-in-Ok-clause-within g c = front_within false c.args.budget c.args.src.now.seen.size c.args.src.now.asked c.find_file_type.new.src.asked c.in-Ok.ensures.asks
+
+pub returns-in-Err-clause-read : goal.returns-in-Err-clause-read
+returns-in-Err-clause-read g c = fault_fails c.args.src.now c.find_file_type.new.src c.in-Err.field-0 c.in-Err.ensures.fails
+
+pub returns-in-Err-clause-asks : goal.returns-in-Err-clause-asks
+returns-in-Err-clause-asks g c = let few = front_four c.args.budget c.args.src.now.seen.size in omega (arith, few, c.in-Err.ensures.asks)
+
+pub returns-in-Err-clause-within : goal.returns-in-Err-clause-within
+returns-in-Err-clause-within g c = front_within false c.args.budget c.args.src.now.seen.size c.args.src.now.asked c.find_file_type.new.src.asked c.in-Err.ensures.asks

@@ -1,10 +1,11 @@
 -- The state of a file after the magic bytes that identify its type.
-use Rattle.std.proofs.Common.{ℕ, true, List, Option, Some, refl, sym, ap, subst, ◌∙◌, arith}
+use Rattle.std.proofs.Common.{ℕ, true, List, Option, Some, Ok, rules, ◌≡◌, refl, sym, ap, subst, ◌∙◌, arith}
 use Rattle.elf_model.specs.declared.states.FileMagic.{FileMagic}
+use Rattle.elf_model.specs.declared.states.FileMagic.TheVariants.{Archive}
 use Rattle.elf_options.specs.Permitted.{style_of}
 use Rattle.elf_walk.proofs.ListingToldLaws.{fault_fails, front_within, sort_within}
 use Rattle.elf_walk.specs.Members.{FindsBySort, IsCapsAfter, cost_by}
-use Rattle.elf_walk.proofs.FileMagicLaws.{front_eight, sorted_found, state_after}
+use Rattle.elf_walk.proofs.FileMagicLaws.{begins_kept, front_eight, sorted_found, state_after}
 use Rattle.elf_walk.proofs.sorted.check_sorted.Goals as goal
 
 pub returns-in-Err : goal.returns-in-Err
@@ -36,6 +37,11 @@ check_by_type-requires-clause-whole g c =
           ∙ ap (λ (file : Option (List ℕ)). Some (record { size = c.find_file_type.new.src.seen.size; file = file })) (sym keeps.same_file)));
       shows = c.in-Ok.ensures.shows ∙ c.requires.whole.shows;
     }
+
+pub check_by_type-requires-clause-begins : goal.check_by_type-requires-clause-begins
+check_by_type-requires-clause-begins g c = λ archive.
+    let is : c.find_file_type.result ≡ Ok Archive = search rules in
+    begins_kept _ _ c.in-Ok.ensures.keeps (c.in-Ok.ensures.begins is)
 
 pub returns : goal.returns
 returns g c =

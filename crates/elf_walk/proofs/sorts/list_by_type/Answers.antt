@@ -1,8 +1,9 @@
 -- A file's listing by its type.
 use Rattle.std.proofs.Common.{Bool, subst}
 use Rattle.std.proofs.lemmas.Result.{err_from_is_err_and}
+use Rattle.elf_options.specs.Permitted.{style_of}
 use Rattle.elf_archive.specs.Listed.{ReportsArchive}
-use Rattle.elf_walk.proofs.HeadedLaws.{archive_listed, elf_ended, elf_stopped}
+use Rattle.elf_walk.proofs.HeadedLaws.{archive_listed, elf_ended, elf_stopped, undecided_listed, undecided_says}
 use Rattle.elf_walk.proofs.sorts.list_by_type.Goals as goal
 
 pub returns-in_err-show-in-Elf-clause-lists : goal.returns-in_err-show-in-Elf-clause-lists
@@ -28,3 +29,10 @@ returns-in-Archive-clause-lists g c = λ file held.
 
 pub returns-in-Archive-clause-cost : goal.returns-in-Archive-clause-cost
 returns-in-Archive-clause-cost g c = λ file held. rw c.in-Archive.is (c.show_archive.ensures.cost file held)
+
+pub returns-in-Undecided-clause-lists : goal.returns-in-Undecided-clause-lists
+returns-in-Undecided-clause-lists g c = λ file held.
+    rw c.in-Undecided.is (undecided_listed file c.args.caps.limits (style_of c.args.caps.style) c.args.parts.0 c.args.out.now c.report_undecided.new.out c.report_undecided.result c.report_undecided.ensures.tells)
+
+pub returns-in-Undecided-clause-says : goal.returns-in-Undecided-clause-says
+returns-in-Undecided-clause-says g c = undecided_says c.args.caps.style.format _ _ c.args.out.now c.report_undecided.new.out c.report_undecided.result c.report_undecided.ensures.tells

@@ -1,9 +1,9 @@
 -- What is reported of a file, by its type.
-use Rattle.std.proofs.Common.{rules, ◌≡◌, None, Some, Ok, false, refl, sym, subst, ◌∙◌, arith}
-use Rattle.elf_model.specs.declared.states.FileMagic.TheVariants as sort
+use Rattle.std.proofs.Common.{rules, ◌≡◌, None, Some, Ok, false, subst, ◌∙◌, arith, true}
 use Rattle.elf_walk.specs.Prelude.{ReturnsListing}
+use Rattle.elf_walk.specs.ToldListings.{is_unlisted}
 use Rattle.elf_walk.specs.declared.options.ListOptions.{ListOptions}
-use Rattle.elf_walk.proofs.ListingToldLaws.{end_fails, fault_after, fault_fails, file_told, front_within, sort_within}
+use Rattle.elf_walk.proofs.ListingToldLaws.{end_fails, fault_after, fault_fails, file_told, front_within, sort_within, nothing_told}
 use Rattle.elf_walk.proofs.file_lists.ListFilesFileVisitor.visit.Goals as goal
 
 pub returns-in-Err-clause-tells : goal.returns-in-Err-clause-tells
@@ -20,15 +20,15 @@ returns-in-Err-clause-tells g c =
       budget = front_within rule.members rule.caps.limits.budget c.args.src.now.seen.size c.args.src.now.asked c.find_file_type.new.src.asked asks;
     })
 
-pub returns-then-lacks_elf_magic-clause-tells : goal.returns-then-lacks_elf_magic-clause-tells
-returns-then-lacks_elf_magic-clause-tells g c =
+pub returns-then-is_unlisted-clause-tells : goal.returns-then-is_unlisted-clause-tells
+returns-then-is_unlisted-clause-tells g c =
     let rule = c.self.inside.rule in
     let asks = c.in-Ok.ensures.asks in
-    let foreign : c.in-Ok.sort ≡ sort.Foreign = search rules in
+    let nothing : is_unlisted c.in-Ok.sort ≡ true = search rules in
     subst (λ (r : ListOptions). ReturnsListing r c.args.path.now c.args.src.now c.find_file_type.new.src c.args.out.now c.args.out.now (Ok 0)) c.self.view_is (record {
-      kind = Some sort.Foreign;
-      finds = λ file held. sym foreign ∙ c.in-Ok.ensures.finds file held;
-      told = (refl, refl);
+      kind = Some c.in-Ok.sort;
+      finds = λ file held. c.in-Ok.ensures.finds file held;
+      told = nothing_told c.in-Ok.sort rule c.args.path.now c.args.src.now c.args.out.now nothing;
       read = λ is. absurd (cc);
       cost = λ file held. omega (arith, asks);
       ceiling = omega (arith, asks);
@@ -40,7 +40,7 @@ returns-clause-tells g c =
     let rule = c.self.inside.rule in
     let asks = c.in-Ok.ensures.asks in
     let keeps = c.in-Ok.ensures.keeps in
-    let none : c.lacks_elf_magic.result ≡ false = search rules in
+    let some : is_unlisted c.in-Ok.sort ≡ false = search rules in
     let limits = rw c.length-size.ensures.value at c.behind-rule.ensures.limits in
     let style = c.behind-rule.ensures.style in
     let parts = c.behind-rule.ensures.parts in
@@ -48,7 +48,7 @@ returns-clause-tells g c =
     subst (λ (r : ListOptions). ReturnsListing r c.args.path.now c.args.src.now c.list_with_path_line-listed.new.src c.args.out.now c.end_list.new.out c.end_list.result) c.self.view_is (record {
       kind = Some c.in-Ok.sort;
       finds = λ file held. c.in-Ok.ensures.finds file held;
-      told = file_told c.in-Ok.sort rule c.args.path.now c.args.src.now c.args.out.now c.end_list.new.out c.end_list.result (c.lacks_elf_magic.ensures.no none) (record {
+      told = file_told c.in-Ok.sort rule c.args.path.now c.args.src.now c.args.out.now c.end_list.new.out c.end_list.result some (record {
         limits = c.behind-rule.result.caps.limits;
         behind = limits;
         result = c.list_with_path_line-listed.result;
