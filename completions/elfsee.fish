@@ -27,7 +27,7 @@ function __elfsee_plain_words
             set -a plain $word
         else if test "$word" = --
             set ended 1
-        else if contains -- $word --headers --names --max-read --only --name --name-list --layout --require --library-path --default --root --files0-from
+        else if contains -- $word --headers --names --max-read --max-tries --only --name --name-list --layout --require --library-path --default --root --files0-from
             set skip 1
         else if not string match -q -- '-*' $word
             set -a plain $word
@@ -89,6 +89,7 @@ complete -c elfsee -n '__fish_seen_subcommand_from show sample list archive; and
 complete -c elfsee -n '__fish_seen_subcommand_from show list archive' -l name -x -d 'show the rows of this name alone'
 complete -c elfsee -n '__fish_seen_subcommand_from show list archive; and __elfsee_lacks --name-list' -l name-list -r -F -d 'show the rows of the names in a file too, one a line'
 complete -c elfsee -n '__fish_seen_subcommand_from traits; and __elfsee_lacks --require' -l require -x -d 'tell which of these words a program or a library lacks'
+complete -c elfsee -n '__fish_seen_subcommand_from needs; and __elfsee_lacks --max-tries' -l max-tries -x -d 'try no more than so many paths'
 complete -c elfsee -n '__fish_seen_subcommand_from needs; and __elfsee_lacks --library-path' -l library-path -x -d 'look for libraries in these folders too'
 complete -c elfsee -n '__fish_seen_subcommand_from needs; and __elfsee_lacks --default' -l default -x -d 'look in these folders last'
 complete -c elfsee -n '__fish_seen_subcommand_from needs; and __elfsee_lacks --symbols' -l symbols -d 'tell from which object each symbol comes, too'

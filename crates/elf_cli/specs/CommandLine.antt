@@ -133,7 +133,7 @@ traits_command =
 -- file that each symbol is bound to is printed too
 abbrev pub needs_command : App
 needs_command =
-    with_rule (with_rule (with_rule (with_rule (with_rule (with_rule (with_reading_options (new_app (codes "needs"))) (valued (codes "library-path"))) (valued (codes "default")))
+    with_rule (with_rule (with_rule (with_rule (with_rule (with_rule (with_rule (with_reading_options (new_app (codes "needs"))) (option (codes "max-tries") (Unsigned 0 9223372036854775807))) (valued (codes "library-path"))) (valued (codes "default")))
     (valued (codes "root"))) (flag (codes "symbols"))) json_option) file_argument
 
 abbrev pub archive_command : ArgWords → App

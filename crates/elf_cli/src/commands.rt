@@ -12,7 +12,7 @@ ghost use Rattle.elf_cli.specs.CommandLine.{with_many_files, with_one_file, with
 
 use crate::arguments::{
     AS_LOADED, AS_LOADER, BINDINGS, BY_SEGMENTS, DEFAULT, EXPLAIN, FILE, GNU, HEADERS, INSIDE,
-    ITEM, JSON, LAYOUT, LIBRARY_PATH, LIST, MAX_READ, NAME, NAME_LIST, NAMES, ONLY, PATH, REQUIRE,
+    ITEM, JSON, LAYOUT, LIBRARY_PATH, LIST, MAX_READ, MAX_TRIES, NAME, NAME_LIST, NAMES, ONLY, PATH, REQUIRE,
     ROOT, ROW_NAME, SECTION, WITH_VERSIONS,
 };
 use crate::builder::{CommandSpec, add_subcommands, clap_command_of, new_command, with_command};
@@ -123,6 +123,7 @@ const NEEDS: CommandSpec = CommandSpec {
     words: &[
         HEADERS,
         MAX_READ,
+        MAX_TRIES,
         LIBRARY_PATH,
         DEFAULT,
         ROOT,

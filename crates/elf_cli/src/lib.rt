@@ -33,7 +33,7 @@ pub use line_sink::LineSink;
 pub use listings::{ListingRequest, ShowRequest, listing_of, parse_show};
 pub use no_request::unasked;
 pub use option_values::{
-    find_without_gnu, format_of, has_gnu_option, has_versions_option, is_set, limits_of, parts_of,
+    find_without_gnu, format_of, has_gnu_option, has_versions_option, is_set, limits_of, number_of, parts_of,
     style_of, text_of, u16_option_of, whole,
 };
 pub use outputs::{

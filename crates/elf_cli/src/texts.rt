@@ -55,6 +55,8 @@ traits also --json, --require and --files0-from, needs also --json and those for
   --default DIRS
                 for needs only: look in these folders last, not in those of a system
   --root DIR    for needs only: look below DIR for each path that begins with a slash
+  --max-tries N for needs only: try at most N paths: 0 to 9223372036854775807
+                [default: 100000]
   --symbols     for needs only: tell from which object each symbol comes, too
   --files0-from FILE
                 for check, list and traits: take the paths in FILE too, each ended by NUL

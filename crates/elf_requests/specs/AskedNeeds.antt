@@ -1,7 +1,7 @@
 -- What the arguments of a command line request about what a program needs.
 use Rattle.std.specs.Prelude.{◌≡◌, List, [], codes, Some, unwrap_or}
-use Rattle.clap.specs.Walk.{Row, Text, first_of}
-use Rattle.elf_cli.specs.Options.{AreLimitOptions, asked_format, is_option_set}
+use Rattle.clap.specs.Walk.{Row, Text, first_of, one_of}
+use Rattle.elf_cli.specs.Options.{AreLimitOptions, HasNumber, asked_format, is_option_set}
 use Rattle.elf_requests.specs.declared.checks.NeedsRequest.{NeedsRequest}
 
 -- the directories in which libraries are searched last, if no others are given
@@ -16,5 +16,6 @@ pub record IsNeedsAsked (command : Text) (rows : List Row) (asked : NeedsRequest
   pub default : asked.default.now ≡ unwrap_or (first_of (codes "default") rows) default_dirs
   pub root : asked.root.now ≡ unwrap_or (first_of (codes "root") rows) []
   pub limits : AreLimitOptions rows asked.limits
+  pub tries : HasNumber (one_of (codes "max-tries") rows) asked.tries
   pub format : asked.format ≡ asked_format rows
   pub symbols : asked.symbols ≡ is_option_set (first_of (codes "symbols") rows)

@@ -146,6 +146,8 @@ pub struct NeedsRequest<'a> {
     /// How many headers of each file are allowed, and how many bytes of all files together may be
     /// read.
     pub limits: Limits,
+    /// How many paths may be tried, if the words say so.
+    pub tries: Option<u64>,
     /// How a line is written.
     pub format: Format,
     /// Whether the file that each symbol is bound to is printed too.

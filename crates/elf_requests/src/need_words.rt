@@ -8,7 +8,7 @@ ghost use Rattle.elf_requests.specs.Checks.{ParsesTo};
 
 use crate::checks::{NeedsRequest, ParsedCommand};
 use clap::ArgMatches;
-use elf_cli::{format_of, is_set, limits_of, text_of};
+use elf_cli::{format_of, is_set, limits_of, number_of, text_of};
 
 /// The directories in which libraries are searched last, if no others are given.
 const DEFAULT_FOLDERS: &str =
@@ -32,12 +32,14 @@ fn needs_of<'a>(options: &ArgMatches<'a>) -> Option<NeedsRequest<'a>>
 {
     let file = text_of(options, "FILE")?;
     let limits = limits_of(options)?;
+    let tries = number_of(options, "max-tries")?;
     Some(NeedsRequest {
         file,
         library_path: text_or(options, "library-path", ""),
         default: text_or(options, "default", DEFAULT_FOLDERS),
         root: text_or(options, "root", ""),
         limits,
+        tries,
         format: format_of(options),
         symbols: is_set(options, "symbols"),
     })

@@ -1,5 +1,5 @@
 //! What a program needs.
-ghost use Rattle.std.specs.Prelude.{◌≡◌};
+ghost use Rattle.std.specs.Prelude.{◌≡◌, unwrap_or};
 ghost use Rattle.elfsee.specs.Needs.{EndsNeeds};
 
 use elf_cli::{
@@ -16,7 +16,7 @@ use std::io::{self, BufWriter, ErrorKind, Write};
 use std::os::unix::fs::FileExt;
 use std::rt::Files;
 
-/// How many paths may be tried.
+/// How many paths may be tried, unless the words say so.
 const MOST_TRIES: u64 = 100_000;
 
 /// Lists the objects that a program needs and, if requested, which object each of their symbols is
@@ -99,6 +99,7 @@ fn settings<'a>(asked: &NeedsRequest<'a>) -> NeedsOptions<'a>
     ensures default { result.folders.default.now ≡ asked.now.default.now }
     ensures root { result.folders.root.now ≡ asked.now.root.now }
     ensures budget { result.budget ≡ asked.now.limits.budget }
+    ensures tries { result.tries ≡ unwrap_or asked.now.tries 100000 }
     ensures format { result.format ≡ asked.now.format }
 {
     NeedsOptions {
@@ -108,7 +109,7 @@ fn settings<'a>(asked: &NeedsRequest<'a>) -> NeedsOptions<'a>
             root: asked.root.as_bytes(),
         },
         budget: asked.limits.budget,
-        tries: MOST_TRIES,
+        tries: asked.tries.unwrap_or(MOST_TRIES),
         format: asked.format,
     }
 }
