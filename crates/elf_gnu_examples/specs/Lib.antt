@@ -17,4 +17,6 @@ pub mod ExamplesViews
 pub mod ExamplesBindings
 pub mod ExamplesBoundSymbols
 pub mod ExamplesLinks
+pub mod ExamplesLoaderCache
+pub mod ExamplesInterpreters
 pub mod Prelude

@@ -82,5 +82,7 @@ pub mod TraitWords
 pub mod TraitCost
 pub mod Bindings
 pub mod BindingLines
+pub mod Interpreters
 pub mod BoundSymbols
+pub mod LoaderCache
 pub mod Prelude

@@ -60,17 +60,20 @@ pub use Rattle.elf_model.specs.Hash.{Absent, ChainEnd, Found, IsEndless, IsFirst
 pub use Rattle.elf_model.specs.HashLaws.{ComparedWithinChains, CycleExactly, CycleIsEndless, GoesOn, IsBounded, LongWalkNeverEnds, LongWalkRepeats, LookupAnswers, LookupIsBounded, LookupIsOne, RepeatNeverEnds, Repeats}
 unfoldable pub use Rattle.elf_model.specs.Hash.{bucket_of, end_among, end_at_word, looked_up, lookup_at, lookup_end, same_symbol, sysv_hash, walk_word, word_at}
 pub use Rattle.elf_model.specs.HeaderTables.{HeaderTable, TableKind, file_sections, file_segments, first_typed, header_field, held_headers}
+pub use Rattle.elf_model.specs.Interpreters.{interpreter_line}
+unfoldable pub use Rattle.elf_model.specs.Interpreters.{interpreter_at, interpreter_by_segments, interpreter_front, interpreter_of, interpreter_state, is_interpreter, loaded_interpreter}
 unfoldable pub use Rattle.elf_model.specs.LineFronts.{dynamic_prefix, note_prefix, relocation_prefix, section_prefix, symbol_prefix}
 pub use Rattle.elf_model.specs.Lines.{SHOWN_DESCRIPTOR, cut_mark, name_member, named_line, note_line}
 unfoldable pub use Rattle.elf_model.specs.Lines.{descriptor_text, escaped, header_line, hex_bytes, line_described, line_named, name_byte_text, name_text, note_tail, refusal_line, segment_line, steps_line}
 pub use Rattle.elf_model.specs.Links.{LINK_TEXT_BYTES, LinkState, NeededName, TextRoom, first_text, has_room, is_link, no_link_info, room_after}
-unfoldable pub use Rattle.elf_model.specs.Links.{link_text, linked_by, linked_from, linked_in, linked_with, links_by_segments, links_ceiling, links_of, loaded_links, lookup_refusal}
+unfoldable pub use Rattle.elf_model.specs.Links.{link_text, linked_by, linked_from, linked_in, linked_with, links_by_segments, links_ceiling, links_of, loaded_links, lookup_refusal, machine_in}
 pub use Rattle.elf_model.specs.Listing.{ALL, DYNAMIC, Fault, GNU_ALL, HEADER, Line, ListingItem, NOTES, RELOCS, SECTIONS, SEGMENTS, SYMBOLS, VERSIONS, all_parts, end_text, fault_of, guarded, has, has_tables, known_parts, lines_of, report_of, where_asked}
 pub use Rattle.elf_model.specs.ListingLaws.{HeaderAloneIsListed, HeaderFaultIsListedAlone, LastRowIsLast, ListingsAppend, LoadFaultIsListedSecond, NothingAfterTheFault, OtherBitsMeanNothing, RowsSplit}
 unfoldable pub use Rattle.elf_model.specs.Listing.{each, file_header_items}
 pub use Rattle.elf_model.specs.Loader.{AT_SIGN, CompareResult, DefaultVersion, DynamicSymbols, Meets, Misses, NoVersion, NumberNameSource, Refuses, SymbolQuery, Version, VersionQuery, VersionRecordRead, VersionRecordTable, VersymTable, asked_after, asked_name, compared_until, end_reading, has_record, is_among, is_hidden, one_later, one_more, symbol_offset, versym_at, with_number}
 pub use Rattle.elf_model.specs.LoaderAnswer.{loader_answer, loader_text}
 unfoldable pub use Rattle.elf_model.specs.LoaderAnswer.{found_version_line, loader_answer_for}
+unfoldable pub use Rattle.elf_model.specs.LoaderCache.{after_old_cache, bisected, cache_name_order, cache_text, cached_path, first_path, first_same, is_new_header, is_old_header, key_order, loader_cache, name_ranks, path_in_cache, path_of_entry, rank_order}
 pub use Rattle.elf_model.specs.LoaderFind.{FoundVersion, LoaderLookup, TOLD_BYTES, found_lookup, record_cost, refused_lookup}
 unfoldable pub use Rattle.elf_model.specs.LoaderFind.{counts_check, found_in, loaded_in, loader_ceiling, loader_cost, loader_looked, looked_by, lookup_asks, named_by_record, segments_asked, version_indices, walk_in}
 pub use Rattle.elf_model.specs.LoaderLaws.{ComparedNumbersAreRecords, ComparingEndsAtTheFirst, EndsReadings, FirstEntriesAreAlike, IsComparable, IsRefusedAt, IsTaken, LoaderCostIsWithinCeiling, LoaderFoundIsTaken, NumbersAreNamedAlike, ReadingsAreRecords, StandsAtItsEnd, WalksStandAtRecords, WalksStandAtTheirEnd, names_wanted, numbers_under, records_in, records_read}

@@ -1,5 +1,5 @@
 //! How many paths may still be tried.
-ghost use Rattle.std.specs.Prelude.{◌≡◌, ◌+◌, false, true};
+ghost use Rattle.std.specs.Prelude.{◌≡◌, ◌+◌, ◌≤◌, false, true};
 
 /// How many paths may still be tried, and whether one more was to be.
 #[derive(Clone, Copy)]
@@ -26,7 +26,7 @@ impl PathBudget {
         ensures counted { result ≡ true → self.old.left ≡ self.new.left + 1 }
         ensures still { result ≡ true → self.new.is_over ≡ self.old.is_over }
         ensures over { result ≡ false → self.new.is_over ≡ true }
-        ensures none { result ≡ false → self.new.left ≡ self.old.left }
+        ensures few { self.new.left ≤ self.old.left }
     {
         if self.left == 0 {
             self.is_over = true;

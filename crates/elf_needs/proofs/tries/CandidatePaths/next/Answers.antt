@@ -1,4 +1,4 @@
-use Rattle.std.proofs.Common.{◌∙◌, ap}
+use Rattle.std.proofs.Common.{◌∙◌, ap, arith}
 use Rattle.elf_needs.specs.Prelude.{entry_paths, left_entries, origin_of}
 use Rattle.elf_needs.proofs.PathLaws.{nothing_left, passed_over, taken}
 use Rattle.elf_needs.proofs.tries.CandidatePaths.next.Goals as goal
@@ -14,8 +14,11 @@ pub loop-self-preserved : goal.loop-self-preserved
 loop-self-preserved c =
     let self = c.loop-self.self-inside in
     let entry = c.first_entry-entry.result in
-    passed_over self.root.now self.name.now (origin_of self.origin) entry.text.now c.put_entry.new.path.items (left_entries entry.behind) (left_entries self.left) c.args.self.now c.loop-self.invariant.paths
-    (ap left_entries c.in-Some.is ∙ c.first_entry-entry.ensures.parted) c.if-put_entry.ensures
+    record {
+      paths = passed_over self.root.now self.name.now (origin_of self.origin) entry.text.now c.put_entry.new.path.items (left_entries entry.behind) (left_entries self.left) c.args.self.now c.loop-self.invariant.paths
+          (ap left_entries c.in-Some.is ∙ c.first_entry-entry.ensures.parted) c.if-put_entry.ensures;
+      few = omega (arith, c.loop-self.invariant.few, c.take.ensures.few);
+    }
 
 pub returns-clause-none : goal.returns-clause-none
 returns-clause-none c = λ _ _.
