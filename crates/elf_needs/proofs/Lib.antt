@@ -22,3 +22,4 @@ pub mod StateLaws
 pub mod WriteLaws
 pub mod RequestLaws
 pub mod MachineLaws
+pub mod InterpreterLaws

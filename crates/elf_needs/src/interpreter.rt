@@ -7,7 +7,7 @@ ghost use Rattle.elf_model.specs.Interpreters.{INTERPRETER_BYTES};
 ghost use Rattle.elf_needs.specs.Interpreting.{ReturnsInterpreter, ReturnsIsInterpreter, ReturnsRefusal, end_refusal, interprets, path_range};
 ghost use Rattle.elf_needs.specs.Sought.{ReturnsWhole};
 
-use crate::link_reader::{FRONT_BYTES, machine_by};
+use crate::link_reader::{FRONT_BYTES, byte_at, machine_by};
 use crate::reference::whole_name;
 use elf_hash::load_by_segments;
 use elf_record::numbers::{ET_DYN, ET_EXEC, PT_INTERP};
@@ -142,7 +142,7 @@ fn check_end<S: Source>(src: &mut Counted<S>, path: Names, place: u64) -> Result
 {
     let mut last = [0; 1];
     fill(src, path.at() + (path.size() - 1), &mut last)?;
-    if last[0] != 0 {
+    if byte_at(&last, 0) != 0 {
         return refused(place, Cause::NameUnended);
     }
     Ok(())
@@ -170,5 +170,8 @@ fn interprets(front: &[u8; FRONT_BYTES], machine: u16) -> bool
     ensures { result ≡ interprets machine front.now }
 {
     let kind = u16_at(front, 16);
-    machine_by(front) == Some(machine) && (kind == ET_EXEC || kind == ET_DYN)
+    match machine_by(front) {
+        Some(found) => found == machine && (kind == ET_EXEC || kind == ET_DYN),
+        None => false,
+    }
 }

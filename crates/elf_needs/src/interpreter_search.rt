@@ -1,6 +1,8 @@
 //! The search for the interpreter that a program names.
-ghost use Rattle.std.specs.Prelude.{◌≡◌};
+ghost use Rattle.std.specs.Prelude.{◌≡◌, ◌++◌, [], IfSome, Some, length, slice_index_or};
 ghost use Rattle.elf_needs.specs.Budget.{AsksClosed, AsksFile, AsksFiles};
+ghost use Rattle.elf_needs.specs.Held.{with_text};
+ghost use Rattle.elf_needs.specs.Searching.{if_short, root_before};
 
 use crate::candidates::opened_at;
 use crate::faults::is_budget_fault;
@@ -69,6 +71,12 @@ impl<W: Sink> DependencyWalk<'_, '_, W> {
     /// if it is too long to be opened.
     fn keep_interpreter_path(&mut self, name: u32) -> Option<u32>
         ensures account { self.new.search.account ≡ self.old.search.account }
+        ensures below { IfSome result (λ index. let old = self.old.objects.paths in
+            let path = slice_index_or old.texts name [] in
+            (if_short (root_before self.old.search.folders.root.now path ++ path)
+            ≡ Some self.new.search.path.items)
+            × (self.new.objects.paths ≡ with_text old self.new.search.path.items)
+            × (index ≡ length old.texts)) }
     {
         let name = self.objects.path(name);
         if !named_path(&mut self.search.path, self.search.folders.root, name) {

