@@ -62,16 +62,16 @@ pub record NeededVersion : Type 0 where
 -- what is read of them: one; or a refusal, which is the last
 pub data NeededVersionRead : Type 0 where
   Needs : NeededVersion → NeededVersionRead
-  Faulty : Refusal → NeededVersionRead
+  NeedRefused : Refusal → NeededVersionRead
 
 -- the versions that records need, after the name of a file
 unfoldable pub needed_versions : List ℕ → (library : List ℕ) → List VersionRecordRead → List NeededVersionRead
 needed_versions file library [] = []
-needed_versions file library (Misses refusal ∷ others) = Faulty refusal ∷ []
-needed_versions file library (Refuses refusal ∷ others) = Faulty refusal ∷ []
+needed_versions file library (Misses refusal ∷ others) = NeedRefused refusal ∷ []
+needed_versions file library (Refuses refusal ∷ others) = NeedRefused refusal ∷ []
 needed_versions file library (Meets strings met ∷ others) =
     elim (whole_name strings (name_index file met) (named_at file met)) [
-      | Err refusal ↦ Faulty refusal ∷ []
+      | Err refusal ↦ NeedRefused refusal ∷ []
       | Ok name ↦ elim met.kind [
         | Definition ↦ needed_versions file library others
         | File ↦ needed_versions file name others
@@ -89,7 +89,7 @@ needed_versions file library (Meets strings met ∷ others) =
 -- those of a file
 unfoldable pub versions_needed_at : List ℕ → (at : ℕ) → List NeededVersionRead
 versions_needed_at file at = elim (records_at file at DT_VERNEED File) [
-  | Err refusal ↦ Faulty refusal ∷ []
+  | Err refusal ↦ NeedRefused refusal ∷ []
   | Ok None ↦ []
   | Ok (Some table) ↦ needed_versions file [] (readings_of file table [])
 ]
@@ -172,7 +172,7 @@ item_by_state object provider name None = []
 item_by_state object provider name (Some found) = Lacking object provider found name ∷ []
 
 unfoldable pub version_item : VersionedObjects → (object : ℕ) → NeededVersionRead → List VersionItem
-version_item objects object (Faulty refusal) = Ending refusal ∷ []
+version_item objects object (NeedRefused refusal) = Ending refusal ∷ []
 version_item objects object (Needs needed) =
     let provider = objects.provider needed.library in
     item_by_state object (index_of_provider provider) needed.name (state_of_needed objects needed provider)
