@@ -76,7 +76,7 @@ impl<'a> CandidatePaths<'a> {
                 return false;
             }
             let entry = first_entry(text);
-            self.left = entry.behind;
+            self.left = entry.after;
             if put_entry(path, self.root, self.name, entry.text, self.origin) {
                 return true;
             }
