@@ -2,7 +2,7 @@
 use Rattle.std.specs.Prelude.{ℕ, None}
 use Rattle.elf_needs.specs.declared.states.ObjectState.{ObjectState}
 use Rattle.elf_needs.specs.declared.states.ObjectState.TheVariants.{Found, Missing, Refused}
-use Rattle.elf_needs.specs.declared.walk.ObjectReport.{ObjectReport}
+use Rattle.elf_needs.specs.declared.object_reports.ObjectReport.{ObjectReport}
 
 -- the exit status once an object of a state is listed: 1 where that is missing or refused
 abbrev pub status_with : ObjectState → ℕ → ℕ
@@ -11,5 +11,5 @@ status_with Missing status = 1
 status_with (Refused refusal) status = 1
 
 -- the report of an object of which only the state is known
-abbrev pub told_alone : ObjectState → ObjectReport
-told_alone state = record { state = state; links = record { soname = None; rpath = None; runpath = None }; needs = 0; needs_end = 0 }
+abbrev pub report_alone : ObjectState → ObjectReport
+report_alone state = record { state = state; links = record { soname = None; rpath = None; runpath = None }; needs = 0; needs_end = 0 }

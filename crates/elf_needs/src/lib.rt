@@ -27,6 +27,7 @@ mod missing_version;
 mod needers;
 mod object;
 mod object_file;
+mod object_reports;
 mod object_rows;
 mod open_failures;
 mod open_objects;
@@ -43,6 +44,8 @@ mod texts;
 mod tokens;
 mod tries;
 mod walk;
+mod walk_needs;
+mod walk_program;
 pub mod worked_links;
 pub mod worked_paths;
 

@@ -1,23 +1,20 @@
 //! The objects of a program, in a loader's order.
 ghost use Rattle.std.specs.Prelude.{◌≡◌};
-ghost use Rattle.elf_needs.specs.Budget.{AsksFile, AsksFiles};
-ghost use Rattle.elf_needs.specs.Walked.{status_with, told_alone};
+ghost use Rattle.elf_needs.specs.Budget.{AsksFiles};
 
 use crate::buffers::NeedsBuffers;
 use crate::cached_source::CachedSource;
 use crate::candidates::FileSource;
-use crate::known_object::{KnownObject, MOST_OBJECTS, ObjectList};
-use crate::links::{LinkInfo, NeededLibrary};
-use crate::object_file::{ObjectFile, ReadAccount};
-use crate::object_rows::{show_object, show_too_many, show_too_many_paths};
+use crate::known_object::{MOST_OBJECTS, ObjectList};
+use crate::object_file::ReadAccount;
 use crate::open_objects::OpenObjects;
 use crate::path_budget::PathBudget;
 use crate::paths::CandidatePath;
 use crate::search_dirs::{Search, SearchDirs};
-use crate::states::ObjectState;
+use crate::walk_needs::ControlFlow;
 use elf_model::Format;
-use elf_source::{Out, OutFault, Sink, Source};
-use elf_table::{Fault, HeaderStore};
+use elf_source::{Out, OutFault, Sink};
+use elf_table::HeaderStore;
 use std::os::unix::fs::FileExt;
 use std::rt::Files;
 
@@ -51,15 +48,6 @@ pub struct NeedsOptions<'a> {
     pub format: Format,
 }
 
-/// The result for an object: its state, what its dynamic entries give, and where its needs are.
-#[derive(Clone, Copy)]
-struct ObjectReport {
-    state: ObjectState,
-    links: LinkInfo,
-    needs: usize,
-    needs_end: usize,
-}
-
 /// The result of listing objects.
 #[derive(Clone, Copy)]
 pub struct Listed {
@@ -70,21 +58,12 @@ pub struct Listed {
     pub whole: bool,
 }
 
-/// Whether a walk goes on.
-#[derive(Clone, Copy, PartialEq, Eq)]
-enum ControlFlow {
-    /// It does.
-    Yes,
-    /// There are more objects than are listed, or more paths to try than may be.
-    TooMany,
-}
-
 /// A walk over the objects of a program: what it uses for each, and the results so far.
 #[derive(Drop)]
 pub struct DependencyWalk<'w, 's, W: Sink> {
     pub(crate) search: Search<'s>,
     pub(crate) objects: ObjectList,
-    store: HeaderStore<'w>,
+    pub(crate) store: HeaderStore<'w>,
     pub(crate) format: Format,
     pub(crate) out: Out<W>,
     pub(crate) status: u8,
@@ -178,242 +157,5 @@ impl<W: Sink> DependencyWalk<'_, '_, W> {
             status: self.status,
             whole,
         }
-    }
-
-    /// Reads the program, and writes its line.
-    fn program<S: Source + Drop>(
-        &mut self,
-        source: S,
-        path: &[u8],
-        real: &[u8],
-        opened: &mut OpenObjects<CachedSource<S>>,
-    ) -> Result<(), NeedsFault>
-        ensures asks { AsksFiles opened.old.objects.items opened.new.objects.items 0
-            self.old.search.account self.new.search.account }
-    {
-        let mut file = ObjectFile::new(source);
-        let told = self.read_program(&mut file);
-        let told = self.keep(file, told, opened)?;
-        let kept = self.objects.keep_path(real);
-        self.add(None, None, kept, &told);
-        show_object(0, None, told.state, path, self.format, &mut self.out).map_err(NeedsFault::Out)
-    }
-
-    /// Reads the machine of the program, and what it needs.
-    fn read_program<S: Source>(
-        &mut self,
-        file: &mut ObjectFile<S>,
-    ) -> Result<ObjectReport, NeedsFault>
-        ensures asks { AsksFile file.old file.new self.old.search.account self.new.search.account }
-    {
-        match file.machine(&mut self.search.account) {
-            Ok(Some(machine)) => self.search.machine = machine,
-            // That is reported when the program is read.
-            Ok(None) | Err(Fault::Refused(_)) => {}
-            Err(Fault::Source { .. }) => return Err(NeedsFault::Read),
-        }
-        self.read(file)
-    }
-
-    /// Processes what an object needs.
-    fn needs_of<R: Files>(
-        &mut self,
-        rt: &R,
-        index: usize,
-        known: &KnownObject,
-        opened: &mut OpenFiles<R::File>,
-    ) -> Result<ControlFlow, NeedsFault>
-    where
-        R::File: FileExt,
-        ensures asks { AsksFiles opened.old.objects.items opened.new.objects.items 0
-            self.old.search.account self.new.search.account }
-    {
-        for place in known.needs..known.needs_end {
-            let Some(need) = self.objects.need(place) else {
-                return Ok(ControlFlow::Yes);
-            };
-            let objects = &self.objects;
-            if objects.has_name(objects.links.text(need.name)) {
-                continue;
-            }
-            if self.objects.len() >= MOST_OBJECTS {
-                self.status = 1;
-                show_too_many(need.at, self.format, &mut self.out).map_err(NeedsFault::Out)?;
-                return Ok(ControlFlow::TooMany);
-            }
-            self.take(rt, index, known, need, opened)?;
-            if self.search.tries.is_over {
-                return Ok(ControlFlow::TooMany);
-            }
-        }
-        Ok(ControlFlow::Yes)
-    }
-
-    /// Searches for a library that an object needs, reads it, and writes its line; or the line that
-    /// ends the objects, if more paths would be tried than may be.
-    fn take<R: Files>(
-        &mut self,
-        rt: &R,
-        index: usize,
-        needer: &KnownObject,
-        need: NeededLibrary,
-        opened: &mut OpenFiles<R::File>,
-    ) -> Result<(), NeedsFault>
-    where
-        R::File: FileExt,
-        ensures asks { AsksFiles opened.old.objects.items opened.new.objects.items 0
-            self.old.search.account self.new.search.account }
-    {
-        let objects = &self.objects;
-        let name = objects.links.text(need.name);
-        let found = self.search.find(rt, objects, needer, name)?;
-        let by = u16::try_from(index).ok();
-        match found {
-            None if self.search.tries.is_over => self.end_tries(need.at),
-            None => self.add_missing(by, need.name),
-            Some(file) => self.add_found(by, need.name, file, opened),
-        }
-    }
-
-    /// Writes the line that ends the objects if more paths would be tried than may be.
-    fn end_tries(&mut self, at: u64) -> Result<(), NeedsFault>
-        ensures account { self.new.search.account ≡ self.old.search.account }
-        ensures status { self.new.status ≡ 1 }
-    {
-        self.status = 1;
-        show_too_many_paths(at, self.format, &mut self.out).map_err(NeedsFault::Out)
-    }
-
-    /// Adds a library that is not found, and writes its line.
-    fn add_missing(&mut self, by: Option<u16>, name: u32) -> Result<(), NeedsFault>
-        ensures account { self.new.search.account ≡ self.old.search.account }
-    {
-        let told = told_alone(ObjectState::Missing);
-        let index = self.add(by, Some(name), None, &told);
-        let shown = self.objects.links.text(name);
-        show_object(index, by, told.state, shown, self.format, &mut self.out).map_err(
-            NeedsFault::Out,
-        )
-    }
-
-    /// Reads a library that is found at the path of the search, adds it, and writes its line.
-    fn add_found<S: Source + Drop>(
-        &mut self,
-        by: Option<u16>,
-        name: u32,
-        file: ObjectFile<S>,
-        opened: &mut OpenObjects<CachedSource<S>>,
-    ) -> Result<(), NeedsFault>
-        ensures asks { AsksFiles opened.old.objects.items opened.new.objects.items file.asked
-            self.old.search.account self.new.search.account }
-    {
-        let mut file = file;
-        let told = self.read(&mut file);
-        let told = self.keep(file, told, opened)?;
-        let path = self.objects.keep_path(&self.search.path);
-        let index = self.add(by, Some(name), path, &told);
-        show_object(
-            index,
-            by,
-            told.state,
-            &self.search.path,
-            self.format,
-            &mut self.out,
-        )
-        .map_err(NeedsFault::Out)
-    }
-
-    /// Reads what a file needs. What was requested from it is subtracted from the budget. It is not
-    /// inlined: the stack of its callers would hold its buffers twice.
-    #[inline(never)]
-    fn read<S: Source>(&mut self, file: &mut ObjectFile<S>) -> Result<ObjectReport, NeedsFault>
-        ensures asks { AsksFile file.old file.new self.old.search.account self.new.search.account }
-    {
-        let needs = self.objects.links.needs();
-        let account = &mut self.search.account;
-        match file.links(account, &mut self.store, &mut self.objects.links) {
-            Ok(links) => Ok(ObjectReport {
-                state: ObjectState::Found,
-                links,
-                needs,
-                needs_end: self.objects.links.needs(),
-            }),
-            Err(Fault::Refused(refusal)) => Ok(told_alone(ObjectState::Refused(refusal))),
-            Err(Fault::Source { .. }) => Err(NeedsFault::Read),
-        }
-    }
-
-    /// Closes the file of the next object, and keeps its source open, if it is found and there is
-    /// room for it.
-    #[inline(never)]
-    fn keep<S: Source + Drop>(
-        &mut self,
-        file: ObjectFile<S>,
-        told: Result<ObjectReport, NeedsFault>,
-        opened: &mut OpenObjects<CachedSource<S>>,
-    ) -> Result<ObjectReport, NeedsFault>
-        ensures asks { AsksFiles opened.old.objects.items opened.new.objects.items file.asked
-            self.old.search.account self.new.search.account }
-    {
-        let source = file.close(&mut self.search.account);
-        let told = told?;
-        let Ok(index) = u16::try_from(self.objects.len()) else {
-            return Ok(told);
-        };
-        if !matches!(told.state, ObjectState::Found) {
-            return Ok(told);
-        }
-        match opened.keep(
-            index,
-            source,
-            &mut self.store,
-            &mut self.search.account.left,
-        ) {
-            Ok(()) => Ok(told),
-            Err(Fault::Refused(refusal)) => Ok(told_alone(ObjectState::Refused(refusal))),
-            Err(Fault::Source { .. }) => Err(NeedsFault::Read),
-        }
-    }
-
-    /// Adds an object, and returns its index.
-    fn add(
-        &mut self,
-        needer: Option<u16>,
-        name: Option<u32>,
-        path: Option<u32>,
-        told: &ObjectReport,
-    ) -> u16
-        ensures account { self.new.search.account ≡ self.old.search.account }
-        ensures status { self.new.status ≡ status_with told.now.state self.old.status }
-        ensures same { (self.new.format ≡ self.old.format) × (self.new.out ≡ self.old.out) }
-    {
-        if !matches!(told.state, ObjectState::Found) {
-            self.status = 1;
-        }
-        let added = self.objects.add(KnownObject {
-            needer,
-            name,
-            path,
-            links: told.links,
-            needs: told.needs,
-            needs_end: told.needs_end,
-        });
-        added.unwrap_or(0)
-    }
-}
-
-/// Returns the result for an object of which nothing but its state is known.
-fn told_alone(state: ObjectState) -> ObjectReport
-    ensures { result ≡ told_alone state }
-{
-    ObjectReport {
-        state,
-        links: LinkInfo {
-            soname: None,
-            rpath: None,
-            runpath: None,
-        },
-        needs: 0,
-        needs_end: 0,
     }
 }
