@@ -1,5 +1,6 @@
 -- Whether a file that opens is the library that is searched for (glibc, elf/dl-load.c, open_verify
--- and _dl_map_object_from_fd): it is skipped, it is refused and ends the search, or it is the object.
+-- and _dl_map_object_from_fd): it is skipped, it is refused and ends the search, or it is the
+-- object.
 use Rattle.std.specs.Prelude.{ℕ, ◌/◌, ◌==◌, ◌&&◌, ◌||◌, nat_lt, not, is_none, unwrap_or, Bool, true, false, List, [], ◌∷◌, length, Option, None, Some, Result, Ok, Err}
 use Rattle.std.specs.Int.RustNames.{bit_and}
 use Rattle.elf_model.specs.Bytes.{field}
@@ -18,8 +19,8 @@ use Rattle.elf_model.specs.declared.causes.Refusal.{Refusal}
 abbrev pub DF_1_NODEFLIB : ℕ
 DF_1_NODEFLIB = 0x800
 
--- WHAT BECOMES OF A FILE: it is skipped, and the search goes on; it is refused, which ends it; it is
--- the object
+-- WHAT BECOMES OF A FILE: it is skipped, and the search goes on; it is refused, which ends it; it
+-- is the object
 pub data LibraryFile : Type 0 where
   Skipped : LibraryFile
   RefusedAt : Refusal → LibraryFile
