@@ -1,6 +1,6 @@
 -- Worked examples of the versions that objects need and don't find, and of the lines for them.
 use Rattle.std.specs.Prelude.{ℕ, ◌≡◌, true, false, Bool, List, [], ◌∷◌, ◌++◌, codes, Option, None, Some}
-use Rattle.elf_model.specs.Prelude.{Ending, InterpreterAlone, Lacking, NeedRefused, NeededVersion, NeededVersionRead, Needs, NoProvider, ProvidedBy, Provider, VersionItem, VersionedObjects, any_lacking, little, state_by_segments, version_items, version_items_text, versioned_library, versioned_without_sections, versions_needed, with_bytes}
+use Rattle.elf_model.specs.Prelude.{RecordsRefused, InterpreterAlone, VersionAbsent, NeedRefused, NeededVersion, NeededVersionRead, Needs, NoProvider, ProvidedBy, Provider, VersionItem, VersionedObjects, any_lacking, little, state_by_segments, version_items, version_items_text, versioned_library, versioned_without_sections, versions_needed, with_bytes}
 use Rattle.elf_model.specs.declared.causes.Cause.TheVariants.{BadVersion, NameOutside, Unmapped}
 use Rattle.elf_model.specs.declared.formats.Format.TheVariants.{Columns, Object}
 use Rattle.elf_model.specs.declared.states.VersionState.{VersionState}
@@ -26,8 +26,8 @@ NeedsAreRead =
     × (versions_needed (with_bytes 0x2c0 (little 4 0x21) library) ≡ [])
 
 -- refusals end them: of an entry whose address no segment loads, of a record, of a name
-abbrev pub NeedsAreRefused : Type 0
-NeedsAreRefused =
+abbrev pub NeedsAreFaulty : Type 0
+NeedsAreFaulty =
     (versions_needed (with_bytes 0x2c8 (little 2 0x5000) library) ≡ NeedRefused (record { at = 0x2c0; cause = Unmapped }) ∷ [])
     × (versions_needed (with_bytes 0x210 (little 2 2) library) ≡ NeedRefused (record { at = 0x210; cause = BadVersion }) ∷ [])
     × (versions_needed (with_bytes 0x228 (little 4 0x30) library) ≡ NeedRefused (record { at = 0x220; cause = NameOutside }) ∷ [])
@@ -49,8 +49,8 @@ DefinitionsAreCompared =
 
 -- a fault of the definitions counts if it is before the version, or of the name of one with its
 -- hash
-abbrev pub DefinitionsAreRefused : Type 0
-DefinitionsAreRefused =
+abbrev pub DefinitionsAreFaulty : Type 0
+DefinitionsAreFaulty =
     StateIs (with_bytes 0x1e8 (little 2 2) library) (codes "V1") 0x591 false None
     × StateIs (with_bytes 0x1e8 (little 2 2) library) (codes "V2") 0x592 true (Some state.Refused)
     × StateIs (with_bytes 0x1e0 (little 4 0x30) library) (codes "V2") 0x592 false None
@@ -71,7 +71,7 @@ abbrev ItemsAre : List (List ℕ) → Provider → List VersionItem → Type 0
 ItemsAre files provider items = version_items (objects_of files provider) ≡ items
 
 abbrev lacking : (object : ℕ) → Option ℕ → VersionState → VersionItem
-lacking object provider found = Lacking object provider found (codes "GLIBC_2.2.5")
+lacking object provider found = VersionAbsent object provider found (codes "GLIBC_2.2.5")
 
 -- an object has the version, or lacks it; no object is the file, or only the interpreter; the file
 -- is an object that is not compared
@@ -87,14 +87,14 @@ VersionsAreLooked =
 abbrev pub FaultsEndAnObject : Type 0
 FaultsEndAnObject =
     ItemsAre (with_bytes 0x210 (little 2 2) library ∷ library ∷ []) NoProvider
-    (Ending (record { at = 0x210; cause = BadVersion }) ∷ lacking 2 None state.NoFile ∷ [])
+    (RecordsRefused (record { at = 0x210; cause = BadVersion }) ∷ lacking 2 None state.NoFile ∷ [])
 
 -- the lines, in columns and as an object; any makes the exit status 1
 abbrev pub VersionLinesAreShown : Type 0
 VersionLinesAreShown =
-    (version_items_text Columns (lacking 0 (Some 2) state.NoVersion ∷ lacking 13 None state.NoFile ∷ Lacking 1 (Some 3) state.Bare (codes "V 1") ∷ [])
+    (version_items_text Columns (lacking 0 (Some 2) state.NoVersion ∷ lacking 13 None state.NoFile ∷ VersionAbsent 1 (Some 3) state.Bare (codes "V 1") ∷ [])
     ≡ codes "U     0     2 nover    GLIBC_2.2.5\nU    13 -     nofile   GLIBC_2.2.5\nU     1     3 bare     V 1\n")
-    × (version_items_text Columns (lacking 0 (Some 1) state.Refused ∷ Ending (record { at = 0x210; cause = BadVersion }) ∷ [])
+    × (version_items_text Columns (lacking 0 (Some 1) state.Refused ∷ RecordsRefused (record { at = 0x210; cause = BadVersion }) ∷ [])
     ≡ codes "U     0     1 refused  GLIBC_2.2.5\n! 0000000000000210 version\n")
     × (version_items_text Object (lacking 0 None state.NoFile ∷ [])
     ≡ codes "{\"line\":\"U\",\"object\":0,\"provider\":\"-\",\"state\":\"nofile\",\"version\":\"GLIBC_2.2.5\"}\n")

@@ -1,5 +1,5 @@
 //! Worked examples of the versions that objects need and don't find, each computed by the prover.
-ghost use Rattle.elf_gnu_examples.specs.ExamplesNeededVersions.{DefinitionsAreCompared, DefinitionsAreMissing, DefinitionsAreRefused, FaultsEndAnObject, NeedsAreRead, NeedsAreRefused, VersionLinesAreShown, VersionsAreLooked};
+ghost use Rattle.elf_gnu_examples.specs.ExamplesNeededVersions.{DefinitionsAreCompared, DefinitionsAreMissing, DefinitionsAreFaulty, FaultsEndAnObject, NeedsAreRead, NeedsAreFaulty, VersionLinesAreShown, VersionsAreLooked};
 
 /// The versions that a file needs.
 #[tactic(auto, unfolding(elf_model::proofs::OnLiterals::on_literals, elf_model::proofs::OnLoader::on_loader, crate::proofs::OnExamples::on_examples))]
@@ -9,8 +9,8 @@ pub fn needs_are_read()
 
 /// Records at fault.
 #[tactic(auto, unfolding(elf_model::proofs::OnLiterals::on_literals, elf_model::proofs::OnLoader::on_loader, crate::proofs::OnExamples::on_examples))]
-pub fn needs_are_refused()
-    ensures { NeedsAreRefused }
+pub fn needs_are_faulty()
+    ensures { NeedsAreFaulty }
 {}
 
 /// Names and hashes of definitions.
@@ -21,8 +21,8 @@ pub fn definitions_are_compared()
 
 /// Definitions at fault.
 #[tactic(auto, unfolding(elf_model::proofs::OnLiterals::on_literals, elf_model::proofs::OnLoader::on_loader, crate::proofs::OnExamples::on_examples))]
-pub fn definitions_are_refused()
-    ensures { DefinitionsAreRefused }
+pub fn definitions_are_faulty()
+    ensures { DefinitionsAreFaulty }
 {}
 
 /// Files without definitions.
