@@ -14,6 +14,7 @@ pub mod OpenFailures
 pub mod Opens
 pub mod Ready
 pub mod Sought
+pub mod Interpreting
 pub mod Pages
 pub mod Bound
 pub mod Requests

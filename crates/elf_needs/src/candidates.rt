@@ -5,6 +5,7 @@ ghost use Rattle.elf_needs.specs.OpenFailures.{is_no_file};
 ghost use Rattle.elf_needs.specs.Reading.{ReturnsMachineFit};
 ghost use Rattle.elf_needs.specs.declared.walk.NeedsFault.TheVariants.{Open};
 
+use crate::file_identity::{FileAttributes, NO_ATTRIBUTES, file_attributes};
 use crate::object_file::{ObjectFile, ReadAccount};
 use crate::open_failures::is_no_file;
 use crate::walk::NeedsFault;
@@ -34,7 +35,7 @@ where
     R::File: FileExt,
     ensures { AsksFound account.old account.new result }
 {
-    let Some(mut file) = opened(rt, path)? else {
+    let Some(mut file) = opened_at(rt, path)? else {
         return Ok(None);
     };
     let fitting = fits(&mut file, machine, account);
@@ -76,7 +77,7 @@ fn fits<S: Source>(
 ///
 /// # Errors
 /// It cannot be opened for a fault of the system, or its length cannot be determined.
-fn opened<R: Files>(
+pub(crate) fn opened_at<R: Files>(
     rt: &R,
     path: &[u8],
 ) -> Result<Option<ObjectFile<FileSource<R::File>>>, NeedsFault>
@@ -87,17 +88,17 @@ where
     let Ok(path) = str::from_utf8(path) else {
         return Ok(None);
     };
-    match fs::metadata(rt, path) {
-        Ok(found) if found.is_file() => {}
+    let attributes = match fs::metadata(rt, path) {
+        Ok(found) if found.is_file() => file_attributes(&found),
         Ok(_) => return Ok(None),
         Err(error) => return unopened(error.kind()),
-    }
+    };
     let file = match fs::open(rt, path) {
         Ok(file) => file,
         Err(error) => return unopened(error.kind()),
     };
     match StreamSource::over(FileReader::new(file)) {
-        Ok(source) => Ok(Some(ObjectFile::new(source))),
+        Ok(source) => Ok(Some(ObjectFile::new(source, attributes))),
         Err(_) => Err(NeedsFault::Read),
     }
 }
@@ -113,5 +114,16 @@ fn unopened<T>(kind: ErrorKind) -> Result<Option<T>, NeedsFault>
         Ok(None)
     } else {
         Err(NeedsFault::Open)
+    }
+}
+
+/// Returns what the system says of the file at a path, if that is known.
+pub(crate) fn attributes_at<R: Files>(rt: &R, path: &[u8]) -> FileAttributes {
+    let Ok(path) = str::from_utf8(path) else {
+        return NO_ATTRIBUTES;
+    };
+    match fs::metadata(rt, path) {
+        Ok(found) => file_attributes(&found),
+        Err(_) => NO_ATTRIBUTES,
     }
 }

@@ -1,8 +1,10 @@
 //! The objects that are known so far.
-ghost use Rattle.std.specs.Prelude.{◌≡◌, ◌++◌, ◌∷◌, [], IfSome, is_some, length, option_map, position, slice_get};
+ghost use Rattle.std.specs.Prelude.{◌≡◌, ◌++◌, ◌∷◌, [], IfSome, is_some, length, nat_lt, option_map, position, slice_get, if◌then◌else◌};
 ghost use Rattle.elf_needs.specs.Held.{with_text};
-ghost use Rattle.elf_needs.specs.Called.{IsDirOfObject, called_by, is_called, is_text, index_by_short_name, text_told};
+ghost use Rattle.elf_needs.specs.Called.{IsDirOfObject, alias_of, called_by, first_called, is_alias, is_called, is_text, index_by_short_name, object_by_file, text_told};
 
+use crate::file_identity::{FileIdentity, is_file};
+use crate::known_interpreter::Interpreter;
 use crate::links::{LinkInfo, LinkInfoStore, NeededLibrary};
 use crate::paths::dir_of_path;
 use crate::texts::StringArena;
@@ -11,8 +13,11 @@ use std::alloc::{AllocError, Global};
 /// The maximum number of objects of a program.
 pub const MOST_OBJECTS: usize = 512;
 
-/// How many bytes of paths there is room for: 4,096 for each object.
-const PATH_ROOM: u32 = 2_097_152;
+/// How many bytes of paths, and how many paths, there is room for: 4,096 for each object, and for
+/// the interpreter's path, as the program has it and as it is shown.
+const PATH_ROOM: u32 = 2_105_344;
+
+const MOST_PATHS: u32 = 514;
 /// How many bytes of texts, and how many texts, there is room for, shared by all objects: 8,192 and
 /// 64 for each.
 const TEXT_ROOM: u32 = 4_194_304;
@@ -28,6 +33,8 @@ pub(crate) struct KnownObject {
     pub name: Option<u32>,
     /// The index of its path, whose directory replaces `$ORIGIN`.
     pub path: Option<u32>,
+    /// Which file it is, if it is found and that is known.
+    pub file: Option<FileIdentity>,
     /// What its dynamic entries give.
     pub links: LinkInfo,
     /// The first of its needs, and the one after its last.
@@ -35,27 +42,41 @@ pub(crate) struct KnownObject {
     pub needs_end: usize,
 }
 
+/// One more name of an object, under which its file was found again.
+#[derive(Clone, Copy)]
+pub(crate) struct ObjectAlias {
+    /// The index of the name.
+    pub name: u32,
+    /// The index of the object.
+    pub object: u16,
+}
+
 /// The objects that are known, with their texts, in memory that is allocated once.
 #[derive(Drop)]
 pub struct ObjectList {
     /// What their dynamic entries give.
     pub(crate) links: LinkInfoStore,
-    paths: StringArena,
+    pub(crate) paths: StringArena,
     known: Vec<KnownObject>,
+    aliases: Vec<ObjectAlias>,
+    /// The interpreter that the program names, if it names one.
+    pub(crate) interpreter: Option<Interpreter>,
 }
 
 impl ObjectList {
     /// Creates an empty list of objects. Allocates its memory from `alloc`: for each of 512 objects
-    /// 4,096 bytes of paths, 8,192 of texts, 1,544 for the locations of texts and needs, and its
-    /// record.
+    /// 4,096 bytes of paths, 8,192 of texts, 2,056 for the locations of texts and needs and for more
+    /// names, and its record.
     ///
     /// # Errors
     /// Out of memory.
     pub(crate) fn new(alloc: Global) -> Result<ObjectList, AllocError> {
         Ok(ObjectList {
             links: LinkInfoStore::new(alloc, TEXT_ROOM, MOST_TEXTS)?,
-            paths: StringArena::new(alloc, PATH_ROOM, MOST_OBJECTS as u32)?,
+            paths: StringArena::new(alloc, PATH_ROOM, MOST_PATHS)?,
             known: Vec::with_capacity(alloc, MOST_OBJECTS)?,
+            aliases: Vec::with_capacity(alloc, MOST_TEXTS as usize)?,
+            interpreter: None,
         })
     }
 
@@ -132,11 +153,36 @@ impl ObjectList {
         }
     }
 
-    /// Returns `true` if an object has a name: it was needed by it, or it is its DT_SONAME.
+    /// Adds one more name of an object. Returns whether there is room for it.
+    pub(crate) fn add_alias(&mut self, name: u32, object: u16) -> bool
+        ensures room { result ≡ nat_lt (length self.old.aliases.items) 32768 }
+        ensures added { self.new.aliases.items ≡ (if result
+            then self.old.aliases.items ++ record { name = name; object = object } ∷ []
+            else self.old.aliases.items) }
+        ensures same { (self.new.known ≡ self.old.known) × (self.new.paths ≡ self.old.paths)
+            × (self.new.links ≡ self.old.links)
+            × (self.new.interpreter ≡ self.old.interpreter) }
+    {
+        self.aliases.len() < MOST_TEXTS as usize
+            && self.aliases.push(ObjectAlias { name, object }).is_ok()
+    }
+
+    /// Returns the index of the first object that is a file, if one is.
+    pub(crate) fn with_file(&self, file: Option<FileIdentity>) -> Option<u16>
+        ensures { result ≡ object_by_file self.now file }
+    {
+        let file = file?;
+        index_by_short_name(
+            self.known
+                .iter()
+                .position(|known| is_file(known.file, file)),
+        )
+    }
+
+    /// Returns `true` if an object has a name: it was needed by it, or it is its DT_SONAME, or one
+    /// of its other names.
     pub(crate) fn has_name(&self, name: &[u8]) -> bool
-        ensures { result
-            ≡ is_some (position (is_called self.now.links.held.texts name.now)
-            self.now.known.items) }
+        ensures { result ≡ is_some (first_called self.now name.now) }
     {
         self.first_called(name).is_some()
     }
@@ -150,12 +196,28 @@ impl ObjectList {
 
     /// Returns the position of the first object that has a name.
     fn first_called(&self, name: &[u8]) -> Option<usize>
-        ensures { result
-            ≡ position (is_called self.now.links.held.texts name.now) self.now.known.items }
+        ensures { result ≡ first_called self.now name.now }
     {
+        if let Some(object) = self.alias_of(name) {
+            return Some(usize::from(object));
+        }
         self.known
             .iter()
             .position(|known| self.is_called(known, name))
+    }
+
+    /// Returns the index of the object of which a name is one more.
+    fn alias_of(&self, name: &[u8]) -> Option<u16>
+        ensures { result ≡ alias_of self.now name.now }
+    {
+        let place = self
+            .aliases
+            .iter()
+            .position(|alias| is_text(self.text(Some(alias.name)), name))?;
+        match self.aliases.get(place) {
+            Some(alias) => Some(alias.object),
+            None => None,
+        }
     }
 
     /// Returns `true` if one object has a name.
@@ -177,7 +239,7 @@ fn index_by_short_name(found: Option<usize>) -> Option<u16>
 }
 
 /// Returns `true` if a text is given, and equals a name.
-fn is_text(text: Option<&[u8]>, name: &[u8]) -> bool
+pub(crate) fn is_text(text: Option<&[u8]>, name: &[u8]) -> bool
     ensures { result ≡ is_text (option_map (λ t. t.now) text.entry) name.now }
 {
     match text {

@@ -15,7 +15,7 @@ use elf_source::{Counted, Source};
 use elf_table::{ExecutionView, Fault, HeaderStore, fill};
 
 /// How many bytes of a file give its class, its encoding and its machine (gABI 4, ELF Header).
-const FRONT_BYTES: usize = 20;
+pub(crate) const FRONT_BYTES: usize = 20;
 /// The value of the four magic bytes (gABI 4, ELF Identification).
 const MAGIC: u32 = 0x464c_457f;
 /// The class of 64-bit files, at byte 4, and the little-endian encoding, at byte 5.
@@ -40,7 +40,7 @@ pub fn machine_of<S: Source>(src: &mut Counted<S>) -> Result<Option<u16>, Fault>
 }
 
 /// Returns the machine in the first bytes of a 64-bit little-endian file, and `None` for others.
-fn machine_by(front: &[u8; FRONT_BYTES]) -> Option<u16>
+pub(crate) fn machine_by(front: &[u8; FRONT_BYTES]) -> Option<u16>
     ensures { result ≡ machine_by front.now }
 {
     if magic_in(front) == MAGIC

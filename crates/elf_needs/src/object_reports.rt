@@ -4,6 +4,7 @@ ghost use Rattle.elf_needs.specs.Budget.{AsksFile, AsksFiles};
 ghost use Rattle.elf_needs.specs.Walked.{report_alone, status_with};
 
 use crate::cached_source::CachedSource;
+use crate::file_identity::FileIdentity;
 use crate::known_object::KnownObject;
 use crate::links::LinkInfo;
 use crate::object_file::ObjectFile;
@@ -21,6 +22,21 @@ pub(crate) struct ObjectReport {
     pub needs: usize,
     pub needs_end: usize,
 }
+
+/// Where an object is, as far as that is known.
+#[derive(Clone, Copy)]
+pub(crate) struct ObjectPlace {
+    /// The index of its path.
+    pub path: Option<u32>,
+    /// Which file it is.
+    pub file: Option<FileIdentity>,
+}
+
+/// An object that is nowhere.
+pub(crate) const NOWHERE: ObjectPlace = ObjectPlace {
+    path: None,
+    file: None,
+};
 
 impl<W: Sink> DependencyWalk<'_, '_, W> {
     /// Reads what a file needs. What was requested from it is subtracted from the budget. It is not
@@ -83,7 +99,7 @@ impl<W: Sink> DependencyWalk<'_, '_, W> {
         &mut self,
         needer: Option<u16>,
         name: Option<u32>,
-        path: Option<u32>,
+        at: &ObjectPlace,
         report: &ObjectReport,
     ) -> u16
         ensures account { self.new.search.account ≡ self.old.search.account }
@@ -96,7 +112,8 @@ impl<W: Sink> DependencyWalk<'_, '_, W> {
         let added = self.objects.add(KnownObject {
             needer,
             name,
-            path,
+            path: at.path,
+            file: at.file,
             links: report.links,
             needs: report.needs,
             needs_end: report.needs_end,
@@ -118,5 +135,16 @@ pub(crate) fn report_alone(state: ObjectState) -> ObjectReport
         },
         needs: 0,
         needs_end: 0,
+    }
+}
+
+/// Returns which file an object is, if it is found.
+pub(crate) fn found_identity(
+    state: ObjectState,
+    file: Option<FileIdentity>,
+) -> Option<FileIdentity> {
+    match state {
+        ObjectState::Found => file,
+        ObjectState::Missing | ObjectState::Refused(_) => None,
     }
 }

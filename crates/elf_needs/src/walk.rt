@@ -4,9 +4,9 @@ ghost use Rattle.elf_needs.specs.Budget.{AsksFiles};
 
 use crate::buffers::NeedsBuffers;
 use crate::cached_source::CachedSource;
-use crate::candidates::FileSource;
+use crate::candidates::{FileSource, attributes_at};
 use crate::known_object::{MOST_OBJECTS, ObjectList};
-use crate::object_file::ReadAccount;
+use crate::object_file::{ObjectFile, ReadAccount};
 use crate::open_objects::OpenObjects;
 use crate::path_budget::PathBudget;
 use crate::paths::CandidatePath;
@@ -116,7 +116,7 @@ impl<W: Sink> DependencyWalk<'_, '_, W> {
     /// Lists the objects that a program needs, in a loader's order: the program, then for each
     /// object in order each library that it needs and that is not one of those before.
     ///
-    /// A line for each. Returns the exit status, 1 if one is missing or refused, or there are more
+    /// A line for each, and then one for the interpreter that the program names. Returns the exit status, 1 if one is missing or refused, or there are more
     /// than 512, or more paths to try than may be tried, and whether all are listed. Requests at
     /// most the budget, if there is one, from all files together. `path` is the program's as it is
     /// shown, and the directory of `real` replaces `$ORIGIN`. The files of those that are found are
@@ -137,15 +137,18 @@ impl<W: Sink> DependencyWalk<'_, '_, W> {
         ensures asks { AsksFiles opened.old.objects.items opened.new.objects.items 0
             self.old.search.account self.new.search.account }
     {
-        self.program(source, path, real, opened)?;
+        let file = ObjectFile::new(source, attributes_at(rt, real));
+        self.program(file, path, real, opened)?;
+        self.find_interpreter(rt)?;
         for index in 0..MOST_OBJECTS {
             let Some(known) = self.objects.get(index) else {
-                return Ok(self.listed(true));
+                break;
             };
             if self.needs_of(rt, index, &known, opened)? == ControlFlow::TooMany {
                 return Ok(self.listed(false));
             }
         }
+        self.end_interpreter()?;
         Ok(self.listed(true))
     }
 

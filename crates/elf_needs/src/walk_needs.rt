@@ -3,14 +3,16 @@ ghost use Rattle.std.specs.Prelude.{◌≡◌};
 ghost use Rattle.elf_needs.specs.Budget.{AsksFiles};
 
 use crate::cached_source::CachedSource;
+use crate::candidates::FileSource;
 use crate::known_object::{KnownObject, MOST_OBJECTS};
 use crate::links::NeededLibrary;
 use crate::object_file::ObjectFile;
-use crate::object_reports::report_alone;
+use crate::object_reports::{NOWHERE, ObjectPlace, found_identity, report_alone};
 use crate::object_rows::{show_object, show_too_many, show_too_many_paths};
 use crate::open_objects::OpenObjects;
 use crate::states::ObjectState;
 use crate::walk::{DependencyWalk, NeedsFault, OpenFiles};
+use elf_record::{Cause, Refusal};
 use elf_source::{Sink, Source};
 use std::os::unix::fs::FileExt;
 use std::rt::Files;
@@ -46,21 +48,15 @@ impl<W: Sink> DependencyWalk<'_, '_, W> {
             if objects.has_name(objects.links.text(need.name)) {
                 continue;
             }
-            if self.objects.len() >= MOST_OBJECTS {
-                self.status = 1;
-                show_too_many(need.at, self.format, &mut self.out).map_err(NeedsFault::Out)?;
-                return Ok(ControlFlow::TooMany);
-            }
-            self.take(rt, index, known, need, opened)?;
-            if self.search.tries.is_over {
+            if self.take(rt, index, known, need, opened)? == ControlFlow::TooMany {
                 return Ok(ControlFlow::TooMany);
             }
         }
         Ok(ControlFlow::Yes)
     }
 
-    /// Searches for a library that an object needs, reads it, and writes its line; or the line that
-    /// ends the objects, if more paths would be tried than may be.
+    /// Searches for a library that an object needs, unless it is the interpreter, and takes what is
+    /// found.
     fn take<R: Files>(
         &mut self,
         rt: &R,
@@ -68,7 +64,7 @@ impl<W: Sink> DependencyWalk<'_, '_, W> {
         needer: &KnownObject,
         need: NeededLibrary,
         opened: &mut OpenFiles<R::File>,
-    ) -> Result<(), NeedsFault>
+    ) -> Result<ControlFlow, NeedsFault>
     where
         R::File: FileExt,
         ensures asks { AsksFiles opened.old.objects.items opened.new.objects.items 0
@@ -76,34 +72,120 @@ impl<W: Sink> DependencyWalk<'_, '_, W> {
     {
         let objects = &self.objects;
         let name = objects.links.text(need.name);
-        let found = self.search.find(rt, objects, needer, name)?;
         let by = u16::try_from(index).ok();
-        match found {
-            None if self.search.tries.is_over => self.end_tries(need.at),
-            None => self.add_missing(by, need.name),
-            Some(file) => self.add_found(by, need.name, file, opened),
+        if objects.is_interpreter_name(name) {
+            return self.take_interpreter(rt, by, need, opened);
+        }
+        match self.search.find(rt, objects, needer, name)? {
+            Some(file) => self.take_file(rt, by, need, file, opened),
+            None => self.take_none(by, need),
         }
     }
 
+    /// Adds a library that is not found, or ends the objects.
+    fn take_none(&mut self, by: Option<u16>, need: NeededLibrary) -> Result<ControlFlow, NeedsFault>
+        ensures account { self.new.search.account ≡ self.old.search.account }
+    {
+        if self.search.tries.is_over {
+            return self.end_tries(need.at);
+        }
+        self.add_alone(by, need, ObjectState::Missing)
+    }
+
+    /// Takes a file that is found: that of an object that is known or of the interpreter, of which
+    /// the name is one more, or the next object's.
+    fn take_file<R: Files>(
+        &mut self,
+        rt: &R,
+        by: Option<u16>,
+        need: NeededLibrary,
+        file: ObjectFile<FileSource<R::File>>,
+        opened: &mut OpenFiles<R::File>,
+    ) -> Result<ControlFlow, NeedsFault>
+    where
+        R::File: FileExt,
+        ensures asks { AsksFiles opened.old.objects.items opened.new.objects.items file.asked
+            self.old.search.account self.new.search.account }
+    {
+        let identity = file.attributes().identity;
+        if let Some(known) = self.objects.with_file(identity) {
+            let _ = file.close(&mut self.search.account);
+            return self.add_name(by, need, known);
+        }
+        if self.objects.is_interpreter_file(identity) {
+            let _ = file.close(&mut self.search.account);
+            return self.take_interpreter(rt, by, need, opened);
+        }
+        if self.objects.len() >= MOST_OBJECTS {
+            let _ = file.close(&mut self.search.account);
+            return self.end_objects(need.at);
+        }
+        self.add_found(by, need.name, file, opened)
+    }
+
     /// Writes the line that ends the objects if more paths would be tried than may be.
-    fn end_tries(&mut self, at: u64) -> Result<(), NeedsFault>
+    fn end_tries(&mut self, at: u64) -> Result<ControlFlow, NeedsFault>
         ensures account { self.new.search.account ≡ self.old.search.account }
         ensures status { self.new.status ≡ 1 }
     {
         self.status = 1;
-        show_too_many_paths(at, self.format, &mut self.out).map_err(NeedsFault::Out)
+        match show_too_many_paths(at, self.format, &mut self.out) {
+            Ok(()) => Ok(ControlFlow::TooMany),
+            Err(fault) => Err(NeedsFault::Out(fault)),
+        }
     }
 
-    /// Adds a library that is not found, and writes its line.
-    fn add_missing(&mut self, by: Option<u16>, name: u32) -> Result<(), NeedsFault>
+    /// Writes the line that ends the objects if there is one more than are listed.
+    pub(crate) fn end_objects(&mut self, at: u64) -> Result<ControlFlow, NeedsFault>
+        ensures account { self.new.search.account ≡ self.old.search.account }
+        ensures status { self.new.status ≡ 1 }
+    {
+        self.status = 1;
+        match show_too_many(at, self.format, &mut self.out) {
+            Ok(()) => Ok(ControlFlow::TooMany),
+            Err(fault) => Err(NeedsFault::Out(fault)),
+        }
+    }
+
+    /// Adds one more name of an object that is known. If there is no room for it, the name is an
+    /// object of its own, which is refused.
+    pub(crate) fn add_name(
+        &mut self,
+        by: Option<u16>,
+        need: NeededLibrary,
+        known: u16,
+    ) -> Result<ControlFlow, NeedsFault>
         ensures account { self.new.search.account ≡ self.old.search.account }
     {
-        let report = report_alone(ObjectState::Missing);
-        let index = self.add(by, Some(name), None, &report);
-        let shown = self.objects.links.text(name);
-        show_object(index, by, report.state, shown, self.format, &mut self.out).map_err(
-            NeedsFault::Out,
-        )
+        if self.objects.add_alias(need.name, known) {
+            return Ok(ControlFlow::Yes);
+        }
+        let refusal = Refusal {
+            at: need.at,
+            cause: Cause::TooLong,
+        };
+        self.add_alone(by, need, ObjectState::Refused(refusal))
+    }
+
+    /// Adds an object of which nothing but its state is known, and writes its line, with its name;
+    /// or ends the objects.
+    pub(crate) fn add_alone(
+        &mut self,
+        by: Option<u16>,
+        need: NeededLibrary,
+        state: ObjectState,
+    ) -> Result<ControlFlow, NeedsFault>
+        ensures account { self.new.search.account ≡ self.old.search.account }
+    {
+        if self.objects.len() >= MOST_OBJECTS {
+            return self.end_objects(need.at);
+        }
+        let index = self.add(by, Some(need.name), &NOWHERE, &report_alone(state));
+        let shown = self.objects.links.text(need.name);
+        match show_object(index, by, state, shown, self.format, &mut self.out) {
+            Ok(()) => Ok(ControlFlow::Yes),
+            Err(fault) => Err(NeedsFault::Out(fault)),
+        }
     }
 
     /// Reads a library that is found at the path of the search, adds it, and writes its line.
@@ -113,23 +195,23 @@ impl<W: Sink> DependencyWalk<'_, '_, W> {
         name: u32,
         file: ObjectFile<S>,
         opened: &mut OpenObjects<CachedSource<S>>,
-    ) -> Result<(), NeedsFault>
+    ) -> Result<ControlFlow, NeedsFault>
         ensures asks { AsksFiles opened.old.objects.items opened.new.objects.items file.asked
             self.old.search.account self.new.search.account }
     {
         let mut file = file;
         let report = self.read(&mut file);
+        let identity = file.attributes().identity;
         let report = self.keep(file, report, opened)?;
-        let path = self.objects.keep_path(&self.search.path);
-        let index = self.add(by, Some(name), path, &report);
-        show_object(
-            index,
-            by,
-            report.state,
-            &self.search.path,
-            self.format,
-            &mut self.out,
-        )
-        .map_err(NeedsFault::Out)
+        let place = ObjectPlace {
+            path: self.objects.keep_path(&self.search.path),
+            file: found_identity(report.state, identity),
+        };
+        let index = self.add(by, Some(name), &place, &report);
+        let path = &self.search.path;
+        match show_object(index, by, report.state, path, self.format, &mut self.out) {
+            Ok(()) => Ok(ControlFlow::Yes),
+            Err(fault) => Err(NeedsFault::Out(fault)),
+        }
     }
 }

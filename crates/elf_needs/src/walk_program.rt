@@ -3,36 +3,48 @@ ghost use Rattle.elf_needs.specs.Budget.{AsksFile, AsksFiles};
 
 use crate::cached_source::CachedSource;
 use crate::object_file::ObjectFile;
-use crate::object_reports::ObjectReport;
+use crate::object_reports::{ObjectPlace, ObjectReport, found_identity, report_alone};
 use crate::object_rows::show_object;
 use crate::open_objects::OpenObjects;
+use crate::states::ObjectState;
 use crate::walk::{DependencyWalk, NeedsFault};
+use elf_record::{Cause, Refusal};
 use elf_source::{Sink, Source};
-use elf_table::Fault;
+use elf_table::{Fault, NameBuf};
+
+/// The file offset of a file header's number of program headers (gABI 4, ELF Header).
+const PROGRAM_HEADERS_AT: u64 = 0x38;
 
 impl<W: Sink> DependencyWalk<'_, '_, W> {
     /// Reads the program, and writes its line.
     pub(crate) fn program<S: Source + Drop>(
         &mut self,
-        source: S,
+        file: ObjectFile<S>,
         path: &[u8],
         real: &[u8],
         opened: &mut OpenObjects<CachedSource<S>>,
     ) -> Result<(), NeedsFault>
-        ensures asks { AsksFiles opened.old.objects.items opened.new.objects.items 0
+        ensures asks { AsksFiles opened.old.objects.items opened.new.objects.items file.asked
             self.old.search.account self.new.search.account }
     {
-        let mut file = ObjectFile::new(source);
+        let mut file = file;
         let report = self.read_program(&mut file);
+        let identity = file.attributes().identity;
         let report = self.keep(file, report, opened)?;
-        let kept = self.objects.keep_path(real);
-        self.add(None, None, kept, &report);
+        if !matches!(report.state, ObjectState::Found) {
+            self.objects.interpreter = None;
+        }
+        let place = ObjectPlace {
+            path: self.objects.keep_path(real),
+            file: found_identity(report.state, identity),
+        };
+        self.add(None, None, &place, &report);
         show_object(0, None, report.state, path, self.format, &mut self.out).map_err(
             NeedsFault::Out,
         )
     }
 
-    /// Reads the machine of the program, and what it needs.
+    /// Reads the machine of the program, what it needs, and the path of its interpreter.
     fn read_program<S: Source>(
         &mut self,
         file: &mut ObjectFile<S>,
@@ -45,6 +57,34 @@ impl<W: Sink> DependencyWalk<'_, '_, W> {
             Ok(None) | Err(Fault::Refused(_)) => {}
             Err(Fault::Source { .. }) => return Err(NeedsFault::Read),
         }
-        self.read(file)
+        let report = self.read(file)?;
+        if !matches!(report.state, ObjectState::Found) {
+            return Ok(report);
+        }
+        self.read_interpreter(file, &report)
+    }
+
+    /// Reads the path of the interpreter that a program names. A program whose path is refused is
+    /// refused. It is not inlined: the stack of its caller would hold the path.
+    #[inline(never)]
+    fn read_interpreter<S: Source>(
+        &mut self,
+        file: &mut ObjectFile<S>,
+        report: &ObjectReport,
+    ) -> Result<ObjectReport, NeedsFault>
+        ensures asks { AsksFile file.old file.new self.old.search.account self.new.search.account }
+    {
+        let mut path = NameBuf::new();
+        let account = &mut self.search.account;
+        match file.interpreter(account, &mut self.store, &mut path) {
+            Ok(false) => Ok(*report),
+            Ok(true) if self.objects.name_interpreter(path.bytes()) => Ok(*report),
+            Ok(true) => Ok(report_alone(ObjectState::Refused(Refusal {
+                at: PROGRAM_HEADERS_AT,
+                cause: Cause::TooLong,
+            }))),
+            Err(Fault::Refused(refusal)) => Ok(report_alone(ObjectState::Refused(refusal))),
+            Err(Fault::Source { .. }) => Err(NeedsFault::Read),
+        }
     }
 }
