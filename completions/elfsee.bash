@@ -1,6 +1,6 @@
 # Completion of elfsee for bash.
 
-# The options that stand behind COMMAND and are not among the words yet.
+# Prints the options of COMMAND that are not given yet.
 _elfsee_options() {
     local option given
     case $1 in
@@ -22,7 +22,7 @@ _elfsee_options() {
     done
 }
 
-# The words of a command line up to the cursor, where no equals sign and no colon parts a word.
+# Sets the words of a command line up to the cursor, none of which is split at an equals sign or a colon.
 _elfsee_words() {
     words=("${COMP_WORDS[0]}") cword=0
     local word joins=
@@ -37,14 +37,14 @@ _elfsee_words() {
     done
 }
 
-# Completes the last word as an item of `apply`, whose colon parts words for the line's editor.
+# Completes the last word as an item of `apply`, which readline splits at its colon.
 _elfsee_items() {
     [[ $current == *:* ]] && return
     mapfile -t COMPREPLY < <(compgen -W 'at: def: plt: got: tpgot:' -- "$current")
     compopt -o nospace
 }
 
-# Leaves the last word to the completion of files that bash has itself.
+# Leaves the last word to bash's own completion of files.
 _elfsee_files() {
     compopt -o default -o bashdefault
 }

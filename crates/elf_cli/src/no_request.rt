@@ -26,7 +26,7 @@ const NO_GNU: &str = "the following required arguments were not provided:\n  --g
 
 /// The message for other commands of a program that only lists one file.
 const NO_LISTING: &str =
-    "of this program there are as yet only the commands show, sample and version, without '--name'";
+    "this program has only the commands show, sample and version, without '--name'";
 
 /// The message for a command that selects rows by name and limits the shown bytes of a name.
 const NO_WIDTH: &str = "the argument '--names <N>' cannot be used with '--name <NAME>'";

@@ -1,5 +1,6 @@
 -- Whether a file that opens is the library that is searched for (glibc, elf/dl-load.c, open_verify
--- and _dl_map_object_from_fd): it is skipped, it is refused and ends the search, or it is the object.
+-- and _dl_map_object_from_fd): it is skipped, it is refused and ends the search, or it is the
+-- object.
 use Rattle.std.specs.Prelude.{ℕ, ◌/◌, ◌==◌, ◌&&◌, ◌||◌, nat_lt, not, is_none, unwrap_or, Bool, true, false, List, [], ◌∷◌, length, Option, None, Some, Result, Ok, Err}
 use Rattle.std.specs.Int.RustNames.{bit_and}
 use Rattle.elf_model.specs.Bytes.{field}
@@ -18,16 +19,16 @@ use Rattle.elf_model.specs.declared.causes.Refusal.{Refusal}
 abbrev pub DF_1_NODEFLIB : ℕ
 DF_1_NODEFLIB = 0x800
 
--- WHAT BECOMES OF A FILE: it is skipped, and the search goes on; it is refused, which ends it; it is
--- the object
+-- WHAT BECOMES OF A FILE: it is skipped, and the search goes on; it is refused, which ends it; it
+-- is the object
 pub data LibraryFile : Type 0 where
   Skipped : LibraryFile
   RefusedAt : Refusal → LibraryFile
   Accepted : LibraryFile
 
 -- what ends a search: the file is too short for a header, or no ELF file
-abbrev pub front_checks : List ℕ → List Check
-front_checks file = refuse (nat_lt (length file) FILE_HEADER_SIZE) (length file) Short ∷ refuse (not (has_elf_magic file)) 0 NotElf ∷ []
+abbrev pub library_front_checks : List ℕ → List Check
+library_front_checks file = refuse (nat_lt (length file) FILE_HEADER_SIZE) (length file) Short ∷ refuse (not (has_elf_magic file)) 0 NotElf ∷ []
 
 -- a file that is for another class of machines, or another machine, by its bytes in little-endian
 -- order
@@ -58,7 +59,7 @@ refused_or_accepted (Some refusal) = RefusedAt refusal
 
 -- A FILE THAT OPENS, in a search for a library of a machine
 unfoldable pub library_file : (machine : ℕ) → List ℕ → LibraryFile
-library_file machine file = elim (first_refusal (front_checks file)) [
+library_file machine file = elim (first_refusal (library_front_checks file)) [
   | Some refusal ↦ RefusedAt refusal
   | None ↦ elim (is_for_machine machine file) [
     | false ↦ Skipped

@@ -119,7 +119,7 @@ short_bind {wanted} {old} {new} {l0} {l1} blame binds = by_fault blame.fault (λ
     )
     by_fault (Source fault at) fails = tt
 
--- what stands before others is what so many of all are
+-- what is before others is the first so many of all
 pub front_taken : (n : ℕ) (objects others : List LookupObjectState) → length objects ≡ n → take n (objects ++ others) ≡ objects
 front_taken zero [] others e = refl
 front_taken (suc n) [] others e = absurd (omega (arith, e))

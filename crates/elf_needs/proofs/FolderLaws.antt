@@ -3,7 +3,7 @@ use Rattle.std.proofs.Common.{◌≡◌, ℕ, suc, ◌+◌, ◌<◌, ◌≤◌, 
 use Rattle.std.proofs.Math.ListN.{drop_of_length-le}
 use Rattle.std.specs.List.{cons_option}
 use Rattle.elf_needs.specs.Prelude.{SearchPathText, dir_paths, dirs_in, dirs_of, first_runpath, given_dirs, needer_of, needers_of, rpath_dirs, rpath_of, search_dirs, searched_paths, unless_runpath}
-use Rattle.elf_needs.specs.declared.folders.SearchPathList.{SearchPathList}
+use Rattle.elf_needs.specs.declared.search_path_list.SearchPathList.{SearchPathList}
 use Rattle.elf_needs.specs.Searching.{NeedingObject}
 use Rattle.elf_needs.specs.declared.needers.NeedingObject.{NeedingObject as BorrowedNeeder}
 

@@ -120,13 +120,13 @@ ends_last {format} {all} left items {a} {b} c {fails} inner outer before same wr
     )
 
 -- what lines report that are all written
-pub failing_some : (format : Format) (items : List BoundItem) (short : Refusal → Type 0) (b c : OutState) (came : WriteEnd) (more : Bool) → WritesLines format items short b c (Ok came) → failing_of came ≡ Some more
+pub failing_some : (format : Format) (items : List BoundItem) (short : Refusal → Type 0) (b c : OutState) (end : WriteEnd) (more : Bool) → WritesLines format items short b c (Ok end) → failing_of end ≡ Some more
     → SinkTakes b c (bound_text format items) × (more ≡ any_unbound items)
 failing_some format items short b c (Whole fails) more writes e = let same : fails ≡ more = some_is fails more e in (writes.0, sym same ∙ writes.1)
 failing_some format items short b c Ended more writes e = let same : true ≡ more = some_is true more e in (writes.0, sym same ∙ sym writes.1)
 failing_some format items short b c Cut more writes e = absurd (none_not more e)
 
-pub failing_none : (came : WriteEnd) → failing_of came ≡ None → came ≡ Cut
+pub failing_none : (end : WriteEnd) → failing_of end ≡ None → end ≡ Cut
 failing_none (Whole fails) e = absurd (none_not fails (sym e))
 failing_none Ended e = absurd (none_not true (sym e))
 failing_none Cut e = refl

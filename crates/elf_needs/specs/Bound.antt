@@ -27,7 +27,7 @@ abbrev pub bound_of : (headers : ℕ) → (files : List (List ℕ)) → (indexes
 bound_of headers files indexes known = record { files = files; indexes = indexes; headers = headers; called = called_by known }
 
 abbrev pub bound_among : (headers : ℕ) → List (List ℕ) → SearchScope → BoundObjects
-bound_among headers files among = bound_of headers files among.indexes.now among.known.now
+bound_among headers files scope = bound_of headers files scope.indexes.now scope.known.now
 
 -- an object is unchanged, except how many bytes were requested from it; and each of some
 pub record SameObject (old new : LookupObjectState) : Type 0 where
@@ -153,5 +153,5 @@ status_after Cut status = 1
 -- THE EFFECT OF WRITING THE BINDINGS OF ALL OBJECTS
 abbrev pub WritesBindings : Format → List BoundItem → (short : Refusal → Type 0) → OutState → OutState → (status : ℕ) → Result ℕ NeedsFault → Type 0
 WritesBindings format all short old new before (Ok status) =
-    (came : WriteEnd) × WritesLines format all short old new (Ok came) × (status ≡ status_after came before)
+    (end : WriteEnd) × WritesLines format all short old new (Ok end) × (status ≡ status_after end before)
 WritesBindings format all short old new before (Err fault) = WritesLines format all short old new (Err fault)

@@ -2,7 +2,7 @@
 use Rattle.std.specs.Prelude.{ℕ, ◌≡◌, ◌+◌, ◌<◌, Bool, true, false, List, [], ◌++◌, length, map, Option, None, Some}
 use Rattle.std.specs.Borrow.{Bor}
 use Rattle.elf_needs.specs.Searching.{SearchPathText, MOST_PATH_BYTES, NeedingObject, Token, parted}
-use Rattle.elf_needs.specs.declared.folders.SearchPathList.{SearchPathList}
+use Rattle.elf_needs.specs.declared.search_path_list.SearchPathList.{SearchPathList}
 use Rattle.elf_needs.specs.declared.needers.NeedingObject.{NeedingObject as BorrowedNeeder}
 use Rattle.elf_needs.specs.declared.tokens.StringToken.{StringToken}
 

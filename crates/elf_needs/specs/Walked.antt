@@ -10,6 +10,6 @@ status_with Found status = status
 status_with Missing status = 1
 status_with (Refused refusal) status = 1
 
--- the report of an object of which nothing but its state is known
+-- the report of an object of which only the state is known
 abbrev pub report_alone : ObjectState → ObjectReport
 report_alone state = record { state = state; links = record { soname = None; rpath = None; runpath = None }; needs = 0; needs_end = 0 }

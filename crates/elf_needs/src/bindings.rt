@@ -42,23 +42,23 @@ impl<W: Sink> DependencyWalk<'_, '_, W> {
             self.old.out self.new.out
             self.old.status result }
     {
-        let among = SearchScope {
+        let scope = SearchScope {
             indexes: &opened.indexes,
             known: &self.objects,
             format: self.format,
         };
         let left = &mut self.search.account.left;
-        let came = bind_all(&mut opened.objects, &among, left, &mut self.out)?;
-        self.status = status_after(came, self.status);
+        let end = bind_all(&mut opened.objects, &scope, left, &mut self.out)?;
+        self.status = status_after(end, self.status);
         Ok(self.status)
     }
 }
 
 /// Returns the exit status after lines.
-fn status_after(came: WriteEnd, status: u8) -> u8
-    ensures { result ≡ status_after came status }
+fn status_after(end: WriteEnd, status: u8) -> u8
+    ensures { result ≡ status_after end status }
 {
-    match came {
+    match end {
         WriteEnd::Whole { fails: false } => status,
         WriteEnd::Whole { fails: true } | WriteEnd::Ended | WriteEnd::Cut => 1,
     }
@@ -70,21 +70,21 @@ fn status_after(came: WriteEnd, status: u8) -> u8
 /// A read or the output failed.
 fn bind_all<S: Source, W: Sink>(
     objects: &mut [LookupObject<S>],
-    among: &SearchScope<'_>,
+    scope: &SearchScope<'_>,
     left: &mut Option<u64>,
     out: &mut Out<W>,
 ) -> Result<WriteEnd, NeedsFault>
     ensures asks { AsksAll objects.old objects.new left.old left.new }
     ensures known { (headers : ℕ) (files : List (List ℕ)) →
         AreObjectFiles headers objects.old files →
-        WritesLines among.now.format (bound_items (bound_among headers files among.now))
+        WritesLines scope.now.format (bound_items (bound_among headers files scope.now))
         (IsBudgetShort objects.new left.new) out.old out.new result }
 {
     let mut names = ReferenceNames::new();
     let mut fails = false;
     for place in 0..objects.len() {
-        let came = bind_object(objects, among, place, &mut names, left, out)?;
-        let Some(more) = failing(came) else {
+        let end = bind_object(objects, scope, place, &mut names, left, out)?;
+        let Some(more) = failing(end) else {
             return Ok(WriteEnd::Cut);
         };
         fails = either(fails, more);
@@ -98,7 +98,7 @@ fn bind_all<S: Source, W: Sink>(
 /// A read or the output failed.
 fn bind_object<S: Source, W: Sink>(
     objects: &mut [LookupObject<S>],
-    among: &SearchScope<'_>,
+    scope: &SearchScope<'_>,
     place: usize,
     names: &mut ReferenceNames,
     left: &mut Option<u64>,
@@ -108,17 +108,17 @@ fn bind_object<S: Source, W: Sink>(
     ensures asks { AsksAll objects.old objects.new left.old left.new }
     ensures known { (headers : ℕ) (files : List (List ℕ)) →
         AreObjectFiles headers objects.old files →
-        WritesLines among.now.format (object_items (bound_among headers files among.now) place
+        WritesLines scope.now.format (object_items (bound_among headers files scope.now) place
         (get_or files place [])) (IsBudgetShort objects.new left.new) out.old out.new result }
 {
     let count = match objects[place].symbol_count(left) {
         Ok(count) => count,
-        Err(fault) => return tell(fault, among.format, out),
+        Err(fault) => return tell(fault, scope.format, out),
     };
     let mut fails = false;
     for symbol in 1..count {
         let at = DefinitionAt { place, symbol };
-        let more = match bind_symbol(objects, among, at, names, left, out)? {
+        let more = match bind_symbol(objects, scope, at, names, left, out)? {
             WriteEnd::Whole { fails } => fails,
             WriteEnd::Ended => return Ok(WriteEnd::Ended),
             WriteEnd::Cut => return Ok(WriteEnd::Cut),
@@ -134,7 +134,7 @@ fn bind_object<S: Source, W: Sink>(
 /// A read or the output failed.
 fn bind_symbol<S: Source, W: Sink>(
     objects: &mut [LookupObject<S>],
-    among: &SearchScope<'_>,
+    scope: &SearchScope<'_>,
     at: DefinitionAt,
     names: &mut ReferenceNames,
     left: &mut Option<u64>,
@@ -146,18 +146,18 @@ fn bind_symbol<S: Source, W: Sink>(
         AreObjectFiles headers objects.old files →
         lookup_tables_of (get_or files at.place []) headers ≡ Ok told →
         at.symbol < told.table.symbols →
-        WritesSymbol among.now.format (bound_item (bound_among headers files among.now) at.place
+        WritesSymbol scope.now.format (bound_item (bound_among headers files scope.now) at.place
         (get_or files at.place []) told.symbols at.symbol) (IsBudgetShort objects.new left.new) out.old out.new
         result }
 {
-    let state = match item_of(objects, among, at, names, left) {
+    let state = match item_of(objects, scope, at, names, left) {
         Ok(Some(state)) => state,
         Ok(None) => return Ok(WriteEnd::Whole { fails: false }),
-        Err(fault) => return tell(fault, among.format, out),
+        Err(fault) => return tell(fault, scope.format, out),
     };
-    let object = index_at(among.indexes, at.place);
+    let object = index_at(scope.indexes, at.place);
     let wanted = names.wanted();
-    match show_binding(object, at.symbol, state, &wanted, among.format, out) {
+    match show_binding(object, at.symbol, state, &wanted, scope.format, out) {
         Ok(()) => Ok(WriteEnd::Whole {
             fails: is_unbound(state),
         }),

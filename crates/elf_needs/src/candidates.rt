@@ -49,9 +49,9 @@ where
     }
 }
 
-/// Returns whether a file is of 64 bits, little-endian and of this machine, or the budget has no room to
-/// tell. No more is asked for than what is left of the budget, if there is one; what was asked for is taken
-/// off.
+/// Returns `true` if a file is 64-bit, little-endian and for this machine, or if the budget is too
+/// small to read that. Requests at most the bytes left of the budget, if there is one; those
+/// requested are subtracted.
 ///
 /// # Errors
 /// A read failed.
@@ -67,7 +67,7 @@ fn fits<S: Source>(
     match file.machine(account) {
         Ok(Some(found)) => Ok(found == machine),
         Ok(None) => Ok(false),
-        // The budget has no room for it: that is reported when the file is read.
+        // The budget is too small for it, which is reported when the file is read.
         Err(Fault::Refused(_)) => Ok(true),
         Err(Fault::Source { .. }) => Err(NeedsFault::Read),
     }

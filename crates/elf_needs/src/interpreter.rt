@@ -13,7 +13,9 @@ use elf_hash::load_by_segments;
 use elf_record::numbers::{ET_DYN, ET_EXEC, PT_INTERP};
 use elf_record::{Cause, Phdr, u16_at};
 use elf_source::{Counted, Source};
-use elf_table::{ExecutionView, Fault, HeaderStore, NameBuf, Names, fill, is_out_of_bounds, refused};
+use elf_table::{
+    ExecutionView, Fault, HeaderStore, NameBuf, Names, fill, is_out_of_bounds, refused,
+};
 
 /// The maximum number of bytes of a path, its NUL among them.
 const PATH_BYTES: u64 = 4096;

@@ -86,7 +86,10 @@ impl<W: Sink> DependencyWalk<'_, '_, W> {
     }
 
     /// Reads the file at the interpreter's path, and closes it.
-    fn read_found<S: Source + Drop>(&mut self, file: ObjectFile<S>) -> Result<InterpreterRead, NeedsFault>
+    fn read_found<S: Source + Drop>(
+        &mut self,
+        file: ObjectFile<S>,
+    ) -> Result<InterpreterRead, NeedsFault>
         ensures asks { AsksClosed file.asked self.old.search.account self.new.search.account }
     {
         let mut file = file;

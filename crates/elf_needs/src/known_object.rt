@@ -172,7 +172,11 @@ impl ObjectList {
         ensures { result ≡ object_by_file self.now file }
     {
         let file = file?;
-        index_by_short_name(self.known.iter().position(|known| is_file(known.file, file)))
+        index_by_short_name(
+            self.known
+                .iter()
+                .position(|known| is_file(known.file, file)),
+        )
     }
 
     /// Returns `true` if an object has a name: it was needed by it, or it is its DT_SONAME, or one

@@ -3,9 +3,9 @@ ghost use Rattle.std.specs.Prelude.{◌≡◌, ◌<◌, ◌≤◌, ◌∷◌, []
 ghost use Rattle.elf_needs.specs.Searching.{searched_paths};
 ghost use Rattle.elf_needs.specs.Steps.{dirs_in};
 
-use crate::folders::SearchPathList;
 use crate::path_budget::PathBudget;
 use crate::paths::CandidatePath;
+use crate::search_path_list::SearchPathList;
 use crate::tries::CandidatePaths;
 use std::marker::Model;
 

@@ -39,7 +39,7 @@ pub fn machine_of<S: Source>(src: &mut Counted<S>) -> Result<Option<u16>, Fault>
     Ok(machine_by(&front))
 }
 
-/// Returns the machine that the first bytes of a file tell.
+/// Returns the machine in the first bytes of a 64-bit little-endian file, and `None` for others.
 pub(crate) fn machine_by(front: &[u8; FRONT_BYTES]) -> Option<u16>
     ensures { result ≡ machine_by front.now }
 {

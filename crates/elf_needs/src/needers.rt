@@ -4,7 +4,7 @@ ghost use Rattle.std.specs.List.{cons_option};
 ghost use Rattle.elf_needs.specs.Searching.{first_runpath, given_dirs, rpath_dirs, rpath_of, runpath_of, search_dirs};
 ghost use Rattle.elf_needs.specs.Steps.{dirs_in, dirs_of, needer_of, needers_of};
 
-use crate::folders::SearchPathList;
+use crate::search_path_list::SearchPathList;
 use arrayvec::ArrayVec;
 
 /// An object that needs others: its DT_RPATH and its DT_RUNPATH, if it has them, and the directory
@@ -82,14 +82,14 @@ fn first_runpath<'a>(needers: &[NeedingObject<'a>]) -> Option<SearchPathList<'a>
 }
 
 /// Appends directories, if there are any.
-fn put_dirs<'a>(lists: &mut SearchPaths<'a>, folders: Option<SearchPathList<'a>>)
+fn put_dirs<'a>(lists: &mut SearchPaths<'a>, list: Option<SearchPathList<'a>>)
     requires { length lists.old.items < 515 }
-    ensures folders { dirs_in lists.new.items
-        ≡ dirs_in lists.old.items ++ cons_option (option_map dirs_of folders.entry) [] }
+    ensures dirs { dirs_in lists.new.items
+        ≡ dirs_in lists.old.items ++ cons_option (option_map dirs_of list.entry) [] }
     ensures len { length lists.new.items ≤ length lists.old.items + 1 }
 {
-    if let Some(folders) = folders {
-        lists.push(folders);
+    if let Some(list) = list {
+        lists.push(list);
     }
 }
 
@@ -119,7 +119,7 @@ pub fn gather_dirs<'a>(
 fn gather_rpaths<'a>(needers: &[NeedingObject<'a>], lists: &mut SearchPaths<'a>)
     requires few { length needers.now ≤ 512 }
     requires none { lists.old.items ≡ [] }
-    ensures folders { dirs_in lists.new.items ≡ rpath_dirs (needers_of needers.now) }
+    ensures dirs { dirs_in lists.new.items ≡ rpath_dirs (needers_of needers.now) }
     ensures few { length lists.new.items ≤ 512 }
 {
     for needer in needers {

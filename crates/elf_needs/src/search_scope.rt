@@ -49,10 +49,10 @@ pub(crate) fn place_of(indexes: &[u16], index: u16) -> Option<usize>
 
 /// Returns whether lines that were written report that something is missing, or `None` if the
 /// budget is exhausted.
-pub(crate) fn failing(came: WriteEnd) -> Option<bool>
-    ensures { result ≡ failing_of came }
+pub(crate) fn failing(end: WriteEnd) -> Option<bool>
+    ensures { result ≡ failing_of end }
 {
-    match came {
+    match end {
         WriteEnd::Whole { fails } => Some(fails),
         WriteEnd::Ended => Some(true),
         WriteEnd::Cut => None,

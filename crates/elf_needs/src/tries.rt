@@ -3,10 +3,10 @@ ghost use Rattle.std.specs.Prelude.{◌≡◌, ◌<◌, ◌≤◌, ◌∷◌, []
 ghost use Rattle.elf_needs.specs.Searching.{dir_paths};
 ghost use Rattle.elf_needs.specs.Steps.{dirs_of};
 
-use crate::folder_entries::first_entry;
-use crate::folders::SearchPathList;
 use crate::path_budget::PathBudget;
+use crate::path_elements::first_entry;
 use crate::paths::{CandidatePath, put_entry};
+use crate::search_path_list::SearchPathList;
 use std::marker::Model;
 
 /// The paths of a name in a list of directories that were not tried yet.
@@ -33,18 +33,18 @@ impl<'a> CandidatePaths<'a> {
     /// Creates the paths of a name in a list of directories, below a root, which precedes each
     /// directory that begins with a slash.
     #[tactic(auto, unfolding(crate::specs::Searching::entries_of, crate::specs::Searching::entry_paths))]
-    pub fn new(root: &'a [u8], name: &'a [u8], folders: SearchPathList<'a>) -> CandidatePaths<'a>
-        ensures { result ≡ dir_paths root.now name.now (dirs_of folders.entry) }
+    pub fn new(root: &'a [u8], name: &'a [u8], list: SearchPathList<'a>) -> CandidatePaths<'a>
+        ensures { result ≡ dir_paths root.now name.now (dirs_of list.entry) }
     {
-        let left = if folders.text.is_empty() {
+        let left = if list.text.is_empty() {
             None
         } else {
-            Some(folders.text)
+            Some(list.text)
         };
         CandidatePaths {
             root,
             name,
-            origin: folders.origin,
+            origin: list.origin,
             left,
         }
     }
@@ -76,7 +76,7 @@ impl<'a> CandidatePaths<'a> {
                 return false;
             }
             let entry = first_entry(text);
-            self.left = entry.behind;
+            self.left = entry.after;
             if put_entry(path, self.root, self.name, entry.text, self.origin) {
                 return true;
             }

@@ -83,11 +83,7 @@ impl<W: Sink> DependencyWalk<'_, '_, W> {
     }
 
     /// Adds a library that is not found, or ends the objects.
-    fn take_none(
-        &mut self,
-        by: Option<u16>,
-        need: NeededLibrary,
-    ) -> Result<ControlFlow, NeedsFault>
+    fn take_none(&mut self, by: Option<u16>, need: NeededLibrary) -> Result<ControlFlow, NeedsFault>
         ensures account { self.new.search.account ≡ self.old.search.account }
     {
         if self.search.tries.is_over {

@@ -55,7 +55,7 @@ pub use path::{PATH_BYTES, PathText, join};
 pub use path_lines::{HELD_BYTES, show_path};
 pub use paths::visit_path;
 pub use required::lacking;
-pub use short::{UNDECIDED, refused_state, short_file_status, short_state};
+pub use short::{UNDECIDED, read_short_file_status, refused_state, short_file_status};
 pub use sorted::check_sorted;
 pub use sorts::list_by_type;
 pub use stack::{NameStack, STACK_BYTES, count_fitting};

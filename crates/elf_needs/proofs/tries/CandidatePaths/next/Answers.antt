@@ -7,7 +7,7 @@ pub returns-then-put_entry-clause-next : goal.returns-then-put_entry-clause-next
 returns-then-put_entry-clause-next c = λ _.
     let self = c.loop-self.self-inside in
     let entry = c.first_entry-entry.result in
-    taken self.root.now self.name.now (origin_of self.origin) entry.text.now c.put_entry.new.path.items (left_entries entry.behind) (left_entries self.left) c.args.self.now c.loop-self.invariant.paths
+    taken self.root.now self.name.now (origin_of self.origin) entry.text.now c.put_entry.new.path.items (left_entries entry.after) (left_entries self.left) c.args.self.now c.loop-self.invariant.paths
     (ap left_entries c.in-Some.is ∙ c.first_entry-entry.ensures.parted) c.if-put_entry.ensures
 
 pub loop-self-preserved : goal.loop-self-preserved
@@ -15,7 +15,7 @@ loop-self-preserved c =
     let self = c.loop-self.self-inside in
     let entry = c.first_entry-entry.result in
     record {
-      paths = passed_over self.root.now self.name.now (origin_of self.origin) entry.text.now c.put_entry.new.path.items (left_entries entry.behind) (left_entries self.left) c.args.self.now c.loop-self.invariant.paths
+      paths = passed_over self.root.now self.name.now (origin_of self.origin) entry.text.now c.put_entry.new.path.items (left_entries entry.after) (left_entries self.left) c.args.self.now c.loop-self.invariant.paths
           (ap left_entries c.in-Some.is ∙ c.first_entry-entry.ensures.parted) c.if-put_entry.ensures;
       few = omega (arith, c.loop-self.invariant.few, c.take.ensures.few);
     }

@@ -3,7 +3,7 @@ use Rattle.std.proofs.lemmas.List.{take_rest}
 use Rattle.std.proofs.lemmas.Bool.Decides.{nat_tests}
 use Rattle.elf_needs.specs.Searching.{COLON}
 use Rattle.elf_needs.proofs.PartLaws.{split_at_sign, parted_whole}
-use Rattle.elf_needs.proofs.folder_entries.first_entry.Goals as goal
+use Rattle.elf_needs.proofs.path_elements.first_entry.Goals as goal
 
 sign : (b : ℕ) → (b == COLON) ≡ true → b ≡ COLON
 sign b is = grind (arith, nat_tests)

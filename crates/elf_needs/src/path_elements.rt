@@ -11,19 +11,19 @@ pub(crate) struct PathElement<'a> {
     /// The entry.
     pub text: &'a [u8],
     /// What follows it.
-    pub behind: Option<&'a [u8]>,
+    pub after: Option<&'a [u8]>,
 }
 
 /// Returns the first entry of a text.
 pub(crate) fn first_entry(text: &[u8]) -> PathElement<'_>
-    ensures parted { parted [] text.now ≡ result.text.now ∷ left_entries result.behind }
-    ensures less { left_bytes result.behind < length text.now + 1 }
+    ensures parted { parted [] text.now ≡ result.text.now ∷ left_entries result.after }
+    ensures less { left_bytes result.after < length text.now + 1 }
 {
     match memchr(b':', text) {
         Some(end) => PathElement {
             text: &text[..end],
-            behind: Some(&text[end + 1..]),
+            after: Some(&text[end + 1..]),
         },
-        None => PathElement { text, behind: None },
+        None => PathElement { text, after: None },
     }
 }
