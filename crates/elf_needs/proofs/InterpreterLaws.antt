@@ -61,7 +61,7 @@ module _ (file : List ℕ) (at : ℕ) where
     path_tells name result ends tells =
         let back : first_refusal late ≡ None = subst (λ (p : StringTableRange). end_refusal file p at ≡ None) (sym passes.1) ends in
         let whole : ReturnsWhole (whole_name (slice file (p_offset file at) (p_filesz file at)) 0 at) name result
-            = subst (λ (p : StringTableRange). ReturnsWhole (whole_name (strings_in file p) 0 at) name result) (sym passes.1) tells in
+        = subst (λ (p : StringTableRange). ReturnsWhole (whole_name (strings_in file p) 0 at) name result) (sym passes.1) tells in
         subst (λ (told : Result (List ℕ) Refusal). ReturnsWhole told name result) (sym (path_is (passed_both early late passes.0 back))) whole
 
 -- where a program header of a loaded file is
@@ -125,14 +125,13 @@ fits machine None kind = false
 fits machine (Some found) kind = found == machine && (kind == ET_EXEC || kind == ET_DYN)
 
 module _ (machine : ℕ) (file : List ℕ) where
-  fits_is : fits machine (machine_in file) (e_type file) ≡ is_interpreter machine file
+  fits_with : (found : Option ℕ) → machine_in file ≡ found → fits machine found (e_type file) ≡ is_interpreter machine file
   unfolding is_interpreter
-  fits_is = go (machine_in file) refl
-    where
-      go : (found : Option ℕ) → machine_in file ≡ found → fits machine found (e_type file) ≡ is_interpreter machine file
-      unfolding is_interpreter
-      go None e = rw (e, is_interpreter) refl
-      go (Some found) e = rw (e, is_interpreter) refl
+  fits_with None e = rw (e, is_interpreter) refl
+  fits_with (Some found) e = rw (e, is_interpreter) refl
+
+  fits_is : fits machine (machine_in file) (e_type file) ≡ is_interpreter machine file
+  fits_is = fits_with (machine_in file) refl
 
   pub short_fits : length file < 20 → false ≡ is_interpreter machine file
   short_fits less = ap (λ (found : Option ℕ). fits machine found (e_type file)) (short_is file less) ∙ fits_is
