@@ -22,7 +22,8 @@ Examples:
 
 Options, before or behind FILE; find, apply, traits and needs have only --headers, --max-read
 and --, find also --json, --gnu and with it --by-segments, apply also --layout and --explain,
-traits also --json, --require and --files0-from, needs also --json and those for it only:
+traits also --json, --require and --files0-from, needs also --json, --files0-from and those for
+it only:
   --headers N   permit N section headers, and as many program headers:
                 1 to 65279 [default: 4096]
   --names N     show N bytes of a name: 1 to 4096 [default: 256]
@@ -55,9 +56,12 @@ traits also --json, --require and --files0-from, needs also --json and those for
   --default DIRS
                 for needs only: look in these folders last, not in those of a system
   --root DIR    for needs only: look below DIR for each path that begins with a slash
+  --max-tries N for needs only: try at most N paths for a FILE: 0 to 9223372036854775807
+                [default: 100000]
   --symbols     for needs only: tell from which object each symbol comes, too
+  --problems    for needs only: write of all lines only those that make the status 1
   --files0-from FILE
-                for check, list and traits: take the paths in FILE too, each ended by NUL
+                for check, list, traits and needs: take the paths in FILE too, each ended by NUL
   --            end the options, so that FILE, PATH or NAME may begin with a hyphen
 FILE or PATH may be - for the file on standard input.
 

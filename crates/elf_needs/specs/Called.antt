@@ -5,6 +5,13 @@ use Rattle.elf_needs.specs.Searching.{IsDirOf}
 use Rattle.elf_needs.specs.declared.known_object.KnownObject.{KnownObject}
 use Rattle.elf_needs.specs.declared.known_object.ObjectList.{ObjectList}
 
+-- no object is known, and no text is stored
+pub record HoldsNothing (objects : ObjectList) : Type 0 where
+  pub known : objects.known.items ≡ []
+  pub paths : objects.paths.texts ≡ []
+  pub texts : objects.links.held.texts ≡ []
+  pub needs : objects.links.needs ≡ []
+
 -- the text at an index, if one is given; and a text that is given equals a name
 abbrev pub text_told : List (List ℕ) → Option ℕ → Option (List ℕ)
 text_told texts index = option_map (λ i. slice_index_or texts i []) index

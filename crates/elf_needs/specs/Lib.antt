@@ -2,6 +2,7 @@ pub mod Searching
 pub mod Steps
 pub mod WorkedPaths
 pub mod Held
+pub mod Linked
 pub mod Entries
 pub mod Reading
 pub mod WorkedLinks
@@ -21,4 +22,5 @@ pub mod Budget
 pub mod Called
 pub mod Walked
 pub mod ObjectLines
+pub mod ToldLines
 pub mod Prelude

@@ -1,7 +1,7 @@
 //! The objects that are known so far.
 ghost use Rattle.std.specs.Prelude.{◌≡◌, ◌++◌, ◌∷◌, [], IfSome, is_some, length, option_map, position, slice_get};
 ghost use Rattle.elf_needs.specs.Held.{with_text};
-ghost use Rattle.elf_needs.specs.Called.{IsDirOfObject, called_by, is_called, is_text, index_by_short_name, text_told};
+ghost use Rattle.elf_needs.specs.Called.{HoldsNothing, IsDirOfObject, called_by, is_called, is_text, index_by_short_name, text_told};
 
 use crate::links::{LinkInfo, LinkInfoStore, NeededLibrary};
 use crate::paths::dir_of_path;
@@ -57,6 +57,15 @@ impl ObjectList {
             paths: StringArena::new(alloc, PATH_ROOM, MOST_OBJECTS as u32)?,
             known: Vec::with_capacity(alloc, MOST_OBJECTS)?,
         })
+    }
+
+    /// Removes all objects and their texts. Its memory is kept.
+    pub(crate) fn clear(&mut self)
+        ensures { HoldsNothing self.new }
+    {
+        self.links.clear();
+        self.paths.clear();
+        self.known.clear();
     }
 
     /// Returns the number of objects.

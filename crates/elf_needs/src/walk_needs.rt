@@ -7,7 +7,7 @@ use crate::known_object::{KnownObject, MOST_OBJECTS};
 use crate::links::NeededLibrary;
 use crate::object_file::ObjectFile;
 use crate::object_reports::report_alone;
-use crate::object_rows::{show_object, show_too_many, show_too_many_paths};
+use crate::object_rows::{show_too_many, show_too_many_paths, tell_object};
 use crate::open_objects::OpenObjects;
 use crate::states::ObjectState;
 use crate::walk::{DependencyWalk, NeedsFault, OpenFiles};
@@ -48,7 +48,7 @@ impl<W: Sink> DependencyWalk<'_, '_, W> {
             }
             if self.objects.len() >= MOST_OBJECTS {
                 self.status = 1;
-                show_too_many(need.at, self.format, &mut self.out).map_err(NeedsFault::Out)?;
+                show_too_many(need.at, self.lines.format, &mut self.out).map_err(NeedsFault::Out)?;
                 return Ok(ControlFlow::TooMany);
             }
             self.take(rt, index, known, need, opened)?;
@@ -91,7 +91,7 @@ impl<W: Sink> DependencyWalk<'_, '_, W> {
         ensures status { self.new.status ≡ 1 }
     {
         self.status = 1;
-        show_too_many_paths(at, self.format, &mut self.out).map_err(NeedsFault::Out)
+        show_too_many_paths(at, self.lines.format, &mut self.out).map_err(NeedsFault::Out)
     }
 
     /// Adds a library that is not found, and writes its line.
@@ -101,7 +101,7 @@ impl<W: Sink> DependencyWalk<'_, '_, W> {
         let report = report_alone(ObjectState::Missing);
         let index = self.add(by, Some(name), None, &report);
         let shown = self.objects.links.text(name);
-        show_object(index, by, report.state, shown, self.format, &mut self.out).map_err(
+        tell_object(index, by, report.state, shown, self.lines, &mut self.out).map_err(
             NeedsFault::Out,
         )
     }
@@ -122,12 +122,12 @@ impl<W: Sink> DependencyWalk<'_, '_, W> {
         let report = self.keep(file, report, opened)?;
         let path = self.objects.keep_path(&self.search.path);
         let index = self.add(by, Some(name), path, &report);
-        show_object(
+        tell_object(
             index,
             by,
             report.state,
             &self.search.path,
-            self.format,
+            self.lines,
             &mut self.out,
         )
         .map_err(NeedsFault::Out)

@@ -4,7 +4,7 @@ ghost use Rattle.elf_needs.specs.Budget.{AsksFile, AsksFiles};
 use crate::cached_source::CachedSource;
 use crate::object_file::ObjectFile;
 use crate::object_reports::ObjectReport;
-use crate::object_rows::show_object;
+use crate::object_rows::tell_object;
 use crate::open_objects::OpenObjects;
 use crate::walk::{DependencyWalk, NeedsFault};
 use elf_source::{Sink, Source};
@@ -27,9 +27,7 @@ impl<W: Sink> DependencyWalk<'_, '_, W> {
         let report = self.keep(file, report, opened)?;
         let kept = self.objects.keep_path(real);
         self.add(None, None, kept, &report);
-        show_object(0, None, report.state, path, self.format, &mut self.out).map_err(
-            NeedsFault::Out,
-        )
+        tell_object(0, None, report.state, path, self.lines, &mut self.out).map_err(NeedsFault::Out)
     }
 
     /// Reads the machine of the program, and what it needs.
