@@ -54,10 +54,13 @@ Options, before or after FILE; 'elfsee help COMMAND' prints those of one command
   --default DIRS
                 for needs: search these directories last, instead of those of a system
   --root DIR    for needs: take each path that begins with a slash relative to DIR
+  --max-tries N for needs: try at most N paths for a FILE: 0 to 9223372036854775807
+                [default: 100000]
   --symbols     for needs: also print which object each symbol comes from
+  --problems    for needs: print only the lines that make the status 1
   --files0-from FILE
-                for check, list and traits: also take the paths in FILE, each ended by a NUL
-                byte
+                for check, list, traits and needs: also take the paths in FILE, each ended by
+                a NUL byte
   --            end the options, so that FILE, PATH or NAME may begin with a hyphen
 FILE or PATH may be -, which is the file on standard input.
 

@@ -2,6 +2,7 @@ pub mod Searching
 pub mod Steps
 pub mod WorkedPaths
 pub mod Held
+pub mod Linked
 pub mod Entries
 pub mod Reading
 pub mod WorkedLinks
@@ -22,4 +23,5 @@ pub mod Budget
 pub mod Called
 pub mod Walked
 pub mod ObjectLines
+pub mod ListedLines
 pub mod Prelude

@@ -1,7 +1,7 @@
 //! The objects that are known so far.
 ghost use Rattle.std.specs.Prelude.{◌≡◌, ◌++◌, ◌∷◌, [], IfSome, is_some, length, option_map, position, slice_get, true};
 ghost use Rattle.elf_needs.specs.Held.{with_text};
-ghost use Rattle.elf_needs.specs.Called.{IsDirOfObject, alias_of, called_by, first_called, is_alias, is_called, is_text, index_by_short_name, object_by_file, text_told};
+ghost use Rattle.elf_needs.specs.Called.{HoldsNothing, IsDirOfObject, alias_of, called_by, first_called, is_alias, is_called, is_text, index_by_short_name, object_by_file, text_told};
 
 use crate::file_identity::{FileIdentity, is_file};
 use crate::known_interpreter::Interpreter;
@@ -78,6 +78,17 @@ impl ObjectList {
             aliases: Vec::with_capacity(alloc, MOST_TEXTS as usize)?,
             interpreter: None,
         })
+    }
+
+    /// Removes all objects and their texts. Its memory is kept.
+    pub(crate) fn clear(&mut self)
+        ensures { HoldsNothing self.new }
+    {
+        self.links.clear();
+        self.paths.clear();
+        self.known.clear();
+        self.aliases.clear();
+        self.interpreter = None;
     }
 
     /// Returns the number of objects.

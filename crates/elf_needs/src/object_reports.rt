@@ -104,7 +104,7 @@ impl<W: Sink> DependencyWalk<'_, '_, W> {
     ) -> u16
         ensures account { self.new.search.account ≡ self.old.search.account }
         ensures status { self.new.status ≡ status_with report.now.state self.old.status }
-        ensures same { (self.new.format ≡ self.old.format) × (self.new.out ≡ self.old.out) }
+        ensures same { (self.new.lines ≡ self.old.lines) × (self.new.out ≡ self.old.out) }
     {
         if !matches!(report.state, ObjectState::Found) {
             self.status = 1;

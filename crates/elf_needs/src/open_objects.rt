@@ -38,6 +38,16 @@ impl<S: Source + Drop> OpenObjects<S> {
         })
     }
 
+    /// Closes all objects. Its memory is kept.
+    pub fn clear(&mut self)
+        ensures objects { self.new.objects.items ≡ [] }
+        ensures indexes { self.new.indexes.items ≡ [] }
+        ensures most { self.new.most ≡ self.old.most }
+    {
+        self.objects.clear();
+        self.indexes.clear();
+    }
+
     /// Adds an object after the others.
     fn push(&mut self, index: u16, object: LookupObject<S>)
         ensures one { KeepsOne self.old.objects.items self.new.objects.items object }
