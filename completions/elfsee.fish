@@ -27,7 +27,7 @@ function __elfsee_plain_words
             set -a plain $word
         else if test "$word" = --
             set ended 1
-        else if contains -- $word --headers --names --max-read --only --name --name-list --layout --require --library-path --default --root --files0-from
+        else if contains -- $word --headers --names --max-read --max-tries --only --name --name-list --layout --require --library-path --default --root --files0-from
             set skip 1
         else if not string match -q -- '-*' $word
             set -a plain $word
@@ -40,8 +40,8 @@ end
 # Whether the file is still to be named.
 function __elfsee_wants_file
     set -l plain (__elfsee_plain_words)
-    test (count $plain) -eq 1; and contains -- $plain[1] show find apply needs archive; and return
-    test (count $plain) -ge 1; and contains -- $plain[1] check list traits
+    test (count $plain) -eq 1; and contains -- $plain[1] show find apply archive; and return
+    test (count $plain) -ge 1; and contains -- $plain[1] check list traits needs
 end
 
 # Whether items of a layout may follow.
@@ -64,7 +64,7 @@ complete -c elfsee -n "not __fish_seen_subcommand_from $commands" -a apply -d 'w
 complete -c elfsee -n "not __fish_seen_subcommand_from $commands" -a check -d 'check many files: which are at fault, where and why'
 complete -c elfsee -n "not __fish_seen_subcommand_from $commands" -a list -d 'list many files, each whole or one part of it'
 complete -c elfsee -n "not __fish_seen_subcommand_from $commands" -a traits -d 'tell of many files how each is hardened'
-complete -c elfsee -n "not __fish_seen_subcommand_from $commands" -a needs -d 'tell which libraries a program needs, and where they are'
+complete -c elfsee -n "not __fish_seen_subcommand_from $commands" -a needs -d 'tell which libraries programs need, and where they are'
 complete -c elfsee -n "not __fish_seen_subcommand_from $commands" -a archive -d 'list the members of an archive, and what is in each'
 complete -c elfsee -n "not __fish_seen_subcommand_from $commands" -a version -d 'tell the version of the program'
 complete -c elfsee -n "not __fish_seen_subcommand_from $commands" -a help -d 'tell of the commands and options'
@@ -89,12 +89,14 @@ complete -c elfsee -n '__fish_seen_subcommand_from show sample list archive; and
 complete -c elfsee -n '__fish_seen_subcommand_from show list archive' -l name -x -d 'show the rows of this name alone'
 complete -c elfsee -n '__fish_seen_subcommand_from show list archive; and __elfsee_lacks --name-list' -l name-list -r -F -d 'show the rows of the names in a file too, one a line'
 complete -c elfsee -n '__fish_seen_subcommand_from traits; and __elfsee_lacks --require' -l require -x -d 'tell which of these words a program or a library lacks'
+complete -c elfsee -n '__fish_seen_subcommand_from needs; and __elfsee_lacks --max-tries' -l max-tries -x -d 'try no more than so many paths for a file'
 complete -c elfsee -n '__fish_seen_subcommand_from needs; and __elfsee_lacks --library-path' -l library-path -x -d 'look for libraries in these folders too'
 complete -c elfsee -n '__fish_seen_subcommand_from needs; and __elfsee_lacks --default' -l default -x -d 'look in these folders last'
 complete -c elfsee -n '__fish_seen_subcommand_from needs; and __elfsee_lacks --symbols' -l symbols -d 'tell from which object each symbol comes, too'
+complete -c elfsee -n '__fish_seen_subcommand_from needs; and __elfsee_lacks --problems' -l problems -d 'write only the lines that make the status 1'
 complete -c elfsee -n '__fish_seen_subcommand_from needs; and __elfsee_lacks --root' -l root -r -F -d 'look below a folder for each path that begins with a slash'
 complete -c elfsee -n '__fish_seen_subcommand_from check list; and __elfsee_lacks --members' -l members -d 'go into archives too'
-complete -c elfsee -n '__fish_seen_subcommand_from check list traits; and __elfsee_lacks --files0-from' -l files0-from -r -F -d 'take the paths in a file too, each ended by NUL'
+complete -c elfsee -n '__fish_seen_subcommand_from check list traits needs; and __elfsee_lacks --files0-from' -l files0-from -r -F -d 'take the paths in a file too, each ended by NUL'
 complete -c elfsee -n '__fish_seen_subcommand_from apply; and __elfsee_lacks --layout' -l layout -r -F -d 'take the items in a file too, one a line'
 complete -c elfsee -n '__fish_seen_subcommand_from apply; and __elfsee_lacks --explain' -l explain -d 'tell which item would help where an address is missing'
 complete -c elfsee -s h -l help -d 'tell of the commands and options'

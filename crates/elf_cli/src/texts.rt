@@ -87,9 +87,9 @@ Exit status:
      of LIST: 'in line N' stands behind bad item and layout-repeat; or
        elfsee: cannot read layout, elfsee: layout too large,
        elfsee: cannot read names, elfsee: names too large, elfsee: no names
-  3  check, list and traits: some files could not be read or named; else, and for their list and
-     their output, a read or write fault, a file that cannot be opened, or no memory: standard
-     error has one of these lines:
+  3  check, list, traits, and needs of many files: some files could not be read or named; else,
+     and for their list and their output, a read or write fault, a file that cannot be opened, or
+     no memory: standard error has one of these lines:
        elfsee: read fault, elfsee: write fault, elfsee: cannot open, elfsee: out of memory";
 
 pub(crate) const ITEMS: &str = "\
@@ -185,7 +185,7 @@ Examples:
 
 pub(crate) const NEEDED: &str = "\
 Each object has a line: L, its index, the index of the object that first needed it, its state,
-where it is at fault and why, and its path. FILE is the object 0. Nothing is run or loaded.
+where it is at fault and why, and its path. The program is the object 0. Nothing is run or loaded.
   found    it is read, and the libraries that it needs follow
   missing  no folder has it: the name in place of the path
   refused  its headers, its dynamic entries or what a lookup is made in is at fault
@@ -201,12 +201,18 @@ and its name, with @ and its version where it wants one.
   unbound  none has it
   nover    none has it, and the library of its version has no such version
   refused  the lookup ends at a fault of this object
-Exit status: 1 where a library is missing or refused, or a symbol unbound, nover or refused.
+
+Of several files, or a folder, each program and library has a line @ with its path before these
+lines; files and folders are gone through as check does it. With --problems there are of all
+lines only those that make the status 1.
+Exit status: 1 where a library is missing or refused, or a symbol unbound, nover or refused;
+of many files 3 where some are unread, memory or unnamed.
 
 Examples:
   elfsee needs /bin/ls
   elfsee needs --symbols /bin/ls
-  elfsee needs --root /srv/other /srv/other/bin/ls";
+  elfsee needs --root /srv/other /srv/other/bin/ls
+  elfsee needs --problems /usr/bin";
 
 pub(crate) const MEMBERS: &str = "\
 Each member has a line: A, its index, the offset and the size of its data, and its name. If it
