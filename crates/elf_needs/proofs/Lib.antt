@@ -6,6 +6,7 @@ pub mod FolderLaws
 pub mod TextLaws
 pub mod OnLinks
 pub mod LinkLaws
+pub mod LinkedLaws
 pub mod LoopLaws
 pub mod ReadingLaws
 pub mod BindLaws
