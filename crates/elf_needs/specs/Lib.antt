@@ -21,4 +21,5 @@ pub mod Budget
 pub mod Called
 pub mod Walked
 pub mod ObjectLines
+pub mod VersionTables
 pub mod Prelude

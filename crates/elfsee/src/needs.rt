@@ -10,7 +10,7 @@ use elf_needs::{
     SearchDirs,
 };
 use elf_requests::NeedsRequest;
-use elf_source::{Out, OutFault, WriteSink, opened_path};
+use elf_source::{Out, OutFault, Sink, Source, WriteSink, opened_path};
 use elf_table::{HeaderBuffer, HeaderStore};
 use std::io::{self, BufWriter, ErrorKind, Write};
 use std::os::unix::fs::FileExt;
@@ -38,8 +38,7 @@ where
     let Ok(room) = NeedsBuffers::new(rt.alloc()) else {
         return Err(OUT_OF_MEMORY);
     };
-    let most = if asked.symbols { MOST_OBJECTS } else { 0 };
-    let Ok(opened) = OpenObjects::new(rt.alloc(), most) else {
+    let Ok(opened) = OpenObjects::new(rt.alloc(), MOST_OBJECTS, asked.symbols) else {
         return Err(OUT_OF_MEMORY);
     };
     let Ok(output) = BufWriter::with_capacity(rt.alloc(), OUTPUT_BYTES, io::writer(rt)) else {
@@ -85,12 +84,29 @@ where
         &mut opened,
     );
     let listed = match listed {
-        Ok(all) if asked.symbols && all.whole => walk.bind(&mut opened),
+        Ok(all) if all.whole => after_list(&mut walk, asked.symbols, &mut opened),
         Ok(some) => Ok(some.status),
         Err(fault) => Err(fault),
     };
     let (ending, _output) = end_run(ended(listed), walk.into_out().into_inner().into_inner());
     Ok(ending)
+}
+
+/// Lists the versions that the objects need and that are not there and, if symbols are requested,
+/// their bindings. Returns the exit status.
+///
+/// # Errors
+/// A read or the output failed.
+fn after_list<S: Source + Drop, W: Sink>(
+    walk: &mut DependencyWalk<'_, '_, W>,
+    symbols: bool,
+    opened: &mut OpenObjects<S>,
+) -> Result<u8, NeedsFault> {
+    let checked = walk.check_versions(opened)?;
+    if symbols && checked.whole {
+        return walk.bind(opened);
+    }
+    Ok(checked.status)
 }
 
 /// Returns the settings of a walk.
