@@ -26,8 +26,8 @@ pub data LibraryFile : Type 0 where
   Accepted : LibraryFile
 
 -- what ends a search: the file is too short for a header, or no ELF file
-abbrev pub front_checks : List ℕ → List Check
-front_checks file = refuse (nat_lt (length file) FILE_HEADER_SIZE) (length file) Short ∷ refuse (not (has_elf_magic file)) 0 NotElf ∷ []
+abbrev pub library_front_checks : List ℕ → List Check
+library_front_checks file = refuse (nat_lt (length file) FILE_HEADER_SIZE) (length file) Short ∷ refuse (not (has_elf_magic file)) 0 NotElf ∷ []
 
 -- a file that is for another class of machines, or another machine, by its bytes in little-endian
 -- order
@@ -58,7 +58,7 @@ refused_or_accepted (Some refusal) = RefusedAt refusal
 
 -- A FILE THAT OPENS, in a search for a library of a machine
 unfoldable pub library_file : (machine : ℕ) → List ℕ → LibraryFile
-library_file machine file = elim (first_refusal (front_checks file)) [
+library_file machine file = elim (first_refusal (library_front_checks file)) [
   | Some refusal ↦ RefusedAt refusal
   | None ↦ elim (is_for_machine machine file) [
     | false ↦ Skipped

@@ -42,8 +42,8 @@ VER_FLG_WEAK = 2
 
 -- THE RECORDS of a kind that a file has at the first entry of a tag, if it has that entry. The
 -- definitions are over a file that has no section headers, whose entries locate its strings
-unfoldable pub records_at : List ℕ → (at tag : ℕ) → VersionKind → Result (Option VersionRecordTable) Refusal
-records_at file at tag kind = elim (tagged_row file at tag) [
+unfoldable pub version_records_at : List ℕ → (at tag : ℕ) → VersionKind → Result (Option VersionRecordTable) Refusal
+version_records_at file at tag kind = elim (tagged_row file at tag) [
   | None ↦ Ok None
   | Some row ↦ elim (first_refusal (rest_checks file row)) [
     | Some refusal ↦ Err refusal
@@ -88,7 +88,7 @@ needed_versions file library (Meets strings met ∷ others) =
 
 -- those of a file
 unfoldable pub versions_needed_at : List ℕ → (at : ℕ) → List NeededVersionRead
-versions_needed_at file at = elim (records_at file at DT_VERNEED File) [
+versions_needed_at file at = elim (version_records_at file at DT_VERNEED File) [
   | Err refusal ↦ Faulty refusal ∷ []
   | Ok None ↦ []
   | Ok (Some table) ↦ needed_versions file [] (readings_of file table [])
@@ -127,7 +127,7 @@ state_by_records weak (Ok false) = if weak then None else Some state.NoVersion
 -- of one that a file should define: it has no definitions, and no versym table either; it has no
 -- definitions; or it has
 unfoldable pub state_in_file : List ℕ → (at : ℕ) → NeededVersion → Option VersionState
-state_in_file file at needed = elim (records_at file at DT_VERDEF Definition) [
+state_in_file file at needed = elim (version_records_at file at DT_VERDEF Definition) [
   | Err refusal ↦ Some state.Refused
   | Ok None ↦ if is_none (tagged_row file at DT_VERSYM) then Some state.Bare else None
   | Ok (Some table) ↦ state_by_records needed.weak (define_version file needed.name needed.hash (readings_of file table []))
@@ -159,8 +159,8 @@ state_of_needed objects needed (ProvidedBy index) = elim (file_of_index objects 
 -- WHAT IS LISTED OF AN OBJECT: a version that it needs and that is not there, with the object that
 -- should have it; or the refusal of its own records, with which it ends
 pub data VersionItem : Type 0 where
-  Lacking : (object : ℕ) → (provider : Option ℕ) → VersionState → (name : List ℕ) → VersionItem
-  Ending : Refusal → VersionItem
+  VersionAbsent : (object : ℕ) → (provider : Option ℕ) → VersionState → (name : List ℕ) → VersionItem
+  RecordsRefused : Refusal → VersionItem
 
 abbrev pub index_of_provider : Provider → Option ℕ
 index_of_provider NoProvider = None
@@ -169,10 +169,10 @@ index_of_provider (ProvidedBy index) = Some index
 
 abbrev pub item_by_state : (object : ℕ) → (provider : Option ℕ) → (name : List ℕ) → Option VersionState → List VersionItem
 item_by_state object provider name None = []
-item_by_state object provider name (Some found) = Lacking object provider found name ∷ []
+item_by_state object provider name (Some found) = VersionAbsent object provider found name ∷ []
 
 unfoldable pub version_item : VersionedObjects → (object : ℕ) → NeededVersionRead → List VersionItem
-version_item objects object (Faulty refusal) = Ending refusal ∷ []
+version_item objects object (Faulty refusal) = RecordsRefused refusal ∷ []
 version_item objects object (Needs needed) =
     let provider = objects.provider needed.library in
     item_by_state object (index_of_provider provider) needed.name (state_of_needed objects needed provider)
@@ -220,8 +220,8 @@ needed_version_line format object provider found name = named_line (needed_versi
 
 -- the line of an item, and those of some
 abbrev pub version_item_line : Format → VersionItem → List ℕ
-version_item_line format (Lacking object provider found name) = needed_version_line format object provider found name
-version_item_line format (Ending refusal) = refusal_line format refusal
+version_item_line format (VersionAbsent object provider found name) = needed_version_line format object provider found name
+version_item_line format (RecordsRefused refusal) = refusal_line format refusal
 
 abbrev pub version_items_text : Format → List VersionItem → List ℕ
 version_items_text format [] = []
