@@ -24,4 +24,5 @@ pub mod Called
 pub mod Walked
 pub mod ObjectLines
 pub mod ListedLines
+pub mod VersionTables
 pub mod Prelude

@@ -56,7 +56,7 @@ impl<W: Sink> DependencyWalk<'_, '_, W> {
 }
 
 /// Returns the exit status after lines.
-fn status_after(end: WriteEnd, status: u8) -> u8
+pub(crate) fn status_after(end: WriteEnd, status: u8) -> u8
     ensures { result ≡ status_after end status }
 {
     match end {
@@ -171,7 +171,11 @@ fn bind_symbol<S: Source, W: Sink>(
 ///
 /// # Errors
 /// A read or the output failed.
-fn tell<W: Sink>(fault: Fault, format: Format, out: &mut Out<W>) -> Result<WriteEnd, NeedsFault>
+pub(crate) fn tell<W: Sink>(
+    fault: Fault,
+    format: Format,
+    out: &mut Out<W>,
+) -> Result<WriteEnd, NeedsFault>
     ensures { ReturnsFault format fault out.old out.new result }
 {
     let Fault::Refused(refusal) = fault else {

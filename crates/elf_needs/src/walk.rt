@@ -49,13 +49,13 @@ pub struct NeedsOptions<'a> {
     pub lines: LineOptions,
 }
 
-/// The result of listing objects.
+/// The result of listing objects, or the versions that they need.
 #[derive(Clone, Copy)]
 pub struct Listed {
     /// The exit status.
     pub status: u8,
-    /// Whether all objects are listed: otherwise there are more than 512, or more paths to try than
-    /// may be tried, which ends the listing.
+    /// Whether all are listed: otherwise there are more than 512 objects, or more paths to try than
+    /// may be tried, or for versions the budget is exhausted, which ends the listing.
     pub whole: bool,
 }
 
@@ -167,7 +167,7 @@ impl<W: Sink> DependencyWalk<'_, '_, W> {
     }
 
     /// Returns the result of listing so far, of all objects or not.
-    fn listed(&self, whole: bool) -> Listed
+    pub(crate) fn listed(&self, whole: bool) -> Listed
         ensures { result ≡ record { status = self.now.status; whole = whole } }
     {
         Listed {

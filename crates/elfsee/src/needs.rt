@@ -11,7 +11,7 @@ use elf_needs::{
     OpenObjects, SearchDirs,
 };
 use elf_requests::{NeedsRequest, PathArgs};
-use elf_source::{Out, OutFault, WriteSink, opened_path};
+use elf_source::{Out, OutFault, Sink, WriteSink, opened_path};
 use elf_table::{HeaderBuffer, HeaderStore};
 use std::fs;
 use std::io::{self, BufWriter, ErrorKind, Input, Stderr, Write};
@@ -72,18 +72,13 @@ where
     let Ok(room) = NeedsBuffers::new(rt.alloc()) else {
         return Err(OUT_OF_MEMORY);
     };
-    let Ok(opened) = OpenObjects::new(rt.alloc(), most_open(asked)) else {
+    let Ok(opened) = OpenObjects::new(rt.alloc(), MOST_OBJECTS, asked.symbols) else {
         return Err(OUT_OF_MEMORY);
     };
     let Ok(output) = BufWriter::with_capacity(rt.alloc(), OUTPUT_BYTES, io::writer(rt)) else {
         return Err(OUT_OF_MEMORY);
     };
     needs_into(rt, asked, file, headers.store(), (room, opened), output)
-}
-
-/// Returns how many files are kept open at most.
-pub fn most_open(asked: &NeedsRequest<'_>) -> usize {
-    if asked.symbols { MOST_OBJECTS } else { 0 }
 }
 
 /// Opens the program, and lists the objects that it needs to an output. The directory of the
@@ -124,12 +119,32 @@ where
         &mut opened,
     );
     let listed = match listed {
-        Ok(all) if asked.symbols && all.whole => walk.bind(&mut opened),
+        Ok(all) if all.whole => list_links::<R, _>(&mut walk, asked.symbols, &mut opened),
         Ok(some) => Ok(some.status),
         Err(fault) => Err(fault),
     };
     let (ending, _output) = end_run(ended(listed), walk.into_out().into_inner().into_inner());
     Ok(ending)
+}
+
+/// Writes what follows the lines of all objects: the versions that they need and that are not there
+/// and, if symbols are requested, their bindings. Returns the exit status.
+///
+/// # Errors
+/// A read or the output failed.
+pub fn list_links<R: Files, W: Sink>(
+    walk: &mut DependencyWalk<'_, '_, W>,
+    symbols: bool,
+    opened: &mut OpenFiles<R::File>,
+) -> Result<u8, NeedsFault>
+where
+    R::File: FileExt,
+{
+    let checked = walk.check_versions(opened)?;
+    if symbols && checked.whole {
+        return walk.bind(opened);
+    }
+    Ok(checked.status)
 }
 
 /// Returns the settings of a walk.

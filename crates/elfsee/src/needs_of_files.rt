@@ -3,10 +3,10 @@ ghost use Rattle.std.specs.Prelude.{◌≡◌, IfErr};
 ghost use Rattle.elfsee.specs.Ends.{EndsWithoutMemory};
 
 use crate::many::visit_files;
-use crate::needs::{most_open, settings};
+use crate::needs::settings;
 use crate::needs_report::{NeedsReport, NeedsRule};
 use elf_cli::{ExitLine, OUT_OF_MEMORY};
-use elf_needs::{NeedsBuffers, OpenObjects};
+use elf_needs::{MOST_OBJECTS, NeedsBuffers, OpenObjects};
 use elf_requests::NeedsRequest;
 use elf_table::HeaderBuffer;
 use std::io::{Input, Stderr};
@@ -34,7 +34,7 @@ where
     let Ok(room) = NeedsBuffers::new(rt.alloc()) else {
         return Err(OUT_OF_MEMORY);
     };
-    let Ok(opened) = OpenObjects::new(rt.alloc(), most_open(asked)) else {
+    let Ok(opened) = OpenObjects::new(rt.alloc(), MOST_OBJECTS, asked.symbols) else {
         return Err(OUT_OF_MEMORY);
     };
     let report = NeedsReport::new(rt, rule_of(asked), headers, (room, opened));

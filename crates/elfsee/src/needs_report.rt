@@ -1,6 +1,7 @@
 //! What a program among many needs, after the line of its path.
 ghost use Rattle.std.specs.Prelude.{◌≡◌, ◌-◌, ◌≤◌, ◌^◌, IfErr, IfOk};
 
+use crate::needs::list_links;
 use elf_cli::open;
 use elf_format::show_check;
 use elf_model::{Cause, FileStatus};
@@ -111,7 +112,11 @@ where
         let mut walk = DependencyWalk::new(&options, self.headers.store(), room, out);
         let (path, real) = (path.as_bytes(), real.as_str().as_bytes());
         let listed = match walk.list(self.rt, source, path, real, &mut self.opened) {
-            Ok(all) if self.rule.symbols && all.whole => walk.bind(&mut self.opened),
+            Ok(all) if all.whole => list_links::<R, _>(
+                &mut walk,
+                self.rule.symbols,
+                &mut self.opened,
+            ),
             Ok(some) => Ok(some.status),
             Err(fault) => Err(fault),
         };
