@@ -8,7 +8,7 @@ use elf_cli::{
 };
 use elf_needs::{
     DependencyWalk, LineOptions, MOST_OBJECTS, NeedsBuffers, NeedsFault, NeedsOptions, OpenFiles,
-    OpenObjects, SearchDirs,
+    OpenObjects, RootedFiles, SearchDirs,
 };
 use elf_requests::{NeedsRequest, PathArgs};
 use elf_source::{Out, OutFault, Sink, WriteSink, opened_path};
@@ -35,9 +35,10 @@ pub fn report_needs<R: Files + Print + Input + AllocGlobal>(
 where
     R::File: FileExt,
 {
-    match only_file(rt, &asked.files) {
-        Some(file) => list_needs(rt, asked, file),
-        None => list_needs_of_files(rt, asked, terminal),
+    let files = RootedFiles::new(rt, asked.root, rt.alloc());
+    match only_file(&files, &asked.files) {
+        Some(file) => list_needs(&files, asked, file),
+        None => list_needs_of_files(&files, asked, terminal),
     }
 }
 
