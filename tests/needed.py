@@ -101,7 +101,8 @@ class Program:
     def program(self, path):
         inside = self.root.within(path)
         if inside is None:
-            there, origin = Root().open(path), os.path.dirname(os.path.realpath(path))
+            place = b"/dev/stdin" if path == b"-" else path
+            there, origin = Root().open(place), os.path.dirname(os.path.realpath(place))
         else:
             there = self.root.open(inside)
             origin = b"/" + b"/".join(self.root.resolved(inside)[:-1]) if there else None
@@ -335,6 +336,9 @@ def main():
         if word in keys:
             value = value if equals else words.pop(0)
             kept[keys[word]] = int(value) if word in ("--max-tries", "--headers") else os.fsencode(value)
+        elif word == "--max-read":
+            print("needed.py has no budget", file=sys.stderr)
+            return 2
         elif word.startswith("--"):
             kept[word[2:].replace("-", "_")] = True
         else:
