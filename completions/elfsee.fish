@@ -93,6 +93,7 @@ complete -c elfsee -n '__fish_seen_subcommand_from needs; and __elfsee_lacks --m
 complete -c elfsee -n '__fish_seen_subcommand_from needs; and __elfsee_lacks --library-path' -l library-path -x -d 'look for libraries in these folders too'
 complete -c elfsee -n '__fish_seen_subcommand_from needs; and __elfsee_lacks --default' -l default -x -d 'look in these folders last'
 complete -c elfsee -n '__fish_seen_subcommand_from needs; and __elfsee_lacks --symbols' -l symbols -d 'tell from which object each symbol comes, too'
+complete -c elfsee -n '__fish_seen_subcommand_from needs; and __elfsee_lacks --unused' -l unused -d 'tell which libraries are named and not used, too'
 complete -c elfsee -n '__fish_seen_subcommand_from needs; and __elfsee_lacks --problems' -l problems -d 'write only the lines that make the status 1'
 complete -c elfsee -n '__fish_seen_subcommand_from needs; and __elfsee_lacks --root' -l root -r -F -d 'look below a folder for each path that begins with a slash'
 complete -c elfsee -n '__fish_seen_subcommand_from check list; and __elfsee_lacks --members' -l members -d 'go into archives too'

@@ -57,8 +57,9 @@ it only:
                 for needs only: look in these folders last, not in those of a system
   --root DIR    for needs only: look below DIR for each path that begins with a slash
   --max-tries N for needs only: try at most N paths for a FILE: 0 to 9223372036854775807
-                [default: 100000]
+                [default: 100,000]
   --symbols     for needs only: tell from which object each symbol comes, too
+  --unused      for needs only: tell which libraries FILE names itself and uses nothing of, too
   --problems    for needs only: write of all lines only those that make the status 1
   --files0-from FILE
                 for check, list, traits and needs: take the paths in FILE too, each ended by NUL
@@ -202,6 +203,9 @@ and its name, with @ and its version where it wants one.
   nover    none has it, and the library of its version has no such version
   refused  the lookup ends at a fault of this object
 
+With --unused each library that the program names itself and uses nothing of has a line L again,
+after all others, with the state
+  unused   it defines no symbol that the program needs or copies
 Of several files, or a folder, each program and library has a line @ with its path before these
 lines; files and folders are gone through as check does it. With --problems there are of all
 lines only those that make the status 1.

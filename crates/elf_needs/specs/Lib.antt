@@ -17,6 +17,7 @@ pub mod Ready
 pub mod Sought
 pub mod Pages
 pub mod Bound
+pub mod Copied
 pub mod Requests
 pub mod Budget
 pub mod Called

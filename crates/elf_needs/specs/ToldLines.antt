@@ -25,4 +25,5 @@ told_text lines (item ∷ items) = told_line lines item ++ told_text lines items
 -- the line of an object: where only problems are written, only if it is missing or refused
 abbrev pub told_object : LineOptions → ℕ → Option ℕ → ObjectState → List ℕ → List ℕ
 told_object lines index needer state.Found path = if lines.problems then [] else object_line lines.format index needer state.Found path
+told_object lines index needer state.Unused path = if lines.problems then [] else object_line lines.format index needer state.Unused path
 told_object lines index needer found path = object_line lines.format index needer found path

@@ -90,13 +90,18 @@ impl<W: Sink> DependencyWalk<'_, '_, W> {
         ensures status { self.new.status ≡ status_with report.now.state self.old.status }
         ensures same { (self.new.lines ≡ self.old.lines) × (self.new.out ≡ self.old.out) }
     {
-        if !matches!(report.state, ObjectState::Found) {
+        let found = matches!(report.state, ObjectState::Found);
+        if matches!(
+            report.state,
+            ObjectState::Missing | ObjectState::Refused(_)
+        ) {
             self.status = 1;
         }
         let added = self.objects.add(KnownObject {
             needer,
             name,
             path,
+            found,
             links: report.links,
             needs: report.needs,
             needs_end: report.needs_end,

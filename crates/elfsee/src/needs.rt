@@ -1,5 +1,5 @@
 //! What a program needs.
-ghost use Rattle.std.specs.Prelude.{◌≡◌, unwrap_or};
+ghost use Rattle.std.specs.Prelude.{◌≡◌, ◌||◌, if◌then◌else◌, unwrap_or};
 ghost use Rattle.elfsee.specs.Needs.{EndsNeeds};
 
 use crate::needs_of_files::list_needs_of_files;
@@ -7,11 +7,11 @@ use elf_cli::{
     CANNOT_OPEN, ExitLine, OUT_OF_MEMORY, OUTPUT_BYTES, READ_FAULT, RunEnd, end_run, open,
 };
 use elf_needs::{
-    DependencyWalk, LineOptions, MOST_OBJECTS, NeedsBuffers, NeedsFault, NeedsOptions, OpenFiles,
-    OpenObjects, SearchDirs,
+    DependencyWalk, LineOptions, Listed, MOST_OBJECTS, NeedsBuffers, NeedsFault, NeedsOptions,
+    OpenFiles, OpenObjects, SearchDirs,
 };
 use elf_requests::{NeedsRequest, PathArgs};
-use elf_source::{Out, OutFault, WriteSink, opened_path};
+use elf_source::{Out, OutFault, Sink, Source, WriteSink, opened_path};
 use elf_table::{HeaderBuffer, HeaderStore};
 use std::fs;
 use std::io::{self, BufWriter, ErrorKind, Input, Stderr, Write};
@@ -82,8 +82,14 @@ where
 }
 
 /// Returns how many files are kept open at most.
-pub fn most_open(asked: &NeedsRequest<'_>) -> usize {
-    if asked.symbols { MOST_OBJECTS } else { 0 }
+pub fn most_open(asked: &NeedsRequest<'_>) -> usize
+    ensures { result ≡ (if asked.now.symbols || asked.now.unused then 512 else 0) }
+{
+    if asked.symbols || asked.unused {
+        MOST_OBJECTS
+    } else {
+        0
+    }
 }
 
 /// Opens the program, and lists the objects that it needs to an output. The directory of the
@@ -123,13 +129,32 @@ where
         real.as_str().as_bytes(),
         &mut opened,
     );
-    let listed = match listed {
-        Ok(all) if asked.symbols && all.whole => walk.bind(&mut opened),
-        Ok(some) => Ok(some.status),
-        Err(fault) => Err(fault),
-    };
+    let listed = list_after(&mut walk, listed, asked.symbols, asked.unused, &mut opened);
     let (ending, _output) = end_run(ended(listed), walk.into_out().into_inner().into_inner());
     Ok(ending)
+}
+
+/// Lists what follows the objects, if all are listed: if requested, which object each symbol is
+/// bound to, and which libraries the program does not use. Returns the exit status.
+///
+/// # Errors
+/// Those of listing the objects; a read or the output failed.
+pub fn list_after<S: Source + Drop, W: Sink>(
+    walk: &mut DependencyWalk<'_, '_, W>,
+    listed: Result<Listed, NeedsFault>,
+    symbols: bool,
+    unused: bool,
+    opened: &mut OpenObjects<S>,
+) -> Result<u8, NeedsFault> {
+    let Listed { status, whole } = listed?;
+    if !whole {
+        return Ok(status);
+    }
+    let status = if symbols { walk.bind(opened)? } else { status };
+    if unused {
+        return walk.list_unused(opened);
+    }
+    Ok(status)
 }
 
 /// Returns the settings of a walk.

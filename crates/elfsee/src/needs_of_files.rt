@@ -48,10 +48,12 @@ fn rule_of<'a>(asked: &NeedsRequest<'a>) -> NeedsRule<'a>
     ensures format { result.options.lines.format ≡ asked.now.format }
     ensures problems { result.options.lines.problems ≡ asked.now.problems }
     ensures symbols { result.symbols ≡ asked.now.symbols }
+    ensures unused { result.unused ≡ asked.now.unused }
 {
     NeedsRule {
         limits: asked.limits,
         options: settings(asked),
         symbols: asked.symbols,
+        unused: asked.unused,
     }
 }
