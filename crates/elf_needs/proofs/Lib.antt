@@ -10,6 +10,7 @@ pub mod LinkedLaws
 pub mod LoopLaws
 pub mod ReadingLaws
 pub mod BindLaws
+pub mod CopiedLaws
 pub mod DefinerLaws
 pub mod KeptLaws
 pub mod LackLaws

@@ -18,6 +18,7 @@ pub mod Sought
 pub mod Interpreting
 pub mod Pages
 pub mod Bound
+pub mod Copied
 pub mod Requests
 pub mod Budget
 pub mod Called

@@ -35,6 +35,8 @@ pub(crate) struct KnownObject {
     pub path: Option<u32>,
     /// Which file it is, if it is found and that is known.
     pub file: Option<FileIdentity>,
+    /// Whether it was found, and is not refused.
+    pub found: bool,
     /// What its dynamic entries give.
     pub links: LinkInfo,
     /// The first of its needs, and the one after its last.
@@ -151,6 +153,15 @@ impl ObjectList {
         match index {
             Some(index) => Some(self.links.text(index)),
             None => None,
+        }
+    }
+
+    /// Returns the path of an object, or its name if its path is not stored.
+    pub(crate) fn path(&self, known: &KnownObject) -> &[u8] {
+        match (known.path, known.name) {
+            (Some(path), _) => self.paths.get(path),
+            (None, Some(name)) => self.links.text(name),
+            (None, None) => b"",
         }
     }
 

@@ -106,7 +106,8 @@ impl<W: Sink> DependencyWalk<'_, '_, W> {
         ensures status { self.new.status ≡ status_with report.now.state self.old.status }
         ensures same { (self.new.lines ≡ self.old.lines) × (self.new.out ≡ self.old.out) }
     {
-        if !matches!(report.state, ObjectState::Found) {
+        let found = matches!(report.state, ObjectState::Found);
+        if matches!(report.state, ObjectState::Missing | ObjectState::Refused(_)) {
             self.status = 1;
         }
         let added = self.objects.add(KnownObject {
@@ -114,6 +115,7 @@ impl<W: Sink> DependencyWalk<'_, '_, W> {
             name,
             path: at.path,
             file: at.file,
+            found,
             links: report.links,
             needs: report.needs,
             needs_end: report.needs_end,

@@ -20,4 +20,5 @@ pub record IsNeedsAsked (command : Text) (rows : List Row) (asked : NeedsRequest
   pub tries : HasNumber (one_of (codes "max-tries") rows) asked.tries
   pub format : asked.format ≡ asked_format rows
   pub symbols : asked.symbols ≡ is_option_set (first_of (codes "symbols") rows)
+  pub unused : asked.unused ≡ is_option_set (first_of (codes "unused") rows)
   pub problems : asked.problems ≡ is_option_set (first_of (codes "problems") rows)

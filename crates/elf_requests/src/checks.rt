@@ -152,6 +152,8 @@ pub struct NeedsRequest<'a> {
     pub format: Format,
     /// Whether the file that each symbol is bound to is printed too.
     pub symbols: bool,
+    /// Whether the libraries are printed too that a program needs itself and does not use.
+    pub unused: bool,
     /// Whether only lines are written that make the status 1.
     pub problems: bool,
 }

@@ -64,6 +64,7 @@ fn needing_of<'a>(options: &ArgMatches<'a>, files: PathArgs<'a>) -> Option<Needs
         tries,
         format: format_of(options),
         symbols: is_set(options, "symbols"),
+        unused: is_set(options, "unused"),
         problems: is_set(options, "problems"),
     })
 }

@@ -34,7 +34,8 @@ where
     let Ok(room) = NeedsBuffers::new(rt.alloc()) else {
         return Err(OUT_OF_MEMORY);
     };
-    let Ok(opened) = OpenObjects::new(rt.alloc(), MOST_OBJECTS, asked.symbols) else {
+    let Ok(opened) = OpenObjects::new(rt.alloc(), MOST_OBJECTS, asked.symbols || asked.unused)
+    else {
         return Err(OUT_OF_MEMORY);
     };
     let report = NeedsReport::new(rt, rule_of(asked), headers, (room, opened));
@@ -48,10 +49,12 @@ fn rule_of<'a>(asked: &NeedsRequest<'a>) -> NeedsRule<'a>
     ensures format { result.options.lines.format ≡ asked.now.format }
     ensures problems { result.options.lines.problems ≡ asked.now.problems }
     ensures symbols { result.symbols ≡ asked.now.symbols }
+    ensures unused { result.unused ≡ asked.now.unused }
 {
     NeedsRule {
         limits: asked.limits,
         options: settings(asked),
         symbols: asked.symbols,
+        unused: asked.unused,
     }
 }
