@@ -157,7 +157,7 @@ impl ObjectList {
     }
 
     /// Returns the path of an object, or its name if its path is not stored.
-    pub(crate) fn path(&self, known: &KnownObject) -> &[u8] {
+    pub(crate) fn path_of(&self, known: &KnownObject) -> &[u8] {
         match (known.path, known.name) {
             (Some(path), _) => self.paths.get(path),
             (None, Some(name)) => self.links.text(name),

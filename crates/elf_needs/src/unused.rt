@@ -7,7 +7,7 @@ use crate::copied_symbols::RELA_BYTES;
 use crate::faults::is_reported_alone;
 use crate::known_object::MOST_OBJECTS;
 use crate::object::LookupObject;
-use crate::object_rows::tell_object;
+use crate::object_rows::list_object;
 use crate::open_objects::OpenObjects;
 use crate::reference_names::ReferenceNames;
 use crate::search_scope::{SearchScope, index_at};
@@ -68,7 +68,7 @@ impl<W: Sink> DependencyWalk<'_, '_, W> {
             self.old.search.account.left self.new.search.account.left }
     {
         let mut used = UsedObjects::none();
-        let among = SearchScope {
+        let scope = SearchScope {
             indexes: &opened.indexes,
             known: &self.objects,
             lines: self.lines,
@@ -76,7 +76,7 @@ impl<W: Sink> DependencyWalk<'_, '_, W> {
         let left = &mut self.search.account.left;
         match mark_used(
             &mut opened.objects,
-            &among,
+            &scope,
             &mut self.store,
             left,
             &mut used,
@@ -115,9 +115,9 @@ impl<W: Sink> DependencyWalk<'_, '_, W> {
             if !known.found || used.has(index) {
                 continue;
             }
-            let path = objects.path(&known);
+            let path = objects.path_of(&known);
             let (state, lines) = (ObjectState::Unused, self.lines);
-            tell_object(index, known.needer, state, path, lines, &mut self.out).map_err(
+            list_object(index, known.needer, state, path, lines, &mut self.out).map_err(
                 NeedsFault::Out,
             )?;
         }
@@ -133,23 +133,23 @@ impl<W: Sink> DependencyWalk<'_, '_, W> {
 /// exhausted.
 fn mark_used<S: Source>(
     objects: &mut [LookupObject<S>],
-    among: &SearchScope<'_>,
+    scope: &SearchScope<'_>,
     store: &mut HeaderStore<'_>,
     left: &mut Option<u64>,
     used: &mut UsedObjects,
 ) -> Result<(), Fault>
     ensures { AsksAll objects.old objects.new left.old left.new }
 {
-    if among.indexes.first() != Some(&0) {
+    if scope.indexes.first() != Some(&0) {
         return Ok(());
     }
     if objects.is_empty() {
         return Ok(());
     }
     let mut names = ReferenceNames::new();
-    mark_bound(objects, among, &mut names, left, used)?;
+    mark_bound(objects, scope, &mut names, left, used)?;
     match objects[0].relocations(left, store)? {
-        Some(entries) => mark_copied(objects, among, entries, &mut names, left, used),
+        Some(entries) => mark_copied(objects, scope, entries, &mut names, left, used),
         None => Ok(()),
     }
 }
@@ -160,7 +160,7 @@ fn mark_used<S: Source>(
 /// A fault of a symbol of the program; a read failed; or the budget is exhausted.
 fn mark_bound<S: Source>(
     objects: &mut [LookupObject<S>],
-    among: &SearchScope<'_>,
+    scope: &SearchScope<'_>,
     names: &mut ReferenceNames,
     left: &mut Option<u64>,
     used: &mut UsedObjects,
@@ -172,7 +172,7 @@ fn mark_bound<S: Source>(
     for symbol in 1..count {
         let at = DefinitionAt { place: 0, symbol };
         if let Some(BindingState::Bound { object, .. }) = item_of(
-            objects, among, at, names, left,
+            objects, scope, at, names, left,
         )? {
             used.mark(object);
         }
@@ -187,7 +187,7 @@ fn mark_bound<S: Source>(
 /// A fault of such a symbol; a read failed; or the budget is exhausted.
 fn mark_copied<S: Source>(
     objects: &mut [LookupObject<S>],
-    among: &SearchScope<'_>,
+    scope: &SearchScope<'_>,
     entries: Names,
     names: &mut ReferenceNames,
     left: &mut Option<u64>,
@@ -205,7 +205,7 @@ fn mark_copied<S: Source>(
             continue;
         }
         if let Some(object) = copied_from(objects, names, left)? {
-            used.mark(index_at(among.indexes, object));
+            used.mark(index_at(scope.indexes, object));
         }
     }
     Ok(())
