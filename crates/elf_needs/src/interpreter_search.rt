@@ -217,7 +217,10 @@ impl<W: Sink> DependencyWalk<'_, '_, W> {
                 self.status = 1;
                 show_refusal(refusal, self.lines.format, &mut self.out)
             }
-            ObjectState::Found | ObjectState::Missing | ObjectState::Refused(_) => {
+            ObjectState::Found
+            | ObjectState::Missing
+            | ObjectState::Refused(_)
+            | ObjectState::Unused => {
                 if !interpreter.is_found {
                     self.status = 1;
                 } else if self.lines.problems {

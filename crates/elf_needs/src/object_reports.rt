@@ -147,6 +147,6 @@ pub(crate) fn found_identity(
 ) -> Option<FileIdentity> {
     match state {
         ObjectState::Found => file,
-        ObjectState::Missing | ObjectState::Refused(_) => None,
+        ObjectState::Missing | ObjectState::Refused(_) | ObjectState::Unused => None,
     }
 }
