@@ -131,6 +131,18 @@ class Links:
         raise Refused(at, "unmapped")
 
 
+def is_listed(content):
+    """Whether a file among many has lines: an ELF64 file that a loader takes, or whose headers are refused."""
+    if content[:5] != b"\x7fELF\2":
+        return False
+    try:
+        content = BySegments(content, TEXT_BYTES).content
+    except Refused:
+        return True
+    kind, = struct.unpack_from("<H", content, 16)
+    return kind in (EXEC, DYN) and any(header[0] == DYNAMIC for _, header in segments_of(content))
+
+
 def machine_of(content):
     return struct.unpack_from("<H", content, 18)[0]
 
