@@ -78,8 +78,9 @@ impl<W: Sink> DependencyWalk<'_, '_, W> {
             × (self.new.objects.paths ≡ with_text old self.new.search.path.items)
             × (index ≡ length old.texts)) }
     {
+        let root = self.search.folders.root;
         let name = self.objects.path(name);
-        if !named_path(&mut self.search.path, self.search.folders.root, name) {
+        if !named_path(&mut self.search.path, root, name) {
             return None;
         }
         self.objects.keep_path(&self.search.path)
@@ -109,7 +110,8 @@ impl<W: Sink> DependencyWalk<'_, '_, W> {
         if !attributes.is_executable {
             return Ok(missing());
         }
-        let report = match file.interprets(&mut self.search.account, self.search.machine) {
+        let machine = self.search.machine;
+        let report = match file.interprets(&mut self.search.account, machine) {
             Ok(true) => self.read(file)?,
             Ok(false) => return Ok(missing()),
             Err(Fault::Refused(refusal)) => report_alone(ObjectState::Refused(refusal)),
@@ -139,11 +141,8 @@ impl<W: Sink> DependencyWalk<'_, '_, W> {
         let Some(interpreter) = self.objects.interpreter else {
             return self.add_alone(by, need, ObjectState::Missing);
         };
-        if let Some(known) = interpreter.object {
+        if let Some(known) = self.objects.interpreter_object() {
             return self.add_name(by, need, known);
-        }
-        if !interpreter.is_found {
-            return self.add_alone(by, need, interpreter.report.state);
         }
         if self.objects.len() >= MOST_OBJECTS {
             return self.end_objects(need.at);
