@@ -8,6 +8,8 @@ pub mod OnLinks
 pub mod LinkLaws
 pub mod LoopLaws
 pub mod ReadingLaws
+pub mod LibraryLaws
+pub mod FitLaws
 pub mod BindLaws
 pub mod DefinerLaws
 pub mod KeptLaws

@@ -4,6 +4,7 @@ pub mod WorkedPaths
 pub mod Held
 pub mod Entries
 pub mod Reading
+pub mod Fits
 pub mod WorkedLinks
 pub mod Binds
 pub mod Definers

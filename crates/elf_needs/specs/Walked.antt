@@ -1,5 +1,6 @@
 -- What becomes of an object that is read.
-use Rattle.std.specs.Prelude.{ℕ, None}
+use Rattle.std.specs.Prelude.{ℕ}
+use Rattle.elf_needs.specs.Entries.{no_info}
 use Rattle.elf_needs.specs.declared.states.ObjectState.{ObjectState}
 use Rattle.elf_needs.specs.declared.states.ObjectState.TheVariants.{Found, Missing, Refused}
 use Rattle.elf_needs.specs.declared.object_reports.ObjectReport.{ObjectReport}
@@ -12,4 +13,4 @@ status_with (Refused refusal) status = 1
 
 -- the report of an object of which nothing but its state is known
 abbrev pub report_alone : ObjectState → ObjectReport
-report_alone state = record { state = state; links = record { soname = None; rpath = None; runpath = None }; needs = 0; needs_end = 0 }
+report_alone state = record { state = state; links = no_info; needs = 0; needs_end = 0 }

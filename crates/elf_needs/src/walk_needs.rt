@@ -3,14 +3,16 @@ ghost use Rattle.std.specs.Prelude.{◌≡◌};
 ghost use Rattle.elf_needs.specs.Budget.{AsksFiles};
 
 use crate::cached_source::CachedSource;
+use crate::candidates::SearchEnd;
 use crate::known_object::{KnownObject, MOST_OBJECTS};
 use crate::links::NeededLibrary;
-use crate::object_file::ObjectFile;
+use crate::object_file::{ObjectFile, ObjectRole};
 use crate::object_reports::report_alone;
 use crate::object_rows::{show_object, show_too_many, show_too_many_paths};
 use crate::open_objects::OpenObjects;
 use crate::states::ObjectState;
 use crate::walk::{DependencyWalk, NeedsFault, OpenFiles};
+use elf_record::Refusal;
 use elf_source::{Sink, Source};
 use std::os::unix::fs::FileExt;
 use std::rt::Files;
@@ -76,12 +78,14 @@ impl<W: Sink> DependencyWalk<'_, '_, W> {
     {
         let objects = &self.objects;
         let name = objects.links.text(need.name);
-        let found = self.search.find(rt, objects, needer, name)?;
+        let found = self.search.find(rt, objects, needer, name);
         let by = u16::try_from(index).ok();
         match found {
-            None if self.search.tries.is_over => self.end_tries(need.at),
-            None => self.add_missing(by, need.name),
-            Some(file) => self.add_found(by, need.name, file, opened),
+            Ok(None) if self.search.tries.is_over => self.end_tries(need.at),
+            Ok(None) => self.add_missing(by, need.name),
+            Ok(Some(file)) => self.add_found(by, need.name, file, opened),
+            Err(SearchEnd::Refused(refusal)) => self.add_refused(by, need.name, refusal),
+            Err(SearchEnd::Failed(fault)) => Err(fault),
         }
     }
 
@@ -106,6 +110,25 @@ impl<W: Sink> DependencyWalk<'_, '_, W> {
         )
     }
 
+    /// Adds a library whose file at the path of the search is refused before it is read, and writes
+    /// its line.
+    fn add_refused(
+        &mut self,
+        by: Option<u16>,
+        name: u32,
+        refusal: Refusal,
+    ) -> Result<(), NeedsFault>
+        ensures account { self.new.search.account ≡ self.old.search.account }
+    {
+        let report = report_alone(ObjectState::Refused(refusal));
+        let path = self.objects.keep_path(&self.search.path);
+        let index = self.add(by, Some(name), path, &report);
+        let shown = &self.search.path;
+        show_object(index, by, report.state, shown, self.format, &mut self.out).map_err(
+            NeedsFault::Out,
+        )
+    }
+
     /// Reads a library that is found at the path of the search, adds it, and writes its line.
     fn add_found<S: Source + Drop>(
         &mut self,
@@ -118,9 +141,9 @@ impl<W: Sink> DependencyWalk<'_, '_, W> {
             self.old.search.account self.new.search.account }
     {
         let mut file = file;
-        let report = self.read(&mut file);
-        let report = self.keep(file, report, opened)?;
         let path = self.objects.keep_path(&self.search.path);
+        let report = self.read(&mut file, ObjectRole::Library, path);
+        let report = self.keep(file, report, opened)?;
         let index = self.add(by, Some(name), path, &report);
         show_object(
             index,

@@ -2,7 +2,7 @@
 ghost use Rattle.elf_needs.specs.Budget.{AsksFile, AsksFiles};
 
 use crate::cached_source::CachedSource;
-use crate::object_file::ObjectFile;
+use crate::object_file::{ObjectFile, ObjectRole};
 use crate::object_reports::ObjectReport;
 use crate::object_rows::show_object;
 use crate::open_objects::OpenObjects;
@@ -23,19 +23,20 @@ impl<W: Sink> DependencyWalk<'_, '_, W> {
             self.old.search.account self.new.search.account }
     {
         let mut file = ObjectFile::new(source);
-        let report = self.read_program(&mut file);
-        let report = self.keep(file, report, opened)?;
         let kept = self.objects.keep_path(real);
+        let report = self.read_program(&mut file, kept);
+        let report = self.keep(file, report, opened)?;
         self.add(None, None, kept, &report);
         show_object(0, None, report.state, path, self.format, &mut self.out).map_err(
             NeedsFault::Out,
         )
     }
 
-    /// Reads the machine of the program, and what it needs.
+    /// Reads the machine of the program at the path of an index, and what it needs.
     fn read_program<S: Source>(
         &mut self,
         file: &mut ObjectFile<S>,
+        path: Option<u32>,
     ) -> Result<ObjectReport, NeedsFault>
         ensures asks { AsksFile file.old file.new self.old.search.account self.new.search.account }
     {
@@ -45,6 +46,6 @@ impl<W: Sink> DependencyWalk<'_, '_, W> {
             Ok(None) | Err(Fault::Refused(_)) => {}
             Err(Fault::Source { .. }) => return Err(NeedsFault::Read),
         }
-        self.read(file)
+        self.read(file, ObjectRole::Program, path)
     }
 }

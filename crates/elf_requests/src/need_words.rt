@@ -10,10 +10,6 @@ use crate::checks::{NeedsRequest, ParsedCommand};
 use clap::ArgMatches;
 use elf_cli::{format_of, is_set, limits_of, text_of};
 
-/// The directories in which libraries are searched last, if no others are given.
-const DEFAULT_FOLDERS: &str =
-    "/lib/x86_64-linux-gnu:/usr/lib/x86_64-linux-gnu:/lib64:/usr/lib64:/lib:/usr/lib";
-
 /// Returns what `needs` with these arguments requests, or `None` if they request nothing.
 pub(crate) fn needs_asked<'a>(options: &ArgMatches<'a>) -> Option<ParsedCommand<'a>>
     ensures { ParsesTo (Some (codes "needs", rows_of (found_of options.now))) (Ok result) }
@@ -35,7 +31,7 @@ fn needs_of<'a>(options: &ArgMatches<'a>) -> Option<NeedsRequest<'a>>
     Some(NeedsRequest {
         file,
         library_path: text_or(options, "library-path", ""),
-        default: text_or(options, "default", DEFAULT_FOLDERS),
+        default: text_of(options, "default"),
         root: text_or(options, "root", ""),
         limits,
         format: format_of(options),

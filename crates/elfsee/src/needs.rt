@@ -7,7 +7,7 @@ use elf_cli::{
 };
 use elf_needs::{
     DependencyWalk, MOST_OBJECTS, NeedsBuffers, NeedsFault, NeedsOptions, OpenFiles, OpenObjects,
-    SearchDirs,
+    SearchDirs, default_dirs,
 };
 use elf_requests::NeedsRequest;
 use elf_source::{Out, OutFault, WriteSink, opened_path};
@@ -76,7 +76,11 @@ where
         Err(ending) => return Err(ending),
     };
     let out = Out::new(WriteSink::new(output));
-    let mut walk = DependencyWalk::new(&settings(asked), store, room, out);
+    let default = match asked.default {
+        Some(text) => text.as_bytes(),
+        None => default_dirs(rt, asked.root.as_bytes()),
+    };
+    let mut walk = DependencyWalk::new(&settings(asked, default), store, room, out);
     let listed = walk.list(
         rt,
         source,
@@ -93,10 +97,10 @@ where
     Ok(ending)
 }
 
-/// Returns the settings of a walk.
-fn settings<'a>(asked: &NeedsRequest<'a>) -> NeedsOptions<'a>
+/// Returns the settings of a walk, with the directories that are searched last.
+fn settings<'a>(asked: &NeedsRequest<'a>, default: &'a [u8]) -> NeedsOptions<'a>
     ensures library { result.folders.library.now ≡ asked.now.library_path.now }
-    ensures default { result.folders.default.now ≡ asked.now.default.now }
+    ensures default { result.folders.default.now ≡ default.now }
     ensures root { result.folders.root.now ≡ asked.now.root.now }
     ensures budget { result.budget ≡ asked.now.limits.budget }
     ensures format { result.format ≡ asked.now.format }
@@ -104,7 +108,7 @@ fn settings<'a>(asked: &NeedsRequest<'a>) -> NeedsOptions<'a>
     NeedsOptions {
         folders: SearchDirs {
             library: asked.library_path.as_bytes(),
-            default: asked.default.as_bytes(),
+            default,
             root: asked.root.as_bytes(),
         },
         budget: asked.limits.budget,
