@@ -5,6 +5,7 @@ pub mod Held
 pub mod Linked
 pub mod Entries
 pub mod Reading
+pub mod Fits
 pub mod WorkedLinks
 pub mod Binds
 pub mod Definers

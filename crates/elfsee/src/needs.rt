@@ -8,7 +8,7 @@ use elf_cli::{
 };
 use elf_needs::{
     DependencyWalk, LineOptions, Listed, MOST_OBJECTS, NeedsBuffers, NeedsFault, NeedsOptions,
-    OpenFiles, OpenObjects, SearchDirs,
+    OpenFiles, OpenObjects, SearchDirs, default_dirs,
 };
 use elf_requests::{NeedsRequest, PathArgs};
 use elf_source::{Out, OutFault, Sink, Source, WriteSink, opened_path};
@@ -111,7 +111,8 @@ where
         Err(ending) => return Err(ending),
     };
     let out = Out::new(WriteSink::new(output));
-    let mut walk = DependencyWalk::new(&settings(asked), store, room, out);
+    let default = last_dirs(rt, asked);
+    let mut walk = DependencyWalk::new(&settings(asked, default), store, room, out);
     let listed = walk.list(
         rt,
         source,
@@ -153,10 +154,18 @@ pub fn list_after<S: Source + Drop, W: Sink>(
     Ok(status)
 }
 
-/// Returns the settings of a walk.
-pub fn settings<'a>(asked: &NeedsRequest<'a>) -> NeedsOptions<'a>
+/// Returns the directories that are searched last: those that are given, or those of the system.
+pub fn last_dirs<'a, R: Files>(rt: &R, asked: &NeedsRequest<'a>) -> &'a [u8] {
+    match asked.default {
+        Some(text) => text.as_bytes(),
+        None => default_dirs(rt, asked.root.as_bytes()),
+    }
+}
+
+/// Returns the settings of a walk, with the directories that are searched last.
+pub fn settings<'a>(asked: &NeedsRequest<'a>, default: &'a [u8]) -> NeedsOptions<'a>
     ensures library { result.folders.library.now ≡ asked.now.library_path.now }
-    ensures default { result.folders.default.now ≡ asked.now.default.now }
+    ensures default { result.folders.default.now ≡ default.now }
     ensures root { result.folders.root.now ≡ asked.now.root.now }
     ensures budget { result.budget ≡ asked.now.limits.budget }
     ensures tries { result.tries ≡ unwrap_or asked.now.tries 100000 }
@@ -166,7 +175,7 @@ pub fn settings<'a>(asked: &NeedsRequest<'a>) -> NeedsOptions<'a>
     NeedsOptions {
         folders: SearchDirs {
             library: asked.library_path.as_bytes(),
-            default: asked.default.as_bytes(),
+            default,
             root: asked.root.as_bytes(),
         },
         budget: asked.limits.budget,
