@@ -10,7 +10,7 @@ _elfsee_options() {
     list) set -- --headers --names --max-read --only --gnu --by-segments --json --versions --name --name-list --members --files0-from ;;
     find) set -- --headers --max-read --gnu --by-segments --json ;;
     apply) set -- --headers --max-read --layout --explain ;;
-    needs) set -- --headers --max-read --max-tries --library-path --default --root --symbols --problems --json --files0-from ;;
+    needs) set -- --headers --max-read --max-tries --library-path --default --root --symbols --unused --problems --json --files0-from ;;
     traits) set -- --headers --max-read --require --json --files0-from ;;
     *) set -- ;;
     esac

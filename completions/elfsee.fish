@@ -93,6 +93,7 @@ complete -c elfsee -n '__fish_seen_subcommand_from needs; and __elfsee_lacks --m
 complete -c elfsee -n '__fish_seen_subcommand_from needs; and __elfsee_lacks --library-path' -l library-path -x -d 'also search these directories for libraries'
 complete -c elfsee -n '__fish_seen_subcommand_from needs; and __elfsee_lacks --default' -l default -x -d 'search these directories last'
 complete -c elfsee -n '__fish_seen_subcommand_from needs; and __elfsee_lacks --symbols' -l symbols -d 'also print which object each symbol comes from'
+complete -c elfsee -n '__fish_seen_subcommand_from needs; and __elfsee_lacks --unused' -l unused -d 'also print which libraries the program names and uses nothing of'
 complete -c elfsee -n '__fish_seen_subcommand_from needs; and __elfsee_lacks --problems' -l problems -d 'print only the lines that make the status 1'
 complete -c elfsee -n '__fish_seen_subcommand_from needs; and __elfsee_lacks --root' -l root -r -F -d 'take each path that begins with a slash relative to a directory'
 complete -c elfsee -n '__fish_seen_subcommand_from check list; and __elfsee_lacks --members' -l members -d 'also read the members of archives'

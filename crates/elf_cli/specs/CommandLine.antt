@@ -139,12 +139,12 @@ abbrev with_search_options : App → App
 with_search_options command =
     with_rule (with_rule (with_rule (with_rule command max_tries_option) (valued (codes "library-path"))) (valued (codes "default"))) (valued (codes "root"))
 
--- whether the file that each symbol is bound to is printed too, and whether only lines that make
--- the status 1 are printed
+-- whether the file that each symbol is bound to is printed too, which libraries are not used, and
+-- whether only lines that make the status 1 are printed
 abbrev pub needs_command : App
 needs_command =
-    with_rule (with_rule (with_rule (with_rule (with_rule (with_search_options (with_reading_options (new_app (codes "needs")))) (flag (codes "symbols"))) (flag (codes "problems"))) json_option)
-    list_option) path_argument
+    with_rule (with_rule (with_rule (with_rule (with_rule (with_rule (with_search_options (with_reading_options (new_app (codes "needs")))) (flag (codes "symbols"))) (flag (codes "unused")))
+    (flag (codes "problems"))) json_option) list_option) path_argument
 
 abbrev pub archive_command : ArgWords → App
 archive_command parts = with_rule (with_chosen_rows parts (new_app (codes "archive"))) file_argument

@@ -157,7 +157,13 @@ pub(crate) const ROOT: ArgSpec = ArgSpec {
 pub(crate) const MAX_TRIES: ArgSpec = ArgSpec {
     name: "max-tries",
     kind: ArgKind::Number(ValueParser::Unsigned(0, 9_223_372_036_854_775_807)),
-    help: "Try at most N paths for a FILE: 0 to 9223372036854775807 [default: 100000]",
+    help: "Try at most N paths for a FILE: 0 to 9223372036854775807 [default: 100,000]",
+};
+
+pub(crate) const UNUSED: ArgSpec = ArgSpec {
+    name: "unused",
+    kind: ArgKind::Flag,
+    help: "Tell which libraries FILE names itself and uses nothing of, too",
 };
 
 pub(crate) const PROBLEMS: ArgSpec = ArgSpec {

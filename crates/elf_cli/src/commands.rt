@@ -13,7 +13,7 @@ ghost use Rattle.elf_cli.specs.CommandLine.{with_many_files, with_one_file, with
 use crate::arguments::{
     AS_LOADED, AS_LOADER, BINDINGS, BY_SEGMENTS, DEFAULT, EXPLAIN, FILE, GNU, HEADERS, INSIDE,
     ITEM, JSON, LAYOUT, LIBRARY_PATH, LIST, MAX_READ, MAX_TRIES, NAME, NAME_LIST, NAMES, ONLY,
-    PATH, PROBLEMS, REQUIRE, ROOT, ROW_NAME, SECTION, WITH_VERSIONS,
+    PATH, PROBLEMS, REQUIRE, ROOT, ROW_NAME, SECTION, UNUSED, WITH_VERSIONS,
 };
 use crate::builder::{CommandSpec, add_subcommands, clap_command_of, new_command, with_command};
 use crate::texts::{ABOUT, CHECKED, FOUND, HARDENED, ITEMS, LISTED, MEMBERS, MORE, NEEDED, SHOWN};
@@ -128,6 +128,7 @@ const NEEDS: CommandSpec = CommandSpec {
         DEFAULT,
         ROOT,
         BINDINGS,
+        UNUSED,
         PROBLEMS,
         JSON,
         LIST,

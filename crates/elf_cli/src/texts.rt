@@ -55,8 +55,9 @@ Options, before or after FILE; 'elfsee help COMMAND' prints those of one command
                 for needs: search these directories last, instead of those of a system
   --root DIR    for needs: take each path that begins with a slash relative to DIR
   --max-tries N for needs: try at most N paths for a FILE: 0 to 9223372036854775807
-                [default: 100000]
+                [default: 100,000]
   --symbols     for needs: also print which object each symbol comes from
+  --unused      for needs: also print which libraries FILE names itself and uses nothing of
   --problems    for needs: print only the lines that make the status 1
   --files0-from FILE
                 for check, list, traits and needs: also take the paths in FILE, each ended by
@@ -210,6 +211,9 @@ its name, with @ and its version if it needs one.
   nover    no object defines it, and the library of its version has no such version
   refused  the lookup ends at a fault of this object
 
+With --unused each library that the program names itself and uses nothing of has a line L again,
+after all others, with the state
+  unused   it defines no symbol that the program needs or copies
 Of several files, or a directory, each program and library has a line @ with its path before
 these lines; files and directories are visited as by check. With --problems only the lines that
 make the status 1 are printed.

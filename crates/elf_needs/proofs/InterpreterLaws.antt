@@ -50,19 +50,37 @@ module _ (file : List ℕ) (at : ℕ) where
     passes : (first_refusal early ≡ None) × (strings (p_offset file at) (p_filesz file at) ≡ path)
     passes = checked_passes early (strings (p_offset file at) (p_filesz file at)) path h
 
-    pub end_stops : (fault : Fault) → ReturnsRefusal (end_refusal file path at) (Err fault) → RefusesAs (interpreter_at file at) fault
-    end_stops (Refused refusal) tells = λ other.
-        path_fails refusal
-        (refused_back early late (Refused refusal) passes.0 (subst (λ (p : StringTableRange). end_refusal file p at ≡ Some refusal) (sym passes.1) (tells other)))
-    end_stops (Source fault offset) tells = tt
+    module _ (place : ℕ) (same : place ≡ at) where
+      stops_here : (fault : Fault) → ReturnsRefusal (end_refusal file path at) (Err fault) → RefusesAs (interpreter_at file at) fault
+      stops_here (Refused refusal) tells = λ other.
+          path_fails refusal
+          (refused_back early late (Refused refusal) passes.0 (subst (λ (p : StringTableRange). end_refusal file p at ≡ Some refusal) (sym passes.1) (tells other)))
+      stops_here (Source fault offset) tells = tt
 
-    pub path_tells : (name : List ℕ) (result : Result (Unit {0}) Fault) → end_refusal file path at ≡ None
-        → ReturnsWhole (whole_name (strings_in file path) 0 at) name result → ReturnsWhole (interpreter_at file at) name result
-    path_tells name result ends tells =
-        let back : first_refusal late ≡ None = subst (λ (p : StringTableRange). end_refusal file p at ≡ None) (sym passes.1) ends in
-        let whole : ReturnsWhole (whole_name (slice file (p_offset file at) (p_filesz file at)) 0 at) name result
-        = subst (λ (p : StringTableRange). ReturnsWhole (whole_name (strings_in file p) 0 at) name result) (sym passes.1) tells in
-        subst (λ (told : Result (List ℕ) Refusal). ReturnsWhole told name result) (sym (path_is (passed_both early late passes.0 back))) whole
+      pub end_stops : (fault : Fault) → ReturnsRefusal (end_refusal file path place) (Err fault) → RefusesAs (interpreter_at file at) fault
+      end_stops fault tells = stops_here fault (subst (λ (p : ℕ). ReturnsRefusal (end_refusal file path p) (Err fault)) same tells)
+
+      pub path_tells : (name : List ℕ) (result : Result (Unit {0}) Fault) → end_refusal file path place ≡ None
+          → ReturnsWhole (whole_name (strings_in file path) 0 place) name result → ReturnsWhole (interpreter_at file at) name result
+      path_tells name result ends tells =
+          let back : first_refusal late ≡ None
+          = subst (λ (p : StringTableRange). end_refusal file p at ≡ None) (sym passes.1) (subst (λ (p : ℕ). end_refusal file path p ≡ None) same ends) in
+          let here : ReturnsWhole (whole_name (strings_in file path) 0 at) name result = subst (λ (p : ℕ). ReturnsWhole (whole_name (strings_in file path) 0 p) name result) same tells in
+          let whole : ReturnsWhole (whole_name (slice file (p_offset file at) (p_filesz file at)) 0 at) name result
+          = subst (λ (p : StringTableRange). ReturnsWhole (whole_name (strings_in file p) 0 at) name result) (sym passes.1) here in
+          subst (λ (told : Result (List ℕ) Refusal). ReturnsWhole told name result) (sym (path_is (passed_both early late passes.0 back))) whole
+
+-- the last byte of a path, which is read
+module _ (file last : List ℕ) (path : StringTableRange) (place offset : ℕ) (is : last ≡ slice file offset 1) (ends : offset ≡ path.at + path.size - 1) where
+  last_is : field last 0 1 ≡ field file (path.at + path.size - 1) 1
+  last_is =
+      ap (λ (b : List ℕ). field b 0 1) is ∙ field-slice file offset 1 0 1 (omega arith) ∙ ap (λ (p : ℕ). field file p 1) (omega (arith, ends))
+
+  pub end_fails : (field last 0 1 == 0) ≡ false → end_refusal file path place ≡ Some (record { at = place; cause = NameUnended })
+  end_fails isnt = rw (sym (ap (λ (n : ℕ). n == 0) last_is) ∙ isnt) refl
+
+  pub end_passes : (field last 0 1 == 0) ≡ true → end_refusal file path place ≡ None
+  end_passes is_nul = rw (sym (ap (λ (n : ℕ). n == 0) last_is) ∙ is_nul) refl
 
 -- where a program header of a loaded file is
 pub place_is : (file : List ℕ) (loaded : LoadedFile) (store : StoreState) (i : ℕ) → HoldsProgramHeaders file loaded store → segment_place loaded.header i ≡ segment_at file i

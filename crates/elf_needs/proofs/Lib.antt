@@ -10,7 +10,10 @@ pub mod LinkLaws
 pub mod LinkedLaws
 pub mod LoopLaws
 pub mod ReadingLaws
+pub mod LibraryLaws
+pub mod FitLaws
 pub mod BindLaws
+pub mod CopiedLaws
 pub mod DefinerLaws
 pub mod KeptLaws
 pub mod LackLaws

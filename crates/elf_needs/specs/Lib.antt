@@ -6,6 +6,7 @@ pub mod Held
 pub mod Linked
 pub mod Entries
 pub mod Reading
+pub mod Fits
 pub mod WorkedLinks
 pub mod Binds
 pub mod Definers
@@ -19,6 +20,7 @@ pub mod Sought
 pub mod Interpreting
 pub mod Pages
 pub mod Bound
+pub mod Copied
 pub mod Requests
 pub mod Budget
 pub mod Called

@@ -6,9 +6,13 @@ use Rattle.elf_model.specs.declared.causes.Refusal.{Refusal}
 use Rattle.elf_table.specs.declared.fault.Fault.{Fault}
 use Rattle.elf_table.specs.declared.fault.Fault.TheVariants.{Refused, Source}
 
--- a loader links it: its type is EXEC or DYN, and it has a segment of dynamic entries
+-- a loader links files of a type
+abbrev pub is_linked_type : ℕ → Bool
+is_linked_type kind = kind == ET_EXEC || kind == ET_DYN
+
+-- it links a file: its type is EXEC or DYN, and it has a segment of dynamic entries
 abbrev pub is_linked : List ℕ → Bool
-is_linked file = (e_type file == ET_EXEC || e_type file == ET_DYN) && is_some (dynamic_segment_index file)
+is_linked file = is_linked_type (e_type file) && is_some (dynamic_segment_index file)
 
 -- the same, or the refusal of its headers, with this many of them allowed
 unfoldable pub linked_shown : List ℕ → (headers : ℕ) → Result Bool Refusal

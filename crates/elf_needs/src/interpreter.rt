@@ -1,8 +1,8 @@
 //! The interpreter that a file names, and which files can be one.
-ghost use Rattle.std.specs.Prelude.{◌≡◌, ◌<◌, ◌≤◌, ◌+◌, ◌*◌, ℕ, List, IfErr, IfOk};
+ghost use Rattle.std.specs.Prelude.{◌≡◌, ◌<◌, ◌≤◌, ◌==◌, ◌+◌, ◌*◌, ℕ, List, IfErr, IfOk};
 ghost use Rattle.elf_table.specs.Prelude.{CallDid, HoldsProgramHeaders, IsOfCheck, fault_of_result};
 ghost use Rattle.elf_record.specs.Phdr.{IsPhdr};
-ghost use Rattle.elf_model.specs.Prelude.{e_shnum, interpreter_at, interpreter_by_segments, interpreter_of, is_interpreter, loaded_interpreter, name_bytes, p_filesz, p_offset, segment_at};
+ghost use Rattle.elf_model.specs.Prelude.{e_shnum, field, interpreter_at, interpreter_by_segments, interpreter_of, is_interpreter, loaded_interpreter, name_bytes, p_filesz, p_offset, segment_at};
 ghost use Rattle.elf_model.specs.Interpreters.{INTERPRETER_BYTES};
 ghost use Rattle.elf_needs.specs.Interpreting.{ReturnsInterpreter, ReturnsIsInterpreter, ReturnsRefusal, end_refusal, interprets, path_range};
 ghost use Rattle.elf_needs.specs.Sought.{ReturnsWhole};
@@ -144,10 +144,17 @@ fn check_end<S: Source>(src: &mut Counted<S>, path: Names, place: u64) -> Result
 {
     let mut last = [0; 1];
     fill(src, path.at() + (path.size() - 1), &mut last)?;
-    if byte_at(&last, 0) != 0 {
+    if !is_nul(&last) {
         return refused(place, Cause::NameUnended);
     }
     Ok(())
+}
+
+/// Returns whether a byte is a NUL.
+fn is_nul(byte: &[u8; 1]) -> bool
+    ensures { result ≡ (field byte.now 0 1 == 0) }
+{
+    byte_at(byte, 0) == 0
 }
 
 /// Returns whether a file can be the interpreter of a program of a machine: it is of 64 bits,

@@ -4,14 +4,14 @@ ghost use Rattle.elf_needs.specs.Budget.{AsksClosed, AsksFile, AsksFiles};
 ghost use Rattle.elf_needs.specs.Held.{with_text};
 ghost use Rattle.elf_needs.specs.Searching.{if_short, root_before};
 
-use crate::candidates::opened_at;
+use crate::candidates::{SearchEnd, opened_at};
 use crate::faults::is_budget_fault;
 use crate::file_identity::FileIdentity;
 use crate::interpreter_rows::show_interpreter;
 use crate::known_interpreter::Interpreter;
 use crate::known_object::MOST_OBJECTS;
 use crate::links::NeededLibrary;
-use crate::object_file::ObjectFile;
+use crate::object_file::{ObjectFile, ObjectRole};
 use crate::object_reports::{ObjectPlace, ObjectReport, found_identity, report_alone};
 use crate::object_rows::list_object;
 use crate::paths::named_path;
@@ -52,9 +52,10 @@ impl<W: Sink> DependencyWalk<'_, '_, W> {
         let Some(path) = self.keep_interpreter_path(interpreter.name) else {
             return Ok(());
         };
-        let read = match opened_at(rt, &self.search.path)? {
-            Some(file) => self.read_found(file)?,
-            None => missing(),
+        let read = match opened_at(rt, &self.search.path) {
+            Ok(Some(file)) => self.read_found(file, path)?,
+            Ok(None) | Err(SearchEnd::Refused(_)) => missing(),
+            Err(SearchEnd::Failed(fault)) => return Err(fault),
         };
         self.objects.interpreter = Some(Interpreter {
             name: interpreter.name,
@@ -78,8 +79,9 @@ impl<W: Sink> DependencyWalk<'_, '_, W> {
             × (self.new.objects.paths ≡ with_text old self.new.search.path.items)
             × (index ≡ length old.texts)) }
     {
+        let root = self.search.folders.root;
         let name = self.objects.path(name);
-        if !named_path(&mut self.search.path, self.search.folders.root, name) {
+        if !named_path(&mut self.search.path, root, name) {
             return None;
         }
         self.objects.keep_path(&self.search.path)
@@ -89,11 +91,12 @@ impl<W: Sink> DependencyWalk<'_, '_, W> {
     fn read_found<S: Source + Drop>(
         &mut self,
         file: ObjectFile<S>,
+        path: u32,
     ) -> Result<InterpreterRead, NeedsFault>
         ensures asks { AsksClosed file.asked self.old.search.account self.new.search.account }
     {
         let mut file = file;
-        let read = self.read_opened(&mut file);
+        let read = self.read_opened(&mut file, path);
         let _ = file.close(&mut self.search.account);
         read
     }
@@ -102,6 +105,7 @@ impl<W: Sink> DependencyWalk<'_, '_, W> {
     fn read_opened<S: Source>(
         &mut self,
         file: &mut ObjectFile<S>,
+        path: u32,
     ) -> Result<InterpreterRead, NeedsFault>
         ensures asks { AsksFile file.old file.new self.old.search.account self.new.search.account }
     {
@@ -109,8 +113,9 @@ impl<W: Sink> DependencyWalk<'_, '_, W> {
         if !attributes.is_executable {
             return Ok(missing());
         }
-        let report = match file.interprets(&mut self.search.account, self.search.machine) {
-            Ok(true) => self.read(file)?,
+        let machine = self.search.machine;
+        let report = match file.interprets(&mut self.search.account, machine) {
+            Ok(true) => self.read(file, ObjectRole::Library, Some(path))?,
             Ok(false) => return Ok(missing()),
             Err(Fault::Refused(refusal)) => report_alone(ObjectState::Refused(refusal)),
             Err(Fault::Source { .. }) => return Err(NeedsFault::Read),
@@ -139,11 +144,8 @@ impl<W: Sink> DependencyWalk<'_, '_, W> {
         let Some(interpreter) = self.objects.interpreter else {
             return self.add_alone(by, need, ObjectState::Missing);
         };
-        if let Some(known) = interpreter.object {
+        if let Some(known) = self.objects.interpreter_object() {
             return self.add_name(by, need, known);
-        }
-        if !interpreter.is_found {
-            return self.add_alone(by, need, interpreter.report.state);
         }
         if self.objects.len() >= MOST_OBJECTS {
             return self.end_objects(need.at);
@@ -169,9 +171,11 @@ impl<W: Sink> DependencyWalk<'_, '_, W> {
         if !matches!(report.state, ObjectState::Found) {
             return Ok(report);
         }
-        match opened_at(rt, self.objects.path(interpreter.path))? {
-            Some(file) => self.keep(file, Ok(report), opened),
-            None => Ok(report_alone(ObjectState::Missing)),
+        match opened_at(rt, self.objects.path(interpreter.path)) {
+            Ok(Some(file)) => self.keep(file, Ok(report), opened),
+            Ok(None) => Ok(report_alone(ObjectState::Missing)),
+            Err(SearchEnd::Refused(refusal)) => Ok(report_alone(ObjectState::Refused(refusal))),
+            Err(SearchEnd::Failed(fault)) => Err(fault),
         }
     }
 
@@ -217,7 +221,10 @@ impl<W: Sink> DependencyWalk<'_, '_, W> {
                 self.status = 1;
                 show_refusal(refusal, self.lines.format, &mut self.out)
             }
-            ObjectState::Found | ObjectState::Missing | ObjectState::Refused(_) => {
+            ObjectState::Found
+            | ObjectState::Missing
+            | ObjectState::Refused(_)
+            | ObjectState::Unused => {
                 if !interpreter.is_found {
                     self.status = 1;
                 } else if self.lines.problems {

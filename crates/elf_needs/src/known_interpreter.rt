@@ -1,6 +1,6 @@
 //! The program's interpreter among its objects.
 ghost use Rattle.std.specs.Prelude.{◌≡◌, [], slice_index_or};
-ghost use Rattle.elf_needs.specs.Called.{is_interpreter_file, is_interpreter_name};
+ghost use Rattle.elf_needs.specs.Called.{interpreter_object, is_interpreter_file, is_interpreter_name};
 
 use crate::file_identity::{FileIdentity, is_file};
 use crate::known_object::{ObjectList, is_text};
@@ -49,15 +49,16 @@ impl ObjectList {
         self.paths.get(index)
     }
 
-    /// Returns `true` if a name is the path of the interpreter, as the program has it, or its
-    /// DT_SONAME.
+    /// Returns `true` if a name is that of the interpreter, if it is found: its path, as the program
+    /// has it, or its DT_SONAME.
     pub(crate) fn is_interpreter_name(&self, name: &[u8]) -> bool
         ensures { result ≡ is_interpreter_name self.now name.now }
     {
         match &self.interpreter {
             Some(interpreter) => {
-                is_text(Some(self.paths.get(interpreter.name)), name)
-                    || is_text(self.text(interpreter.report.links.soname), name)
+                interpreter.is_found
+                    && (is_text(Some(self.paths.get(interpreter.name)), name)
+                        || is_text(self.text(interpreter.report.links.soname), name))
             }
             None => false,
         }
@@ -74,10 +75,15 @@ impl ObjectList {
     }
 
     /// Returns the index of the object that the interpreter is, if it is one.
-    pub(crate) fn interpreter_object(&self) -> Option<u16> {
-        match &self.interpreter {
-            Some(interpreter) => interpreter.object,
-            None => None,
+    pub(crate) fn interpreter_object(&self) -> Option<u16>
+        ensures { result ≡ interpreter_object self.now }
+    {
+        let Some(interpreter) = &self.interpreter else {
+            return None;
+        };
+        match interpreter.object {
+            Some(object) => Some(object),
+            None => self.with_file(interpreter.file),
         }
     }
 }

@@ -1,7 +1,7 @@
 //! The objects that are known so far.
 ghost use Rattle.std.specs.Prelude.{◌≡◌, ◌++◌, ◌∷◌, [], IfSome, is_some, length, option_map, position, slice_get, true};
 ghost use Rattle.elf_needs.specs.Held.{with_text};
-ghost use Rattle.elf_needs.specs.Called.{HoldsNothing, IsDirOfObject, alias_of, called_by, first_called, is_alias, is_called, is_text, index_by_short_name, object_by_file, text_told};
+ghost use Rattle.elf_needs.specs.Called.{HoldsNothing, IsDirOfObject, alias_of, aliased, called_by, first_called, is_alias, is_called, is_text, index_by_short_name, is_object_file, object_by_file, text_told};
 
 use crate::file_identity::{FileIdentity, is_file};
 use crate::known_interpreter::Interpreter;
@@ -35,6 +35,8 @@ pub(crate) struct KnownObject {
     pub path: Option<u32>,
     /// Which file it is, if it is found and that is known.
     pub file: Option<FileIdentity>,
+    /// Whether it was found, and is not refused.
+    pub found: bool,
     /// What its dynamic entries give.
     pub links: LinkInfo,
     /// The first of its needs, and the one after its last.
@@ -154,11 +156,27 @@ impl ObjectList {
         }
     }
 
+    /// Returns the path of an object, or its name if its path is not stored.
+    pub(crate) fn path_of(&self, known: &KnownObject) -> &[u8] {
+        match (known.path, known.name) {
+            (Some(path), _) => self.paths.get(path),
+            (None, Some(name)) => self.links.text(name),
+            (None, None) => b"",
+        }
+    }
+
     /// Returns the directory of an object, which replaces `$ORIGIN`.
     pub(crate) fn folder(&self, known: &KnownObject) -> &[u8]
         ensures { IsDirOfObject self.now.paths.texts known.now.path result.now }
     {
-        match known.path {
+        self.folder_of(known.path)
+    }
+
+    /// Returns the directory of the path at an index.
+    pub(crate) fn folder_of(&self, path: Option<u32>) -> &[u8]
+        ensures { IsDirOfObject self.now.paths.texts path result.now }
+    {
+        match path {
             Some(path) => dir_of_path(self.paths.get(path)),
             None => b".",
         }
@@ -182,12 +200,27 @@ impl ObjectList {
     pub(crate) fn with_file(&self, file: Option<FileIdentity>) -> Option<u16>
         ensures { result ≡ object_by_file self.now file }
     {
-        let file = file?;
-        index_by_short_name(
-            self.known
-                .iter()
-                .position(|known| is_file(known.file, file)),
-        )
+        match file {
+            Some(file) => index_by_short_name(self.position_by_file(file)),
+            None => None,
+        }
+    }
+
+    /// Returns the position of the first object that is a file.
+    fn position_by_file(&self, file: FileIdentity) -> Option<usize>
+        ensures { result ≡ position (is_object_file file) self.now.known.items }
+    {
+        self.known
+            .iter()
+            .position(|known| is_object_file(known, file))
+    }
+
+    /// Returns the directory of the program, which replaces `$ORIGIN` in a library path.
+    pub(crate) fn program_folder(&self) -> &[u8] {
+        match self.known.first() {
+            Some(program) => self.folder(program),
+            None => b".",
+        }
     }
 
     /// Returns `true` if an object has a name: it was needed by it, or it is its DT_SONAME, or one
@@ -209,26 +242,57 @@ impl ObjectList {
     fn first_called(&self, name: &[u8]) -> Option<usize>
         ensures { result ≡ first_called self.now name.now }
     {
-        if let Some(object) = self.alias_of(name) {
-            return Some(usize::from(object));
+        match self.alias_of(name) {
+            Some(object) => Some(usize::from(object)),
+            None => self.first_named(name),
         }
-        self.known
-            .iter()
-            .position(|known| self.is_called(known, name))
     }
 
     /// Returns the index of the object of which a name is one more.
     fn alias_of(&self, name: &[u8]) -> Option<u16>
         ensures { result ≡ alias_of self.now name.now }
     {
-        let place = self
-            .aliases
-            .iter()
-            .position(|alias| is_text(self.text(Some(alias.name)), name))?;
+        match self.first_alias(name) {
+            Some(place) => self.aliased(place),
+            None => None,
+        }
+    }
+
+    /// Returns the object of one more name, by its position.
+    fn aliased(&self, place: usize) -> Option<u16>
+        ensures { result ≡ aliased self.now.aliases.items place }
+    {
         match self.aliases.get(place) {
             Some(alias) => Some(alias.object),
             None => None,
         }
+    }
+
+    /// Returns the position of the first of more names that is a name.
+    fn first_alias(&self, name: &[u8]) -> Option<usize>
+        ensures { result
+            ≡ position (is_alias self.now.links.held.texts name.now) self.now.aliases.items }
+    {
+        self.aliases
+            .iter()
+            .position(|alias| self.is_alias(alias, name))
+    }
+
+    /// Returns `true` if one of more names is a name.
+    fn is_alias(&self, alias: &ObjectAlias, name: &[u8]) -> bool
+        ensures { result ≡ is_alias self.now.links.held.texts name.now alias.now }
+    {
+        is_text(self.text(Some(alias.name)), name)
+    }
+
+    /// Returns the position of the first object that was needed by a name or has it.
+    fn first_named(&self, name: &[u8]) -> Option<usize>
+        ensures { result
+            ≡ position (is_called self.now.links.held.texts name.now) self.now.known.items }
+    {
+        self.known
+            .iter()
+            .position(|known| self.is_called(known, name))
     }
 
     /// Returns `true` if one object has a name.
@@ -237,6 +301,13 @@ impl ObjectList {
     {
         is_text(self.text(known.name), name) || is_text(self.text(known.links.soname), name)
     }
+}
+
+/// Returns `true` if an object is a file.
+fn is_object_file(known: &KnownObject, file: FileIdentity) -> bool
+    ensures { result ≡ is_object_file file known.now }
+{
+    is_file(known.file, file)
 }
 
 /// Returns an index of 16 bits, if it is one.

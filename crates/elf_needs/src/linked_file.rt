@@ -2,7 +2,7 @@
 ghost use Rattle.std.specs.Prelude.{◌≡◌, ◌+◌, ◌*◌, ◌<◌, ◌^◌, ℕ, List};
 ghost use Rattle.elf_table.specs.Prelude.{CallDid, HoldsProgramHeaders, fault_of_result};
 ghost use Rattle.elf_model.specs.Prelude.{e_shnum};
-ghost use Rattle.elf_needs.specs.Linked.{ReturnsLinked, is_linked, linked_file, linked_shown};
+ghost use Rattle.elf_needs.specs.Linked.{ReturnsLinked, is_linked, is_linked_type, linked_file, linked_shown};
 
 use elf_hash::load_by_segments;
 use elf_record::numbers::{ET_DYN, ET_EXEC, PT_DYNAMIC};
@@ -44,6 +44,12 @@ fn is_linked_view(view: &ExecutionView<'_>) -> bool
     ensures { (file : List ℕ) → HoldsProgramHeaders file view.now.loaded view.now.store.now →
         result ≡ is_linked file }
 {
-    let kind = view.loaded.header().e_type;
-    (kind == ET_EXEC || kind == ET_DYN) && view.first_segment(PT_DYNAMIC).is_some()
+    is_linked_type(view.loaded.header().e_type) && view.first_segment(PT_DYNAMIC).is_some()
+}
+
+/// Returns `true` if a loader links files of a type.
+fn is_linked_type(kind: u16) -> bool
+    ensures { result ≡ is_linked_type kind }
+{
+    kind == ET_EXEC || kind == ET_DYN
 }

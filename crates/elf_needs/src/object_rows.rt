@@ -44,7 +44,7 @@ fn file_state(state: ObjectState) -> FileStatus
 {
     match state {
         ObjectState::Refused(refusal) => FileStatus::Refused(refusal),
-        ObjectState::Found | ObjectState::Missing => FileStatus::Ok,
+        ObjectState::Found | ObjectState::Missing | ObjectState::Unused => FileStatus::Ok,
     }
 }
 
@@ -58,6 +58,7 @@ fn object_state_name(state: ObjectState) -> &'static str
         ObjectState::Found => "found",
         ObjectState::Missing => "missing",
         ObjectState::Refused(_) => "refused",
+        ObjectState::Unused => "unused",
     }
 }
 
@@ -103,7 +104,7 @@ pub(crate) fn list_object<W: Sink>(
     ensures puts { OutPuts out.old out.new result (listed_object lines index needer state path.now) }
 {
     match state {
-        ObjectState::Found if lines.problems => out.put(b""),
+        ObjectState::Found | ObjectState::Unused if lines.problems => out.put(b""),
         _ => show_object(index, needer, state, path, lines.format, out),
     }
 }

@@ -3,23 +3,23 @@ ghost use Rattle.std.specs.Prelude.{◌≡◌, ◌≤◌, length};
 ghost use Rattle.elf_needs.specs.Called.{above_of};
 ghost use Rattle.elf_needs.specs.Budget.{AsksFound};
 
-use crate::candidates::{FileSource, candidate};
+use crate::candidates::{FileSource, SearchEnd, candidate};
 use crate::known_object::{KnownObject, MOST_OBJECTS, ObjectList};
 use crate::library_search::LibrarySearch;
 use crate::needers::{NeedingObject, SearchPaths, gather_dirs};
 use crate::object_file::{ObjectFile, ReadAccount};
 use crate::path_budget::PathBudget;
 use crate::paths::{CandidatePath, named_path};
-use crate::walk::NeedsFault;
+use crate::search_path_list::SearchPathList;
 use memchr::memchr;
 use std::os::unix::fs::FileExt;
 use std::rt::Files;
 
-/// The directories given on a command line, each a colon-separated list, and the root that precedes
-/// each directory that begins with a slash.
+/// The directories given on a command line, each a list separated by colons, and the root that
+/// precedes each directory that begins with a slash.
 #[derive(Clone, Copy)]
 pub struct SearchDirs<'a> {
-    /// Those that come before an object's DT_RUNPATH.
+    /// Those that come before an object's DT_RUNPATH; semicolons separate them too.
     pub library: &'a [u8],
     /// Those that come last.
     pub default: &'a [u8],
@@ -48,7 +48,8 @@ impl Search<'_> {
     /// the stack of its caller would hold its lists while a file is read.
     ///
     /// # Errors
-    /// A read failed.
+    /// Why the search ended: a file on a path is refused, or a path cannot be opened for a fault of
+    /// the system.
     #[inline(never)]
     pub(crate) fn find<R: Files>(
         &mut self,
@@ -56,7 +57,7 @@ impl Search<'_> {
         objects: &ObjectList,
         needer: &KnownObject,
         name: &[u8],
-    ) -> Result<Option<ObjectFile<FileSource<R::File>>>, NeedsFault>
+    ) -> Result<Option<ObjectFile<FileSource<R::File>>>, SearchEnd>
     where
         R::File: FileExt,
         ensures asks { AsksFound self.old.account self.new.account result }
@@ -77,11 +78,14 @@ impl Search<'_> {
     }
 
     /// Tries paths, one after another.
+    ///
+    /// # Errors
+    /// Those of [`Search::find`].
     fn try_all<R: Files>(
         &mut self,
         rt: &R,
         search: LibrarySearch<'_>,
-    ) -> Result<Option<ObjectFile<FileSource<R::File>>>, NeedsFault>
+    ) -> Result<Option<ObjectFile<FileSource<R::File>>>, SearchEnd>
     where
         R::File: FileExt,
         ensures asks { AsksFound self.old.account self.new.account result }
@@ -115,7 +119,12 @@ fn gather<'a>(
 ) {
     let mut chain = [NeedingObject::default(); MOST_OBJECTS];
     let count = put_chain(objects, needer, &mut chain);
-    gather_dirs(&chain[..count], folders.library, folders.default, lists);
+    let library = SearchPathList {
+        text: folders.library,
+        separator: b';',
+        origin: Some(objects.program_folder()),
+    };
+    gather_dirs(&chain[..count], library, folders.default, lists);
 }
 
 /// Copies an object, the one that first needed it, and so on up to the program, up to the capacity,
@@ -133,6 +142,7 @@ fn put_chain<'a>(
             rpath: objects.text(known.links.rpath),
             runpath: objects.text(known.links.runpath),
             folder: objects.folder(&known),
+            nodeflib: known.links.has_nodeflib(),
         };
         let Some(above) = above(objects, &known) else {
             return place + 1;

@@ -139,8 +139,8 @@ pub struct NeedsRequest<'a> {
     pub files: PathArgs<'a>,
     /// The directories that are searched before those of DT_RUNPATH; empty if none are given.
     pub library_path: &'a str,
-    /// The directories that are searched last.
-    pub default: &'a str,
+    /// The directories that are searched last, if they are given.
+    pub default: Option<&'a str>,
     /// The root directory for paths that begin with a slash; empty if none is given.
     pub root: &'a str,
     /// How many headers of each file are allowed, and how many bytes of a program and all its
@@ -152,6 +152,8 @@ pub struct NeedsRequest<'a> {
     pub format: Format,
     /// Whether the file that each symbol is bound to is printed too.
     pub symbols: bool,
+    /// Whether the libraries are printed too that a program needs itself and does not use.
+    pub unused: bool,
     /// Whether only lines are written that make the status 1.
     pub problems: bool,
 }

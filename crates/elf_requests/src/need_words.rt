@@ -13,10 +13,6 @@ use clap::ArgMatches;
 use elf_cli::{RequestFault, format_of, is_set, limits_of, number_of, text_of};
 use std::alloc::{AllocError, Global};
 
-/// The directories in which libraries are searched last, if no others are given.
-const DEFAULT_FOLDERS: &str =
-    "/lib/x86_64-linux-gnu:/usr/lib/x86_64-linux-gnu:/lib64:/usr/lib64:/lib:/usr/lib";
-
 /// Returns what `needs` with these arguments requests, or `None` if there is neither a path nor a
 /// list of paths.
 ///
@@ -58,12 +54,13 @@ fn needing_of<'a>(options: &ArgMatches<'a>, files: PathArgs<'a>) -> Option<Needs
     Some(NeedsRequest {
         files,
         library_path: text_or(options, "library-path", ""),
-        default: text_or(options, "default", DEFAULT_FOLDERS),
+        default: text_of(options, "default"),
         root: text_or(options, "root", ""),
         limits,
         tries,
         format: format_of(options),
         symbols: is_set(options, "symbols"),
+        unused: is_set(options, "unused"),
         problems: is_set(options, "problems"),
     })
 }

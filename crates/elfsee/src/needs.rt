@@ -1,5 +1,5 @@
 //! What a program needs.
-ghost use Rattle.std.specs.Prelude.{◌≡◌, unwrap_or};
+ghost use Rattle.std.specs.Prelude.{◌≡◌, ◌||◌, if◌then◌else◌, unwrap_or};
 ghost use Rattle.elfsee.specs.Needs.{EndsNeeds};
 
 use crate::needs_of_files::list_needs_of_files;
@@ -7,11 +7,11 @@ use elf_cli::{
     CANNOT_OPEN, ExitLine, OUT_OF_MEMORY, OUTPUT_BYTES, READ_FAULT, RunEnd, end_run, open,
 };
 use elf_needs::{
-    DependencyWalk, LineOptions, MOST_OBJECTS, NeedsBuffers, NeedsFault, NeedsOptions, OpenFiles,
-    OpenObjects, RootedFiles, SearchDirs,
+    DependencyWalk, LineOptions, Listed, MOST_OBJECTS, NeedsBuffers, NeedsFault, NeedsOptions,
+    OpenFiles, OpenObjects, RootedFiles, SearchDirs, default_dirs,
 };
 use elf_requests::{NeedsRequest, PathArgs};
-use elf_source::{Out, OutFault, Sink, WriteSink, opened_path};
+use elf_source::{Out, OutFault, Sink, Source, WriteSink, opened_path};
 use elf_table::{HeaderBuffer, HeaderStore};
 use std::fs;
 use std::io::{self, BufWriter, ErrorKind, Input, Stderr, Write};
@@ -73,7 +73,8 @@ where
     let Ok(room) = NeedsBuffers::new(rt.alloc()) else {
         return Err(OUT_OF_MEMORY);
     };
-    let Ok(opened) = OpenObjects::new(rt.alloc(), MOST_OBJECTS, asked.symbols) else {
+    let Ok(opened) = OpenObjects::new(rt.alloc(), MOST_OBJECTS, asked.symbols || asked.unused)
+    else {
         return Err(OUT_OF_MEMORY);
     };
     let Ok(output) = BufWriter::with_capacity(rt.alloc(), OUTPUT_BYTES, io::writer(rt)) else {
@@ -111,7 +112,8 @@ where
         Err(ending) => return Err(ending),
     };
     let out = Out::new(WriteSink::new(output));
-    let mut walk = DependencyWalk::new(&settings(asked), store, room, out);
+    let default = last_dirs(rt, asked);
+    let mut walk = DependencyWalk::new(&settings(asked, default), store, room, out);
     let listed = walk.list(
         rt,
         source,
@@ -119,39 +121,52 @@ where
         real.as_str().as_bytes(),
         &mut opened,
     );
-    let listed = match listed {
-        Ok(all) if all.whole => list_links::<R, _>(&mut walk, asked.symbols, &mut opened),
-        Ok(some) => Ok(some.status),
-        Err(fault) => Err(fault),
-    };
+    let listed = list_after(&mut walk, listed, asked.symbols, asked.unused, &mut opened);
     let (ending, _output) = end_run(ended(listed), walk.into_out().into_inner().into_inner());
     Ok(ending)
 }
 
-/// Writes what follows the lines of all objects: the versions that they need and that are not there
-/// and, if symbols are requested, their bindings. Returns the exit status.
+/// Writes what follows the lines of the objects, if all are listed: the versions that they need and
+/// that are not there and, if requested, which object each symbol is bound to, and which libraries
+/// the program does not use. Returns the exit status.
 ///
 /// # Errors
-/// A read or the output failed.
-pub fn list_links<R: Files, W: Sink>(
+/// Those of listing the objects; a read or the output failed.
+pub fn list_after<S: Source + Drop, W: Sink>(
     walk: &mut DependencyWalk<'_, '_, W>,
+    listed: Result<Listed, NeedsFault>,
     symbols: bool,
-    opened: &mut OpenFiles<R::File>,
-) -> Result<u8, NeedsFault>
-where
-    R::File: FileExt,
-{
-    let checked = walk.check_versions(opened)?;
-    if symbols && checked.whole {
-        return walk.bind(opened);
+    unused: bool,
+    opened: &mut OpenObjects<S>,
+) -> Result<u8, NeedsFault> {
+    let Listed { status, whole } = listed?;
+    if !whole {
+        return Ok(status);
     }
-    Ok(checked.status)
+    let Listed { status, whole } = walk.check_versions(opened)?;
+    let status = if symbols && whole {
+        walk.bind(opened)?
+    } else {
+        status
+    };
+    if unused && whole {
+        return walk.list_unused(opened);
+    }
+    Ok(status)
 }
 
-/// Returns the settings of a walk.
-pub fn settings<'a>(asked: &NeedsRequest<'a>) -> NeedsOptions<'a>
+/// Returns the directories that are searched last: those that are given, or those of the system.
+pub fn last_dirs<'a, R: Files>(rt: &R, asked: &NeedsRequest<'a>) -> &'a [u8] {
+    match asked.default {
+        Some(text) => text.as_bytes(),
+        None => default_dirs(rt, asked.root.as_bytes()),
+    }
+}
+
+/// Returns the settings of a walk, with the directories that are searched last.
+pub fn settings<'a>(asked: &NeedsRequest<'a>, default: &'a [u8]) -> NeedsOptions<'a>
     ensures library { result.folders.library.now ≡ asked.now.library_path.now }
-    ensures default { result.folders.default.now ≡ asked.now.default.now }
+    ensures default { result.folders.default.now ≡ default.now }
     ensures root { result.folders.root.now ≡ asked.now.root.now }
     ensures budget { result.budget ≡ asked.now.limits.budget }
     ensures tries { result.tries ≡ unwrap_or asked.now.tries 100000 }
@@ -161,7 +176,7 @@ pub fn settings<'a>(asked: &NeedsRequest<'a>) -> NeedsOptions<'a>
     NeedsOptions {
         folders: SearchDirs {
             library: asked.library_path.as_bytes(),
-            default: asked.default.as_bytes(),
+            default,
             root: asked.root.as_bytes(),
         },
         budget: asked.limits.budget,

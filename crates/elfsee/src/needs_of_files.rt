@@ -3,7 +3,7 @@ ghost use Rattle.std.specs.Prelude.{◌≡◌, IfErr};
 ghost use Rattle.elfsee.specs.Ends.{EndsWithoutMemory};
 
 use crate::many::visit_files;
-use crate::needs::settings;
+use crate::needs::{last_dirs, settings};
 use crate::needs_report::{NeedsReport, NeedsRule};
 use elf_cli::{ExitLine, OUT_OF_MEMORY};
 use elf_needs::{MOST_OBJECTS, NeedsBuffers, OpenObjects};
@@ -34,24 +34,33 @@ where
     let Ok(room) = NeedsBuffers::new(rt.alloc()) else {
         return Err(OUT_OF_MEMORY);
     };
-    let Ok(opened) = OpenObjects::new(rt.alloc(), MOST_OBJECTS, asked.symbols) else {
+    let Ok(opened) = OpenObjects::new(rt.alloc(), MOST_OBJECTS, asked.symbols || asked.unused)
+    else {
         return Err(OUT_OF_MEMORY);
     };
-    let report = NeedsReport::new(rt, rule_of(asked), headers, (room, opened));
+    let report = NeedsReport::new(
+        rt,
+        rule_of(asked, last_dirs(rt, asked)),
+        headers,
+        (room, opened),
+    );
     let held = Vec::new(rt.alloc());
     visit_files(rt, &asked.files, report, held, asked.format, terminal)
 }
 
-/// Returns the rule by which a request lists the needs of each file.
-fn rule_of<'a>(asked: &NeedsRequest<'a>) -> NeedsRule<'a>
+/// Returns the rule by which a request lists the needs of each file, with the directories that are
+/// searched last.
+fn rule_of<'a>(asked: &NeedsRequest<'a>, default: &'a [u8]) -> NeedsRule<'a>
     ensures limits { result.limits ≡ asked.now.limits }
     ensures format { result.options.lines.format ≡ asked.now.format }
     ensures problems { result.options.lines.problems ≡ asked.now.problems }
     ensures symbols { result.symbols ≡ asked.now.symbols }
+    ensures unused { result.unused ≡ asked.now.unused }
 {
     NeedsRule {
         limits: asked.limits,
-        options: settings(asked),
+        options: settings(asked, default),
         symbols: asked.symbols,
+        unused: asked.unused,
     }
 }

@@ -1,7 +1,10 @@
 //! What a program among many needs, after the line of its path.
-ghost use Rattle.std.specs.Prelude.{◌≡◌, ◌-◌, ◌≤◌, ◌^◌, IfErr, IfOk};
+ghost use Rattle.std.specs.Prelude.{◌≡◌, ◌-◌, ◌≤◌, ◌^◌, ℕ, List, Some, option_map};
+ghost use Rattle.elf_needs.specs.Prelude.{ReturnsLinked, linked_file};
+ghost use Rattle.elf_walk.specs.Telling.{StandsWhole};
+ghost use Rattle.elfsee.specs.Needs.{AsksNoMore, is_of_other_type};
 
-use crate::needs::list_links;
+use crate::needs::list_after;
 use elf_cli::open;
 use elf_format::show_check;
 use elf_model::{Cause, FileStatus};
@@ -27,6 +30,8 @@ pub struct NeedsRule<'a> {
     pub options: NeedsOptions<'a>,
     /// Whether the file that each symbol is bound to is printed too.
     pub symbols: bool,
+    /// Whether the libraries are printed too that a program needs itself and does not use.
+    pub unused: bool,
 }
 
 /// A visitor that lists what each of many programs needs, after the line of its path. Its memory is
@@ -111,15 +116,13 @@ where
         let out = Out::new(HeadedSink::new(out, path.as_bytes(), format));
         let mut walk = DependencyWalk::new(&options, self.headers.store(), room, out);
         let (path, real) = (path.as_bytes(), real.as_str().as_bytes());
-        let listed = match walk.list(self.rt, source, path, real, &mut self.opened) {
-            Ok(all) if all.whole => list_links::<R, _>(
-                &mut walk,
-                self.rule.symbols,
-                &mut self.opened,
-            ),
-            Ok(some) => Ok(some.status),
-            Err(fault) => Err(fault),
-        };
+        let listed = walk.list(self.rt, source, path, real, &mut self.opened);
+        let NeedsRule {
+            symbols,
+            unused,
+            ..
+        } = self.rule;
+        let listed = list_after(&mut walk, listed, symbols, unused, &mut self.opened);
         self.opened.clear();
         self.room = Some(walk.into_room());
         listed
@@ -180,6 +183,7 @@ fn is_listed<S: Source>(
     limits: Limits,
 ) -> Result<bool, FileStatus>
     requires { src.old.asked ≤ 2 ^ 127 }
+    ensures asks { AsksNoMore limits.budget src.old src.new }
 {
     if src.length() < HEADER_BYTES {
         return match read_short_file_status(src, limits.budget) {
@@ -188,23 +192,44 @@ fn is_listed<S: Source>(
             state => Err(state),
         };
     }
-    src.limit(limits.budget);
-    let linked = is_linked(src, store);
-    src.limit(None);
-    match linked {
+    match is_linked_within(src, store, limits.budget) {
         Ok(linked) => Ok(linked),
         Err(Fault::Refused(refusal)) => Ok(!is_of_other_type(refusal.cause)),
         Err(Fault::Source { .. }) => Err(FileStatus::Unread),
     }
 }
 
+/// Checks whether a file is one that a loader links, as [`is_linked`] does, within a budget. On
+/// return no limit is set.
+///
+/// # Errors
+/// Those of [`is_linked`].
+fn is_linked_within<S: Source>(
+    src: &mut Counted<S>,
+    store: &mut HeaderStore,
+    budget: Option<u64>,
+) -> Result<bool, Fault>
+    ensures asks { AsksNoMore budget src.old src.new }
+    ensures known { (file : List ℕ) → src.old.seen.file ≡ Some file →
+        ReturnsLinked (linked_file file store.old.slots) result }
+{
+    src.limit(budget);
+    let linked = is_linked(src, store);
+    src.limit(None);
+    linked
+}
+
 /// Returns `true` if the headers of a file are refused because it is no ELF64 file.
-fn is_of_other_type(cause: Cause) -> bool {
+fn is_of_other_type(cause: Cause) -> bool
+    ensures { result ≡ is_of_other_type cause }
+{
     matches!(cause, Cause::NotElf | Cause::BadClass)
 }
 
 /// Returns what is left of a budget.
-fn budget_left(budget: Option<u64>, asked: u128) -> Option<u64> {
+fn budget_left(budget: Option<u64>, asked: u128) -> Option<u64>
+    ensures { result ≡ option_map (λ bytes. bytes - asked) budget }
+{
     match budget {
         None => None,
         Some(bytes) => Some(bytes.saturating_sub(u64::try_from(asked).unwrap_or(u64::MAX))),

@@ -16,7 +16,7 @@ returns-in_err-interpreter_at g c =
     let p = err_from_is_err_and c.from_residual.result c.from_residual.ensures.1 in
     rw (p.1, p.2)
     (CallDid-as _ (omega arith) c.in_err-interpreter_at.ensures
-    (λ file told costs views. named_stops file _ (sym (c.first_segment.ensures.first file views) ∙ c.in-Some.is) _ _ (told views)))
+    (λ file told costs views. named_stops file _ (sym (c.first_segment.ensures.first file views) ∙ c.in-Some.is) c.interpreter_at.new.path _ (told views)))
 
 pub returns : goal.returns
 returns g c =
