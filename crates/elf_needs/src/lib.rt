@@ -96,7 +96,7 @@ pub use root_path::{PathEntries, PathEntry, resolve};
 pub use rooted_files::RootedFiles;
 pub use search_dirs::SearchDirs;
 pub use search_path_list::SearchPathList;
-pub use states::ObjectState;
+pub use states::{FoundBy, ObjectRow, ObjectState};
 pub use system_dirs::default_dirs;
 pub use texts::StringArena;
 pub use tries::CandidatePaths;

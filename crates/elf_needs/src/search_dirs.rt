@@ -11,6 +11,7 @@ use crate::object_file::{ObjectFile, ReadAccount};
 use crate::path_budget::PathBudget;
 use crate::paths::{CandidatePath, named_path};
 use crate::search_path_list::SearchPathList;
+use crate::states::FoundBy;
 use memchr::memchr;
 use std::os::unix::fs::FileExt;
 use std::rt::Files;
@@ -36,6 +37,8 @@ pub(crate) struct Search<'s> {
     pub machine: u16,
     /// The path that is tried.
     pub path: CandidatePath,
+    /// How what is at that path was found.
+    pub found_by: FoundBy,
     /// What is left of the budget, and what was requested.
     pub account: ReadAccount,
     /// How many paths may still be tried.
@@ -44,7 +47,7 @@ pub(crate) struct Search<'s> {
 
 impl Search<'_> {
     /// Searches for the library with a name that an object needs. If it is found, its path is in
-    /// the search's; none is found if one more path would be tried than may be. It is not inlined:
+    /// the search's, and how it was found; none is found if one more path would be tried than may be. It is not inlined:
     /// the stack of its caller would hold its lists while a file is read.
     ///
     /// # Errors
@@ -64,6 +67,7 @@ impl Search<'_> {
         ensures few { self.new.tries.left ≤ self.old.tries.left }
     {
         if memchr(b'/', name).is_some() {
+            self.found_by = FoundBy::Path;
             if !self.tries.take() {
                 return Ok(None);
             }
@@ -93,6 +97,7 @@ impl Search<'_> {
     {
         let mut search = search;
         while search.next(&mut self.path, &mut self.tries) {
+            self.found_by = search.found_by();
             if let Some(found) = candidate(rt, &self.path, self.machine, &mut self.account)? {
                 return Ok(Some(found));
             }
@@ -123,6 +128,7 @@ fn gather<'a>(
         text: folders.library,
         separator: b';',
         origin: Some(objects.program_folder()),
+        found_by: FoundBy::LibraryPath,
     };
     gather_dirs(&chain[..count], library, folders.default, lists);
 }
