@@ -27,7 +27,7 @@ function __elfsee_plain_words
             set -a plain $word
         else if test "$word" = --
             set ended 1
-        else if contains -- $word --headers --names --max-read --only --name --name-list --layout --require --library-path --default --root --files0-from
+        else if contains -- $word --headers --names --max-read --only --name --name-list --layout --require --library-path --default --root --cache --files0-from
             set skip 1
         else if not string match -q -- '-*' $word
             set -a plain $word
@@ -93,6 +93,8 @@ complete -c elfsee -n '__fish_seen_subcommand_from needs; and __elfsee_lacks --l
 complete -c elfsee -n '__fish_seen_subcommand_from needs; and __elfsee_lacks --default' -l default -x -d 'look in these folders last'
 complete -c elfsee -n '__fish_seen_subcommand_from needs; and __elfsee_lacks --symbols' -l symbols -d 'tell from which object each symbol comes, too'
 complete -c elfsee -n '__fish_seen_subcommand_from needs; and __elfsee_lacks --root' -l root -r -F -d 'look below a folder for each path that begins with a slash'
+complete -c elfsee -n '__fish_seen_subcommand_from needs; and __elfsee_lacks --cache' -l cache -r -F -d "search the loader's cache FILE"
+complete -c elfsee -n '__fish_seen_subcommand_from needs; and __elfsee_lacks --no-cache' -l no-cache -d "search no loader's cache"
 complete -c elfsee -n '__fish_seen_subcommand_from check list; and __elfsee_lacks --members' -l members -d 'go into archives too'
 complete -c elfsee -n '__fish_seen_subcommand_from check list traits; and __elfsee_lacks --files0-from' -l files0-from -r -F -d 'take the paths in a file too, each ended by NUL'
 complete -c elfsee -n '__fish_seen_subcommand_from apply; and __elfsee_lacks --layout' -l layout -r -F -d 'take the items in a file too, one a line'

@@ -129,12 +129,12 @@ abbrev pub traits_command : App
 traits_command =
     with_rule (with_rule (with_rule (with_rule (with_reading_options (new_app (codes "traits"))) (valued (codes "require"))) json_option) list_option) path_argument
 
--- directories, separated by colons; the root directory of another system's files; and whether the
--- file that each symbol is bound to is printed too
+-- directories, separated by colons; the root directory of another system's files; a loader's cache,
+-- or none; and whether the file that each symbol is bound to is printed too
 abbrev pub needs_command : App
 needs_command =
-    with_rule (with_rule (with_rule (with_rule (with_rule (with_rule (with_reading_options (new_app (codes "needs"))) (valued (codes "library-path"))) (valued (codes "default")))
-    (valued (codes "root"))) (flag (codes "symbols"))) json_option) file_argument
+    with_rule (with_rule (with_rule (with_rule (with_rule (with_rule (with_rule (with_rule (with_reading_options (new_app (codes "needs"))) (valued (codes "library-path")))
+    (valued (codes "default"))) (valued (codes "root"))) (valued (codes "cache"))) (flag (codes "no-cache"))) (flag (codes "symbols"))) json_option) file_argument
 
 abbrev pub archive_command : ArgWords → App
 archive_command parts = with_rule (with_chosen_rows parts (new_app (codes "archive"))) file_argument

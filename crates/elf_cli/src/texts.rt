@@ -55,6 +55,8 @@ traits also --json, --require and --files0-from, needs also --json and those for
   --default DIRS
                 for needs only: look in these folders last, not in those of a system
   --root DIR    for needs only: look below DIR for each path that begins with a slash
+  --cache FILE  for needs only: search the loader's cache FILE, not /etc/ld.so.cache
+  --no-cache    for needs only: search no loader's cache
   --symbols     for needs only: tell from which object each symbol comes, too
   --files0-from FILE
                 for check, list and traits: take the paths in FILE too, each ended by NUL
@@ -185,9 +187,10 @@ where it is at fault and why, and its path. FILE is the object 0. Nothing is run
   found    it is read, and the libraries that it needs follow
   missing  no folder has it: the name in place of the path
   refused  its headers, its dynamic entries or what a lookup is made in is at fault
-A library is looked for in RPATH, --library-path, RUNPATH and --default, as a loader does it.
-DIRS are folders, separated by colons; without --default they are
+A library is looked for in RPATH, --library-path, RUNPATH, the loader's cache and --default, as a
+loader does it. DIRS are folders, separated by colons; without --default they are
 /lib/x86_64-linux-gnu:/usr/lib/x86_64-linux-gnu:/lib64:/usr/lib64:/lib:/usr/lib
+The cache is /etc/ld.so.cache below --root, or that of --cache; with --default there is none.
 
 With --symbols each symbol that an object needs has a line behind them: B, the object's index,
 the symbol's index, its state, the index of the object that defines it and of the symbol there,

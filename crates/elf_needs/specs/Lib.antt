@@ -18,6 +18,7 @@ pub mod Pages
 pub mod Bound
 pub mod Requests
 pub mod Budget
+pub mod Caches
 pub mod Called
 pub mod Walked
 pub mod ObjectLines

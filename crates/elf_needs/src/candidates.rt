@@ -1,5 +1,5 @@
 //! Files that may be the one that is searched for.
-ghost use Rattle.std.specs.Prelude.{◌≡◌, ℕ, List, if◌then◌else◌, Err, IfOk, IfSome, None, Ok, Some};
+ghost use Rattle.std.specs.Prelude.{◌≡◌, ℕ, List, if◌then◌else◌, Err, None, Ok, Some};
 ghost use Rattle.elf_needs.specs.Budget.{AsksFile, AsksFound};
 ghost use Rattle.elf_needs.specs.OpenFailures.{is_no_file};
 ghost use Rattle.elf_needs.specs.Reading.{ReturnsMachineFit};
@@ -34,9 +34,10 @@ where
     R::File: FileExt,
     ensures { AsksFound account.old account.new result }
 {
-    let Some(mut file) = opened(rt, path)? else {
+    let Some(source) = open_regular(rt, path)? else {
         return Ok(None);
     };
+    let mut file = ObjectFile::new(source);
     let fitting = fits(&mut file, machine, account);
     if matches!(fitting, Ok(true)) {
         return Ok(Some(file));
@@ -76,13 +77,12 @@ fn fits<S: Source>(
 ///
 /// # Errors
 /// It cannot be opened for a fault of the system, or its length cannot be determined.
-fn opened<R: Files>(
+pub(crate) fn open_regular<R: Files>(
     rt: &R,
     path: &[u8],
-) -> Result<Option<ObjectFile<FileSource<R::File>>>, NeedsFault>
+) -> Result<Option<FileSource<R::File>>, NeedsFault>
 where
     R::File: FileExt,
-    ensures { IfOk result (λ found. IfSome found (λ file. file.asked ≡ 0)) }
 {
     let Ok(path) = str::from_utf8(path) else {
         return Ok(None);
@@ -97,7 +97,7 @@ where
         Err(error) => return unopened(error.kind()),
     };
     match StreamSource::over(FileReader::new(file)) {
-        Ok(source) => Ok(Some(ObjectFile::new(source))),
+        Ok(source) => Ok(Some(source)),
         Err(_) => Err(NeedsFault::Read),
     }
 }

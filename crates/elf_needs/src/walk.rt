@@ -10,7 +10,7 @@ use crate::object_file::ReadAccount;
 use crate::open_objects::OpenObjects;
 use crate::path_budget::PathBudget;
 use crate::paths::CandidatePath;
-use crate::search_dirs::{Search, SearchDirs};
+use crate::search_dirs::{Search, SearchDirs, SystemFiles};
 use crate::walk_needs::ControlFlow;
 use elf_model::Format;
 use elf_source::{Out, OutFault, Sink};
@@ -126,7 +126,7 @@ impl<W: Sink> DependencyWalk<'_, '_, W> {
     /// A read or the output failed, or a path cannot be opened for a fault of the system.
     pub fn list<R: Files>(
         &mut self,
-        rt: &R,
+        system: &mut SystemFiles<'_, R, FileSource<R::File>>,
         source: FileSource<R::File>,
         path: &[u8],
         real: &[u8],
@@ -142,7 +142,7 @@ impl<W: Sink> DependencyWalk<'_, '_, W> {
             let Some(known) = self.objects.get(index) else {
                 return Ok(self.listed(true));
             };
-            if self.needs_of(rt, index, &known, opened)? == ControlFlow::TooMany {
+            if self.needs_of(system, index, &known, opened)? == ControlFlow::TooMany {
                 return Ok(self.listed(false));
             }
         }

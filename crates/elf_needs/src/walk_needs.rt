@@ -3,12 +3,14 @@ ghost use Rattle.std.specs.Prelude.{◌≡◌};
 ghost use Rattle.elf_needs.specs.Budget.{AsksFiles};
 
 use crate::cached_source::CachedSource;
+use crate::candidates::FileSource;
 use crate::known_object::{KnownObject, MOST_OBJECTS};
 use crate::links::NeededLibrary;
 use crate::object_file::ObjectFile;
 use crate::object_reports::report_alone;
 use crate::object_rows::{show_object, show_too_many, show_too_many_paths};
 use crate::open_objects::OpenObjects;
+use crate::search_dirs::{SearchFault, SystemFiles};
 use crate::states::ObjectState;
 use crate::walk::{DependencyWalk, NeedsFault, OpenFiles};
 use elf_source::{Sink, Source};
@@ -28,7 +30,7 @@ impl<W: Sink> DependencyWalk<'_, '_, W> {
     /// Processes what an object needs.
     pub(crate) fn needs_of<R: Files>(
         &mut self,
-        rt: &R,
+        system: &mut SystemFiles<'_, R, FileSource<R::File>>,
         index: usize,
         known: &KnownObject,
         opened: &mut OpenFiles<R::File>,
@@ -51,7 +53,7 @@ impl<W: Sink> DependencyWalk<'_, '_, W> {
                 show_too_many(need.at, self.format, &mut self.out).map_err(NeedsFault::Out)?;
                 return Ok(ControlFlow::TooMany);
             }
-            self.take(rt, index, known, need, opened)?;
+            self.take(system, index, known, need, opened)?;
             if self.search.tries.is_over {
                 return Ok(ControlFlow::TooMany);
             }
@@ -63,7 +65,7 @@ impl<W: Sink> DependencyWalk<'_, '_, W> {
     /// ends the objects, if more paths would be tried than may be.
     fn take<R: Files>(
         &mut self,
-        rt: &R,
+        system: &mut SystemFiles<'_, R, FileSource<R::File>>,
         index: usize,
         needer: &KnownObject,
         need: NeededLibrary,
@@ -76,12 +78,16 @@ impl<W: Sink> DependencyWalk<'_, '_, W> {
     {
         let objects = &self.objects;
         let name = objects.links.text(need.name);
-        let found = self.search.find(rt, objects, needer, name)?;
+        let found = self.search.find(system, objects, needer, name);
         let by = u16::try_from(index).ok();
         match found {
-            None if self.search.tries.is_over => self.end_tries(need.at),
-            None => self.add_missing(by, need.name),
-            Some(file) => self.add_found(by, need.name, file, opened),
+            Ok(None) if self.search.tries.is_over => self.end_tries(need.at),
+            Ok(None) => self.add_unread(by, need.name, ObjectState::Missing),
+            Ok(Some(file)) => self.add_found(by, need.name, file, opened),
+            Err(SearchFault::Refused(refusal)) => {
+                self.add_unread(by, need.name, ObjectState::Refused(refusal))
+            }
+            Err(SearchFault::Walk(fault)) => Err(fault),
         }
     }
 
@@ -94,11 +100,17 @@ impl<W: Sink> DependencyWalk<'_, '_, W> {
         show_too_many_paths(at, self.format, &mut self.out).map_err(NeedsFault::Out)
     }
 
-    /// Adds a library that is not found, and writes its line.
-    fn add_missing(&mut self, by: Option<u16>, name: u32) -> Result<(), NeedsFault>
+    /// Adds a library that is not found, or for which the budget has no room to read the cache, and
+    /// writes its line.
+    fn add_unread(
+        &mut self,
+        by: Option<u16>,
+        name: u32,
+        state: ObjectState,
+    ) -> Result<(), NeedsFault>
         ensures account { self.new.search.account ≡ self.old.search.account }
     {
-        let report = report_alone(ObjectState::Missing);
+        let report = report_alone(state);
         let index = self.add(by, Some(name), None, &report);
         let shown = self.objects.links.text(name);
         show_object(index, by, report.state, shown, self.format, &mut self.out).map_err(

@@ -3,10 +3,10 @@ ghost use Rattle.std.specs.Prelude.{◌≡◌, IfSome, None, Ok, Some, codes, un
 ghost use Rattle.clap.specs.Walk.{first_of, rows_of};
 ghost use Rattle.clap.specs.Words.{found_of};
 ghost use Rattle.elf_cli.specs.Listings.{NoneAsked};
-ghost use Rattle.elf_requests.specs.AskedNeeds.{IsNeedsAsked};
+ghost use Rattle.elf_requests.specs.AskedNeeds.{IsCacheAsked, IsNeedsAsked};
 ghost use Rattle.elf_requests.specs.Checks.{ParsesTo};
 
-use crate::checks::{NeedsRequest, ParsedCommand};
+use crate::checks::{CacheArgs, NeedsRequest, ParsedCommand};
 use clap::ArgMatches;
 use elf_cli::{format_of, is_set, limits_of, text_of};
 
@@ -37,10 +37,22 @@ fn needs_of<'a>(options: &ArgMatches<'a>) -> Option<NeedsRequest<'a>>
         library_path: text_or(options, "library-path", ""),
         default: text_or(options, "default", DEFAULT_FOLDERS),
         root: text_or(options, "root", ""),
+        cache: cache_of(options),
         limits,
         format: format_of(options),
         symbols: is_set(options, "symbols"),
     })
+}
+
+/// Returns the loader's cache in which libraries are searched.
+fn cache_of<'a>(options: &ArgMatches<'a>) -> CacheArgs<'a>
+    ensures { IsCacheAsked (rows_of (found_of options.now)) result }
+{
+    let default = text_of(options, "default");
+    CacheArgs {
+        file: text_of(options, "cache"),
+        none: is_set(options, "no-cache") || default.is_some(),
+    }
 }
 
 /// Returns the value of an argument, or another text if it has none.

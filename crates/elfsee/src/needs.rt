@@ -6,11 +6,11 @@ use elf_cli::{
     CANNOT_OPEN, ExitLine, OUT_OF_MEMORY, OUTPUT_BYTES, READ_FAULT, RunEnd, end_run, open,
 };
 use elf_needs::{
-    DependencyWalk, MOST_OBJECTS, NeedsBuffers, NeedsFault, NeedsOptions, OpenFiles, OpenObjects,
-    SearchDirs,
+    DependencyWalk, LibraryCache, MOST_OBJECTS, NeedsBuffers, NeedsFault, NeedsOptions, OpenFiles,
+    OpenObjects, SearchDirs, SystemFiles, system_cache,
 };
 use elf_requests::NeedsRequest;
-use elf_source::{Out, OutFault, WriteSink, opened_path};
+use elf_source::{FileReader, Out, OutFault, StreamSource, WriteSink, opened_path};
 use elf_table::{HeaderBuffer, HeaderStore};
 use std::io::{self, BufWriter, ErrorKind, Write};
 use std::os::unix::fs::FileExt;
@@ -75,10 +75,15 @@ where
         Ok(source) => source,
         Err(ending) => return Err(ending),
     };
+    let cache = match loader_cache(rt, asked) {
+        Ok(cache) => cache,
+        Err(ending) => return Err(ending),
+    };
+    let mut system = SystemFiles { rt, cache };
     let out = Out::new(WriteSink::new(output));
     let mut walk = DependencyWalk::new(&settings(asked), store, room, out);
     let listed = walk.list(
-        rt,
+        &mut system,
         source,
         asked.file.as_bytes(),
         real.as_str().as_bytes(),
@@ -91,6 +96,33 @@ where
     };
     let (ending, _output) = end_run(ended(listed), walk.into_out().into_inner().into_inner());
     Ok(ending)
+}
+
+/// Opens the loader's cache that is searched, if there is one.
+///
+/// # Errors
+/// A cache that is given cannot be opened, or the system's for a fault of the system.
+fn loader_cache<R: Files>(
+    rt: &R,
+    asked: &NeedsRequest<'_>,
+) -> Result<Option<LibraryCache<StreamSource<FileReader<R::File>>>>, ExitLine>
+where
+    R::File: FileExt,
+{
+    if asked.cache.none {
+        return Ok(None);
+    }
+    if let Some(path) = asked.cache.file {
+        return match open(rt, path) {
+            Ok(source) => Ok(Some(LibraryCache::new(source))),
+            Err(ending) => Err(ending),
+        };
+    }
+    match system_cache(rt, asked.root.as_bytes()) {
+        Ok(cache) => Ok(cache),
+        Err(NeedsFault::Read) => Err(READ_FAULT),
+        Err(NeedsFault::Open | NeedsFault::Out(_)) => Err(CANNOT_OPEN),
+    }
 }
 
 /// Returns the settings of a walk.
