@@ -12,6 +12,7 @@ pub mod BindLaws
 pub mod DefinerLaws
 pub mod KeptLaws
 pub mod LackLaws
+pub mod NeedLaws
 pub mod OpenLaws
 pub mod ReadyLaws
 pub mod SoughtLaws

@@ -22,4 +22,5 @@ pub mod Called
 pub mod Walked
 pub mod ObjectLines
 pub mod VersionTables
+pub mod NeedWalks
 pub mod Prelude
