@@ -28,4 +28,5 @@ pub mod Walked
 pub mod ObjectLines
 pub mod ListedLines
 pub mod VersionTables
+pub mod NeedWalks
 pub mod Prelude
