@@ -72,7 +72,7 @@ def many(cases):
                 [line for path in (lib, other) for line in ('{"line":"@","path":"%s"}' % path, row % path)])
     with open(f + "/list", "wb") as file:
         file.write(os.fsencode(top) + b"\0" + os.fsencode(lib) + b"\0")
-    if not cases.program.endswith(("needed.py", "model")):
+    if cases.is_whole:
         cases.check("a list of files", ["--default", f, "--files0-from", f + "/list"], [*first, f"@ {lib}", found(0, None, lib)])
 
 

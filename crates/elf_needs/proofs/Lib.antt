@@ -17,6 +17,7 @@ pub mod CopiedLaws
 pub mod DefinerLaws
 pub mod KeptLaws
 pub mod LackLaws
+pub mod NeedLaws
 pub mod OpenLaws
 pub mod ReadyLaws
 pub mod SoughtLaws

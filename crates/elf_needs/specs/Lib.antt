@@ -23,9 +23,11 @@ pub mod Bound
 pub mod Copied
 pub mod Requests
 pub mod Budget
+pub mod Caches
 pub mod Called
 pub mod Walked
 pub mod ObjectLines
 pub mod ListedLines
 pub mod VersionTables
+pub mod NeedWalks
 pub mod Prelude

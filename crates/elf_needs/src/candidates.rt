@@ -28,6 +28,8 @@ pub(crate) type FileSource<F> = StreamSource<FileReader<F>>;
 pub(crate) enum SearchEnd {
     /// The file at a path ends it, and is refused.
     Refused(Refusal),
+    /// The budget has no room for what is read of the loader's cache.
+    Unread(Refusal),
     /// The walk ends.
     Failed(NeedsFault),
 }
@@ -110,7 +112,6 @@ pub(crate) fn opened_at<R: Files>(
 ) -> Result<Option<ObjectFile<FileSource<R::File>>>, SearchEnd>
 where
     R::File: FileExt,
-    ensures { IfOk result (λ found. IfSome found (λ file. file.asked ≡ 0)) }
 {
     let Ok(path) = str::from_utf8(path) else {
         return Ok(None);

@@ -54,7 +54,7 @@ impl<W: Sink> DependencyWalk<'_, '_, W> {
         };
         let read = match opened_at(rt, &self.search.path) {
             Ok(Some(file)) => self.read_found(file, path)?,
-            Ok(None) | Err(SearchEnd::Refused(_)) => missing(),
+            Ok(None) | Err(SearchEnd::Refused(_) | SearchEnd::Unread(_)) => missing(),
             Err(SearchEnd::Failed(fault)) => return Err(fault),
         };
         self.objects.interpreter = Some(Interpreter {
@@ -174,7 +174,9 @@ impl<W: Sink> DependencyWalk<'_, '_, W> {
         match opened_at(rt, self.objects.path(interpreter.path)) {
             Ok(Some(file)) => self.keep(file, Ok(report), opened),
             Ok(None) => Ok(report_alone(ObjectState::Missing)),
-            Err(SearchEnd::Refused(refusal)) => Ok(report_alone(ObjectState::Refused(refusal))),
+            Err(SearchEnd::Refused(refusal) | SearchEnd::Unread(refusal)) => {
+                Ok(report_alone(ObjectState::Refused(refusal)))
+            }
             Err(SearchEnd::Failed(fault)) => Err(fault),
         }
     }

@@ -178,6 +178,17 @@ impl<S: Source> ObjectFile<S> {
         interprets
     }
 
+    /// Returns the source of a file from which nothing was requested.
+    pub(crate) fn into_source(self) -> S
+        ensures source { S.seen result ≡ self.source }
+    {
+        let ObjectFile {
+            source,
+            attributes: _,
+        } = self;
+        source.into_inner()
+    }
+
     /// Returns the source. What was requested from it is added to what was requested from files.
     pub(crate) fn close(self, account: &mut ReadAccount) -> S
         ensures source { S.seen result ≡ self.source }

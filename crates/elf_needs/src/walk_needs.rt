@@ -10,6 +10,7 @@ use crate::object_file::{ObjectFile, ObjectRole};
 use crate::object_reports::{NOWHERE, ObjectPlace, found_identity, report_alone};
 use crate::object_rows::{list_object, show_too_many, show_too_many_paths};
 use crate::open_objects::OpenObjects;
+use crate::search_dirs::SystemFiles;
 use crate::states::{FoundBy, ObjectRow, ObjectState};
 use crate::walk::{DependencyWalk, NeedsFault, OpenFiles};
 use elf_record::{Cause, Refusal};
@@ -31,7 +32,7 @@ impl<W: Sink> DependencyWalk<'_, '_, W> {
     /// Processes what an object needs.
     pub(crate) fn needs_of<R: Files>(
         &mut self,
-        rt: &R,
+        system: &mut SystemFiles<'_, R, FileSource<R::File>>,
         index: usize,
         known: &KnownObject,
         opened: &mut OpenFiles<R::File>,
@@ -49,7 +50,7 @@ impl<W: Sink> DependencyWalk<'_, '_, W> {
             if objects.has_name(objects.links.text(need.name)) {
                 continue;
             }
-            if self.take(rt, index, known, need, opened)? == ControlFlow::TooMany {
+            if self.take(system, index, known, need, opened)? == ControlFlow::TooMany {
                 return Ok(ControlFlow::TooMany);
             }
         }
@@ -60,7 +61,7 @@ impl<W: Sink> DependencyWalk<'_, '_, W> {
     /// found.
     fn take<R: Files>(
         &mut self,
-        rt: &R,
+        system: &mut SystemFiles<'_, R, FileSource<R::File>>,
         index: usize,
         needer: &KnownObject,
         need: NeededLibrary,
@@ -76,12 +77,15 @@ impl<W: Sink> DependencyWalk<'_, '_, W> {
         let by = u16::try_from(index).ok();
         if objects.is_interpreter_name(name) {
             self.search.found_by = interpreter_found_by(name);
-            return self.take_interpreter(rt, by, need, opened);
+            return self.take_interpreter(system.rt, by, need, opened);
         }
-        match self.search.find(rt, objects, needer, name) {
-            Ok(Some(file)) => self.take_file(rt, by, need, file, opened),
+        match self.search.find(system, objects, needer, name) {
+            Ok(Some(file)) => self.take_file(system.rt, by, need, file, opened),
             Ok(None) => self.take_none(by, need),
             Err(SearchEnd::Refused(refusal)) => self.add_refused(by, need, refusal),
+            Err(SearchEnd::Unread(refusal)) => {
+                self.add_alone(by, need, ObjectState::Refused(refusal))
+            }
             Err(SearchEnd::Failed(fault)) => Err(fault),
         }
     }

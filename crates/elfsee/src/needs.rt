@@ -7,11 +7,12 @@ use elf_cli::{
     CANNOT_OPEN, ExitLine, OUT_OF_MEMORY, OUTPUT_BYTES, READ_FAULT, RunEnd, end_run, open,
 };
 use elf_needs::{
-    DependencyWalk, LineOptions, Listed, MOST_OBJECTS, NeedsBuffers, NeedsFault, NeedsOptions,
-    OpenFiles, OpenObjects, RootedFiles, SearchDirs, default_dirs,
+    DependencyWalk, LibraryCache, LineOptions, Listed, MOST_OBJECTS, NeedsBuffers, NeedsFault,
+    NeedsOptions, OpenFiles, OpenObjects, RootedFiles, SearchDirs, SystemFiles, default_dirs,
+    system_cache,
 };
 use elf_requests::{NeedsRequest, PathArgs};
-use elf_source::{Out, OutFault, Sink, Source, WriteSink, opened_path};
+use elf_source::{FileReader, Out, OutFault, Sink, Source, StreamSource, WriteSink, opened_path};
 use elf_table::{HeaderBuffer, HeaderStore};
 use std::fs;
 use std::io::{self, BufWriter, ErrorKind, Input, Stderr, Write};
@@ -111,11 +112,16 @@ where
         Ok(source) => source,
         Err(ending) => return Err(ending),
     };
+    let cache = match loader_cache(rt, asked) {
+        Ok(cache) => cache,
+        Err(ending) => return Err(ending),
+    };
+    let mut system = SystemFiles { rt, cache };
     let out = Out::new(WriteSink::new(output));
     let default = last_dirs(rt, asked);
     let mut walk = DependencyWalk::new(&settings(asked, default), store, room, out);
     let listed = walk.list(
-        rt,
+        &mut system,
         source,
         file.as_bytes(),
         real.as_str().as_bytes(),
@@ -153,6 +159,33 @@ pub fn list_after<S: Source + Drop, W: Sink>(
         return walk.list_unused(opened);
     }
     Ok(status)
+}
+
+/// Opens the loader's cache that is searched, if there is one.
+///
+/// # Errors
+/// A cache that is given cannot be opened, or the system's for a fault of the system.
+pub fn loader_cache<R: Files>(
+    rt: &R,
+    asked: &NeedsRequest<'_>,
+) -> Result<Option<LibraryCache<StreamSource<FileReader<R::File>>>>, ExitLine>
+where
+    R::File: FileExt,
+{
+    if asked.cache.none {
+        return Ok(None);
+    }
+    if let Some(path) = asked.cache.file {
+        return match open(rt, path) {
+            Ok(source) => Ok(Some(LibraryCache::new(source))),
+            Err(ending) => Err(ending),
+        };
+    }
+    match system_cache(rt, asked.root.as_bytes()) {
+        Ok(cache) => Ok(cache),
+        Err(NeedsFault::Read) => Err(READ_FAULT),
+        Err(NeedsFault::Open | NeedsFault::Out(_)) => Err(CANNOT_OPEN),
+    }
 }
 
 /// Returns the directories that are searched last: those that are given, or those of the system.

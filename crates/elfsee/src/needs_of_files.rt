@@ -3,10 +3,10 @@ ghost use Rattle.std.specs.Prelude.{◌≡◌, IfErr};
 ghost use Rattle.elfsee.specs.Ends.{EndsWithoutMemory};
 
 use crate::many::visit_files;
-use crate::needs::{last_dirs, settings};
+use crate::needs::{last_dirs, loader_cache, settings};
 use crate::needs_report::{NeedsReport, NeedsRule};
 use elf_cli::{ExitLine, OUT_OF_MEMORY};
-use elf_needs::{MOST_OBJECTS, NeedsBuffers, OpenObjects};
+use elf_needs::{MOST_OBJECTS, NeedsBuffers, OpenObjects, SystemFiles};
 use elf_requests::NeedsRequest;
 use elf_table::HeaderBuffer;
 use std::io::{Input, Stderr};
@@ -26,7 +26,6 @@ pub fn list_needs_of_files<R: Files + Print + Input + AllocGlobal>(
 ) -> Result<ExitLine, ExitLine>
 where
     R::File: FileExt,
-    ensures { IfErr result (λ ending. EndsWithoutMemory ending.0 ending.1.now) }
 {
     let Ok(headers) = HeaderBuffer::new(rt.alloc(), asked.limits.headers) else {
         return Err(OUT_OF_MEMORY);
@@ -38,8 +37,13 @@ where
     else {
         return Err(OUT_OF_MEMORY);
     };
+    let cache = match loader_cache(rt, asked) {
+        Ok(cache) => cache,
+        Err(ending) => return Err(ending),
+    };
+    let system = SystemFiles { rt, cache };
     let report = NeedsReport::new(
-        rt,
+        system,
         rule_of(asked, last_dirs(rt, asked)),
         headers,
         (room, opened),
