@@ -55,20 +55,10 @@ where
         return Ok(None);
     };
     let fit = fit_of(&mut file, machine, account);
-    match fit {
-        LibraryFit::Accepted => Ok(Some(file)),
-        fit => {
-            let _ = file.close(account);
-            skipped(fit)
-        }
+    if matches!(fit, LibraryFit::Accepted) {
+        return Ok(Some(file));
     }
-}
-
-/// Returns no file for one that is skipped.
-///
-/// # Errors
-/// It is refused, which ends the search.
-fn skipped<T>(fit: LibraryFit) -> Result<Option<T>, SearchEnd> {
+    let _ = file.close(account);
     match fit {
         LibraryFit::Refused(refusal) => Err(SearchEnd::Refused(refusal)),
         LibraryFit::Skipped | LibraryFit::Accepted => Ok(None),
