@@ -32,8 +32,8 @@ entries-preserved g c =
           ∙ value-step file l.cursor new DT_RELASZ l.size (goes-fewer i.goes s file h) (goes-place i.goes s file h c.requires.rows) ∙ i.size file h;
     }
 
-pub returns-clause-did : goal.returns-clause-did
-returns-clause-did g c =
+pub returns : goal.returns
+returns g c =
     let l = c.entries in
     let i = l.invariant in
     let a = c.in_ok-advance.ensures in
