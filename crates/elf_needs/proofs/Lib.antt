@@ -18,6 +18,8 @@ pub mod DefinerLaws
 pub mod KeptLaws
 pub mod LackLaws
 pub mod NeedLaws
+pub mod VersionTableLaws
+pub mod NeedReadLaws
 pub mod OpenLaws
 pub mod ReadyLaws
 pub mod SoughtLaws

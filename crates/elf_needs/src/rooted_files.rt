@@ -191,17 +191,17 @@ impl<R: Print> Print for RootedFiles<'_, R> {
 }
 
 impl<R: Input> Input for RootedFiles<'_, R> {
-    type Reader = R::Reader;
+    type FileReaderOf = R::FileReaderOf;
 
     fn read_line<A: Allocator + Clone>(&self, buf: &mut String<A>) -> io::Result<usize> {
         self.rt.read_line(buf)
     }
 
-    fn lines<A: Allocator>(&self, alloc: A) -> Lines<R::Reader, A> {
+    fn lines<A: Allocator>(&self, alloc: A) -> Lines<R::FileReaderOf, A> {
         self.rt.lines(alloc)
     }
 
-    fn reader(&self) -> R::Reader {
+    fn reader(&self) -> R::FileReaderOf {
         self.rt.reader()
     }
 }
