@@ -4,9 +4,9 @@ use Rattle.std.proofs.lemmas.List.{get_or-append_right, get_or-drop}
 use Rattle.std.proofs.Math.Seq.{take-append_seam, get_or-append_seam}
 use Rattle.std.proofs.lemmas.Bool.Decides.{nat_tests}
 use Rattle.elf_needs.specs.Searching.{PATH_SLASH}
-use Rattle.elf_needs.specs.RootPaths.{AreEntryNames, HasNoSlash, IsEntryName, IsWithin, path_below}
+use Rattle.elf_needs.specs.RootPaths.{AreEntryNames, HasNoSlash, IsEntryName, IsWithinRoot, path_below}
 
-pub entered : (root path name : List ℕ) → IsEntryName name → IsWithin root path → IsWithin root (path ++ PATH_SLASH ∷ name)
+pub entered : (root path name : List ℕ) → IsEntryName name → IsWithinRoot root path → IsWithinRoot root (path ++ PATH_SLASH ∷ name)
 entered root path name is w = record { names = name ∷ w.names; are_names = (is, w.are_names); joined = ap (λ p. p ++ PATH_SLASH ∷ name) w.joined }
 
 -- a byte after the slash before the last name is of that name
@@ -29,7 +29,7 @@ last_slash path name slash plain below is after =
     omega (arith, not_past, not_before)
 
 without : (root path : List ℕ) (names : List (List ℕ)) (slash : ℕ) → AreEntryNames names → path ≡ path_below root names → length root < length path → slash < length path → get_or path slash 0 ≡ PATH_SLASH
-    → ((k : ℕ) → slash < k → k < length path → get_or path k 0 ≡ PATH_SLASH → ⊥) → IsWithin root (take slash path)
+    → ((k : ℕ) → slash < k → k < length path → get_or path k 0 ≡ PATH_SLASH → ⊥) → IsWithinRoot root (take slash path)
 without root path [] slash are joined long below is after =
     let e : length path ≡ length root = ap length joined in
     absurd (omega (arith, e, long))
@@ -43,18 +43,18 @@ without root path (name ∷ names) slash (first, are) joined long below is after
     let rest : take slash path ≡ path_below root names = rw (place, joined) (take-append_seam (path_below root names) (PATH_SLASH ∷ name)) in
     record { names = names; are_names = are; joined = rest }
 
-pub left : (root path : List ℕ) (slash : ℕ) → IsWithin root path → length root < length path → slash < length path → get_or path slash 0 ≡ PATH_SLASH
-    → ((k : ℕ) → slash < k → k < length path → get_or path k 0 ≡ PATH_SLASH → ⊥) → IsWithin root (take slash path)
+pub left : (root path : List ℕ) (slash : ℕ) → IsWithinRoot root path → length root < length path → slash < length path → get_or path slash 0 ≡ PATH_SLASH
+    → ((k : ℕ) → slash < k → k < length path → get_or path k 0 ≡ PATH_SLASH → ⊥) → IsWithinRoot root (take slash path)
 left root path slash w long below is after = without root path w.names slash w.are_names w.joined long below is after
 
-pub at_root : (root : List ℕ) → IsWithin root root
+pub at_root : (root : List ℕ) → IsWithinRoot root root
 at_root root = record { names = []; are_names = _; joined = refl }
 
 -- a name is appended in two steps
-pub entered_after : (root path mid new name : List ℕ) → IsEntryName name → IsWithin root path → mid ≡ path ++ PATH_SLASH ∷ [] → new ≡ mid ++ name → IsWithin root new
+pub entered_after : (root path mid new name : List ℕ) → IsEntryName name → IsWithinRoot root path → mid ≡ path ++ PATH_SLASH ∷ [] → new ≡ mid ++ name → IsWithinRoot root new
 entered_after root path mid new name is w slash put =
     let e : new ≡ path ++ PATH_SLASH ∷ name = put ∙ (ap (λ p. p ++ name) slash ∙ append_assoc path (PATH_SLASH ∷ []) name) in
-    subst (λ p. IsWithin root p) (sym e) (entered root path name is w)
+    subst (λ p. IsWithinRoot root p) (sym e) (entered root path name is w)
 
 -- no slash within a part of a text
 pub none_before : (names : List ℕ) (at size : ℕ) → ((k : ℕ) → k < size → get_or (drop at names) k 0 ≡ PATH_SLASH → ⊥) → (k : ℕ) → at ≤ k → k < at + size → get_or names k 0 ≡ PATH_SLASH → ⊥
@@ -63,8 +63,8 @@ none_before names at size none k low high is =
     none (k - at) (omega (arith, low, high)) (get_or-drop at names (k - at) 0 ∙ (ap (λ i. get_or names i 0) (sym place) ∙ is))
 
 -- the same by a text that is the path
-pub left_by : (root path text : List ℕ) (slash : ℕ) → text ≡ path → IsWithin root path → length root < length path → slash < length text → get_or text slash 0 ≡ PATH_SLASH
-    → ((k : ℕ) → slash < k → k < length text → get_or text k 0 ≡ PATH_SLASH → ⊥) → IsWithin root (take slash path)
+pub left_by : (root path text : List ℕ) (slash : ℕ) → text ≡ path → IsWithinRoot root path → length root < length path → slash < length text → get_or text slash 0 ≡ PATH_SLASH
+    → ((k : ℕ) → slash < k → k < length text → get_or text k 0 ≡ PATH_SLASH → ⊥) → IsWithinRoot root (take slash path)
 left_by root path text slash same w long below is after =
-    subst (λ p. IsWithin root (take slash p)) same
-    (left root text slash (subst (λ p. IsWithin root p) (sym same) w) (subst (λ p. length root < length p) (sym same) long) below is after)
+    subst (λ p. IsWithinRoot root (take slash p)) same
+    (left root text slash (subst (λ p. IsWithinRoot root p) (sym same) w) (subst (λ p. length root < length p) (sym same) long) below is after)

@@ -34,7 +34,7 @@ needer_field (Some index) = NameOrDecimal (codes "needed_by") 5 None index
 -- the word of how an object was found
 unfoldable pub found_by_name : FoundBy → List ℕ
 found_by_name by.Path = codes "path"
-found_by_name by.Known = codes "known"
+found_by_name by.Listed = codes "known"
 found_by_name by.Rpath = codes "rpath"
 found_by_name by.LibraryPath = codes "library-path"
 found_by_name by.Runpath = codes "runpath"

@@ -25,7 +25,7 @@ path_below root [] = root
 path_below root (name ∷ names) = path_below root names ++ PATH_SLASH ∷ name
 
 -- A PATH WITHIN A ROOT: the root, and below it names, none of which leads above it
-pub record IsWithin (root path : List ℕ) : Type 0 where
+pub record IsWithinRoot (root path : List ℕ) : Type 0 where
   pub names : List (List ℕ)
   pub are_names : AreEntryNames names
   pub joined : path ≡ path_below root names

@@ -190,10 +190,17 @@ abbrev pub search_dirs : (library : SearchPathText) (default : List ℕ) → Lis
 search_dirs library default needers =
     unless_runpath (first_runpath needers) (rpath_dirs needers) ++ (library ∷ cons_option (first_runpath needers) (default_dirs (default_for needers default) ∷ []))
 
--- a path is below one of the default directories
-unfoldable pub is_below_default : (default path : List ℕ) → Bool
-is_below_default default path =
-    list_any (λ folder. starts_with nat_eq path (folder ++ PATH_SLASH ∷ [])) (entries_of COLON default)
+-- a path is below a directory, and below one of some
+abbrev pub is_below : (folder path : List ℕ) → Bool
+is_below folder path = starts_with nat_eq path folder && slice_index path (length folder) == PATH_SLASH
+
+unfoldable pub is_below_any : List (List ℕ) → (path : List ℕ) → Bool
+is_below_any [] path = false
+is_below_any (folder ∷ folders) path = is_below folder path || is_below_any folders path
+
+-- it is below one of the default directories
+abbrev pub is_below_default : (default path : List ℕ) → Bool
+is_below_default default path = is_below_any (entries_of COLON default) path
 
 -- the paths of a name in all of them
 unfoldable pub searched_paths : (root name : List ℕ) → List SearchPathText → List (List ℕ)

@@ -81,7 +81,7 @@ fn found_by_name(found_by: FoundBy) -> &'static str
 {
     match found_by {
         FoundBy::Path => "path",
-        FoundBy::Known => "known",
+        FoundBy::Listed => "known",
         FoundBy::Rpath => "rpath",
         FoundBy::LibraryPath => "library-path",
         FoundBy::Runpath => "runpath",

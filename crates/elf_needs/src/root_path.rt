@@ -1,6 +1,6 @@
 //! Paths within another root, resolved as a process resolves them whose root it is.
 ghost use Rattle.std.specs.Prelude.{◌≡◌, ◌≢◌, ◌≤◌, ◌<◌, ℕ, IfOk, IfSome, length, slice_index, true};
-ghost use Rattle.elf_needs.specs.RootPaths.{HasNoSlash, IsEntryName, IsWithin};
+ghost use Rattle.elf_needs.specs.RootPaths.{HasNoSlash, IsEntryName, IsWithinRoot};
 ghost use Rattle.elf_needs.specs.Searching.{PATH_SLASH};
 
 use crate::paths::CandidatePath;
@@ -33,7 +33,7 @@ pub trait PathEntries {
         path: &[u8],
         text: &mut CandidatePath,
     ) -> Result<PathEntry, ErrorKind>
-        requires within { IsWithin root.now path.now };
+        requires within { IsWithinRoot root.now path.now };
 }
 
 /// Resolves a path that begins at a root, to a path without links below the root: an absolute link
@@ -49,7 +49,7 @@ pub fn resolve<E: PathEntries>(
     path: &[u8],
     found: &mut CandidatePath,
 ) -> Result<(), ErrorKind>
-    ensures { IfOk result (λ done. IsWithin root.now found.new.items) }
+    ensures { IfOk result (λ done. IsWithinRoot root.now found.new.items) }
 {
     let mut rest = CandidatePath::new();
     if !set(found, root) || !set(&mut rest, path) {
@@ -92,8 +92,8 @@ fn follow_names<E: PathEntries>(
     found: &mut CandidatePath,
     text: &mut CandidatePath,
 ) -> Result<Option<usize>, ErrorKind>
-    requires within { IsWithin root.now found.old.items }
-    ensures within { IsWithin root.now found.new.items }
+    requires within { IsWithinRoot root.now found.old.items }
+    ensures within { IsWithinRoot root.now found.new.items }
     ensures place { IfOk result (λ end. IfSome end (λ end. end ≤ length names.now)) }
 {
     let mut at = 0;
@@ -145,8 +145,8 @@ fn follow_name<E: PathEntries>(
     text: &mut CandidatePath,
 ) -> Result<bool, ErrorKind>
     requires plain { HasNoSlash name.text.now }
-    requires within { IsWithin root.now found.old.items }
-    ensures within { IsWithin root.now found.new.items }
+    requires within { IsWithinRoot root.now found.old.items }
+    ensures within { IsWithinRoot root.now found.new.items }
 {
     match name.text {
         b"" | b"." => return Ok(false),
@@ -173,8 +173,8 @@ fn follow_name<E: PathEntries>(
 /// Appends a name to a path within a root. Returns whether it fits; otherwise nothing changes.
 pub(crate) fn enter(root: &[u8], name: &[u8], path: &mut CandidatePath) -> bool
     requires name { IsEntryName name.now }
-    requires within { IsWithin root.now path.old.items }
-    ensures within { IsWithin root.now path.new.items }
+    requires within { IsWithinRoot root.now path.old.items }
+    ensures within { IsWithinRoot root.now path.new.items }
 {
     if path.len() + name.len() >= MOST_BYTES {
         return false;
@@ -189,8 +189,8 @@ const MOST_BYTES: usize = 4095;
 
 /// Removes the last name from a path within a root, unless the path is the root.
 fn leave(root: &[u8], path: &mut CandidatePath)
-    requires within { IsWithin root.now path.old.items }
-    ensures within { IsWithin root.now path.new.items }
+    requires within { IsWithinRoot root.now path.old.items }
+    ensures within { IsWithinRoot root.now path.new.items }
 {
     if path.len() <= root.len() {
         return;

@@ -20,7 +20,7 @@ pub enum FoundBy {
     /// Its name has a slash, and is its path.
     Path,
     /// It was there already: it is the interpreter.
-    Known,
+    Listed,
     /// In a directory of a DT_RPATH.
     Rpath,
     /// In a directory of the library path that is given.

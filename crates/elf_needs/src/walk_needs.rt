@@ -275,6 +275,6 @@ impl<W: Sink> DependencyWalk<'_, '_, W> {
 fn interpreter_found_by(name: &[u8]) -> FoundBy {
     match memchr(b'/', name) {
         Some(_) => FoundBy::Path,
-        None => FoundBy::Known,
+        None => FoundBy::Listed,
     }
 }

@@ -1,7 +1,7 @@
 use Rattle.std.proofs.Common.{◌≡◌, ◌==◌, true, ℕ, suc, ◌+◌, ◌<◌, ◌≤◌, zero-le, sym, subst, arith, length}
 use Rattle.std.proofs.lemmas.Bool.Decides.{nat_tests}
 use Rattle.elf_needs.specs.Searching.{PATH_SLASH}
-use Rattle.elf_needs.specs.RootPaths.{IsWithin}
+use Rattle.elf_needs.specs.RootPaths.{IsWithinRoot}
 use Rattle.elf_needs.proofs.RootLaws.{left_by}
 use Rattle.elf_needs.proofs.root_path.leave.Goals as goal
 
@@ -19,6 +19,6 @@ returns-in-Some c =
     let found = c.in-Some.ensures in
     let long : length c.args.root.now < length c.args.path.now.items = grind (arith, nat_tests) in
     record {
-      within = subst (λ p. IsWithin c.args.root.now p) (sym c.truncate.ensures.items)
+      within = subst (λ p. IsWithinRoot c.args.root.now p) (sym c.truncate.ensures.items)
           (left_by c.args.root.now c.args.path.now.items c.deref.result.now c.in-Some.slash c.deref.ensures.0 c.requires.within long found.0.high (sign _ found.1) (λ k past below is. found.0.after k (after c.in-Some.slash k past) below (test _ is)));
     }
