@@ -14,6 +14,7 @@ pub mod LibraryLaws
 pub mod FitLaws
 pub mod BindLaws
 pub mod CopiedLaws
+pub mod UnusedLaws
 pub mod DefinerLaws
 pub mod KeptLaws
 pub mod LackLaws

@@ -2,7 +2,7 @@
 use Rattle.std.proofs.Common.{◌≡◌, ℕ, zero, suc, ◌+◌, ◌-◌, ◌*◌, ◌≤◌, if◌then◌else◌, Bool, true, false, List, [], ◌∷◌, Option, None, Some, Result, Ok, Err, IfSome, IfOk, refl, sym, ap, subst, ◌∙◌, arith}
 use Rattle.std.specs.Prelude.{◌==◌, not, is_none, is_some, option_map}
 use Rattle.std.specs.Int.RustNames.{bit_and}
-use Rattle.elf_model.specs.Prelude.{DT_VERDEF, DT_VERSYM, Faulty, IsBudgetRefusal, Meets, Misses, NeededVersion, NeededVersionRead, Needs, RecordCursorState, Refuses, VersionRecordRead, VersionRecordTable as IsTableOf, Versions, VisitedRecord, define_version, dynamic_segment_index, first_refusal, hash_word, flags_word, name_index, named_at, needed_versions, next_position, readings_of, record_checks, records_at, rest_checks, same, segment_at, state_by_records, state_by_segments, state_in_file, tagged_row, visited_at, visited_from, whole_name, with_visited}
+use Rattle.elf_model.specs.Prelude.{DT_VERDEF, DT_VERSYM, NeedRefused, IsBudgetRefusal, Meets, Misses, NeededVersion, NeededVersionRead, Needs, RecordCursorState, Refuses, VersionRecordRead, VersionRecordTable as IsTableOf, Versions, VisitedRecord, define_version, dynamic_segment_index, first_refusal, hash_word, flags_word, name_index, named_at, needed_versions, next_position, readings_of, record_checks, version_records_at, rest_checks, same, segment_at, state_by_records, state_by_segments, state_in_file, tagged_row, visited_at, visited_from, whole_name, with_visited}
 use Rattle.elf_model.specs.Records.{vd_hash, vna_flags, vna_hash}
 use Rattle.elf_model.specs.declared.causes.Cause.{Cause}
 use Rattle.elf_model.specs.declared.causes.Refusal.{Refusal}
@@ -28,7 +28,7 @@ pub name_of_met : (file strings : List ℕ) (met : VisitedRecord) (given : Versi
 name_of_met file strings met given is name result told = let n = is.name in let p = is.named_at in rw (n, p) at told
 
 module _ (file library strings : List ℕ) (met : VisitedRecord) (others : List VersionRecordRead) where
-  fails_met : (refusal : Refusal) → whole_name strings (name_index file met) (named_at file met) ≡ Err refusal → needed_versions file library (Meets strings met ∷ others) ≡ Faulty refusal ∷ []
+  fails_met : (refusal : Refusal) → whole_name strings (name_index file met) (named_at file met) ≡ Err refusal → needed_versions file library (Meets strings met ∷ others) ≡ NeedRefused refusal ∷ []
   unfolding needed_versions
   fails_met refusal e = rw (e, needed_versions) refl
 
@@ -68,7 +68,7 @@ module _ (file : List ℕ) (told : IsTableOf) where
   left_fails old new left walk (Refused refusal) tells = λ other.
       let c = old.cursor in
       refused-left file told.strings c.held.table.at c.held.table.count c.standing c.left [] refusal
-      (λ (all : List VersionRecordRead). needed_versions file old.library all ≡ Faulty refusal ∷ []) (tells other) refl refl
+      (λ (all : List VersionRecordRead). needed_versions file old.library all ≡ NeedRefused refusal ∷ []) (tells other) refl refl
   left_fails old new left walk (Source fault at) tells = tt
 
   pub left_ends : (old : NeedsWalk) (new : VersionCursorState) → ReturnsVersion file (versions_left file old.cursor) (versions_left file new) (Ok None) → needs_left file told old ≡ []

@@ -1,7 +1,7 @@
 -- The tables of symbol versions of a file, by its dynamic entries.
 use Rattle.std.proofs.Common.{◌≡◌, ◌⊎◌, inl, inr, ℕ, ◌/◌, Bool, true, false, List, [], ◌∷◌, ◌++◌, Option, None, Some, Result, Ok, Err, refl, sym, ap, subst, ◌∙◌}
 use Rattle.std.specs.Prelude.{◌==◌, ◌||◌, is_none, is_some, nat_lt, option_map}
-use Rattle.elf_model.specs.Prelude.{Check, DT_STRSZ, DT_STRTAB, DT_SYMTAB, DT_VERSYM, HashStyle, IsBudgetRefusal, LookupTables as IsScopeOf, VersionRecordTable as IsTableOf, checks_of_row, d_un, dynamic_segment_index, e_shnum, first_refusal, has_wide_kind, hash_row, header_checks, least_size, load_checks, lookup_tables_by_segments, lookup_tables_of, mapped_bytes, mapped_checks, mapped_place, overlap_checks, p_filesz, p_offset, records_at, records_of_tag, refuse, rest_checks, rest_place, rest_size, rows_checks, scope_in_segment, scope_in_segments, segment_at, segment_checks, segment_dynamic_checks, segment_strings, tagged_row, without_sections}
+use Rattle.elf_model.specs.Prelude.{Check, DT_STRSZ, DT_STRTAB, DT_SYMTAB, DT_VERSYM, HashStyle, IsBudgetRefusal, LookupTables as IsScopeOf, VersionRecordTable as IsTableOf, checks_of_row, d_un, dynamic_segment_index, e_shnum, first_refusal, has_wide_kind, hash_row, header_checks, least_size, load_checks, lookup_tables_by_segments, lookup_tables_of, mapped_bytes, mapped_checks, mapped_place, overlap_checks, p_filesz, p_offset, version_records_at, records_of_tag, refuse, rest_checks, rest_place, rest_size, rows_checks, scope_in_segment, scope_in_segments, segment_at, segment_checks, segment_dynamic_checks, segment_strings, tagged_row, without_sections}
 use Rattle.elf_model.specs.declared.causes.Cause.TheVariants.{HashShape, NoHash, Unmapped}
 use Rattle.elf_model.specs.declared.causes.Refusal.{Refusal}
 use Rattle.elf_model.specs.declared.versions.VersionKind.{VersionKind}
@@ -68,20 +68,20 @@ module _ (file : List ℕ) (at : ℕ) where
 
   -- A TABLE
   module _ (tag : ℕ) (kind : VersionKind) where
-    no_records : tagged_row file at tag ≡ None → records_at file at tag kind ≡ Ok None
-    unfolding records_at
-    no_records none = rw (none, records_at) refl
+    no_records : tagged_row file at tag ≡ None → version_records_at file at tag kind ≡ Ok None
+    unfolding version_records_at
+    no_records none = rw (none, version_records_at) refl
 
-    refused_records : (row : ℕ) (refusal : Refusal) → tagged_row file at tag ≡ Some row → first_refusal (rest_checks file row) ≡ Some refusal → records_at file at tag kind ≡ Err refusal
-    unfolding records_at
-    refused_records row refusal some fails = rw (some, fails, records_at) refl
+    refused_records : (row : ℕ) (refusal : Refusal) → tagged_row file at tag ≡ Some row → first_refusal (rest_checks file row) ≡ Some refusal → version_records_at file at tag kind ≡ Err refusal
+    unfolding version_records_at
+    refused_records row refusal some fails = rw (some, fails, version_records_at) refl
 
     abbrev told_at : ℕ → IsTableOf
     told_at row = record { kind = kind; head = row; place = rest_place file row; size = rest_size file row; strings = segment_strings file at }
 
-    some_records : (row : ℕ) → tagged_row file at tag ≡ Some row → first_refusal (rest_checks file row) ≡ None → records_at file at tag kind ≡ Ok (Some (told_at row))
-    unfolding records_at
-    some_records row some passes = rw (some, passes, records_at) refl
+    some_records : (row : ℕ) → tagged_row file at tag ≡ Some row → first_refusal (rest_checks file row) ≡ None → version_records_at file at tag kind ≡ Ok (Some (told_at row))
+    unfolding version_records_at
+    some_records row some passes = rw (some, passes, version_records_at) refl
 
     none_there : (found : Option VersionRecordTable) → AreVersionRecordTables file [] (table_if_any found ++ []) → found ≡ None
     none_there None are = refl
@@ -102,7 +102,7 @@ module _ (file : List ℕ) (at : ℕ) where
 
     by_some : (row : ℕ) → tagged_row file at tag ≡ Some row → (result : Result (Option VersionRecordTable) Fault)
         → ChecksThenValue (checks_of_row (tagged_row file at tag) (rest_checks file)) (AreInFront file (records_of_tag file at tag kind)) result
-        → AreRecordsAt file (records_at file at tag kind) result
+        → AreRecordsAt file (version_records_at file at tag kind) result
     by_some row some (Ok found) are =
         let passes : first_refusal (rest_checks file row) ≡ None = rw some at are.0 in
         let here = are.1 [] [] tt in
@@ -113,10 +113,10 @@ module _ (file : List ℕ) (at : ℕ) where
 
     pub records_are : (result : Result (Option VersionRecordTable) Fault)
         → ChecksThenValue (checks_of_row (tagged_row file at tag) (rest_checks file)) (AreInFront file (records_of_tag file at tag kind)) result
-        → AreRecordsAt file (records_at file at tag kind) result
+        → AreRecordsAt file (version_records_at file at tag kind) result
     records_are result are = go (tagged_row file at tag) refl
       where
-        go : (row : Option ℕ) → tagged_row file at tag ≡ row → AreRecordsAt file (records_at file at tag kind) result
+        go : (row : Option ℕ) → tagged_row file at tag ≡ row → AreRecordsAt file (version_records_at file at tag kind) result
         go None none = rw (no_records none) (by_none none result are)
         go (Some row) some = by_some row some result are
 

@@ -1,6 +1,6 @@
 -- The versions that a file needs, as they are read.
 use Rattle.std.specs.Prelude.{ℕ, ◌≡◌, ◌+◌, ◌*◌, ◌/◌, ◌<◌, ◌≤◌, Bool, true, false, List, [], ◌∷◌, Option, None, Some, Result, Ok, Err, IfOk, IfSome}
-use Rattle.elf_model.specs.Prelude.{Faulty, IsBudgetRefusal, NeededVersion, NeededVersionRead, Needs, SOUGHT_BYTES, Version, VersionRecordTable as IsTableOf, max_records, name_bytes, needed_versions, record_cost, state_by_segments}
+use Rattle.elf_model.specs.Prelude.{NeedRefused, IsBudgetRefusal, NeededVersion, NeededVersionRead, Needs, SOUGHT_BYTES, Version, VersionRecordTable as IsTableOf, max_records, name_bytes, needed_versions, record_cost, state_by_segments}
 use Rattle.elf_model.specs.declared.states.VersionState.{VersionState}
 use Rattle.elf_table.specs.Prelude.{fault_of_result}
 use Rattle.elf_table.specs.declared.fault.Fault.{Fault}
@@ -52,7 +52,7 @@ needs_left file told walk = needed_versions file walk.library (left_of file told
 abbrev pub ReturnsNeed : (all left : List NeededVersionRead) → NeedsWalk → Result Bool Fault → Type 0
 ReturnsNeed all left walk (Ok true) = all ≡ Needs (needed_of walk) ∷ left
 ReturnsNeed all left walk (Ok false) = all ≡ left
-ReturnsNeed all left walk (Err (Refused refusal)) = (IsBudgetRefusal refusal → ⊥) → all ≡ Faulty refusal ∷ []
+ReturnsNeed all left walk (Err (Refused refusal)) = (IsBudgetRefusal refusal → ⊥) → all ≡ NeedRefused refusal ∷ []
 ReturnsNeed all left walk (Err (Source fault at)) = Unit {0}
 
 -- the same, or nothing was left

@@ -1,6 +1,6 @@
 -- The tables of symbol versions of a file.
 use Rattle.std.specs.Prelude.{ℕ, ◌≡◌, ◌⊎◌, ◌++◌, false, is_some, List, Option, None, Some, Result, Ok, Err, IfOk, IfSome}
-use Rattle.elf_model.specs.Prelude.{Check, DT_STRSZ, DT_STRTAB, DT_VERDEF, DT_VERNEED, DT_VERSYM, IsBudgetRefusal, VersionRecordTable as IsTableOf, checks_of_row, d_un, dynamic_segment_index, first_refusal, header_checks, load_checks, mapped_checks, records_at, segment_at, segment_dynamic_checks, tagged_row}
+use Rattle.elf_model.specs.Prelude.{Check, DT_STRSZ, DT_STRTAB, DT_VERDEF, DT_VERNEED, DT_VERSYM, IsBudgetRefusal, VersionRecordTable as IsTableOf, checks_of_row, d_un, dynamic_segment_index, first_refusal, header_checks, load_checks, mapped_checks, version_records_at, segment_at, segment_dynamic_checks, tagged_row}
 use Rattle.elf_model.specs.declared.causes.Refusal.{Refusal}
 use Rattle.elf_model.specs.declared.versions.VersionKind.TheVariants.{Definition, File}
 use Rattle.elf_table.specs.declared.fault.Fault.{Fault}
@@ -35,8 +35,8 @@ AreRecordsAt file (Err refusal) (Ok found) = ⊥
 
 -- THE TABLES ARE THOSE that the entries of the segment at an offset locate
 pub record AreVersionsAt (file : List ℕ) (at : ℕ) (versions : FileVersions) : Type 0 where
-  pub needs : AreRecordsAt file (records_at file at DT_VERNEED File) versions.needs
-  pub definitions : AreRecordsAt file (records_at file at DT_VERDEF Definition) versions.definitions
+  pub needs : AreRecordsAt file (version_records_at file at DT_VERNEED File) versions.needs
+  pub definitions : AreRecordsAt file (version_records_at file at DT_VERDEF Definition) versions.definitions
   pub versym : versions.has_versym ≡ is_some (tagged_row file at DT_VERSYM)
 
 -- and those of a file
@@ -45,7 +45,7 @@ AreVersionsOf file versions = elim (dynamic_segment_index file) [ None ↦ versi
 
 -- the versions that a file needs
 abbrev pub AreNeedsOf : List ℕ → Result (Option VersionRecordTable) Fault → Type 0
-AreNeedsOf file result = elim (dynamic_segment_index file) [ None ↦ result ≡ Ok None | Some i ↦ AreRecordsAt file (records_at file (segment_at file i) DT_VERNEED File) result ]
+AreNeedsOf file result = elim (dynamic_segment_index file) [ None ↦ result ≡ Ok None | Some i ↦ AreRecordsAt file (version_records_at file (segment_at file i) DT_VERNEED File) result ]
 
 -- the checks of the strings that the entries locate
 abbrev pub strings_checks : List ℕ → ℕ → List Check

@@ -244,17 +244,17 @@ impl<R: Print> Print for RootedFiles<'_, R> {
 }
 
 impl<R: Input> Input for RootedFiles<'_, R> {
-    type FileReaderOf = R::FileReaderOf;
+    type Reader = R::Reader;
 
     fn read_line<A: Allocator + Clone>(&self, buf: &mut String<A>) -> io::Result<usize> {
         self.rt.read_line(buf)
     }
 
-    fn lines<A: Allocator>(&self, alloc: A) -> Lines<R::FileReaderOf, A> {
+    fn lines<A: Allocator>(&self, alloc: A) -> Lines<R::Reader, A> {
         self.rt.lines(alloc)
     }
 
-    fn reader(&self) -> R::FileReaderOf {
+    fn reader(&self) -> R::Reader {
         self.rt.reader()
     }
 }
