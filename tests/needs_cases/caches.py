@@ -71,7 +71,7 @@ def run(cases):
 def budgets(cases, library, shape):
     """What is read of a cache counts: one that is enough for all gives the whole answer, and each smaller one ends it."""
     whole, enough = cases.run(library.words()), None
-    for budget in range(0, 4000, 83):
+    for budget in range(0, 12000, 251):
         status, text, errors = got = cases.run(library.words("--max-read", budget))
         enough = budget if got == whole and enough is None else enough
         if errors or got != whole and (status != 1 or " budget" not in text or enough is not None):

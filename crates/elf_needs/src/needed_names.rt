@@ -53,7 +53,7 @@ impl ObjectList {
 }
 
 /// Returns a directory within a root that it is below: what follows the root.
-fn within_root<'a>(root: &[u8], folder: &'a [u8]) -> &'a [u8] {
+pub(crate) fn within_root<'a>(root: &[u8], folder: &'a [u8]) -> &'a [u8] {
     if root.is_empty() || !folder.starts_with(root) {
         return folder;
     }

@@ -1,11 +1,14 @@
 //! The program whose objects are listed.
+ghost use Rattle.std.specs.Prelude.{◌≡◌};
 ghost use Rattle.elf_needs.specs.Budget.{AsksFile, AsksFiles};
 
 use crate::cached_source::CachedSource;
+use crate::needed_names::within_root;
 use crate::object_file::{ObjectFile, ObjectRole};
 use crate::object_reports::{ObjectPlace, ObjectReport, found_identity, report_alone};
 use crate::object_rows::list_object;
 use crate::open_objects::OpenObjects;
+use crate::paths::named_path;
 use crate::states::{ObjectRow, ObjectState};
 use crate::walk::{DependencyWalk, NeedsFault};
 use elf_record::{Cause, Refusal};
@@ -28,7 +31,7 @@ impl<W: Sink> DependencyWalk<'_, '_, W> {
             self.old.search.account self.new.search.account }
     {
         let mut file = file;
-        let kept = self.objects.keep_path(real);
+        let kept = self.keep_program_path(real);
         let report = self.read_program(&mut file, kept);
         let identity = file.attributes().identity;
         let report = self.keep(file, report, opened)?;
@@ -48,6 +51,21 @@ impl<W: Sink> DependencyWalk<'_, '_, W> {
             found_by: None,
         };
         list_object(row, path, self.lines, &mut self.out).map_err(NeedsFault::Out)
+    }
+
+    /// Stores the path of the program, whose directory replaces `$ORIGIN`, and returns its index: one
+    /// that is not within the root is taken below it.
+    fn keep_program_path(&mut self, real: &[u8]) -> Option<u32>
+        ensures account { self.new.search.account ≡ self.old.search.account }
+    {
+        let root = self.search.folders.root;
+        if root.is_empty() || within_root(root, real).len() < real.len() {
+            return self.objects.keep_path(real);
+        }
+        if !named_path(&mut self.search.path, root, real) {
+            return None;
+        }
+        self.objects.keep_path(&self.search.path)
     }
 
     /// Reads the machine of the program at the path of an index, what it needs, and the path of its
