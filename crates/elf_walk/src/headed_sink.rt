@@ -37,11 +37,15 @@ impl<'a, W: Sink> HeadedSink<'a, W> {
             (text_headed self.old.format self.old.path.now self.old.begun bytes.now) }
         ensures begun { OnOk result (self.new.begun ≡ true) }
     {
-        if !self.begun {
-            show_path(self.path, self.format, self.out)?;
-            self.begun = true;
+        if self.begun {
+            return self.out.put(bytes);
         }
-        self.out.put(bytes)
+        show_path(self.path, self.format, self.out)?;
+        self.begun = true;
+        match self.out.put(bytes) {
+            Ok(()) => Ok(()),
+            Err(fault) => Err(fault),
+        }
     }
 }
 
@@ -59,6 +63,9 @@ impl<'a, W: Sink> Sink for HeadedSink<'a, W> {
     /// # Errors
     /// Returns `SinkFault` if the output has failed or fails, perhaps after some of them.
     fn take(&mut self, bytes: &[u8]) -> Result<usize, SinkFault> {
+        if self.failed() {
+            return Err(SinkFault);
+        }
         match self.put(bytes) {
             Ok(()) => Ok(bytes.len()),
             Err(_) => Err(SinkFault),

@@ -58,14 +58,11 @@ impl<'a, R: Files> Model for NeedsReport<'a, R>
 where
     R::File: FileExt,
 {
-    ghost use Rattle.std.specs.Prelude.{◌≡◌};
     ghost use Rattle.elfsee.specs.declared.needs_report.NeedsRule.{NeedsRule};
 
     ghost Value = { NeedsRule };
 
     ghost view = { λ n. n.rule };
-
-    ghost invariant = { λ n. n.headers ≡ n.rule.limits.headers };
 }
 
 impl<'a, R: Files + AllocGlobal> NeedsReport<'a, R>
@@ -80,7 +77,6 @@ where
         headers: HeaderBuffer,
         rooms: (NeedsBuffers, OpenFiles<R::File>),
     ) -> Self
-        requires { headers ≡ rule.limits.headers }
         ensures { result ≡ rule.entry }
     {
         let (room, opened) = rooms;
@@ -103,7 +99,9 @@ where
         path: &str,
         budget: Option<u64>,
         out: &mut Out<W>,
-    ) -> Result<u8, NeedsFault> {
+    ) -> Result<u8, NeedsFault>
+        ensures stays { self.new ≡ self.old }
+    {
         let rt = self.system.rt;
         let Ok(real) = rt.canonicalize(rt.alloc(), opened_path(path)) else {
             return Err(NeedsFault::Open);
