@@ -19,9 +19,9 @@ use std::rt::Files;
 /// # Errors
 /// Out of memory.
 #[inline(never)]
-pub fn list_needs_of_files<R: Files + Print + Input + AllocGlobal>(
-    rt: &R,
-    asked: &NeedsRequest<'_>,
+pub fn list_needs_of_files<'a, R: Files + Print + Input + AllocGlobal>(
+    rt: &'a R,
+    asked: &'a NeedsRequest<'a>,
     terminal: Option<Stderr>,
 ) -> Result<ExitLine, ExitLine>
 where
