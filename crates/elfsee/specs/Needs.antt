@@ -25,9 +25,8 @@ is_of_other_type NotElf = true
 is_of_other_type BadClass = true
 is_of_other_type cause = false
 
--- no more is requested from a source than a budget allows, and no less was requested than before
+-- no more is requested from a source than a budget allows
 pub record AsksWithinBudget (budget : Option ℕ) (old new : CountedState) : Type 0 where
-  pub grows : old.asked ≤ new.asked
   pub within : IfSome budget (λ bytes. new.asked ≤ old.asked + bytes)
 
 -- WHAT IS REQUESTED from one of many files to find whether its needs are listed

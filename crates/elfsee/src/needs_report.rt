@@ -156,7 +156,7 @@ where
         let state = match is_listed(src, &mut self.headers.store(), limits) {
             Ok(false) => return Ok(0),
             Ok(true) => {
-                let budget = budget_left(limits.budget, src.asked() - before);
+                let budget = budget_left(limits.budget, src.asked().saturating_sub(before));
                 match str::from_utf8(path) {
                     Ok(text) => self.list(text, budget, out),
                     Err(_) => Err(NeedsFault::Open),
