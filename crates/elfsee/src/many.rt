@@ -4,12 +4,12 @@ ghost use Rattle.elfsee.specs.Ends.{EndsList, EndsWithoutMemory, StopsCheck};
 
 use elf_cli::{
     CANNOT_OPEN, ExitLine, LineSink, OUT_OF_MEMORY, OUTPUT_BYTES, PIPE_BYTES, READ_FAULT, RunEnd,
-    end_lines,
+    end_lines, outcome,
 };
 use elf_model::Format;
 use elf_requests::{CheckRequest, PathArgs, TraitsRequest};
 use elf_source::{DeferredSink, Out, OutFault, Sink, WriteSink};
-use elf_table::{Caps, HeaderBuffer, HeaderStore};
+use elf_table::{Caps, HeaderBuffer, HeaderStore, RunFault};
 use elf_walk::{
     CheckFiles, CheckOptions, DirWalk, FileRun, FileVisitor, ListFault, TraitOptions, TraitReport,
     visit_list, visit_path,
@@ -135,6 +135,70 @@ where
     );
     let ended = visit_all(rt, files, &mut many, &mut walk, &mut entries);
     Ok(end_many(ended, many))
+}
+
+/// How a visit of many files ended.
+#[derive(Clone, Copy)]
+pub enum FilesEnd {
+    /// All files were visited: the exit status.
+    Status(u8),
+    /// There is not enough memory.
+    NoMemory,
+    /// The list of paths cannot be opened.
+    NotOpened,
+    /// The list of paths cannot be read.
+    Unread,
+    /// The output failed.
+    Unwritten,
+}
+
+/// Visits files as [`visit_files`] does, and returns how that ended, for a visitor that borrows
+/// from the files of the system.
+pub fn visit_by<R: Files + Print + Input + AllocGlobal, A: FileVisitor + Drop>(
+    rt: &R,
+    files: &PathArgs<'_>,
+    each: A,
+    held: Vec<u8>,
+    format: Format,
+    terminal: Option<Stderr>,
+) -> FilesEnd
+where
+    R::File: FileExt,
+{
+    match visit_files(rt, files, each, held, format, terminal) {
+        Ok(ending) => end_of(ending),
+        Err(_) => FilesEnd::NoMemory,
+    }
+}
+
+/// Returns how a visit ended, by the exit status and the line on standard error.
+fn end_of(ending: ExitLine) -> FilesEnd {
+    let (status, line) = ending;
+    if line.is_empty() {
+        FilesEnd::Status(status)
+    } else if line == CANNOT_OPEN.1 {
+        FilesEnd::NotOpened
+    } else if line == READ_FAULT.1 {
+        FilesEnd::Unread
+    } else {
+        FilesEnd::Unwritten
+    }
+}
+
+/// Returns the exit status and the line on standard error.
+///
+/// # Errors
+/// Out of memory.
+pub fn ending_line(ended: FilesEnd) -> Result<ExitLine, ExitLine>
+    ensures { IfErr result (λ ending. EndsWithoutMemory ending.0 ending.1.now) }
+{
+    match ended {
+        FilesEnd::Status(status) => Ok((status, "")),
+        FilesEnd::NoMemory => Err(OUT_OF_MEMORY),
+        FilesEnd::NotOpened => Ok(CANNOT_OPEN),
+        FilesEnd::Unread => Ok(READ_FAULT),
+        FilesEnd::Unwritten => Ok(outcome(&Err(RunFault::Out(OutFault { written: 0 })))),
+    }
 }
 
 /// Returns how many bytes of output are buffered before whole lines of them are written: if

@@ -2,7 +2,7 @@
 ghost use Rattle.std.specs.Prelude.{◌≡◌, IfErr};
 ghost use Rattle.elfsee.specs.Ends.{EndsWithoutMemory};
 
-use crate::many::visit_files;
+use crate::many::{ending_line, visit_by};
 use crate::needs::{last_dirs, loader_cache, settings};
 use crate::needs_report::{NeedsReport, NeedsRule};
 use elf_cli::{ExitLine, OUT_OF_MEMORY};
@@ -19,7 +19,7 @@ use std::rt::Files;
 /// # Errors
 /// Out of memory.
 #[inline(never)]
-pub fn list_needs_of_files<'a, R: Files + Print + Input + AllocGlobal>(
+pub fn list_needs_of_files<'a, R: Files + Print + Input + AllocGlobal + 'a>(
     rt: &'a R,
     asked: &'a NeedsRequest<'a>,
     terminal: Option<Stderr>,
@@ -49,7 +49,8 @@ where
         (room, opened),
     );
     let held = Vec::new(rt.alloc());
-    visit_files(rt, &asked.files, report, held, asked.format, terminal)
+    let ended = visit_by(rt, &asked.files, report, held, asked.format, terminal);
+    ending_line(ended)
 }
 
 /// Returns the rule by which a request lists the needs of each file, with the directories that are
