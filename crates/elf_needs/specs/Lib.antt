@@ -23,6 +23,7 @@ pub mod Bound
 pub mod Copied
 pub mod Requests
 pub mod Budget
+pub mod Caches
 pub mod Called
 pub mod Walked
 pub mod ObjectLines

@@ -3,6 +3,7 @@ ghost use Rattle.std.specs.Prelude.{◌≡◌, ℕ, List, Some};
 ghost use Rattle.elf_cache.specs.Prelude.{ReturnsCacheText};
 ghost use Rattle.elf_model.specs.Prelude.{path_in_cache};
 ghost use Rattle.elf_needs.specs.Budget.{AsksClosed};
+ghost use Rattle.elf_needs.specs.Caches.{PaysAccount};
 
 use crate::budget::spend_budget;
 use crate::candidates::{FileSource, SearchEnd, opened_at};
@@ -59,6 +60,7 @@ impl<S: Source + Drop> LibraryCache<S> {
         path: &mut NameBuf,
     ) -> Result<bool, Fault>
         ensures asks { AsksClosed 0 account.old account.new }
+        ensures pays { PaysAccount self.old self.new account.old account.new }
         ensures known { (file : List ℕ) → self.old.seen.file ≡ Some file →
             ReturnsCacheText (path_in_cache file name.now) path.new result }
     {
