@@ -21,6 +21,7 @@ pub mod LackLaws
 pub mod NeedLaws
 pub mod VersionTableLaws
 pub mod NeedReadLaws
+pub mod DefinedLaws
 pub mod OpenLaws
 pub mod ReadyLaws
 pub mod SoughtLaws

@@ -18,26 +18,26 @@ use Rattle.elf_hash.specs.declared.symbols.VersionRecordTable.{VersionRecordTabl
 use Rattle.elf_hash.proofs.SegmentLaws.{row_none, row_some}
 use Rattle.elf_hash.proofs.SettleLaws.{checked_fails, checked_passes, none_refused}
 use Rattle.elf_needs.specs.Sought.{IsReportedAlone}
-use Rattle.elf_needs.specs.VersionTables.{AreNeedsOf, AreRecordsAt, AreVersionsAt, AreVersionsOf, RefusesInSegments, ReturnsInSegments, ReturnsVersions, no_file_versions, strings_checks}
+use Rattle.elf_needs.specs.VersionTables.{AreNeedsOf, AreRecordsAt, AreVersionsAt, AreVersionsOf, RefusesInSegments, ReturnsInSegments, ReturnsVersions, no_file_versions, version_strings_checks}
 use Rattle.elf_needs.specs.declared.version_tables.FileVersions.{FileVersions}
 
 module _ (file : List ℕ) (at : ℕ) where
   -- THE STRINGS
   abbrev pub StringsAre : Result StringTableRange Fault → Type 0
-  StringsAre result = ChecksThenValue (strings_checks file at) (λ names. strings_in file names ≡ segment_strings file at) result
+  StringsAre result = ChecksThenValue (version_strings_checks file at) (λ names. strings_in file names ≡ segment_strings file at) result
 
   pub strings_none : (found : DynamicTags) → AreTaggedEntries file at found → found.strtab ≡ None → StringsAre (Ok (record { at = 0; size = 0 }))
   unfolding segment_strings
   strings_none found are none =
       let row = row_none file (tagged_row file at DT_STRTAB) (sym none ∙ are.strtab) in
-      (rw (row, strings_checks) refl, rw (row, segment_strings) refl)
+      (rw (row, version_strings_checks) refl, rw (row, segment_strings) refl)
 
   pub strings_unsized : (found : DynamicTags) (strtab : DynEntry) → AreTaggedEntries file at found → found.strtab ≡ Some strtab → found.strsz ≡ None → StringsAre (Ok (record { at = 0; size = 0 }))
   unfolding segment_strings
   strings_unsized found strtab are some none =
       let first = row_some file (tagged_row file at DT_STRTAB) strtab (sym some ∙ are.strtab) in
       let row = row_none file (tagged_row file at DT_STRSZ) (sym none ∙ are.strsz) in
-      (rw (first.0, row, strings_checks) refl, rw (first.0, row, segment_strings) refl)
+      (rw (first.0, row, version_strings_checks) refl, rw (first.0, row, segment_strings) refl)
 
   module _ (found : DynamicTags) (strtab strsz : DynEntry) (are : AreTaggedEntries file at found) (some : found.strtab ≡ Some strtab) (sized : found.strsz ≡ Some strsz) where
     first : (tagged_row file at DT_STRTAB ≡ Some strtab.at) × (d_un file strtab.at ≡ strtab.value)
@@ -46,7 +46,7 @@ module _ (file : List ℕ) (at : ℕ) where
     second : (tagged_row file at DT_STRSZ ≡ Some strsz.at) × (d_un file strsz.at ≡ strsz.value)
     second = row_some file (tagged_row file at DT_STRSZ) strsz (sym sized ∙ are.strsz)
 
-    checks_are : strings_checks file at ≡ mapped_checks file strtab.value strsz.value strtab.at
+    checks_are : version_strings_checks file at ≡ mapped_checks file strtab.value strsz.value strtab.at
     checks_are =
         ap (λ (r : Option ℕ). checks_of_row r (λ row. checks_of_row (tagged_row file at DT_STRSZ) (λ size_row. mapped_checks file (d_un file row) (d_un file size_row) row))) first.0
         ∙ (ap (λ (r : Option ℕ). checks_of_row r (λ size_row. mapped_checks file (d_un file strtab.at) (d_un file size_row) strtab.at)) second.0
@@ -136,14 +136,14 @@ module _ (file : List ℕ) where
     pub dynamic_stops : (fault : Fault) → Err fault ≡ dynamic_table_at file (segment_at file i) → ReturnsInSegments file (Err fault)
     dynamic_stops (Refused refusal) h = λ other.
         let at = segment_at file i in
-        (i, e, first_refusal-some (segment_dynamic_checks file at) (strings_checks file at) refusal (checked_fails (segment_dynamic_checks file at) (rows (p_offset file at) (p_filesz file at / 16) 16) (Refused refusal) h))
+        (i, e, first_refusal-some (segment_dynamic_checks file at) (version_strings_checks file at) refusal (checked_fails (segment_dynamic_checks file at) (rows (p_offset file at) (p_filesz file at / 16) 16) (Refused refusal) h))
     dynamic_stops (Source fault place) h = tt
 
     pub versions_in : first_refusal (segment_dynamic_checks file (segment_at file i)) ≡ None → (result : Result FileVersions Fault)
-        → ChecksThenValue (strings_checks file (segment_at file i)) (AreVersionsAt file (segment_at file i)) result → ReturnsInSegments file result
+        → ChecksThenValue (version_strings_checks file (segment_at file i)) (AreVersionsAt file (segment_at file i)) result → ReturnsInSegments file result
     versions_in passes (Ok versions) are = rw (e, AreVersionsOf) are.1
     versions_in passes (Err (Refused refusal)) refused = λ other.
-        (i, e, first_refusal-none (segment_dynamic_checks file (segment_at file i)) (strings_checks file (segment_at file i)) passes ∙ refused)
+        (i, e, first_refusal-none (segment_dynamic_checks file (segment_at file i)) (version_strings_checks file (segment_at file i)) passes ∙ refused)
     versions_in passes (Err (Source fault place)) refused = tt
 
   pub read_stops : (fault : Fault) → IsOfRead fault → ReturnsInSegments file (Err fault)
@@ -223,17 +223,17 @@ module _ (file : List ℕ) where
         unfolding segment_checks
         rows_pass = first_refusal-back shape_rows (rows_checks file (segment_at file i) row) all_pass
 
-        strings_pass : first_refusal (strings_checks file (segment_at file i)) ≡ None
+        strings_pass : first_refusal (version_strings_checks file (segment_at file i)) ≡ None
         unfolding rows_checks
         strings_pass =
-            first_refusal-back symbol_rows (strings_checks file (segment_at file i))
-            (passes_front (symbol_rows ++ strings_checks file (segment_at file i)) (version_rows file (segment_at file i)) rows_pass)
+            first_refusal-back symbol_rows (version_strings_checks file (segment_at file i))
+            (passes_front (symbol_rows ++ version_strings_checks file (segment_at file i)) (version_rows file (segment_at file i)) rows_pass)
 
-      pub strings_found : first_refusal (strings_checks file (segment_at file i)) ≡ None
+      pub strings_found : first_refusal (version_strings_checks file (segment_at file i)) ≡ None
       unfolding scope_in_segment
       strings_found = go (hash_row file (segment_at file i)) refl
         where
-          go : (o : Option (HashStyle × ℕ)) → hash_row file (segment_at file i) ≡ o → first_refusal (strings_checks file (segment_at file i)) ≡ None
+          go : (o : Option (HashStyle × ℕ)) → hash_row file (segment_at file i) ≡ o → first_refusal (version_strings_checks file (segment_at file i)) ≡ None
           go None is = absurd (no_ok (record { at = 0x20; cause = NoHash }) told (rw (dynamic_pass, is, scope_in_segment) at in_segment))
           go (Some (kind, row)) is = strings_pass kind row is
 
@@ -241,7 +241,7 @@ module _ (file : List ℕ) where
     never_refused refusal (inl loads) = both refusal _ loads loads_pass
     never_refused refusal (inr (i, e, fails)) =
         both refusal _ fails
-        (first_refusal-none (segment_dynamic_checks file (segment_at file i)) (strings_checks file (segment_at file i)) (dynamic_pass i e) ∙ strings_found i e)
+        (first_refusal-none (segment_dynamic_checks file (segment_at file i)) (version_strings_checks file (segment_at file i)) (dynamic_pass i e) ∙ strings_found i e)
 
     pub never_stops : (fault : Fault) → (IsReportedAlone fault → ⊥) → ReturnsVersions file headers (Err fault) → ⊥
     never_stops (Refused refusal) other returns = never_refused refusal (returns other)

@@ -48,8 +48,8 @@ abbrev pub AreNeedsOf : List ℕ → Result (Option VersionRecordTable) Fault �
 AreNeedsOf file result = elim (dynamic_segment_index file) [ None ↦ result ≡ Ok None | Some i ↦ AreRecordsAt file (version_records_at file (segment_at file i) DT_VERNEED File) result ]
 
 -- the checks of the strings that the entries locate
-abbrev pub strings_checks : List ℕ → ℕ → List Check
-strings_checks file at =
+abbrev pub version_strings_checks : List ℕ → ℕ → List Check
+version_strings_checks file at =
     checks_of_row (tagged_row file at DT_STRTAB)
     (λ row. checks_of_row (tagged_row file at DT_STRSZ) (λ size_row. mapped_checks file (d_un file row) (d_un file size_row) row))
 
@@ -57,7 +57,7 @@ strings_checks file at =
 abbrev pub RefusesInSegments : List ℕ → Refusal → Type 0
 RefusesInSegments file refusal =
     (i : ℕ) × (dynamic_segment_index file ≡ Some i)
-    × (first_refusal (segment_dynamic_checks file (segment_at file i) ++ strings_checks file (segment_at file i)) ≡ Some refusal)
+    × (first_refusal (segment_dynamic_checks file (segment_at file i) ++ version_strings_checks file (segment_at file i)) ≡ Some refusal)
 
 -- they are the file's, or that refusal, except one for lack of budget
 abbrev pub ReturnsInSegments : List ℕ → Result FileVersions Fault → Type 0

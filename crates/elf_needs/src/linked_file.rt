@@ -1,7 +1,7 @@
 //! Which of many files have needs that are listed.
-ghost use Rattle.std.specs.Prelude.{◌≡◌, ◌+◌, ◌*◌, ◌<◌, ◌^◌, ℕ, List};
+ghost use Rattle.std.specs.Prelude.{◌≡◌, ◌+◌, ◌*◌, ◌<◌, ◌^◌, ℕ, List, is_some};
 ghost use Rattle.elf_table.specs.Prelude.{CallDid, HoldsProgramHeaders, fault_of_result};
-ghost use Rattle.elf_model.specs.Prelude.{e_shnum};
+ghost use Rattle.elf_model.specs.Prelude.{dynamic_segment_index, e_shnum, e_type};
 ghost use Rattle.elf_needs.specs.Linked.{ReturnsLinked, is_linked, is_linked_type, linked_file, linked_shown};
 
 use elf_hash::load_by_segments;
@@ -44,7 +44,23 @@ fn is_linked_view(view: &ExecutionView<'_>) -> bool
     ensures { (file : List ℕ) → HoldsProgramHeaders file view.now.loaded view.now.store.now →
         result ≡ is_linked file }
 {
-    is_linked_type(view.loaded.header().e_type) && view.first_segment(PT_DYNAMIC).is_some()
+    has_linked_type(view) && has_dynamic_entries(view)
+}
+
+/// Returns `true` if a file whose program headers are loaded has a type that a loader links.
+fn has_linked_type(view: &ExecutionView<'_>) -> bool
+    ensures { (file : List ℕ) → HoldsProgramHeaders file view.now.loaded view.now.store.now →
+        result ≡ is_linked_type (e_type file) }
+{
+    is_linked_type(view.loaded.header().e_type)
+}
+
+/// Returns `true` if a file whose program headers are loaded has a segment of dynamic entries.
+fn has_dynamic_entries(view: &ExecutionView<'_>) -> bool
+    ensures { (file : List ℕ) → HoldsProgramHeaders file view.now.loaded view.now.store.now →
+        result ≡ is_some (dynamic_segment_index file) }
+{
+    view.first_segment(PT_DYNAMIC).is_some()
 }
 
 /// Returns `true` if a loader links files of a type.

@@ -81,29 +81,32 @@ impl<W: Sink> DependencyWalk<'_, '_, W> {
             left,
             &mut used,
         ) {
-            Ok(()) => self.show_unused(&used)?,
+            Ok(()) => self.show_unused(&used),
             Err(Fault::Refused(refusal)) => {
                 self.status = 1;
-                show_refusal(refusal, self.lines.format, &mut self.out).map_err(NeedsFault::Out)?;
+                match show_refusal(refusal, self.lines.format, &mut self.out) {
+                    Ok(()) => Ok(self.status),
+                    Err(fault) => Err(NeedsFault::Out(fault)),
+                }
             }
-            Err(Fault::Source { .. }) => return Err(NeedsFault::Read),
+            Err(Fault::Source { .. }) => Err(NeedsFault::Read),
         }
-        Ok(self.status)
     }
 
     /// Writes the lines of the objects that entries of the program lead to and that are not used.
+    /// Returns the exit status.
     ///
     /// # Errors
     /// The output failed.
-    fn show_unused(&mut self, used: &UsedObjects) -> Result<(), NeedsFault>
+    fn show_unused(&mut self, used: &UsedObjects) -> Result<u8, NeedsFault>
         ensures account { self.new.search.account ≡ self.old.search.account }
     {
         let Some(program) = self.objects.get(0) else {
-            return Ok(());
+            return Ok(self.status);
         };
         for place in program.needs..program.needs_end {
             let Some(need) = self.objects.need(place) else {
-                return Ok(());
+                return Ok(self.status);
             };
             let objects = &self.objects;
             let Some(index) = objects.called(objects.links.text(need.name)) else {
@@ -124,7 +127,7 @@ impl<W: Sink> DependencyWalk<'_, '_, W> {
             };
             list_object(row, path, self.lines, &mut self.out).map_err(NeedsFault::Out)?;
         }
-        Ok(())
+        Ok(self.status)
     }
 }
 
@@ -149,6 +152,23 @@ fn mark_used<S: Source>(
     if objects.is_empty() {
         return Ok(());
     }
+    mark_used_by_first(objects, scope, store, left, used)
+}
+
+/// Marks the objects that define a symbol that the first of them uses.
+///
+/// # Errors
+/// Those of [`mark_used`].
+fn mark_used_by_first<S: Source>(
+    objects: &mut [LookupObject<S>],
+    scope: &SearchScope<'_>,
+    store: &mut HeaderStore<'_>,
+    left: &mut Option<u64>,
+    used: &mut UsedObjects,
+) -> Result<(), Fault>
+    requires { 0 < length objects.old }
+    ensures { AsksAll objects.old objects.new left.old left.new }
+{
     let mut names = ReferenceNames::new();
     mark_bound(objects, scope, &mut names, left, used)?;
     match objects[0].relocations(left, store)? {

@@ -3,7 +3,7 @@ ghost use Rattle.std.specs.Prelude.{◌≡◌, ◌+◌, ◌*◌, ◌^◌, ◌<�
 ghost use Rattle.elf_table.specs.Prelude.{CallDid, ChecksThenValue, HoldsProgramHeaders, IsOfCheck, StringsInBounds, fault_of_result, strings_in};
 ghost use Rattle.elf_model.specs.Prelude.{e_shnum, segment_strings};
 ghost use Rattle.elf_hash.specs.Prelude.{AreTaggedEntries};
-ghost use Rattle.elf_needs.specs.VersionTables.{AreVersionsAt, FileVersionsInBounds, ReturnsInSegments, ReturnsVersions, refused_versions, strings_checks};
+ghost use Rattle.elf_needs.specs.VersionTables.{AreVersionsAt, FileVersionsInBounds, ReturnsInSegments, ReturnsVersions, refused_versions, version_strings_checks};
 
 use elf_hash::{DynamicTags, VersionRecordTable, first_entries, load_by_segments, segment_records};
 use elf_record::VersionKind;
@@ -78,7 +78,7 @@ fn versions_at(view: &ExecutionView<'_>, found: &DynamicTags) -> Result<FileVers
     ensures held { (file : List ℕ) (at : ℕ) →
         HoldsProgramHeaders file view.now.loaded view.now.store.now →
         AreTaggedEntries file at found.now →
-        ChecksThenValue (strings_checks file at) (AreVersionsAt file at) result }
+        ChecksThenValue (version_strings_checks file at) (AreVersionsAt file at) result }
 {
     let names = strings_of(view, found)?;
     Ok(FileVersions {
@@ -94,7 +94,7 @@ fn strings_of(view: &ExecutionView<'_>, found: &DynamicTags) -> Result<Names, Fa
     ensures refusal { IfErr result IsOfCheck }
     ensures held { (file : List ℕ) (at : ℕ) →
         HoldsProgramHeaders file view.now.loaded view.now.store.now →
-        AreTaggedEntries file at found.now → ChecksThenValue (strings_checks file at)
+        AreTaggedEntries file at found.now → ChecksThenValue (version_strings_checks file at)
         (λ names. strings_in file names ≡ segment_strings file at) result }
 {
     let Some(strtab) = found.strtab else {

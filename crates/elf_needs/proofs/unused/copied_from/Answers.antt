@@ -19,3 +19,13 @@ loop-object-preserved g c =
 
 pub loop-object-init : goal.loop-object-init
 loop-object-init g c = record { asks = asks_none c.args.objects.now c.args.left.now; end = refl }
+
+pub returns-in-Err : goal.returns-in-Err
+returns-in-Err g c =
+    let l = c.loop-object in
+    asks_looked l.object c.index-objects-object.result c.look.new.self (omega (arith, c.loop-object-test.true, l.invariant.end, l.invariant.asks.objects.same_length)) l.invariant.asks c.look.ensures
+
+pub returns-in-Err-2 : goal.returns-in-Err-2
+returns-in-Err-2 g c =
+    let l = c.loop-object in
+    asks_looked l.object c.index-objects-object.result c.look.new.self (omega (arith, c.loop-object-test.true, l.invariant.end, l.invariant.asks.objects.same_length)) l.invariant.asks c.look.ensures
