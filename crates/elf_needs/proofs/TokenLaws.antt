@@ -1,7 +1,8 @@
 -- A text with its tokens replaced, starting at an index.
-use Rattle.std.proofs.Common.{◌≡◌, ℕ, zero, suc, ◌+◌, ◌<◌, ◌≤◌, true, false, List, [], ◌∷◌, ◌++◌, length, length-append, drop, drop-cons, drop-drop, get_or, None, Some, refl, ap, sym, ◌∙◌, append_assoc, add-one, arith}
+use Rattle.std.proofs.Common.{◌≡◌, ℕ, zero, suc, ◌+◌, ◌<◌, ◌≤◌, ◌==◌, true, false, List, [], ◌∷◌, ◌++◌, length, length-append, drop, drop-cons, drop-drop, get_or, None, Some, refl, ap, sym, ◌∙◌, append_assoc, add-one, arith}
+use Rattle.std.proofs.lemmas.Bool.Decides.{nat_tests}
 use Rattle.std.proofs.Math.ListN.{drop_of_length-le}
-use Rattle.elf_needs.specs.Prelude.{MOST_PATH_BYTES, PutsText, Token, expanded, token_at}
+use Rattle.elf_needs.specs.Prelude.{DOLLAR, MOST_PATH_BYTES, PutsText, Token, expanded, token_at}
 
 -- what was written so far, with what is left, is what is wanted
 abbrev pub IsWalkAlive : (old now found rest : List ℕ) → Type 0
@@ -82,3 +83,19 @@ nothing origin = refl
 pub goes_all : (origin old now text : List ℕ) (at : ℕ) (found : List ℕ) → length text ≤ at → IsWalkAlive old now found (expanded origin 0 (drop at text)) → PutsText old now (Some found) true
 goes_all origin old now text at found all goes =
     goes_end old now found (goes ∙ ap (λ more. now ++ more) (ap (expanded origin 0) (drop_of_length-le text all) ∙ nothing origin))
+
+-- a text without a `$` has no token
+by_none : (origin : List ℕ) (b : ℕ) (text : List ℕ) → (b ≡ DOLLAR → ⊥) → token_at origin (b ∷ text) ≡ None
+unfolding token_at
+by_none origin b text other =
+    let e : (b == DOLLAR) ≡ false = grind (arith, nat_tests, other) in
+    rw (token_at, e) refl
+
+pub without_tokens : (origin text : List ℕ) → ((k : ℕ) → k < length text → get_or text k 0 ≡ DOLLAR → ⊥) → text ≡ expanded origin 0 text
+without_tokens origin [] none = sym (nothing origin)
+without_tokens origin (b ∷ text) none =
+    ap (λ rest. b ∷ rest) (without_tokens origin text (λ k low. none (suc k) (omega (arith, low))))
+    ∙ sym (by_byte origin b text (by_none origin b text (none 0 (omega arith))))
+
+pub test_dollar : (b : ℕ) → b ≡ DOLLAR → (b == DOLLAR) ≡ true
+test_dollar b is = grind (arith, nat_tests)

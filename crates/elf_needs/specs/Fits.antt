@@ -5,6 +5,8 @@ use Rattle.elf_model.specs.Checks.{Check, refuse}
 use Rattle.elf_model.specs.Prelude.{Accepted, IsBudgetRefusal, LibraryFile, RefusedAt, Skipped, e_type}
 use Rattle.elf_model.specs.TraitNumbers.{ET_DYN, ET_EXEC}
 use Rattle.elf_model.specs.declared.causes.Cause.TheVariants.{BadVersion, Short, Unsupported}
+use Rattle.elf_needs.specs.declared.candidates.SearchEnd.{SearchEnd}
+use Rattle.elf_needs.specs.declared.candidates.SearchEnd.TheVariants as stop
 use Rattle.elf_needs.specs.declared.library_files.LibraryFit.{LibraryFit}
 use Rattle.elf_needs.specs.declared.library_files.LibraryFit.TheVariants as fit
 use Rattle.elf_table.specs.declared.fault.Fault.{Fault}
@@ -40,3 +42,9 @@ ReturnsLibraryWithin told left (Err (Source fault at)) = Unit {0}
 abbrev pub ReturnsLibraryFit : LibraryFile → Option ℕ → LibraryFit → Type 0
 ReturnsLibraryFit told left found =
     (fitted found ≡ told) ⊎ ((found ≡ fit.Refused (record { at = 0; cause = Short })) ⊎ ((found ≡ fit.Accepted) × (left ≡ None → ⊥)))
+
+-- the answer of a search for one that is not accepted: it goes on, or ends
+abbrev pub not_accepted : {X : Type 0} → LibraryFit → Result (Option X) SearchEnd
+not_accepted (fit.Refused refusal) = Err (stop.Refused refusal)
+not_accepted fit.Skipped = Ok None
+not_accepted fit.Accepted = Ok None

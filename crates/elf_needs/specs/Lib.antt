@@ -25,6 +25,7 @@ pub mod Requests
 pub mod Budget
 pub mod Caches
 pub mod Called
+pub mod Replaced
 pub mod Walked
 pub mod ObjectLines
 pub mod ListedLines

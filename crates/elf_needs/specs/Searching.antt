@@ -178,6 +178,12 @@ library_dirs program text = record { text = text; separator = SEMICOLON; origin 
 abbrev pub default_dirs : List ℕ → SearchPathText
 default_dirs text = record { text = text; separator = COLON; origin = None; found_by = by.Default }
 
+-- those of a system that are searched if no others are given, by whether it has directories for
+-- x86-64 alone, below `/lib` and below `/usr/lib`: then there is none for 64 bits beside it
+unfoldable pub system_dirs : (lib usr : Bool) → List ℕ
+system_dirs lib usr =
+    codes "/lib/x86_64-linux-gnu:/usr/lib/x86_64-linux-gnu" ++ ((if lib then [] else codes ":/lib64") ++ ((if usr then [] else codes ":/usr/lib64") ++ codes ":/lib:/usr/lib"))
+
 -- they are left out if the first of these objects says so
 unfoldable pub default_for : List NeedingObject → List ℕ → List ℕ
 default_for [] default = default

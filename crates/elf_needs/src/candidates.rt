@@ -1,8 +1,8 @@
 //! Files that may be the one that is searched for.
 ghost use Rattle.std.specs.Prelude.{◌≡◌, ℕ, List, if◌then◌else◌, Err, IfOk, IfSome, None, Ok, Some};
 ghost use Rattle.elf_model.specs.Prelude.{library_file};
-ghost use Rattle.elf_needs.specs.Budget.{AsksFile, AsksFound};
-ghost use Rattle.elf_needs.specs.Fits.{ReturnsLibraryFit};
+ghost use Rattle.elf_needs.specs.Budget.{AsksFile, AsksFound, asked_of_found};
+ghost use Rattle.elf_needs.specs.Fits.{ReturnsLibraryFit, not_accepted};
 ghost use Rattle.elf_needs.specs.OpenFailures.{is_no_file};
 ghost use Rattle.elf_needs.specs.declared.candidates.SearchEnd.TheVariants.{Failed};
 ghost use Rattle.elf_needs.specs.declared.walk.NeedsFault.TheVariants.{Open};
@@ -59,6 +59,17 @@ where
         return Ok(Some(file));
     }
     let _ = file.close(account);
+    not_accepted(fit)
+}
+
+/// Returns no file for one that is skipped.
+///
+/// # Errors
+/// It is refused, which ends the search.
+fn not_accepted<S: Source>(fit: LibraryFit) -> Result<Option<ObjectFile<S>>, SearchEnd>
+    ensures ends { result ≡ not_accepted fit }
+    ensures none { asked_of_found result ≡ 0 }
+{
     match fit {
         LibraryFit::Refused(refusal) => Err(SearchEnd::Refused(refusal)),
         LibraryFit::Skipped | LibraryFit::Accepted => Ok(None),

@@ -26,7 +26,7 @@ fn put_byte(path: &mut CandidatePath, byte: u8) -> bool
 }
 
 /// Returns `true` if a text begins with a slash.
-fn is_rooted(text: &[u8]) -> bool
+pub(crate) fn is_rooted(text: &[u8]) -> bool
     ensures { result ≡ is_rooted text.now }
 {
     !text.is_empty() && text[0] == b'/'

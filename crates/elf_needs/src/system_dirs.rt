@@ -1,6 +1,6 @@
 //! The default directories.
 ghost use Rattle.std.specs.Prelude.{◌≡◌};
-ghost use Rattle.elf_needs.specs.Searching.{is_below, is_below_default};
+ghost use Rattle.elf_needs.specs.Searching.{is_below, is_below_default, system_dirs};
 
 use crate::path_elements::first_entry;
 use crate::paths::{CandidatePath, named_path};
@@ -17,7 +17,10 @@ pub fn default_dirs<R: Files>(rt: &R, root: &[u8]) -> &'static [u8] {
 
 /// Returns the default directories, by whether those for x86-64 alone are there, below `/lib` and
 /// below `/usr/lib`.
-fn dirs_besides(lib: bool, usr: bool) -> &'static [u8] {
+#[tactic(auto, unfolding(crate::specs::Searching::system_dirs))]
+fn dirs_besides(lib: bool, usr: bool) -> &'static [u8]
+    ensures { result.now ≡ system_dirs lib usr }
+{
     match (lib, usr) {
         (true, true) => b"/lib/x86_64-linux-gnu:/usr/lib/x86_64-linux-gnu:/lib:/usr/lib",
         (true, false) =>
