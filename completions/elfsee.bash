@@ -10,7 +10,7 @@ _elfsee_options() {
     list) set -- --headers --names --max-read --only --gnu --by-segments --json --versions --name --name-list --members --files0-from ;;
     find) set -- --headers --max-read --gnu --by-segments --json ;;
     apply) set -- --headers --max-read --layout --explain ;;
-    needs) set -- --headers --max-read --library-path --default --root --symbols --json ;;
+    needs) set -- --headers --max-read --max-tries --library-path --default --root --symbols --unused --problems --json --files0-from ;;
     traits) set -- --headers --max-read --require --json --files0-from ;;
     *) set -- ;;
     esac
@@ -63,7 +63,7 @@ _elfsee() {
         else
             case $word in
             --) ended=1 before= ;;
-            --headers | --names | --max-read | --only | --name | --name-list | --layout | --require | --library-path | --default | --root | --files0-from) skip=1 ;;
+            --headers | --names | --max-read | --max-tries | --only | --name | --name-list | --layout | --require | --library-path | --default | --root | --files0-from) skip=1 ;;
             -*) ;;
             *) if [[ $command ]]; then files=$((files + 1)); else command=$word; fi ;;
             esac
@@ -76,7 +76,7 @@ _elfsee() {
             mapfile -t COMPREPLY < <(compgen -W "$parts" -- "$current")
             return
             ;;
-        --headers | --names | --max-read | --name | --require | --library-path | --default) return ;;
+        --headers | --names | --max-read | --max-tries | --name | --require | --library-path | --default) return ;;
         --name-list | --layout | --root | --files0-from)
             _elfsee_files
             return
@@ -97,8 +97,8 @@ _elfsee() {
     case $command in
     '') mapfile -t COMPREPLY < <(compgen -W 'show sample find apply check list traits needs archive version help' -- "$current") ;;
     help) [[ $files != 0 ]] || mapfile -t COMPREPLY < <(compgen -W 'show sample find apply check list traits needs archive version' -- "$current") ;;
-    show | find | needs | archive) [[ $files != 0 ]] || _elfsee_files ;;
-    check | list | traits) _elfsee_files ;;
+    show | find | archive) [[ $files != 0 ]] || _elfsee_files ;;
+    check | list | traits | needs) _elfsee_files ;;
     apply)
         case $files in
         0) _elfsee_files ;;

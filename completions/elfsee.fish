@@ -27,7 +27,7 @@ function __elfsee_plain_words
             set -a plain $word
         else if test "$word" = --
             set ended 1
-        else if contains -- $word --headers --names --max-read --only --name --name-list --layout --require --library-path --default --root --files0-from
+        else if contains -- $word --headers --names --max-read --max-tries --only --name --name-list --layout --require --library-path --default --root --files0-from
             set skip 1
         else if not string match -q -- '-*' $word
             set -a plain $word
@@ -40,8 +40,8 @@ end
 # Succeeds if the file is not named yet.
 function __elfsee_wants_file
     set -l plain (__elfsee_plain_words)
-    test (count $plain) -eq 1; and contains -- $plain[1] show find apply needs archive; and return
-    test (count $plain) -ge 1; and contains -- $plain[1] check list traits
+    test (count $plain) -eq 1; and contains -- $plain[1] show find apply archive; and return
+    test (count $plain) -ge 1; and contains -- $plain[1] check list traits needs
 end
 
 # Succeeds if items of a layout may follow.
@@ -64,7 +64,7 @@ complete -c elfsee -n "not __fish_seen_subcommand_from $commands" -a apply -d 'w
 complete -c elfsee -n "not __fish_seen_subcommand_from $commands" -a check -d 'check many files: which are malformed, where and why'
 complete -c elfsee -n "not __fish_seen_subcommand_from $commands" -a list -d 'list many files, whole or one part of each'
 complete -c elfsee -n "not __fish_seen_subcommand_from $commands" -a traits -d 'print how each of many files is hardened'
-complete -c elfsee -n "not __fish_seen_subcommand_from $commands" -a needs -d 'print which libraries a program needs, and where they are'
+complete -c elfsee -n "not __fish_seen_subcommand_from $commands" -a needs -d 'print which libraries programs need, and where they are'
 complete -c elfsee -n "not __fish_seen_subcommand_from $commands" -a archive -d 'list the members of an archive, and their contents'
 complete -c elfsee -n "not __fish_seen_subcommand_from $commands" -a version -d 'print the version of the program'
 complete -c elfsee -n "not __fish_seen_subcommand_from $commands" -a help -d 'print the commands and options'
@@ -89,12 +89,15 @@ complete -c elfsee -n '__fish_seen_subcommand_from show sample list archive; and
 complete -c elfsee -n '__fish_seen_subcommand_from show list archive' -l name -x -d 'show only the rows with this name'
 complete -c elfsee -n '__fish_seen_subcommand_from show list archive; and __elfsee_lacks --name-list' -l name-list -r -F -d 'also show the rows with the names in a file, one per line'
 complete -c elfsee -n '__fish_seen_subcommand_from traits; and __elfsee_lacks --require' -l require -x -d 'print which of these words each program and library lacks'
+complete -c elfsee -n '__fish_seen_subcommand_from needs; and __elfsee_lacks --max-tries' -l max-tries -x -d 'try at most so many paths for a file'
 complete -c elfsee -n '__fish_seen_subcommand_from needs; and __elfsee_lacks --library-path' -l library-path -x -d 'also search these directories for libraries'
 complete -c elfsee -n '__fish_seen_subcommand_from needs; and __elfsee_lacks --default' -l default -x -d 'search these directories last'
 complete -c elfsee -n '__fish_seen_subcommand_from needs; and __elfsee_lacks --symbols' -l symbols -d 'also print which object each symbol comes from'
+complete -c elfsee -n '__fish_seen_subcommand_from needs; and __elfsee_lacks --unused' -l unused -d 'also print which libraries the program names and uses nothing of'
+complete -c elfsee -n '__fish_seen_subcommand_from needs; and __elfsee_lacks --problems' -l problems -d 'print only the lines that make the status 1'
 complete -c elfsee -n '__fish_seen_subcommand_from needs; and __elfsee_lacks --root' -l root -r -F -d 'take each path that begins with a slash relative to a directory'
 complete -c elfsee -n '__fish_seen_subcommand_from check list; and __elfsee_lacks --members' -l members -d 'also read the members of archives'
-complete -c elfsee -n '__fish_seen_subcommand_from check list traits; and __elfsee_lacks --files0-from' -l files0-from -r -F -d 'also take the paths in a file, each ended by a NUL byte'
+complete -c elfsee -n '__fish_seen_subcommand_from check list traits needs; and __elfsee_lacks --files0-from' -l files0-from -r -F -d 'also take the paths in a file, each ended by a NUL byte'
 complete -c elfsee -n '__fish_seen_subcommand_from apply; and __elfsee_lacks --layout' -l layout -r -F -d 'also take the items in a file, one per line'
 complete -c elfsee -n '__fish_seen_subcommand_from apply; and __elfsee_lacks --explain' -l explain -d 'if an address is missing, print the item that would help'
 complete -c elfsee -s h -l help -d 'print the commands and options'

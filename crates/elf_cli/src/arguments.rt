@@ -154,6 +154,24 @@ pub(crate) const ROOT: ArgSpec = ArgSpec {
     help: "Take each path that begins with a slash relative to DIR",
 };
 
+pub(crate) const MAX_TRIES: ArgSpec = ArgSpec {
+    name: "max-tries",
+    kind: ArgKind::Number(ValueParser::Unsigned(0, 9_223_372_036_854_775_807)),
+    help: "Try at most N paths for a FILE: 0 to 9223372036854775807 [default: 100,000]",
+};
+
+pub(crate) const UNUSED: ArgSpec = ArgSpec {
+    name: "unused",
+    kind: ArgKind::Flag,
+    help: "Tell which libraries FILE names itself and uses nothing of, too",
+};
+
+pub(crate) const PROBLEMS: ArgSpec = ArgSpec {
+    name: "problems",
+    kind: ArgKind::Flag,
+    help: "Write of all lines only those that make the status 1",
+};
+
 pub(crate) const BINDINGS: ArgSpec = ArgSpec {
     name: "symbols",
     kind: ArgKind::Flag,

@@ -12,8 +12,8 @@ ghost use Rattle.elf_cli.specs.CommandLine.{with_many_files, with_one_file, with
 
 use crate::arguments::{
     AS_LOADED, AS_LOADER, BINDINGS, BY_SEGMENTS, DEFAULT, EXPLAIN, FILE, GNU, HEADERS, INSIDE,
-    ITEM, JSON, LAYOUT, LIBRARY_PATH, LIST, MAX_READ, NAME, NAME_LIST, NAMES, ONLY, PATH, REQUIRE,
-    ROOT, ROW_NAME, SECTION, WITH_VERSIONS,
+    ITEM, JSON, LAYOUT, LIBRARY_PATH, LIST, MAX_READ, MAX_TRIES, NAME, NAME_LIST, NAMES, ONLY,
+    PATH, PROBLEMS, REQUIRE, ROOT, ROW_NAME, SECTION, UNUSED, WITH_VERSIONS,
 };
 use crate::builder::{CommandSpec, add_subcommands, clap_command_of, new_command, with_command};
 use crate::texts::{ABOUT, CHECKED, FOUND, HARDENED, ITEMS, LISTED, MEMBERS, MORE, NEEDED, SHOWN};
@@ -118,17 +118,21 @@ const TRAITS: CommandSpec = CommandSpec {
 
 const NEEDS: CommandSpec = CommandSpec {
     name: "needs",
-    about: "Print which libraries a program needs, and where they are",
+    about: "Print which libraries programs need, and where they are",
     more: NEEDED,
     words: &[
         HEADERS,
         MAX_READ,
+        MAX_TRIES,
         LIBRARY_PATH,
         DEFAULT,
         ROOT,
         BINDINGS,
+        UNUSED,
+        PROBLEMS,
         JSON,
-        FILE,
+        LIST,
+        PATH,
     ],
 };
 

@@ -54,10 +54,14 @@ Options, before or after FILE; 'elfsee help COMMAND' prints those of one command
   --default DIRS
                 for needs: search these directories last, instead of those of a system
   --root DIR    for needs: take each path that begins with a slash relative to DIR
+  --max-tries N for needs: try at most N paths for a FILE: 0 to 9223372036854775807
+                [default: 100,000]
   --symbols     for needs: also print which object each symbol comes from
+  --unused      for needs: also print which libraries FILE names itself and uses nothing of
+  --problems    for needs: print only the lines that make the status 1
   --files0-from FILE
-                for check, list and traits: also take the paths in FILE, each ended by a NUL
-                byte
+                for check, list, traits and needs: also take the paths in FILE, each ended by
+                a NUL byte
   --            end the options, so that FILE, PATH or NAME may begin with a hyphen
 FILE or PATH may be -, which is the file on standard input.
 
@@ -83,9 +87,9 @@ Exit status:
      for a line of LIST, 'in line N' follows bad item and layout-repeat; or
        elfsee: cannot read layout, elfsee: layout too large,
        elfsee: cannot read names, elfsee: names too large, elfsee: no names
-  3  check, list and traits: some files could not be read or named; otherwise, and for their
-     list and their output: a read or write error, a file that cannot be opened, or no memory:
-     standard error has one of these lines:
+  3  check, list, traits, and needs of many files: some files could not be read or named;
+     otherwise, and for their list and their output: a read or write error, a file that cannot be
+     opened, or no memory: standard error has one of these lines:
        elfsee: read fault, elfsee: write fault, elfsee: cannot open, elfsee: out of memory";
 
 pub(crate) const ITEMS: &str = "\
@@ -191,6 +195,9 @@ loaded.
   found    it was read, and the libraries that it needs follow
   missing  no directory has it; its name is printed in place of the path
   refused  its headers, its dynamic entries or its lookup tables are malformed
+Then, if FILE names an interpreter, I, whether it is found, and its path; and for each version
+that an object needs and does not find U, the object, the object that should have it, the state
+(nofile, bare, nover or refused), and the version.
 Libraries are searched for in RPATH, --library-path, RUNPATH and --default, in this order, as by
 a loader. DIRS are directories, separated by colons; those of --default are by default
 /lib/x86_64-linux-gnu:/usr/lib/x86_64-linux-gnu:/lib64:/usr/lib64:/lib:/usr/lib
@@ -203,12 +210,21 @@ its name, with @ and its version if it needs one.
   unbound  no object defines it
   nover    no object defines it, and the library of its version has no such version
   refused  the lookup ends at a fault of this object
-Exit status: 1 if a library is missing or refused, or a symbol is unbound, nover or refused.
+
+With --unused each library that the program names itself and uses nothing of has a line L again,
+after all others, with the state
+  unused   it defines no symbol that the program needs or copies
+Of several files, or a directory, each program and library has a line @ with its path before
+these lines; files and directories are visited as by check. With --problems only the lines that
+make the status 1 are printed.
+Exit status: 1 if a library, the interpreter or a version is missing, an object is refused, or a
+symbol is unbound, nover or refused; of many files 3 if some are unread, memory or unnamed.
 
 Examples:
   elfsee needs /bin/ls
   elfsee needs --symbols /bin/ls
-  elfsee needs --root /srv/other /srv/other/bin/ls";
+  elfsee needs --root /srv/other /srv/other/bin/ls
+  elfsee needs --problems /usr/bin";
 
 pub(crate) const MEMBERS: &str = "\
 Prints one line for each member: A, its index, the offset and the size of its data, and its name.

@@ -6,9 +6,11 @@ pub mod FolderLaws
 pub mod TextLaws
 pub mod OnLinks
 pub mod LinkLaws
+pub mod LinkedLaws
 pub mod LoopLaws
 pub mod ReadingLaws
 pub mod BindLaws
+pub mod CopiedLaws
 pub mod DefinerLaws
 pub mod KeptLaws
 pub mod LackLaws

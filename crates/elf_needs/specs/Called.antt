@@ -7,6 +7,15 @@ use Rattle.elf_needs.specs.declared.known_object.KnownObject.{KnownObject}
 use Rattle.elf_needs.specs.declared.known_object.ObjectAlias.{ObjectAlias}
 use Rattle.elf_needs.specs.declared.known_object.ObjectList.{ObjectList}
 
+-- no object is known, and no text is stored
+pub record HoldsNothing (objects : ObjectList) : Type 0 where
+  pub known : objects.known.items ≡ []
+  pub paths : objects.paths.texts ≡ []
+  pub texts : objects.links.held.texts ≡ []
+  pub needs : objects.links.needs ≡ []
+  pub aliases : objects.aliases.items ≡ []
+  pub interpreter : objects.interpreter ≡ None
+
 -- the text at an index, if one is given; and a text that is given equals a name
 abbrev pub text_told : List (List ℕ) → Option ℕ → Option (List ℕ)
 text_told texts index = option_map (λ i. slice_index_or texts i []) index

@@ -2,6 +2,7 @@ pub mod Searching
 pub mod Steps
 pub mod WorkedPaths
 pub mod Held
+pub mod Linked
 pub mod Entries
 pub mod Reading
 pub mod WorkedLinks
@@ -17,9 +18,12 @@ pub mod Sought
 pub mod Interpreting
 pub mod Pages
 pub mod Bound
+pub mod Copied
 pub mod Requests
 pub mod Budget
 pub mod Called
 pub mod Walked
 pub mod ObjectLines
+pub mod ListedLines
+pub mod VersionTables
 pub mod Prelude

@@ -13,12 +13,14 @@ unfoldable pub object_state_name : ObjectState → List ℕ
 object_state_name state.Found = codes "found"
 object_state_name state.Missing = codes "missing"
 object_state_name (state.Refused refusal) = codes "refused"
+object_state_name state.Unused = codes "unused"
 
 -- a malformed file, if an object is refused
 abbrev pub file_state : ObjectState → FileStatus
 file_state (state.Refused refusal) = file.Refused refusal
 file_state state.Found = file.Ok
 file_state state.Missing = file.Ok
+file_state state.Unused = file.Ok
 
 -- the index of the object that first needed one; a hyphen for the file itself
 abbrev pub needer_field : Option ℕ → Field

@@ -4,6 +4,7 @@ pub use Rattle.elf_needs.specs.Bound.{AsksAll, IsBudgetShort, ReturnsItem, SameO
 pub use Rattle.elf_needs.specs.Definers.{DefinesAfter, ReturnsDefiner}
 pub use Rattle.elf_needs.specs.Entries.{AreNeeds, IsHeldText, IsNeed, KeepsLinks, KeepsText, ReturnsLinks, ReturnsStrings, ReturnsText, first_index, text_by, with_index}
 pub use Rattle.elf_needs.specs.Held.{LinkInfoState}
+pub use Rattle.elf_needs.specs.Linked.{ReturnsLinked, linked_file}
 pub use Rattle.elf_needs.specs.Kept.{IsKept, IsReadyIn, LookupObjectState}
 pub use Rattle.elf_needs.specs.Lacking.{definition_if, definitions_of}
 pub use Rattle.elf_needs.specs.Looks.{DefinesIn, FailsIn, FaultLeaves, LooksInObject, OverLeft, Prepares, SpendsAtMost, SpendsBudget, kept_cost}

@@ -1,7 +1,7 @@
 -- What becomes of an object that is read.
 use Rattle.std.specs.Prelude.{ℕ, None}
 use Rattle.elf_needs.specs.declared.states.ObjectState.{ObjectState}
-use Rattle.elf_needs.specs.declared.states.ObjectState.TheVariants.{Found, Missing, Refused}
+use Rattle.elf_needs.specs.declared.states.ObjectState.TheVariants.{Found, Missing, Refused, Unused}
 use Rattle.elf_needs.specs.declared.object_reports.ObjectReport.{ObjectReport}
 
 -- the exit status once an object of a state is listed: 1 where that is missing or refused
@@ -9,6 +9,7 @@ abbrev pub status_with : ObjectState → ℕ → ℕ
 status_with Found status = status
 status_with Missing status = 1
 status_with (Refused refusal) status = 1
+status_with Unused status = status
 
 -- the report of an object of which only the state is known
 abbrev pub report_alone : ObjectState → ObjectReport

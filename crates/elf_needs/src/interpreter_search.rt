@@ -13,7 +13,7 @@ use crate::known_object::MOST_OBJECTS;
 use crate::links::NeededLibrary;
 use crate::object_file::ObjectFile;
 use crate::object_reports::{ObjectPlace, ObjectReport, found_identity, report_alone};
-use crate::object_rows::show_object;
+use crate::object_rows::list_object;
 use crate::paths::named_path;
 use crate::states::ObjectState;
 use crate::walk::{DependencyWalk, NeedsFault, OpenFiles};
@@ -194,7 +194,7 @@ impl<W: Sink> DependencyWalk<'_, '_, W> {
             ..*interpreter
         });
         let path = self.objects.path(interpreter.path);
-        match show_object(index, by, report.state, path, self.format, &mut self.out) {
+        match list_object(index, by, report.state, path, self.lines, &mut self.out) {
             Ok(()) => Ok(ControlFlow::Yes),
             Err(fault) => Err(NeedsFault::Out(fault)),
         }
@@ -214,14 +214,19 @@ impl<W: Sink> DependencyWalk<'_, '_, W> {
         let shown = match interpreter.report.state {
             ObjectState::Refused(refusal) if is_budget_fault(refusal) => {
                 self.status = 1;
-                show_refusal(refusal, self.format, &mut self.out)
+                show_refusal(refusal, self.lines.format, &mut self.out)
             }
-            ObjectState::Found | ObjectState::Missing | ObjectState::Refused(_) => {
+            ObjectState::Found
+            | ObjectState::Missing
+            | ObjectState::Refused(_)
+            | ObjectState::Unused => {
                 if !interpreter.is_found {
                     self.status = 1;
+                } else if self.lines.problems {
+                    return Ok(());
                 }
                 let path = self.objects.path(interpreter.path);
-                show_interpreter(interpreter.is_found, path, self.format, &mut self.out)
+                show_interpreter(interpreter.is_found, path, self.lines.format, &mut self.out)
             }
         };
         shown.map_err(NeedsFault::Out)

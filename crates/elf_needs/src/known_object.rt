@@ -1,7 +1,7 @@
 //! The objects that are known so far.
 ghost use Rattle.std.specs.Prelude.{◌≡◌, ◌++◌, ◌∷◌, [], IfSome, is_some, length, option_map, position, slice_get, true};
 ghost use Rattle.elf_needs.specs.Held.{with_text};
-ghost use Rattle.elf_needs.specs.Called.{IsDirOfObject, alias_of, aliased, called_by, first_called, is_alias, is_called, is_text, index_by_short_name, is_object_file, object_by_file, text_told};
+ghost use Rattle.elf_needs.specs.Called.{HoldsNothing, IsDirOfObject, alias_of, aliased, called_by, first_called, is_alias, is_called, is_text, index_by_short_name, is_object_file, object_by_file, text_told};
 
 use crate::file_identity::{FileIdentity, is_file};
 use crate::known_interpreter::Interpreter;
@@ -35,6 +35,8 @@ pub(crate) struct KnownObject {
     pub path: Option<u32>,
     /// Which file it is, if it is found and that is known.
     pub file: Option<FileIdentity>,
+    /// Whether it was found, and is not refused.
+    pub found: bool,
     /// What its dynamic entries give.
     pub links: LinkInfo,
     /// The first of its needs, and the one after its last.
@@ -78,6 +80,17 @@ impl ObjectList {
             aliases: Vec::with_capacity(alloc, MOST_TEXTS as usize)?,
             interpreter: None,
         })
+    }
+
+    /// Removes all objects and their texts. Its memory is kept.
+    pub(crate) fn clear(&mut self)
+        ensures { HoldsNothing self.new }
+    {
+        self.links.clear();
+        self.paths.clear();
+        self.known.clear();
+        self.aliases.clear();
+        self.interpreter = None;
     }
 
     /// Returns the number of objects.
@@ -140,6 +153,15 @@ impl ObjectList {
         match index {
             Some(index) => Some(self.links.text(index)),
             None => None,
+        }
+    }
+
+    /// Returns the path of an object, or its name if its path is not stored.
+    pub(crate) fn path_of(&self, known: &KnownObject) -> &[u8] {
+        match (known.path, known.name) {
+            (Some(path), _) => self.paths.get(path),
+            (None, Some(name)) => self.links.text(name),
+            (None, None) => b"",
         }
     }
 

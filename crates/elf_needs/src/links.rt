@@ -1,5 +1,5 @@
 //! What a file needs, and where that is stored.
-ghost use Rattle.std.specs.Prelude.{◌≡◌, ◌<◌, ◌++◌, ◌∷◌, [], ◌&&◌, ℕ, List, IfOk, IfSome, IsNone, is_some, nat_lt, length, slice_get, slice_index_or, if◌then◌else◌};
+ghost use Rattle.std.specs.Prelude.{◌≡◌, ◌+◌, ◌<◌, ◌≤◌, ◌++◌, ◌∷◌, [], ◌&&◌, ℕ, List, IfOk, IfSome, IsNone, is_some, nat_lt, length, slice_get, slice_index_or, if◌then◌else◌};
 ghost use Rattle.elf_table.specs.Prelude.{CallDid, StringsInBounds, fault_of_result, strings_in};
 ghost use Rattle.elf_model.specs.Prelude.{LINK_TEXT_BYTES, shown};
 ghost use Rattle.elf_needs.specs.Held.{with_text};
@@ -75,6 +75,16 @@ impl LinkInfoStore {
             needs: Vec::with_capacity(alloc, texts as usize)?,
             name: NameBuf::new(),
         })
+    }
+
+    /// Removes all texts and needs. Its memory is kept.
+    pub(crate) fn clear(&mut self)
+        ensures none { (self.new.held.texts ≡ []) × (self.new.needs ≡ []) }
+        ensures room { (self.old.held.room.bytes ≤ self.new.held.room.bytes)
+            × (self.new.held.room.texts ≡ self.old.held.room.texts + length self.old.held.texts) }
+    {
+        self.needs.clear();
+        self.texts.clear();
     }
 
     /// Returns the text at an index, or the empty text if there is none.

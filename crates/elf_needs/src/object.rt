@@ -1,23 +1,30 @@
 //! A file in which names are looked up.
-ghost use Rattle.std.specs.Prelude.{◌≡◌, ◌≤◌, ◌+◌, ◌*◌, length, true};
-ghost use Rattle.elf_table.specs.Ledger.{CallDid};
+ghost use Rattle.std.specs.Prelude.{◌≡◌, ◌≤◌, ◌+◌, ◌*◌, ℕ, List, Some, IfOk, length, true};
+ghost use Rattle.elf_table.specs.Ledger.{CallDid, fault_of_result};
+ghost use Rattle.elf_needs.specs.Copied.{ReadsKept, copied_symbol};
 ghost use Rattle.elf_needs.specs.Kept.{KeepsScope, source_of, why_back};
 ghost use Rattle.elf_needs.specs.Looks.{LooksInObject, Prepares};
-ghost use Rattle.elf_needs.specs.Sought.{CountsHashed, LooksForVersion, ReadsFileName, Seeks};
+ghost use Rattle.elf_needs.specs.Sought.{CountsHashed, LooksForVersion, ReadsFileName, Seeks, reference_bytes};
 ghost use Rattle.elf_loader.specs.Lookups.{AreShort};
 ghost use Rattle.elf_options.specs.Wants.{query_of};
 
 use crate::budget::spend_budget;
+use crate::copied_symbols::{copied_at, dynamic_relocations, named_symbol};
+use crate::defined_versions::state_in;
 use crate::definition::find_definer;
 use crate::hashed::hashed_symbols;
 use crate::missing_version::lacks_version;
+use crate::needed_versions::NeedsWalk;
 use crate::ready::ready_table;
 use crate::reference::{SymbolReference, reference_of, whole_name};
-use elf_hash::{HashTable, LookupTables, find_lookup_tables};
+use crate::reference_names::ReferenceNames;
+use crate::version_tables::{FileVersions, find_file_versions};
+use elf_hash::{HashTable, LookupTables, VersionRecordTable, find_lookup_tables};
+use elf_model::VersionState;
 use elf_note::VersionRecord;
 use elf_options::SymbolQuery;
 use elf_source::{Counted, Source};
-use elf_table::{Fault, HeaderStore, NameBuf};
+use elf_table::{Fault, HeaderStore, NameBuf, Names};
 use std::marker::Model;
 
 /// A file in which names are looked up: its source, and its lookup tables.
@@ -25,6 +32,7 @@ use std::marker::Model;
 pub struct LookupObject<S: Source> {
     source: Counted<S>,
     scope: LookupTables,
+    versions: FileVersions,
     headers: u16,
     // The hash table with its counts, if no lookup is refused before its walk, once that is known.
     ready: Option<HashTable>,
@@ -59,10 +67,11 @@ impl<S: Source> LookupObject<S> {
         ensures slots { store.new.slots ≡ store.old.slots }
     {
         let mut source = source;
-        match find_lookup_tables(&mut source, store) {
-            Ok(scope) => Ok(LookupObject {
+        match find_tables(&mut source, store) {
+            Ok(FileTables { scope, versions }) => Ok(LookupObject {
                 source,
                 scope,
+                versions,
                 headers: store.slots(),
                 ready: None,
             }),
@@ -207,4 +216,143 @@ impl<S: Source> LookupObject<S> {
         spend_budget(left, self.source.asked() - asked);
         lacks
     }
+
+    /// Returns the table of the versions that it needs, if there is one.
+    ///
+    /// # Errors
+    /// The refusal of the entry that locates it.
+    pub(crate) fn needs(&self) -> Result<Option<VersionRecordTable>, Fault> {
+        self.versions.needs
+    }
+
+    /// Reads the next record of the versions that it needs, as [`NeedsWalk::advance`] does.
+    /// Requests at most the bytes left of the budget, if there is one; those requested are
+    /// subtracted. On return no limit is set.
+    ///
+    /// # Errors
+    /// Those of [`NeedsWalk::advance`].
+    pub(crate) fn next_need(
+        &mut self,
+        left: &mut Option<u64>,
+        walk: &mut NeedsWalk,
+    ) -> Result<Option<bool>, Fault> {
+        let asked = self.source.asked();
+        self.source.limit(*left);
+        let step = walk.advance(&mut self.source);
+        self.source.limit(None);
+        spend_budget(left, self.source.asked() - asked);
+        step
+    }
+
+    /// Returns the state of a version that it should have, or `None` if that is not listed, as
+    /// [`state_in`] does. Requests at most the bytes left of the budget, if there is one; those
+    /// requested are subtracted. On return no limit is set.
+    ///
+    /// # Errors
+    /// Those of [`state_in`].
+    pub(crate) fn version_state(
+        &mut self,
+        left: &mut Option<u64>,
+        needed: &NeedsWalk,
+    ) -> Result<Option<VersionState>, Fault> {
+        let asked = self.source.asked();
+        self.source.limit(*left);
+        let state = state_in(&mut self.source, &self.versions, needed);
+        self.source.limit(None);
+        spend_budget(left, self.source.asked() - asked);
+        state
+    }
+
+    /// Returns where its relocation entries are in its bytes, as [`dynamic_relocations`] does.
+    ///
+    /// The program headers are loaded into the store, which is free again afterwards. Requests at
+    /// most the bytes left of the budget, if there is one; those requested are subtracted. On
+    /// return no limit is set.
+    ///
+    /// # Errors
+    /// Those of [`dynamic_relocations`].
+    pub(crate) fn relocations(
+        &mut self,
+        left: &mut Option<u64>,
+        store: &mut HeaderStore,
+    ) -> Result<Option<Names>, Fault>
+        ensures costs { ReadsKept self.old self.new left.old left.new (fault_of_result result)
+            (64 + store.old.slots * 56 + self.old.src.seen.size) }
+        ensures slots { store.new.slots ≡ store.old.slots }
+    {
+        let asked = self.source.asked();
+        self.source.limit(*left);
+        let found = dynamic_relocations(&mut self.source, store);
+        self.source.limit(None);
+        spend_budget(left, self.source.asked() - asked);
+        found
+    }
+
+    /// Returns the index of the symbol whose data the relocation entry at a file offset copies, as
+    /// [`copied_at`] does.
+    ///
+    /// Requests at most the bytes left of the budget, if there is one; those requested are
+    /// subtracted. On return no limit is set.
+    ///
+    /// # Errors
+    /// Those of [`copied_at`].
+    pub(crate) fn copied(&mut self, left: &mut Option<u64>, at: u64) -> Result<Option<u64>, Fault>
+        ensures costs { ReadsKept self.old self.new left.old left.new (fault_of_result result) 24 }
+        ensures known { (file : List ℕ) → self.old.src.seen.file ≡ Some file →
+            IfOk result (λ copied. copied ≡ copied_symbol file at) }
+    {
+        let asked = self.source.asked();
+        self.source.limit(*left);
+        let copied = copied_at(&mut self.source, at);
+        self.source.limit(None);
+        spend_budget(left, self.source.asked() - asked);
+        copied
+    }
+
+    /// Reads the name of the symbol at an index, and the version that it needs, into `names`,
+    /// whether it is defined or not, as [`named_symbol`] does.
+    ///
+    /// Requests at most the bytes left of the budget, if there is one; those requested are
+    /// subtracted. On return no limit is set.
+    ///
+    /// # Errors
+    /// Those of [`named_symbol`].
+    pub(crate) fn name_of(
+        &mut self,
+        left: &mut Option<u64>,
+        index: u64,
+        names: &mut ReferenceNames,
+    ) -> Result<bool, Fault>
+        ensures { ReadsKept self.old self.new left.old left.new (fault_of_result result)
+            (reference_bytes self.old.src.seen.size) }
+    {
+        let asked = self.source.asked();
+        self.source.limit(*left);
+        let named = named_symbol(&mut self.source, &self.scope.symbols, index, names);
+        self.source.limit(None);
+        spend_budget(left, self.source.asked() - asked);
+        named
+    }
+}
+
+/// The tables of a file.
+#[derive(Clone, Copy)]
+struct FileTables {
+    /// Those that a lookup searches.
+    scope: LookupTables,
+    /// Those of symbol versions.
+    versions: FileVersions,
+}
+
+/// Finds the tables that a lookup searches, and those of symbol versions.
+///
+/// # Errors
+/// Those of [`find_lookup_tables`], and of [`find_file_versions`].
+fn find_tables<S: Source>(
+    source: &mut Counted<S>,
+    store: &mut HeaderStore,
+) -> Result<FileTables, Fault> {
+    let scope = find_lookup_tables(source, store)?;
+    let versions = find_file_versions(source, store)?;
+    Ok(FileTables { scope, versions })
 }

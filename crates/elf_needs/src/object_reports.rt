@@ -104,9 +104,10 @@ impl<W: Sink> DependencyWalk<'_, '_, W> {
     ) -> u16
         ensures account { self.new.search.account ≡ self.old.search.account }
         ensures status { self.new.status ≡ status_with report.now.state self.old.status }
-        ensures same { (self.new.format ≡ self.old.format) × (self.new.out ≡ self.old.out) }
+        ensures same { (self.new.lines ≡ self.old.lines) × (self.new.out ≡ self.old.out) }
     {
-        if !matches!(report.state, ObjectState::Found) {
+        let found = matches!(report.state, ObjectState::Found);
+        if matches!(report.state, ObjectState::Missing | ObjectState::Refused(_)) {
             self.status = 1;
         }
         let added = self.objects.add(KnownObject {
@@ -114,6 +115,7 @@ impl<W: Sink> DependencyWalk<'_, '_, W> {
             name,
             path: at.path,
             file: at.file,
+            found,
             links: report.links,
             needs: report.needs,
             needs_end: report.needs_end,
@@ -145,6 +147,6 @@ pub(crate) fn found_identity(
 ) -> Option<FileIdentity> {
     match state {
         ObjectState::Found => file,
-        ObjectState::Missing | ObjectState::Refused(_) => None,
+        ObjectState::Missing | ObjectState::Refused(_) | ObjectState::Unused => None,
     }
 }

@@ -3,7 +3,9 @@ ghost use Rattle.std.specs.Prelude.{◌≡◌, ◌≤◌, length};
 ghost use Rattle.elf_source.specs.Output.{OutPuts};
 ghost use Rattle.elf_format.specs.Fronts.{front_of};
 ghost use Rattle.elf_needs.specs.ObjectLines.{file_state, object_front, object_line, object_state_name, objects_end_line, too_many_line, too_many_paths_line};
+ghost use Rattle.elf_needs.specs.ListedLines.{listed_object};
 
+use crate::line_options::LineOptions;
 use crate::states::ObjectState;
 use elf_format::{
     Columns, Json, LineBuf, LinePrefix, Render, begin, begin_named, put_closing, put_decimal,
@@ -42,7 +44,7 @@ fn file_state(state: ObjectState) -> FileStatus
 {
     match state {
         ObjectState::Refused(refusal) => FileStatus::Refused(refusal),
-        ObjectState::Found | ObjectState::Missing => FileStatus::Ok,
+        ObjectState::Found | ObjectState::Missing | ObjectState::Unused => FileStatus::Ok,
     }
 }
 
@@ -56,6 +58,7 @@ fn object_state_name(state: ObjectState) -> &'static str
         ObjectState::Found => "found",
         ObjectState::Missing => "missing",
         ObjectState::Refused(_) => "refused",
+        ObjectState::Unused => "unused",
     }
 }
 
@@ -83,6 +86,27 @@ pub fn show_object<W: Sink>(
         Format::Object => object_row::<Json>(&mut front, index, needer, state),
     }
     show_named(&mut front, path, false, out)
+}
+
+/// Writes the line of an object as [`show_object`] does; if only problems are written, that of one
+/// that is missing or refused.
+///
+/// # Errors
+/// A fault of the output, with a prefix of the line written.
+pub(crate) fn list_object<W: Sink>(
+    index: u16,
+    needer: Option<u16>,
+    state: ObjectState,
+    path: &[u8],
+    lines: LineOptions,
+    out: &mut Out<W>,
+) -> Result<(), OutFault>
+    ensures puts { OutPuts out.old out.new result (listed_object lines index needer state path.now) }
+{
+    match state {
+        ObjectState::Found | ObjectState::Unused if lines.problems => out.put(b""),
+        _ => show_object(index, needer, state, path, lines.format, out),
+    }
 }
 
 /// Writes the line that ends the objects if one more is needed than are listed: the file offset of

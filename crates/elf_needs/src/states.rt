@@ -10,4 +10,6 @@ pub enum ObjectState {
     Missing,
     /// It was found, and is refused.
     Refused(Refusal),
+    /// It was found, and the program needs it and uses none of its symbols.
+    Unused,
 }

@@ -1,18 +1,19 @@
 //! The objects of a program, in a loader's order.
 ghost use Rattle.std.specs.Prelude.{◌≡◌};
 ghost use Rattle.elf_needs.specs.Budget.{AsksFiles};
+ghost use Rattle.elf_needs.specs.Called.{HoldsNothing};
 
 use crate::buffers::NeedsBuffers;
 use crate::cached_source::CachedSource;
 use crate::candidates::{FileSource, attributes_at};
 use crate::known_object::{MOST_OBJECTS, ObjectList};
+use crate::line_options::LineOptions;
 use crate::object_file::{ObjectFile, ReadAccount};
 use crate::open_objects::OpenObjects;
 use crate::path_budget::PathBudget;
 use crate::paths::CandidatePath;
 use crate::search_dirs::{Search, SearchDirs};
 use crate::walk_needs::ControlFlow;
-use elf_model::Format;
 use elf_source::{Out, OutFault, Sink};
 use elf_table::HeaderStore;
 use std::os::unix::fs::FileExt;
@@ -44,17 +45,17 @@ pub struct NeedsOptions<'a> {
     pub budget: Option<u64>,
     /// How many paths may be tried.
     pub tries: u64,
-    /// How a line is written.
-    pub format: Format,
+    /// Which lines are written, and how.
+    pub lines: LineOptions,
 }
 
-/// The result of listing objects.
+/// The result of listing objects, or the versions that they need.
 #[derive(Clone, Copy)]
 pub struct Listed {
     /// The exit status.
     pub status: u8,
-    /// Whether all objects are listed: otherwise there are more than 512, or more paths to try than
-    /// may be tried, which ends the listing.
+    /// Whether all are listed: otherwise there are more than 512 objects, or more paths to try than
+    /// may be tried, or for versions the budget is exhausted, which ends the listing.
     pub whole: bool,
 }
 
@@ -64,7 +65,7 @@ pub struct DependencyWalk<'w, 's, W: Sink> {
     pub(crate) search: Search<'s>,
     pub(crate) objects: ObjectList,
     pub(crate) store: HeaderStore<'w>,
-    pub(crate) format: Format,
+    pub(crate) lines: LineOptions,
     pub(crate) out: Out<W>,
     pub(crate) status: u8,
 }
@@ -79,7 +80,7 @@ impl<'w, 's, W: Sink> DependencyWalk<'w, 's, W> {
         out: Out<W>,
     ) -> DependencyWalk<'w, 's, W>
         ensures budget { result.search.account.left ≡ settings.now.budget }
-        ensures format { result.format ≡ settings.now.format }
+        ensures lines { result.lines ≡ settings.now.lines }
         ensures fresh { (result.status ≡ 0) × (result.search.account.spent ≡ 0) }
         ensures out { result.out ≡ out }
     {
@@ -97,7 +98,7 @@ impl<'w, 's, W: Sink> DependencyWalk<'w, 's, W> {
             },
             objects,
             store,
-            format: settings.format,
+            lines: settings.lines,
             out,
             status: 0,
         }
@@ -112,11 +113,24 @@ impl<'w, 's, W: Sink> DependencyWalk<'w, 's, W> {
     }
 }
 
+impl<W: Sink + Drop> DependencyWalk<'_, '_, W> {
+    /// Returns its memory, in which nothing is left, for the walk over another program's objects.
+    pub fn into_room(self) -> NeedsBuffers
+        ensures { HoldsNothing result.objects }
+    {
+        let DependencyWalk { objects, .. } = self;
+        let mut room = NeedsBuffers { objects };
+        room.clear();
+        room
+    }
+}
+
 impl<W: Sink> DependencyWalk<'_, '_, W> {
     /// Lists the objects that a program needs, in a loader's order: the program, then for each
     /// object in order each library that it needs and that is not one of those before.
     ///
-    /// A line for each, and then one for the interpreter that the program names. Returns the exit status, 1 if one is missing or refused, or there are more
+    /// A line for each, or if only problems are written for each that is missing or refused, and
+    /// then one for the interpreter that the program names. Returns the exit status, 1 if one is missing or refused, or there are more
     /// than 512, or more paths to try than may be tried, and whether all are listed. Requests at
     /// most the budget, if there is one, from all files together. `path` is the program's as it is
     /// shown, and the directory of `real` replaces `$ORIGIN`. The files of those that are found are
@@ -153,7 +167,7 @@ impl<W: Sink> DependencyWalk<'_, '_, W> {
     }
 
     /// Returns the result of listing so far, of all objects or not.
-    fn listed(&self, whole: bool) -> Listed
+    pub(crate) fn listed(&self, whole: bool) -> Listed
         ensures { result ≡ record { status = self.now.status; whole = whole } }
     {
         Listed {

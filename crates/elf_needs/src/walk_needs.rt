@@ -8,7 +8,7 @@ use crate::known_object::{KnownObject, MOST_OBJECTS};
 use crate::links::NeededLibrary;
 use crate::object_file::ObjectFile;
 use crate::object_reports::{NOWHERE, ObjectPlace, found_identity, report_alone};
-use crate::object_rows::{show_object, show_too_many, show_too_many_paths};
+use crate::object_rows::{list_object, show_too_many, show_too_many_paths};
 use crate::open_objects::OpenObjects;
 use crate::states::ObjectState;
 use crate::walk::{DependencyWalk, NeedsFault, OpenFiles};
@@ -129,7 +129,7 @@ impl<W: Sink> DependencyWalk<'_, '_, W> {
         ensures status { self.new.status ≡ 1 }
     {
         self.status = 1;
-        match show_too_many_paths(at, self.format, &mut self.out) {
+        match show_too_many_paths(at, self.lines.format, &mut self.out) {
             Ok(()) => Ok(ControlFlow::TooMany),
             Err(fault) => Err(NeedsFault::Out(fault)),
         }
@@ -141,7 +141,7 @@ impl<W: Sink> DependencyWalk<'_, '_, W> {
         ensures status { self.new.status ≡ 1 }
     {
         self.status = 1;
-        match show_too_many(at, self.format, &mut self.out) {
+        match show_too_many(at, self.lines.format, &mut self.out) {
             Ok(()) => Ok(ControlFlow::TooMany),
             Err(fault) => Err(NeedsFault::Out(fault)),
         }
@@ -182,7 +182,7 @@ impl<W: Sink> DependencyWalk<'_, '_, W> {
         }
         let index = self.add(by, Some(need.name), &NOWHERE, &report_alone(state));
         let shown = self.objects.links.text(need.name);
-        match show_object(index, by, state, shown, self.format, &mut self.out) {
+        match list_object(index, by, state, shown, self.lines, &mut self.out) {
             Ok(()) => Ok(ControlFlow::Yes),
             Err(fault) => Err(NeedsFault::Out(fault)),
         }
@@ -209,7 +209,7 @@ impl<W: Sink> DependencyWalk<'_, '_, W> {
         };
         let index = self.add(by, Some(name), &place, &report);
         let path = &self.search.path;
-        match show_object(index, by, report.state, path, self.format, &mut self.out) {
+        match list_object(index, by, report.state, path, self.lines, &mut self.out) {
             Ok(()) => Ok(ControlFlow::Yes),
             Err(fault) => Err(NeedsFault::Out(fault)),
         }

@@ -4,7 +4,7 @@ ghost use Rattle.elf_needs.specs.Budget.{AsksFile, AsksFiles};
 use crate::cached_source::CachedSource;
 use crate::object_file::ObjectFile;
 use crate::object_reports::{ObjectPlace, ObjectReport, found_identity, report_alone};
-use crate::object_rows::show_object;
+use crate::object_rows::list_object;
 use crate::open_objects::OpenObjects;
 use crate::states::ObjectState;
 use crate::walk::{DependencyWalk, NeedsFault};
@@ -39,9 +39,7 @@ impl<W: Sink> DependencyWalk<'_, '_, W> {
             file: found_identity(report.state, identity),
         };
         self.add(None, None, &place, &report);
-        show_object(0, None, report.state, path, self.format, &mut self.out).map_err(
-            NeedsFault::Out,
-        )
+        list_object(0, None, report.state, path, self.lines, &mut self.out).map_err(NeedsFault::Out)
     }
 
     /// Reads the machine of the program, what it needs, and the path of its interpreter.

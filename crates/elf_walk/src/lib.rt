@@ -15,6 +15,7 @@ mod each_file;
 mod file_lists;
 mod file_traits;
 mod headed;
+mod headed_sink;
 mod line_prefixes;
 mod lists;
 mod many;
@@ -38,13 +39,16 @@ pub use batch::{DirEntryName, Insertion, NameBatch};
 pub use check_file::{check, check_elf};
 pub use checks::{CheckFiles, CheckOptions};
 pub use dir_entries::{ends_at, entry_end};
-pub use dir_laws::{all_names, entry_is_found, last_is_found, order_ascends, pass_keeps};
+pub use dir_laws::{
+    all_names, entry_is_found, last_is_found, order_ascends, pass_keeps, reads_join,
+};
 pub use dir_names::{DirNames, FOLDER_NAME_BYTES, KEPT_BYTES, KEPT_NAMES};
 pub use dir_walk::gather;
 pub use each_file::FileVisitor;
 pub use file_lists::{ListFiles, budget_after};
 pub use file_traits::traits_within;
 pub use headed::list_with_path_line;
+pub use headed_sink::HeadedSink;
 pub use line_prefixes::{find_file_type, front_bytes};
 pub use lists::{ListFault, visit_list};
 pub use many::FileRun;

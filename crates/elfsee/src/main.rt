@@ -8,6 +8,8 @@ mod many;
 mod missing_reason;
 mod names;
 mod needs;
+mod needs_of_files;
+mod needs_report;
 
 ghost use Rattle.std.specs.Prelude.{◌≡◌, ◌⊎◌, IfErr, IfOk, map, string_bytes};
 ghost use Rattle.elf_requests.specs.Prelude.{RunsTask, WordsAsk};
@@ -88,7 +90,7 @@ where
         ParsedCommand::Check(checking) => check_many(rt, checking, terminal),
         ParsedCommand::List(asked) => list_files(rt, asked, terminal),
         ParsedCommand::Traits(traits) => report_traits(rt, traits, terminal),
-        ParsedCommand::Needs(asked) => report_needs(rt, asked),
+        ParsedCommand::Needs(asked) => report_needs(rt, asked, terminal),
         ParsedCommand::Archive(archiving) => list_archive(rt, archiving),
         ParsedCommand::Version => report_version(rt),
     }

@@ -46,7 +46,7 @@ loop-place-preserved g c =
       known = λ headers files are.
           let objects = bound_among headers files c.args.scope.now in
           let low : l.place < length files = omega (arith, as_many headers c.args.objects.now files are, i.end, c.loop-place-test.true) in
-          let writes = failing_some c.args.scope.now.format (object_items objects l.place (get_or files l.place [])) (IsBudgetShort c.bind_object.new.objects c.bind_object.new.left) l.out c.bind_object.new.out c.in_ok-end.end c.in-Some.more (c.in_ok-end.ensures.known headers files (are_kept headers files i.asks are)) (sym c.failing.ensures ∙ c.in-Some.is) in
+          let writes = failing_some c.args.scope.now.lines (object_items objects l.place (get_or files l.place [])) (IsBudgetShort c.bind_object.new.objects c.bind_object.new.left) l.out c.bind_object.new.out c.in_ok-end.end c.in-Some.more (c.in_ok-end.ensures.known headers files (are_kept headers files i.asks are)) (sym c.failing.ensures ∙ c.in-Some.is) in
           rw c.either-fails.ensures
           (so_far_more (objects_items objects l.place (drop l.place files)) (object_items objects l.place (get_or files l.place [])) (objects_items objects (l.place + 1) (drop (l.place + 1) files))
           c.in-Some.more (i.known headers files are) (objects_next objects l.place files low) writes.0 writes.1);
@@ -65,6 +65,6 @@ returns-clause-known g c =
 pub loop-place-init : goal.loop-place-init
 loop-place-init g c = record {
   asks = asks_none c.args.objects.now c.args.left.now;
-  known = λ headers files are. so_far_none c.args.scope.now.format (bound_items (bound_among headers files c.args.scope.now)) c.args.out.now;
+  known = λ headers files are. so_far_none c.args.scope.now.lines (bound_items (bound_among headers files c.args.scope.now)) c.args.out.now;
   end = refl;
 }

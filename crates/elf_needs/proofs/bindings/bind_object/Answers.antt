@@ -21,7 +21,7 @@ returns-in-Err-clause-known g c =
     let here = file_here headers c.args.place c.args.objects.now files c.index-objects-place.result are c.requires in
     let told = c.symbol_count.ensures.known (get_or files c.args.place []) here.0 in
     let scope = ap (lookup_tables_of (get_or files c.args.place [])) (sym here.1) ∙ told.1 in
-    faulted_lines c.args.scope.now.format (object_items objects c.args.place (get_or files c.args.place [])) (IsBudgetShort (set c.args.objects.now c.args.place c.symbol_count.new.self) c.symbol_count.new.left) c.in-Err.fault c.args.out.now c.tell.new.out c.tell.result
+    faulted_lines c.args.scope.now.lines (object_items objects c.args.place (get_or files c.args.place [])) (IsBudgetShort (set c.args.objects.now c.args.place c.symbol_count.new.self) c.symbol_count.new.left) c.in-Err.fault c.args.out.now c.tell.new.out c.tell.result
     (items_refused objects c.args.place (get_or files c.args.place []) told.0 scope c.in-Err.fault (rw c.in-Err.is at told.2))
     (only_of (set c.args.objects.now c.args.place c.symbol_count.new.self) c.symbol_count.new.left c.in-Err.fault
     (short_one c.args.objects.now c.args.place c.index-objects-place.result c.symbol_count.new.self _ c.in-Err.fault c.requires (rw c.in-Err.is at c.symbol_count.ensures.costs) c.symbol_count.ensures.pays)) c.tell.ensures
@@ -31,7 +31,7 @@ loop-symbol-init g c =
     let e = c.symbol_count.ensures in
     record {
       asks = asks_one c.args.objects.now c.args.place c.index-objects-place.result c.symbol_count.new.self c.requires (spends_same e.costs e.same_headers) e.pays;
-      known = λ headers files are told found hashed. so_far_none c.args.scope.now.format _ c.args.out.now;
+      known = λ headers files are told found hashed. so_far_none c.args.scope.now.lines _ c.args.out.now;
     }
 
 pub returns-in_err-fails-clause-asks : goal.returns-in_err-fails-clause-asks

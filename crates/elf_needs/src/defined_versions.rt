@@ -1,0 +1,98 @@
+//! Whether a file defines a version that another needs.
+ghost use Rattle.std.specs.Prelude.{◌≡◌, ◌+◌, ◌*◌, ◌/◌, ◌≤◌, length, IfOk};
+ghost use Rattle.elf_table.specs.Prelude.{CallDid, StringsInBounds, fault_of_result};
+ghost use Rattle.elf_model.specs.Prelude.{Version, max_records, pad64, record_cost};
+ghost use Rattle.elf_hash.specs.Prelude.{VersionRecordsInBounds};
+ghost use Rattle.elf_needs.specs.VersionTables.{FileVersionsInBounds};
+
+use crate::faults::is_reported_alone;
+use crate::needed_versions::NeedsWalk;
+use crate::version_tables::FileVersions;
+use elf_hash::VersionRecordTable;
+use elf_model::VersionState;
+use elf_note::{VersionCursor, VersionRecord};
+use elf_source::{Counted, Source};
+use elf_table::{Fault, Names};
+
+/// Returns the state of a needed version that a file should have, by the records of its
+/// definitions, or `None` if it is not listed: it is there, it is weak, or the file has a version
+/// symbol table and no definitions.
+///
+/// # Errors
+/// A read fault, or a refusal for lack of budget.
+pub(crate) fn state_in<S: Source>(
+    src: &mut Counted<S>,
+    versions: &FileVersions,
+    needed: &NeedsWalk,
+) -> Result<Option<VersionState>, Fault> {
+    let records = match &versions.definitions {
+        Ok(Some(records)) => records,
+        Ok(None) => return Ok(state_without(versions.has_versym)),
+        Err(_) => return Ok(Some(VersionState::Refused)),
+    };
+    match defines(src, records, needed.name.bytes(), needed.hash) {
+        Ok(defined) => Ok(state_by(defined, needed.weak)),
+        Err(fault) if is_reported_alone(fault) => Err(fault),
+        Err(_) => Ok(Some(VersionState::Refused)),
+    }
+}
+
+/// Returns the state of a version of a file that has no definitions.
+fn state_without(has_versym: bool) -> Option<VersionState> {
+    if has_versym {
+        return None;
+    }
+    Some(VersionState::Bare)
+}
+
+/// Returns the state of a version that a file defines or not.
+fn state_by(defined: bool, weak: bool) -> Option<VersionState> {
+    if defined || weak {
+        return None;
+    }
+    Some(VersionState::NoVersion)
+}
+
+/// Checks whether definitions have a version of at most 4,096 bytes: one of them has its hash, and
+/// its name is the first of the definition's. Its flags are ignored.
+///
+/// # Errors
+/// Those of [`VersionCursor::advance`], and a fault of the name of a definition with the hash, at
+/// the structure that holds the name: of the definitions before the version.
+fn defines<S: Source>(
+    src: &mut Counted<S>,
+    records: &VersionRecordTable,
+    version: &[u8],
+    hash: u32,
+) -> Result<bool, Fault>
+    requires most { length version.now ≤ 4096 }
+    requires within { VersionRecordsInBounds src.old.seen.size records.now }
+{
+    let mut cursor = VersionCursor::one_by_one(records.kind, records.head, records.table);
+    'records: while let Some(given) = cursor.advance(src)? {
+        if is_version(src, &records.names, &given, version, hash)? {
+            return Ok(true);
+        }
+    }
+    Ok(false)
+}
+
+/// Checks whether a definition is of a version of at most 4,096 bytes.
+///
+/// # Errors
+/// A fault of its name, if it has the hash.
+fn is_version<S: Source>(
+    src: &mut Counted<S>,
+    names: &Names,
+    given: &VersionRecord,
+    version: &[u8],
+    hash: u32,
+) -> Result<bool, Fault>
+    requires most { length version.now ≤ 4096 }
+    requires within { StringsInBounds src.old.seen.size names.now }
+{
+    if given.hash != hash {
+        return Ok(false);
+    }
+    names.equals(src, u64::from(given.name), given.named_at, version)
+}

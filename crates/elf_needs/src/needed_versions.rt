@@ -1,0 +1,91 @@
+//! The versions that a file needs, one by one.
+ghost use Rattle.std.specs.Prelude.{◌≡◌, ◌+◌, ◌<◌, ◌≤◌, Unit, IfOk, IfSome};
+ghost use Rattle.elf_table.specs.Prelude.{CallDid, StringsInBounds, TableInBounds, fault_of_result};
+ghost use Rattle.elf_model.specs.Prelude.{SOUGHT_BYTES, name_bytes};
+ghost use Rattle.elf_needs.specs.NeededVersions.{LeavesNeeds, NeedsWalkState};
+
+use crate::reference::whole_name;
+use elf_hash::VersionRecordTable;
+use elf_note::{VersionCursor, VersionRecord};
+use elf_record::VersionKind;
+use elf_source::{Counted, Source};
+use elf_table::{Fault, NameBuf, Names};
+
+/// The flag of a needed version that need not be there (Linux Standard Base Core, Symbol
+/// Versioning).
+const WEAK: u16 = 2;
+
+/// A walk over the versions that a file needs, with the last one that was read.
+#[derive(Drop)]
+pub(crate) struct NeedsWalk {
+    cursor: VersionCursor,
+    strings: Names,
+    /// The name of the file that should have the versions that follow.
+    pub library: NameBuf,
+    /// The name of the last version that was read.
+    pub name: NameBuf,
+    /// Its hash.
+    pub hash: u32,
+    /// Whether it need not be there.
+    pub weak: bool,
+}
+
+impl NeedsWalk {
+    /// Creates a walk before the first of the records.
+    pub(crate) fn new(records: &VersionRecordTable) -> NeedsWalk {
+        NeedsWalk {
+            cursor: VersionCursor::one_by_one(records.kind, records.head, records.table),
+            strings: records.names,
+            library: NameBuf::new(),
+            name: NameBuf::new(),
+            hash: 0,
+            weak: false,
+        }
+    }
+
+    /// Reads the next record, with its name. Returns whether it is of a needed version, or `None`
+    /// after the last.
+    ///
+    /// # Errors
+    /// Those of [`VersionCursor::advance`]. At the record: a fault of its name, as for
+    /// [`Names::read`], and `TooLong` if that has more than 4,096 bytes. Otherwise a read fault, or
+    /// a refusal for lack of budget.
+    pub(crate) fn advance<S: Source>(
+        &mut self,
+        src: &mut Counted<S>,
+    ) -> Result<Option<bool>, Fault> {
+        let Some(given) = self.cursor.advance(src)? else {
+            return Ok(None);
+        };
+        Ok(Some(self.take(src, &given)?))
+    }
+
+    /// Reads the name of a record: that of a file whose versions follow, or of a version. Returns
+    /// whether it is of a needed version.
+    ///
+    /// # Errors
+    /// Those of its name.
+    fn take<S: Source>(
+        &mut self,
+        src: &mut Counted<S>,
+        given: &VersionRecord,
+    ) -> Result<bool, Fault> {
+        let off = u64::from(given.name);
+        match given.kind {
+            VersionKind::File => {
+                whole_name(src, self.strings, off, given.named_at, &mut self.library)?;
+                Ok(false)
+            }
+            VersionKind::Definition => {
+                whole_name(src, self.strings, off, given.named_at, &mut self.name)?;
+                Ok(false)
+            }
+            VersionKind::Need => {
+                whole_name(src, self.strings, off, given.named_at, &mut self.name)?;
+                self.hash = given.hash;
+                self.weak = given.flags & WEAK != 0;
+                Ok(true)
+            }
+        }
+    }
+}

@@ -1,0 +1,60 @@
+//! What each of many programs needs.
+ghost use Rattle.std.specs.Prelude.{◌≡◌, IfErr};
+ghost use Rattle.elfsee.specs.Ends.{EndsWithoutMemory};
+
+use crate::many::visit_files;
+use crate::needs::settings;
+use crate::needs_report::{NeedsReport, NeedsRule};
+use elf_cli::{ExitLine, OUT_OF_MEMORY};
+use elf_needs::{MOST_OBJECTS, NeedsBuffers, OpenObjects};
+use elf_requests::NeedsRequest;
+use elf_table::HeaderBuffer;
+use std::io::{Input, Stderr};
+use std::os::unix::fs::FileExt;
+use std::rt::Files;
+
+/// Lists the objects that each of many programs needs, in memory that is allocated once. Progress
+/// is shown on a terminal, if there is one.
+///
+/// # Errors
+/// Out of memory.
+#[inline(never)]
+pub fn list_needs_of_files<R: Files + Print + Input + AllocGlobal>(
+    rt: &R,
+    asked: &NeedsRequest<'_>,
+    terminal: Option<Stderr>,
+) -> Result<ExitLine, ExitLine>
+where
+    R::File: FileExt,
+    ensures { IfErr result (λ ending. EndsWithoutMemory ending.0 ending.1.now) }
+{
+    let Ok(headers) = HeaderBuffer::new(rt.alloc(), asked.limits.headers) else {
+        return Err(OUT_OF_MEMORY);
+    };
+    let Ok(room) = NeedsBuffers::new(rt.alloc()) else {
+        return Err(OUT_OF_MEMORY);
+    };
+    let Ok(opened) = OpenObjects::new(rt.alloc(), MOST_OBJECTS, asked.symbols || asked.unused)
+    else {
+        return Err(OUT_OF_MEMORY);
+    };
+    let report = NeedsReport::new(rt, rule_of(asked), headers, (room, opened));
+    let held = Vec::new(rt.alloc());
+    visit_files(rt, &asked.files, report, held, asked.format, terminal)
+}
+
+/// Returns the rule by which a request lists the needs of each file.
+fn rule_of<'a>(asked: &NeedsRequest<'a>) -> NeedsRule<'a>
+    ensures limits { result.limits ≡ asked.now.limits }
+    ensures format { result.options.lines.format ≡ asked.now.format }
+    ensures problems { result.options.lines.problems ≡ asked.now.problems }
+    ensures symbols { result.symbols ≡ asked.now.symbols }
+    ensures unused { result.unused ≡ asked.now.unused }
+{
+    NeedsRule {
+        limits: asked.limits,
+        options: settings(asked),
+        symbols: asked.symbols,
+        unused: asked.unused,
+    }
+}
