@@ -64,10 +64,10 @@ module _ (file : List ℕ) (at : ℕ) where
           → ReturnsWhole (whole_name (strings_in file path) 0 place) name result → ReturnsWhole (interpreter_at file at) name result
       path_tells name result ends tells =
           let back : first_refusal late ≡ None
-              = subst (λ (p : StringTableRange). end_refusal file p at ≡ None) (sym passes.1) (subst (λ (p : ℕ). end_refusal file path p ≡ None) same ends) in
+          = subst (λ (p : StringTableRange). end_refusal file p at ≡ None) (sym passes.1) (subst (λ (p : ℕ). end_refusal file path p ≡ None) same ends) in
           let here : ReturnsWhole (whole_name (strings_in file path) 0 at) name result = subst (λ (p : ℕ). ReturnsWhole (whole_name (strings_in file path) 0 p) name result) same tells in
           let whole : ReturnsWhole (whole_name (slice file (p_offset file at) (p_filesz file at)) 0 at) name result
-              = subst (λ (p : StringTableRange). ReturnsWhole (whole_name (strings_in file p) 0 at) name result) (sym passes.1) here in
+          = subst (λ (p : StringTableRange). ReturnsWhole (whole_name (strings_in file p) 0 at) name result) (sym passes.1) here in
           subst (λ (told : Result (List ℕ) Refusal). ReturnsWhole told name result) (sym (path_is (passed_both early late passes.0 back))) whole
 
 -- the last byte of a path, which is read
