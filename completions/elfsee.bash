@@ -10,7 +10,7 @@ _elfsee_options() {
     list) set -- --headers --names --max-read --only --gnu --by-segments --json --versions --name --name-list --members --files0-from ;;
     find) set -- --headers --max-read --gnu --by-segments --json ;;
     apply) set -- --headers --max-read --layout --explain ;;
-    needs) set -- --headers --max-read --max-tries --library-path --default --root --symbols --unused --problems --json --files0-from ;;
+    needs) set -- --headers --max-read --max-tries --library-path --default --root --cache --no-cache --symbols --unused --problems --json --files0-from ;;
     traits) set -- --headers --max-read --require --json --files0-from ;;
     *) set -- ;;
     esac
@@ -63,7 +63,7 @@ _elfsee() {
         else
             case $word in
             --) ended=1 before= ;;
-            --headers | --names | --max-read | --max-tries | --only | --name | --name-list | --layout | --require | --library-path | --default | --root | --files0-from) skip=1 ;;
+            --headers | --names | --max-read | --max-tries | --only | --name | --name-list | --layout | --require | --library-path | --default | --root | --cache | --files0-from) skip=1 ;;
             -*) ;;
             *) if [[ $command ]]; then files=$((files + 1)); else command=$word; fi ;;
             esac
@@ -77,7 +77,7 @@ _elfsee() {
             return
             ;;
         --headers | --names | --max-read | --max-tries | --name | --require | --library-path | --default) return ;;
-        --name-list | --layout | --root | --files0-from)
+        --name-list | --layout | --root | --cache | --files0-from)
             _elfsee_files
             return
             ;;

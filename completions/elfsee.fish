@@ -27,7 +27,7 @@ function __elfsee_plain_words
             set -a plain $word
         else if test "$word" = --
             set ended 1
-        else if contains -- $word --headers --names --max-read --max-tries --only --name --name-list --layout --require --library-path --default --root --files0-from
+        else if contains -- $word --headers --names --max-read --max-tries --only --name --name-list --layout --require --library-path --default --root --cache --files0-from
             set skip 1
         else if not string match -q -- '-*' $word
             set -a plain $word
@@ -96,6 +96,8 @@ complete -c elfsee -n '__fish_seen_subcommand_from needs; and __elfsee_lacks --s
 complete -c elfsee -n '__fish_seen_subcommand_from needs; and __elfsee_lacks --unused' -l unused -d 'also print which libraries the program names and uses nothing of'
 complete -c elfsee -n '__fish_seen_subcommand_from needs; and __elfsee_lacks --problems' -l problems -d 'print only the lines that make the status 1'
 complete -c elfsee -n '__fish_seen_subcommand_from needs; and __elfsee_lacks --root' -l root -r -F -d 'take each path that begins with a slash relative to a directory'
+complete -c elfsee -n '__fish_seen_subcommand_from needs; and __elfsee_lacks --cache' -l cache -r -F -d "search the loader's cache in a file"
+complete -c elfsee -n '__fish_seen_subcommand_from needs; and __elfsee_lacks --no-cache' -l no-cache -d "do not search a loader's cache"
 complete -c elfsee -n '__fish_seen_subcommand_from check list; and __elfsee_lacks --members' -l members -d 'also read the members of archives'
 complete -c elfsee -n '__fish_seen_subcommand_from check list traits needs; and __elfsee_lacks --files0-from' -l files0-from -r -F -d 'also take the paths in a file, each ended by a NUL byte'
 complete -c elfsee -n '__fish_seen_subcommand_from apply; and __elfsee_lacks --layout' -l layout -r -F -d 'also take the items in a file, one per line'

@@ -3,10 +3,10 @@
 directory. It is written for clarity alone, and holds whole files. Its modules are needed_files.py, needed_versions.py,
 needed_symbols.py, loader_caches.py and rooted.py.
 
-usage: tests/needed.py [needs] [OPTION]... FILE
+usage: tests/needed.py [needs] [OPTION]... PATH...
 
 The options are those of `elfsee needs`, with the value as the next word or after `=`: --library-path, --default, --root,
---cache, --max-tries, --headers, and without a value --no-cache, --symbols, --json, --problems."""
+--cache, --max-tries, --headers, and without a value --no-cache, --symbols, --unused, --json, --problems."""
 
 import json
 import os
@@ -17,6 +17,7 @@ import needed_files  # pylint: disable=wrong-import-position
 import needed_symbols  # pylint: disable=wrong-import-position
 import needed_versions  # pylint: disable=wrong-import-position
 from applied import Refused, refuse_where  # pylint: disable=wrong-import-position
+from listed_files import looked_at  # pylint: disable=wrong-import-position
 from listed_rows import spelt  # pylint: disable=wrong-import-position
 from loader_caches import Cache  # pylint: disable=wrong-import-position
 from needed_files import MOST_OBJECTS, TEXT_BYTES, BySegments, Links, Texts, parts, replaced  # pylint: disable=wrong-import-position
@@ -260,6 +261,18 @@ class Program:
     def add_refusal(self, refusal):
         self.add_line("! %016x %s" % refusal.args, True, place=refusal.args[0], cause=refusal.args[1])
 
+    def needed_by_file(self):
+        """The object to which each entry of FILE leads."""
+        known = self.objects[0]
+        return [self.leads[replaced(text, known.origin)] for _, text in known.links.needs] if known.links else []
+
+    def add_unused(self):
+        for index in needed_symbols.unused(self):
+            known = self.objects[index]
+            path = spelt(self.root.shown(known.path), 4 * TEXT_BYTES)
+            self.add_line("L %5d %5d unused   - %s" % (index, known.needer, path), False, index=index, needed_by=known.needer, state="unused",
+                          by=known.by, path=path)
+
     def add_object(self, index, path):
         known = self.objects[index]
         state = "refused" if known.refusal else "missing" if known.path is None else "found"
@@ -309,11 +322,13 @@ def directory_of(path):
     return os.path.dirname(path) or (b"/" if path.startswith(b"/") else b".")
 
 
-def program(path, symbols=True, **words):
+def program(path, symbols=True, unused=False, **words):
     """The program with all its lines."""
     answered = Program(os.fsencode(path), Options(**words))
     if symbols and not answered.is_ended:
         needed_symbols.bind(answered)
+    if unused and not answered.is_ended:
+        answered.add_unused()
     return answered
 
 
@@ -323,8 +338,24 @@ def answer(path, library=b"", default=None, symbols=True, **words):
     return answered.status, answered.written()
 
 
+def of_many(paths, is_json, is_problems, symbols, words):
+    """The status and the bytes for more than one file, or for directories."""
+    statuses, written = [0], b""
+    for path, is_file in (each for path in paths for each in looked_at(path)):
+        with open(path, "rb") as file:
+            if not is_file or not needed_files.is_listed(file.read()):
+                continue
+        answered = program(path, symbols, **words)
+        lines, name = answered.written(is_json, is_problems), spelt(path, len(path))
+        if lines:
+            row = json.dumps({"line": "@", "path": name}, separators=(",", ":")) if is_json else "@ " + name
+            written += row.encode() + b"\n" + lines
+        statuses.append(answered.status)
+    return max(statuses), written
+
+
 def main():
-    words, kept, path = sys.argv[1:], {}, None
+    words, kept, paths = sys.argv[1:], {}, []
     keys = {"--library-path": "library", "--default": "default", "--root": "root", "--cache": "cache", "--max-tries": "tries",
             "--headers": "most"}
     words = words[1:] if words[:1] == ["needs"] else words
@@ -342,15 +373,19 @@ def main():
         elif word.startswith("--"):
             kept[word[2:].replace("-", "_")] = True
         else:
-            path = word
+            paths.append(os.fsencode(word))
     is_json, is_problems, symbols = (kept.pop(key, False) for key in ("json", "problems", "symbols"))
     try:
-        answered = program(path, symbols, **kept)
+        if len(paths) > 1 or os.path.isdir(paths[0]):
+            status, written = of_many(paths, is_json, is_problems, symbols, kept)
+        else:
+            answered = program(paths[0], symbols, **kept)
+            status, written = answered.status, answered.written(is_json, is_problems)
     except SystemFault:
         print("elfsee: cannot open", file=sys.stderr)
         return 3
-    sys.stdout.buffer.write(answered.written(is_json, is_problems))
-    return answered.status
+    sys.stdout.buffer.write(written)
+    return status
 
 
 if __name__ == "__main__":

@@ -131,6 +131,18 @@ class Links:
         raise Refused(at, "unmapped")
 
 
+def is_listed(content):
+    """Whether a file among many has lines: an ELF64 file that a loader takes, or whose headers are refused."""
+    if content[:5] != b"\x7fELF\2":
+        return False
+    try:
+        content = BySegments(content, TEXT_BYTES).content
+    except Refused:
+        return True
+    kind, = struct.unpack_from("<H", content, 16)
+    return kind in (EXEC, DYN) and any(header[0] == DYNAMIC for _, header in segments_of(content))
+
+
 def machine_of(content):
     return struct.unpack_from("<H", content, 18)[0]
 
@@ -159,8 +171,8 @@ def interpreter_of(content):
     """The path of the interpreter that a file names, or None."""
     for at, (kind, _, offset, _, _, size, _) in segments_of(content):
         if kind == INTERP:
-            refuse_where(not 2 <= size <= TEXT_BYTES, at, "name-unended")
             refuse_where(offset + size > len(content), at, "table-outside")
+            refuse_where(not 2 <= size <= TEXT_BYTES, at, "name-unended")
             text = content[offset:offset + size]
             refuse_where(text[-1] != 0, at, "name-unended")
             return text[:text.index(b"\0")]
@@ -170,7 +182,7 @@ def interpreter_of(content):
 def is_interpreter(there, machine):
     """Whether a file that was opened is one that the system can start a program of a machine by."""
     content = there.content
-    if content is None or not there.mode & 0o111 or len(content) < 64 or content[:6] != b"\x7fELF\x02\x01":
+    if content is None or not there.mode & 0o111 or len(content) < 20 or content[:6] != b"\x7fELF\x02\x01":
         return False
     return struct.unpack_from("<H", content, 16)[0] in (EXEC, DYN) and machine_of(content) == machine
 

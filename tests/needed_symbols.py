@@ -9,6 +9,7 @@ from looked_up import Lookup, hashed_count
 from needed_files import whole_text
 
 UNDEFINED, WEAK, ASKED_BINDINGS = 0, 2, (1, 2, 10)
+RELA, RELASZ, COPY = 7, 8, 5
 
 
 def bind(program):
@@ -35,6 +36,36 @@ def bind_object(program, objects, index, known):
             "-" + 9 * " " if found is None else "%10d" % found, name if version is None else name + "@" + version)
         program.add_line(text, state not in ("bound", "weak"), object=index, symbol=symbol, state=state, definer=program.or_hyphen(definer),
                          definition=program.or_hyphen(found), name=name, version=version)
+
+
+def unused(program):
+    """The index of each object that is found, that an entry of FILE needs, and that defines nothing that FILE asks for: of its
+    undefined symbols in all objects, of its copied data in those after it."""
+    objects = [(index, known) for index, known in enumerate(program.objects) if known.file and known.file.scope]
+    used, file = set(), program.objects[0].file
+    try:
+        if file is not None and file.scope is not None:
+            file.check_counts()
+            asked = (Sought(file, symbol) for symbol in range(1, hashed_count(file.scope)))
+            used = {bound(program, objects, sought)[1] for sought in asked if sought.is_one}
+            used |= {bound(program, objects[1:], Sought(file, symbol, True))[1] for symbol in copied(file)}
+    except Refused:
+        pass
+    for index in program.needed_by_file():
+        if program.objects[index].file is not None and index not in used:
+            yield index
+
+
+def copied(file):
+    """The symbols of the relocations that copy data."""
+    scope = file.scope
+    if RELA not in scope.entries or RELASZ not in scope.entries:
+        return
+    table = scope.exact(scope.entries[RELA], scope.entries[RELASZ][1])
+    for at in range(table.offset, table.offset + table.size - 23, 24):
+        _, kind, symbol, _ = struct.unpack_from("<QIIq", scope.content, at)
+        if kind == COPY:
+            yield symbol
 
 
 def bound(program, objects, sought):
@@ -85,13 +116,13 @@ class Definer(Lookup):
 
 
 class Sought:
-    """What a symbol imports."""
+    """What a symbol imports; or one that is copied, which is defined."""
 
-    def __init__(self, file, index):
+    def __init__(self, file, index, is_copied=False):
         scope = file.scope
         at = scope.symbols.offset + 24 * index
         name, info, _, place, _, _ = struct.unpack_from("<I2BH2Q", scope.content, at)
-        self.is_one = place == UNDEFINED and info >> 4 in ASKED_BINDINGS and name != 0
+        self.is_one = (place == UNDEFINED or is_copied) and info >> 4 in ASKED_BINDINGS and name != 0
         self.is_weak, self.version, self.needed = info >> 4 == WEAK, None, None
         if not self.is_one:
             return

@@ -52,6 +52,8 @@ def run(cases):
         library.write(loader_caches.made([rows[0], *rows[2:]], shape))
         library.is_missing(f"no entry of the machine, {shape}")
         damaged(library, loader_caches.made(rows, shape), shape)
+        if cases.is_whole:
+            budgets(cases, library, shape)
     row = '"by":"cache","path":"%s"' % library.lib
     library.write(loader_caches.made(rows, "new"))
     status, text, _ = cases.run(library.words("--json"))
@@ -64,6 +66,18 @@ def run(cases):
     shapes(library, rows)
     places(cases, library)
     search_order(cases, library)
+
+
+def budgets(cases, library, shape):
+    """What is read of a cache counts: one that is enough for all gives the whole answer, and each smaller one ends it."""
+    whole, enough = cases.run(library.words()), None
+    for budget in range(0, 4000, 83):
+        status, text, errors = got = cases.run(library.words("--max-read", budget))
+        enough = budget if got == whole and enough is None else enough
+        if errors or got != whole and (status != 1 or " budget" not in text or enough is not None):
+            cases.fail(f"a budget of {budget} and a cache, {shape}: {got}")
+    if enough is None or enough < os.path.getsize(library.lib) // 100:
+        cases.fail(f"budgets and a cache, {shape}: {enough} is enough")
 
 
 def orders(cases, path):

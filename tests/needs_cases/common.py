@@ -14,10 +14,12 @@ START = "void _start(void) { for (;;) ; }\n"
 
 
 class Cases:
-    """Made cases in a directory; it counts those that fail."""
+    """Made cases in a directory; it counts those that fail. The second implementation, which these cases try too if it is given as
+    the program, has neither budgets nor lists of files."""
 
     def __init__(self, program, folder):
         self.program, self.folder, self.failures, self.passed = program, folder, 0, 0
+        self.is_whole = os.path.basename(program) != "needed.py"
         os.makedirs(folder)
 
     def path(self, name):

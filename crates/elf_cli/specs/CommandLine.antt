@@ -134,10 +134,12 @@ abbrev max_tries_option : Rule
 max_tries_option = option (codes "max-tries") (Unsigned 0 9223372036854775807)
 
 -- a command with the options of where libraries are searched: how many paths may be tried;
--- directories, separated by colons; and the root directory of another system's files
+-- directories, separated by colons; the root directory of another system's files; and a loader's
+-- cache, or none
 abbrev with_search_options : App → App
 with_search_options command =
-    with_rule (with_rule (with_rule (with_rule command max_tries_option) (valued (codes "library-path"))) (valued (codes "default"))) (valued (codes "root"))
+    with_rule (with_rule (with_rule (with_rule (with_rule (with_rule command max_tries_option) (valued (codes "library-path"))) (valued (codes "default"))) (valued (codes "root")))
+    (valued (codes "cache"))) (flag (codes "no-cache"))
 
 -- whether the file that each symbol is bound to is printed too, which libraries are not used, and
 -- whether only lines that make the status 1 are printed

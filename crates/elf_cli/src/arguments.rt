@@ -172,6 +172,18 @@ pub(crate) const PROBLEMS: ArgSpec = ArgSpec {
     help: "Write of all lines only those that make the status 1",
 };
 
+pub(crate) const CACHE: ArgSpec = ArgSpec {
+    name: "cache",
+    kind: ArgKind::Value("FILE"),
+    help: "Search the loader's cache FILE, not /etc/ld.so.cache",
+};
+
+pub(crate) const NO_CACHE: ArgSpec = ArgSpec {
+    name: "no-cache",
+    kind: ArgKind::Flag,
+    help: "Search no loader's cache",
+};
+
 pub(crate) const BINDINGS: ArgSpec = ArgSpec {
     name: "symbols",
     kind: ArgKind::Flag,

@@ -11,9 +11,9 @@ ghost use Rattle.elf_cli.specs.CommandLine.{needs_command, sample_command, show_
 ghost use Rattle.elf_cli.specs.CommandLine.{with_many_files, with_one_file, without_command};
 
 use crate::arguments::{
-    AS_LOADED, AS_LOADER, BINDINGS, BY_SEGMENTS, DEFAULT, EXPLAIN, FILE, GNU, HEADERS, INSIDE,
-    ITEM, JSON, LAYOUT, LIBRARY_PATH, LIST, MAX_READ, MAX_TRIES, NAME, NAME_LIST, NAMES, ONLY,
-    PATH, PROBLEMS, REQUIRE, ROOT, ROW_NAME, SECTION, UNUSED, WITH_VERSIONS,
+    AS_LOADED, AS_LOADER, BINDINGS, BY_SEGMENTS, CACHE, DEFAULT, EXPLAIN, FILE, GNU, HEADERS,
+    INSIDE, ITEM, JSON, LAYOUT, LIBRARY_PATH, LIST, MAX_READ, MAX_TRIES, NAME, NAME_LIST, NAMES,
+    NO_CACHE, ONLY, PATH, PROBLEMS, REQUIRE, ROOT, ROW_NAME, SECTION, UNUSED, WITH_VERSIONS,
 };
 use crate::builder::{CommandSpec, add_subcommands, clap_command_of, new_command, with_command};
 use crate::texts::{ABOUT, CHECKED, FOUND, HARDENED, ITEMS, LISTED, MEMBERS, MORE, NEEDED, SHOWN};
@@ -127,6 +127,8 @@ const NEEDS: CommandSpec = CommandSpec {
         LIBRARY_PATH,
         DEFAULT,
         ROOT,
+        CACHE,
+        NO_CACHE,
         BINDINGS,
         UNUSED,
         PROBLEMS,

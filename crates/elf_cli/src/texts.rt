@@ -54,6 +54,8 @@ Options, before or after FILE; 'elfsee help COMMAND' prints those of one command
   --default DIRS
                 for needs: search these directories last, instead of those of a system
   --root DIR    for needs: take each path that begins with a slash relative to DIR
+  --cache FILE  for needs: search the loader's cache FILE instead of /etc/ld.so.cache
+  --no-cache    for needs: do not search a loader's cache
   --max-tries N for needs: try at most N paths for a FILE: 0 to 9223372036854775807
                 [default: 100,000]
   --symbols     for needs: also print which object each symbol comes from
@@ -198,9 +200,10 @@ loaded.
 Then, if FILE names an interpreter, I, whether it is found, and its path; and for each version
 that an object needs and does not find U, the object, the object that should have it, the state
 (nofile, bare, nover or refused), and the version.
-Libraries are searched for in RPATH, --library-path, RUNPATH and --default, in this order, as by
-a loader. DIRS are directories, separated by colons; those of --default are by default
+Libraries are searched for in RPATH, --library-path, RUNPATH, the loader's cache and --default, in
+this order, as by a loader. DIRS are directories, separated by colons; without --default they are
 /lib/x86_64-linux-gnu:/usr/lib/x86_64-linux-gnu:/lib64:/usr/lib64:/lib:/usr/lib
+The cache is /etc/ld.so.cache below --root, or that of --cache; with --default there is none.
 
 With --symbols, a line for each symbol that an object needs follows: B, the object's index, the
 symbol's index, its state, the index of the object that defines it and of the symbol there, and

@@ -9,11 +9,14 @@ pub mod LinkLaws
 pub mod LinkedLaws
 pub mod LoopLaws
 pub mod ReadingLaws
+pub mod LibraryLaws
+pub mod FitLaws
 pub mod BindLaws
 pub mod CopiedLaws
 pub mod DefinerLaws
 pub mod KeptLaws
 pub mod LackLaws
+pub mod NeedLaws
 pub mod OpenLaws
 pub mod ReadyLaws
 pub mod SoughtLaws

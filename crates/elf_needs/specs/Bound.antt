@@ -33,6 +33,7 @@ bound_among headers files scope = bound_of headers files scope.indexes.now scope
 
 -- an object is unchanged, except how many bytes were requested from it; and each of some
 pub record SameObject (old new : LookupObjectState) : Type 0 where
+  pub same_size : new.src.seen.size ≡ old.src.seen.size
   pub same_file : new.src.seen.file ≡ old.src.seen.file
   pub same_headers : new.headers ≡ old.headers
   pub grows : old.src.asked ≤ new.src.asked

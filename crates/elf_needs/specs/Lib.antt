@@ -5,6 +5,7 @@ pub mod Held
 pub mod Linked
 pub mod Entries
 pub mod Reading
+pub mod Fits
 pub mod WorkedLinks
 pub mod Binds
 pub mod Definers
@@ -21,9 +22,11 @@ pub mod Bound
 pub mod Copied
 pub mod Requests
 pub mod Budget
+pub mod Caches
 pub mod Called
 pub mod Walked
 pub mod ObjectLines
 pub mod ListedLines
 pub mod VersionTables
+pub mod NeedWalks
 pub mod Prelude

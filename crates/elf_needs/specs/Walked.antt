@@ -1,5 +1,6 @@
 -- What becomes of an object that is read.
-use Rattle.std.specs.Prelude.{ℕ, None}
+use Rattle.std.specs.Prelude.{ℕ}
+use Rattle.elf_needs.specs.Entries.{no_info}
 use Rattle.elf_needs.specs.declared.states.ObjectState.{ObjectState}
 use Rattle.elf_needs.specs.declared.states.ObjectState.TheVariants.{Found, Missing, Refused, Unused}
 use Rattle.elf_needs.specs.declared.object_reports.ObjectReport.{ObjectReport}
@@ -13,4 +14,4 @@ status_with Unused status = status
 
 -- the report of an object of which only the state is known
 abbrev pub report_alone : ObjectState → ObjectReport
-report_alone state = record { state = state; links = record { soname = None; rpath = None; runpath = None }; needs = 0; needs_end = 0 }
+report_alone state = record { state = state; links = no_info; needs = 0; needs_end = 0 }

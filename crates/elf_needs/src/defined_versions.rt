@@ -1,5 +1,5 @@
 //! Whether a file defines a version that another needs.
-ghost use Rattle.std.specs.Prelude.{◌≡◌, ◌+◌, ◌*◌, ◌/◌, ◌≤◌, length, IfOk};
+ghost use Rattle.std.specs.Prelude.{◌+◌, ◌*◌, ◌/◌, ◌≤◌, length};
 ghost use Rattle.elf_table.specs.Prelude.{CallDid, StringsInBounds, fault_of_result};
 ghost use Rattle.elf_model.specs.Prelude.{Version, max_records, pad64, record_cost};
 ghost use Rattle.elf_hash.specs.Prelude.{VersionRecordsInBounds};
@@ -24,7 +24,11 @@ pub(crate) fn state_in<S: Source>(
     src: &mut Counted<S>,
     versions: &FileVersions,
     needed: &NeedsWalk,
-) -> Result<Option<VersionState>, Fault> {
+) -> Result<Option<VersionState>, Fault>
+    requires lies { FileVersionsInBounds src.old.seen.size versions.now }
+    ensures did { CallDid src.old src.new (fault_of_result result)
+        (src.old.seen.size / 8 * record_cost (Version needed.now.name)) (λ file. Unit {0}) }
+{
     let records = match &versions.definitions {
         Ok(Some(records)) => records,
         Ok(None) => return Ok(state_without(versions.has_versym)),
@@ -67,6 +71,9 @@ fn defines<S: Source>(
 ) -> Result<bool, Fault>
     requires most { length version.now ≤ 4096 }
     requires within { VersionRecordsInBounds src.old.seen.size records.now }
+    ensures did { CallDid src.old src.new (fault_of_result result)
+        (max_records records.now.kind records.now.table.count
+        * (28 + pad64 (length version.now + 1))) (λ file. Unit {0}) }
 {
     let mut cursor = VersionCursor::one_by_one(records.kind, records.head, records.table);
     'records: while let Some(given) = cursor.advance(src)? {
@@ -90,6 +97,8 @@ fn is_version<S: Source>(
 ) -> Result<bool, Fault>
     requires most { length version.now ≤ 4096 }
     requires within { StringsInBounds src.old.seen.size names.now }
+    ensures did { CallDid src.old src.new (fault_of_result result)
+        (pad64 (length version.now + 1)) (λ file. Unit {0}) }
 {
     if given.hash != hash {
         return Ok(false);

@@ -4,14 +4,14 @@ ghost use Rattle.elf_needs.specs.Budget.{AsksClosed, AsksFile, AsksFiles};
 ghost use Rattle.elf_needs.specs.Held.{with_text};
 ghost use Rattle.elf_needs.specs.Searching.{if_short, root_before};
 
-use crate::candidates::opened_at;
+use crate::candidates::{SearchEnd, opened_at};
 use crate::faults::is_budget_fault;
 use crate::file_identity::FileIdentity;
 use crate::interpreter_rows::show_interpreter;
 use crate::known_interpreter::Interpreter;
 use crate::known_object::MOST_OBJECTS;
 use crate::links::NeededLibrary;
-use crate::object_file::ObjectFile;
+use crate::object_file::{ObjectFile, ObjectRole};
 use crate::object_reports::{ObjectPlace, ObjectReport, found_identity, report_alone};
 use crate::object_rows::list_object;
 use crate::paths::named_path;
@@ -52,9 +52,10 @@ impl<W: Sink> DependencyWalk<'_, '_, W> {
         let Some(path) = self.keep_interpreter_path(interpreter.name) else {
             return Ok(());
         };
-        let read = match opened_at(rt, &self.search.path)? {
-            Some(file) => self.read_found(file)?,
-            None => missing(),
+        let read = match opened_at(rt, &self.search.path) {
+            Ok(Some(file)) => self.read_found(file, path)?,
+            Ok(None) | Err(SearchEnd::Refused(_) | SearchEnd::Unread(_)) => missing(),
+            Err(SearchEnd::Failed(fault)) => return Err(fault),
         };
         self.objects.interpreter = Some(Interpreter {
             name: interpreter.name,
@@ -90,11 +91,12 @@ impl<W: Sink> DependencyWalk<'_, '_, W> {
     fn read_found<S: Source + Drop>(
         &mut self,
         file: ObjectFile<S>,
+        path: u32,
     ) -> Result<InterpreterRead, NeedsFault>
         ensures asks { AsksClosed file.asked self.old.search.account self.new.search.account }
     {
         let mut file = file;
-        let read = self.read_opened(&mut file);
+        let read = self.read_opened(&mut file, path);
         let _ = file.close(&mut self.search.account);
         read
     }
@@ -103,6 +105,7 @@ impl<W: Sink> DependencyWalk<'_, '_, W> {
     fn read_opened<S: Source>(
         &mut self,
         file: &mut ObjectFile<S>,
+        path: u32,
     ) -> Result<InterpreterRead, NeedsFault>
         ensures asks { AsksFile file.old file.new self.old.search.account self.new.search.account }
     {
@@ -112,7 +115,7 @@ impl<W: Sink> DependencyWalk<'_, '_, W> {
         }
         let machine = self.search.machine;
         let report = match file.interprets(&mut self.search.account, machine) {
-            Ok(true) => self.read(file)?,
+            Ok(true) => self.read(file, ObjectRole::Library, Some(path))?,
             Ok(false) => return Ok(missing()),
             Err(Fault::Refused(refusal)) => report_alone(ObjectState::Refused(refusal)),
             Err(Fault::Source { .. }) => return Err(NeedsFault::Read),
@@ -168,9 +171,13 @@ impl<W: Sink> DependencyWalk<'_, '_, W> {
         if !matches!(report.state, ObjectState::Found) {
             return Ok(report);
         }
-        match opened_at(rt, self.objects.path(interpreter.path))? {
-            Some(file) => self.keep(file, Ok(report), opened),
-            None => Ok(report_alone(ObjectState::Missing)),
+        match opened_at(rt, self.objects.path(interpreter.path)) {
+            Ok(Some(file)) => self.keep(file, Ok(report), opened),
+            Ok(None) => Ok(report_alone(ObjectState::Missing)),
+            Err(SearchEnd::Refused(refusal) | SearchEnd::Unread(refusal)) => {
+                Ok(report_alone(ObjectState::Refused(refusal)))
+            }
+            Err(SearchEnd::Failed(fault)) => Err(fault),
         }
     }
 

@@ -169,7 +169,14 @@ impl ObjectList {
     pub(crate) fn folder(&self, known: &KnownObject) -> &[u8]
         ensures { IsDirOfObject self.now.paths.texts known.now.path result.now }
     {
-        match known.path {
+        self.folder_of(known.path)
+    }
+
+    /// Returns the directory of the path at an index.
+    pub(crate) fn folder_of(&self, path: Option<u32>) -> &[u8]
+        ensures { IsDirOfObject self.now.paths.texts path result.now }
+    {
+        match path {
             Some(path) => dir_of_path(self.paths.get(path)),
             None => b".",
         }
@@ -206,6 +213,14 @@ impl ObjectList {
         self.known
             .iter()
             .position(|known| is_object_file(known, file))
+    }
+
+    /// Returns the directory of the program, which replaces `$ORIGIN` in a library path.
+    pub(crate) fn program_folder(&self) -> &[u8] {
+        match self.known.first() {
+            Some(program) => self.folder(program),
+            None => b".",
+        }
     }
 
     /// Returns `true` if an object has a name: it was needed by it, or it is its DT_SONAME, or one

@@ -1,15 +1,16 @@
 //! The versions that a file needs, one by one.
-ghost use Rattle.std.specs.Prelude.{◌≡◌, ◌+◌, ◌<◌, ◌≤◌, Unit, IfOk, IfSome};
-ghost use Rattle.elf_table.specs.Prelude.{CallDid, StringsInBounds, TableInBounds, fault_of_result};
+ghost use Rattle.std.specs.Prelude.{◌≡◌, ℕ};
+ghost use Rattle.elf_table.specs.Prelude.{CallDid, StringsInBounds, fault_of_result};
 ghost use Rattle.elf_model.specs.Prelude.{SOUGHT_BYTES, name_bytes};
-ghost use Rattle.elf_needs.specs.NeededVersions.{LeavesNeeds, NeedsWalkState};
+ghost use Rattle.elf_hash.specs.Prelude.{VersionRecordsInBounds};
+ghost use Rattle.elf_needs.specs.NeedWalks.{GoesOnIf, StepsNeeds, need_bytes};
 
 use crate::reference::whole_name;
 use elf_hash::VersionRecordTable;
 use elf_note::{VersionCursor, VersionRecord};
 use elf_record::VersionKind;
 use elf_source::{Counted, Source};
-use elf_table::{Fault, NameBuf, Names};
+use elf_table::{Fault, NameBuf};
 
 /// The flag of a needed version that need not be there (Linux Standard Base Core, Symbol
 /// Versioning).
@@ -18,8 +19,8 @@ const WEAK: u16 = 2;
 /// A walk over the versions that a file needs, with the last one that was read.
 #[derive(Drop)]
 pub(crate) struct NeedsWalk {
+    records: VersionRecordTable,
     cursor: VersionCursor,
-    strings: Names,
     /// The name of the file that should have the versions that follow.
     pub library: NameBuf,
     /// The name of the last version that was read.
@@ -32,10 +33,12 @@ pub(crate) struct NeedsWalk {
 
 impl NeedsWalk {
     /// Creates a walk before the first of the records.
-    pub(crate) fn new(records: &VersionRecordTable) -> NeedsWalk {
+    pub(crate) fn new(records: &VersionRecordTable) -> NeedsWalk
+        ensures { (size : ℕ) → VersionRecordsInBounds size records.now → StepsNeeds size result }
+    {
         NeedsWalk {
+            records: *records,
             cursor: VersionCursor::one_by_one(records.kind, records.head, records.table),
-            strings: records.names,
             library: NameBuf::new(),
             name: NameBuf::new(),
             hash: 0,
@@ -50,10 +53,12 @@ impl NeedsWalk {
     /// Those of [`VersionCursor::advance`]. At the record: a fault of its name, as for
     /// [`Names::read`], and `TooLong` if that has more than 4,096 bytes. Otherwise a read fault, or
     /// a refusal for lack of budget.
-    pub(crate) fn advance<S: Source>(
-        &mut self,
-        src: &mut Counted<S>,
-    ) -> Result<Option<bool>, Fault> {
+    pub(crate) fn advance<S: Source>(&mut self, src: &mut Counted<S>) -> Result<Option<bool>, Fault>
+        requires { StepsNeeds src.old.seen.size self.old }
+        ensures did { CallDid src.old src.new (fault_of_result result) need_bytes
+            (λ file. Unit {0}) }
+        ensures goes { GoesOnIf src.old.seen.size self.old self.new result }
+    {
         let Some(given) = self.cursor.advance(src)? else {
             return Ok(None);
         };
@@ -69,19 +74,31 @@ impl NeedsWalk {
         &mut self,
         src: &mut Counted<S>,
         given: &VersionRecord,
-    ) -> Result<bool, Fault> {
+    ) -> Result<bool, Fault>
+        requires { StringsInBounds src.old.seen.size self.old.records.names }
+        ensures did { CallDid src.old src.new (fault_of_result result) (name_bytes SOUGHT_BYTES)
+            (λ file. Unit {0}) }
+        ensures same { (self.new.cursor ≡ self.old.cursor)
+            × (self.new.records ≡ self.old.records) }
+    {
         let off = u64::from(given.name);
         match given.kind {
             VersionKind::File => {
-                whole_name(src, self.strings, off, given.named_at, &mut self.library)?;
+                whole_name(
+                    src,
+                    self.records.names,
+                    off,
+                    given.named_at,
+                    &mut self.library,
+                )?;
                 Ok(false)
             }
             VersionKind::Definition => {
-                whole_name(src, self.strings, off, given.named_at, &mut self.name)?;
+                whole_name(src, self.records.names, off, given.named_at, &mut self.name)?;
                 Ok(false)
             }
             VersionKind::Need => {
-                whole_name(src, self.strings, off, given.named_at, &mut self.name)?;
+                whole_name(src, self.records.names, off, given.named_at, &mut self.name)?;
                 self.hash = given.hash;
                 self.weak = given.flags & WEAK != 0;
                 Ok(true)

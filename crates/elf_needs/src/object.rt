@@ -1,8 +1,11 @@
 //! A file in which names are looked up.
-ghost use Rattle.std.specs.Prelude.{◌≡◌, ◌≤◌, ◌+◌, ◌*◌, ℕ, List, Some, IfOk, length, true};
+ghost use Rattle.std.specs.Prelude.{◌≡◌, ◌≤◌, ◌+◌, ◌*◌, ℕ, List, Some, IfOk, IfSome, length, true};
 ghost use Rattle.elf_table.specs.Ledger.{CallDid, fault_of_result};
+ghost use Rattle.elf_hash.specs.Prelude.{LookupTablesInBounds, VersionRecordsInBounds};
 ghost use Rattle.elf_needs.specs.Copied.{ReadsKept, copied_symbol};
-ghost use Rattle.elf_needs.specs.Kept.{KeepsScope, source_of, why_back};
+ghost use Rattle.elf_needs.specs.NeedWalks.{FindsState, ReadsNeed, StepsNeeds};
+ghost use Rattle.elf_needs.specs.VersionTables.{FileVersionsInBounds};
+ghost use Rattle.elf_needs.specs.Kept.{FindsTables, KeepsScope, source_of, why_back};
 ghost use Rattle.elf_needs.specs.Looks.{LooksInObject, Prepares};
 ghost use Rattle.elf_needs.specs.Sought.{CountsHashed, LooksForVersion, ReadsFileName, Seeks, reference_bytes};
 ghost use Rattle.elf_loader.specs.Lookups.{AreShort};
@@ -12,13 +15,14 @@ use crate::budget::spend_budget;
 use crate::copied_symbols::{copied_at, dynamic_relocations, named_symbol};
 use crate::defined_versions::state_in;
 use crate::definition::find_definer;
+use crate::faults::is_reported_alone;
 use crate::hashed::hashed_symbols;
 use crate::missing_version::lacks_version;
 use crate::needed_versions::NeedsWalk;
 use crate::ready::ready_table;
 use crate::reference::{SymbolReference, reference_of, whole_name};
 use crate::reference_names::ReferenceNames;
-use crate::version_tables::{FileVersions, find_file_versions};
+use crate::version_tables::{FileVersions, find_file_versions, refused_versions};
 use elf_hash::{HashTable, LookupTables, VersionRecordTable, find_lookup_tables};
 use elf_model::VersionState;
 use elf_note::VersionRecord;
@@ -40,12 +44,14 @@ pub struct LookupObject<S: Source> {
 
 impl<S: Source> Model for LookupObject<S> {
     ghost use Rattle.elf_needs.specs.Kept.{IsKept, LookupObjectState};
+    ghost use Rattle.elf_needs.specs.VersionTables.{FileVersionsInBounds};
 
     ghost Value = { LookupObjectState };
 
     ghost view = { λ o. record { src = o.source; headers = o.headers } };
 
-    ghost invariant = { λ o. IsKept o.source.seen o.headers o.scope o.ready };
+    ghost invariant = { λ o. IsKept o.source.seen o.headers o.scope o.ready
+        × FileVersionsInBounds o.source.seen.size o.versions };
 }
 
 impl<S: Source> LookupObject<S> {
@@ -62,7 +68,7 @@ impl<S: Source> LookupObject<S> {
     ) -> Result<LookupObject<S>, (Counted<S>, Fault)>
         requires by_segments { source.hides ≡ true }
         ensures did { CallDid source (source_of result) (why_back result)
-            (64 + 64 * store.old.slots + source.seen.size)
+            (2 * (64 + 64 * store.old.slots + source.seen.size))
             (λ file. KeepsScope file store.old.slots source result) }
         ensures slots { store.new.slots ≡ store.old.slots }
     {
@@ -221,7 +227,10 @@ impl<S: Source> LookupObject<S> {
     ///
     /// # Errors
     /// The refusal of the entry that locates it.
-    pub(crate) fn needs(&self) -> Result<Option<VersionRecordTable>, Fault> {
+    pub(crate) fn needs(&self) -> Result<Option<VersionRecordTable>, Fault>
+        ensures lies { IfOk result (λ records.
+            IfSome records (VersionRecordsInBounds self.now.src.seen.size)) }
+    {
         self.versions.needs
     }
 
@@ -235,7 +244,10 @@ impl<S: Source> LookupObject<S> {
         &mut self,
         left: &mut Option<u64>,
         walk: &mut NeedsWalk,
-    ) -> Result<Option<bool>, Fault> {
+    ) -> Result<Option<bool>, Fault>
+        requires { StepsNeeds self.old.src.seen.size walk.old }
+        ensures { ReadsNeed walk.old walk.new self.old self.new left.old left.new result }
+    {
         let asked = self.source.asked();
         self.source.limit(*left);
         let step = walk.advance(&mut self.source);
@@ -254,7 +266,9 @@ impl<S: Source> LookupObject<S> {
         &mut self,
         left: &mut Option<u64>,
         needed: &NeedsWalk,
-    ) -> Result<Option<VersionState>, Fault> {
+    ) -> Result<Option<VersionState>, Fault>
+        ensures { FindsState needed.now self.old self.new left.old left.new result }
+    {
         let asked = self.source.asked();
         self.source.limit(*left);
         let state = state_in(&mut self.source, &self.versions, needed);
@@ -344,15 +358,30 @@ struct FileTables {
     versions: FileVersions,
 }
 
-/// Finds the tables that a lookup searches, and those of symbol versions.
+/// Finds the tables that a lookup searches, and those of symbol versions; if these are refused
+/// where the others were not, since the source returned other bytes, that is their refusal.
 ///
 /// # Errors
-/// Those of [`find_lookup_tables`], and of [`find_file_versions`].
+/// Those of [`find_lookup_tables`]; then a read fault, or a refusal for lack of budget.
 fn find_tables<S: Source>(
     source: &mut Counted<S>,
     store: &mut HeaderStore,
-) -> Result<FileTables, Fault> {
+) -> Result<FileTables, Fault>
+    ensures did { CallDid source.old source.new (fault_of_result result)
+        (2 * (64 + 64 * store.old.slots + source.old.seen.size))
+        (λ file. FindsTables file store.old.slots source.old source.new result) }
+    ensures slots { store.new.slots ≡ store.old.slots }
+    ensures within { IfOk result (λ found. LookupTablesInBounds source.old.seen.size found.scope) }
+    ensures versions { IfOk result (λ found.
+        FileVersionsInBounds source.old.seen.size found.versions) }
+{
     let scope = find_lookup_tables(source, store)?;
-    let versions = find_file_versions(source, store)?;
-    Ok(FileTables { scope, versions })
+    match find_file_versions(source, store) {
+        Ok(versions) => Ok(FileTables { scope, versions }),
+        Err(fault) if is_reported_alone(fault) => Err(fault),
+        Err(fault) => Ok(FileTables {
+            scope,
+            versions: refused_versions(fault),
+        }),
+    }
 }

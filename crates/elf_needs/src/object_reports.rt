@@ -7,7 +7,7 @@ use crate::cached_source::CachedSource;
 use crate::file_identity::FileIdentity;
 use crate::known_object::KnownObject;
 use crate::links::LinkInfo;
-use crate::object_file::ObjectFile;
+use crate::object_file::{ObjectFile, ObjectRole};
 use crate::open_objects::OpenObjects;
 use crate::states::ObjectState;
 use crate::walk::{DependencyWalk, NeedsFault};
@@ -39,26 +39,41 @@ pub(crate) const NOWHERE: ObjectPlace = ObjectPlace {
 };
 
 impl<W: Sink> DependencyWalk<'_, '_, W> {
-    /// Reads what a file needs. What was requested from it is subtracted from the budget. It is not
-    /// inlined: the stack of its callers would hold its buffers twice.
+    /// Reads what the file at the path of an index needs. What was requested from it is subtracted
+    /// from the budget. It is not inlined: the stack of its callers would hold its buffers twice.
     #[inline(never)]
     pub(crate) fn read<S: Source>(
         &mut self,
         file: &mut ObjectFile<S>,
+        role: ObjectRole,
+        path: Option<u32>,
     ) -> Result<ObjectReport, NeedsFault>
         ensures asks { AsksFile file.old file.new self.old.search.account self.new.search.account }
     {
         let needs = self.objects.links.needs();
         let account = &mut self.search.account;
-        match file.links(account, &mut self.store, &mut self.objects.links) {
-            Ok(links) => Ok(ObjectReport {
+        match file.links(role, account, &mut self.store, &mut self.objects.links) {
+            Ok(links) => Ok(self.named(links, needs, path)),
+            Err(Fault::Refused(refusal)) => Ok(report_alone(ObjectState::Refused(refusal))),
+            Err(Fault::Source { .. }) => Err(NeedsFault::Read),
+        }
+    }
+
+    /// Replaces the tokens in the names of what the object at a path needs, the last needs from an
+    /// index on. It is refused if a name has no room then.
+    fn named(&mut self, links: LinkInfo, needs: usize, path: Option<u32>) -> ObjectReport
+        ensures account { self.new.search.account ≡ self.old.search.account }
+    {
+        let needs_end = self.objects.links.needs();
+        let root = self.search.folders.root;
+        match self.objects.replace_names(needs, needs_end, path, root) {
+            None => ObjectReport {
                 state: ObjectState::Found,
                 links,
                 needs,
-                needs_end: self.objects.links.needs(),
-            }),
-            Err(Fault::Refused(refusal)) => Ok(report_alone(ObjectState::Refused(refusal))),
-            Err(Fault::Source { .. }) => Err(NeedsFault::Read),
+                needs_end,
+            },
+            Some(refusal) => report_alone(ObjectState::Refused(refusal)),
         }
     }
 
@@ -134,6 +149,8 @@ pub(crate) fn report_alone(state: ObjectState) -> ObjectReport
             soname: None,
             rpath: None,
             runpath: None,
+            flags_1: 0,
+            is_program: false,
         },
         needs: 0,
         needs_end: 0,

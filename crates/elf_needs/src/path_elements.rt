@@ -3,9 +3,9 @@ ghost use Rattle.std.specs.Prelude.{◌≡◌, ◌<◌, ◌+◌, ◌∷◌, [], 
 ghost use Rattle.elf_needs.specs.Searching.{parted};
 ghost use Rattle.elf_needs.specs.Steps.{left_bytes, left_entries};
 
-use memchr::memchr;
+use memchr::memchr2;
 
-/// An entry, and what follows the colon that ends it, if there is one.
+/// An entry, and what follows the separator that ends it, if there is one.
 #[derive(Clone, Copy)]
 pub(crate) struct PathElement<'a> {
     /// The entry.
@@ -14,12 +14,13 @@ pub(crate) struct PathElement<'a> {
     pub after: Option<&'a [u8]>,
 }
 
-/// Returns the first entry of a text.
-pub(crate) fn first_entry(text: &[u8]) -> PathElement<'_>
-    ensures parted { parted [] text.now ≡ result.text.now ∷ left_entries result.after }
+/// Returns the first entry of a text, which colons and another byte separate.
+pub(crate) fn first_entry(text: &[u8], separator: u8) -> PathElement<'_>
+    ensures parted { parted separator [] text.now
+        ≡ result.text.now ∷ left_entries separator result.after }
     ensures less { left_bytes result.after < length text.now + 1 }
 {
-    match memchr(b':', text) {
+    match memchr2(b':', separator, text) {
         Some(end) => PathElement {
             text: &text[..end],
             after: Some(&text[end + 1..]),

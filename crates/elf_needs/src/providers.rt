@@ -1,5 +1,4 @@
 //! Which object of a program a needed name leads to.
-ghost use Rattle.std.specs.Prelude.{◌≡◌, IsTrue};
 
 use crate::known_object::ObjectList;
 

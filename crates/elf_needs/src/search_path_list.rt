@@ -1,12 +1,14 @@
 //! Lists of directories.
 ghost use Rattle.std.specs.Prelude.{◌≡◌, []};
 
-/// A colon-separated list of directories, and the directory that replaces `$ORIGIN` in it; if there
-/// is none, a `$` is a byte like any other.
+/// A list of directories, separated by colons, and the directory that replaces `$ORIGIN` in it; if
+/// there is none, a `$` is a byte like any other.
 #[derive(Clone, Copy)]
 pub struct SearchPathList<'a> {
     /// The text.
     pub text: &'a [u8],
+    /// A byte that separates directories too: a semicolon, or only the colon.
+    pub separator: u8,
     /// The directory of the object that has the text.
     pub origin: Option<&'a [u8]>,
 }
@@ -17,6 +19,7 @@ impl<'a> Default for SearchPathList<'a> {
     fn default() -> Self {
         SearchPathList {
             text: b"",
+            separator: b':',
             origin: None,
         }
     }

@@ -15,6 +15,8 @@ pub struct CandidatePaths<'a> {
     root: &'a [u8],
     name: &'a [u8],
     origin: Option<&'a [u8]>,
+    /// What separates directories besides a colon.
+    separator: u8,
     /// What is left of the list.
     left: Option<&'a [u8]>,
 }
@@ -26,7 +28,8 @@ impl<'a> Model for CandidatePaths<'a> {
 
     ghost Value = { List (List ℕ) };
 
-    ghost view = { λ t. entry_paths t.root.now t.name.now (origin_of t.origin) (left_entries t.left) };
+    ghost view = { λ t. entry_paths t.root.now t.name.now (origin_of t.origin)
+        (left_entries t.separator t.left) };
 }
 
 impl<'a> CandidatePaths<'a> {
@@ -45,6 +48,7 @@ impl<'a> CandidatePaths<'a> {
             root,
             name,
             origin: list.origin,
+            separator: list.separator,
             left,
         }
     }
@@ -58,6 +62,7 @@ impl<'a> CandidatePaths<'a> {
             root,
             name,
             origin: None,
+            separator: b':',
             left: None,
         }
     }
@@ -75,7 +80,7 @@ impl<'a> CandidatePaths<'a> {
             if !tries.take() {
                 return false;
             }
-            let entry = first_entry(text);
+            let entry = first_entry(text, self.separator);
             self.left = entry.after;
             if put_entry(path, self.root, self.name, entry.text, self.origin) {
                 return true;

@@ -1,6 +1,8 @@
 //! The versions that the objects of a program need of each other and that are not there.
-ghost use Rattle.std.specs.Prelude.{◌≡◌, ◌<◌, ℕ, [], List, Ok, get_or, length, IfErr};
-ghost use Rattle.elf_needs.specs.Bound.{AsksAll, IsBudgetShort, OnlyShort};
+ghost use Rattle.std.specs.Prelude.{◌<◌, get_or, length, IfErr};
+ghost use Rattle.elf_needs.specs.Bound.{AsksAll, OnlyShort};
+ghost use Rattle.elf_needs.specs.Kept.{LookupObjectState};
+ghost use Rattle.elf_needs.specs.NeedWalks.{GoesOnAfter, StepsNeeds};
 
 use crate::bindings::{status_after, tell};
 use crate::needed_versions::NeedsWalk;
@@ -112,8 +114,12 @@ fn check_next<S: Source, W: Sink>(
     left: &mut Option<u64>,
     out: &mut Out<W>,
 ) -> Result<Option<WriteEnd>, NeedsFault>
-    requires { place < length objects.old }
+    requires place { place < length objects.old }
+    requires steps { (d : LookupObjectState) →
+        StepsNeeds (get_or objects.old place d).src.seen.size walk.old }
     ensures asks { AsksAll objects.old objects.new left.old left.new }
+    ensures goes { (d : LookupObjectState) →
+        GoesOnAfter (get_or objects.new place d).src.seen.size walk.old walk.new result }
 {
     let is_version = match objects[place].next_need(left, walk) {
         Ok(Some(is_version)) => is_version,

@@ -1,7 +1,7 @@
 //! The tables of symbol versions that a file has, by its program headers.
-ghost use Rattle.std.specs.Prelude.{◌≡◌, ◌+◌, ◌*◌, ◌^◌, ◌<◌, IfOk};
-ghost use Rattle.elf_table.specs.Prelude.{CallDid, StringsInBounds, fault_of_result};
-ghost use Rattle.elf_needs.specs.VersionTables.{FileVersionsInBounds};
+ghost use Rattle.std.specs.Prelude.{◌≡◌, ◌+◌, ◌*◌, ◌^◌, ◌<◌, IfErr, IfOk};
+ghost use Rattle.elf_table.specs.Prelude.{CallDid, IsOfCheck, StringsInBounds, fault_of_result};
+ghost use Rattle.elf_needs.specs.VersionTables.{FileVersionsInBounds, refused_versions};
 
 use elf_hash::{DynamicTags, VersionRecordTable, first_entries, load_by_segments, segment_records};
 use elf_record::VersionKind;
@@ -70,6 +70,7 @@ fn versions_by_segments<S: Source>(
 fn versions_at(view: &ExecutionView<'_>, found: &DynamicTags) -> Result<FileVersions, Fault>
     requires small { view.now.loaded.size < 2 ^ 63 }
     ensures lies { IfOk result (FileVersionsInBounds view.now.loaded.size) }
+    ensures refusal { IfErr result IsOfCheck }
 {
     let names = strings_of(view, found)?;
     Ok(FileVersions {
@@ -82,6 +83,7 @@ fn versions_at(view: &ExecutionView<'_>, found: &DynamicTags) -> Result<FileVers
 /// Returns the string table that the entries locate: an empty one if they locate none.
 fn strings_of(view: &ExecutionView<'_>, found: &DynamicTags) -> Result<Names, Fault>
     ensures lies { IfOk result (StringsInBounds view.now.loaded.size) }
+    ensures refusal { IfErr result IsOfCheck }
 {
     let Some(strtab) = found.strtab else {
         return Ok(Names::new(0, 0));
@@ -90,4 +92,15 @@ fn strings_of(view: &ExecutionView<'_>, found: &DynamicTags) -> Result<Names, Fa
         return Ok(Names::new(0, 0));
     };
     view.mapped(strtab.value, strsz.value, strtab.at)
+}
+
+/// Returns the tables of a file of which none is known, for a refusal.
+pub(crate) fn refused_versions(fault: Fault) -> FileVersions
+    ensures { result ≡ refused_versions fault }
+{
+    FileVersions {
+        needs: Err(fault),
+        definitions: Err(fault),
+        has_versym: false,
+    }
 }

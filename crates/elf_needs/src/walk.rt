@@ -12,7 +12,7 @@ use crate::object_file::{ObjectFile, ReadAccount};
 use crate::open_objects::OpenObjects;
 use crate::path_budget::PathBudget;
 use crate::paths::CandidatePath;
-use crate::search_dirs::{Search, SearchDirs};
+use crate::search_dirs::{Search, SearchDirs, SystemFiles};
 use crate::walk_needs::ControlFlow;
 use elf_source::{Out, OutFault, Sink};
 use elf_table::HeaderStore;
@@ -140,7 +140,7 @@ impl<W: Sink> DependencyWalk<'_, '_, W> {
     /// A read or the output failed, or a path cannot be opened for a fault of the system.
     pub fn list<R: Files>(
         &mut self,
-        rt: &R,
+        system: &mut SystemFiles<'_, R, FileSource<R::File>>,
         source: FileSource<R::File>,
         path: &[u8],
         real: &[u8],
@@ -151,14 +151,14 @@ impl<W: Sink> DependencyWalk<'_, '_, W> {
         ensures asks { AsksFiles opened.old.objects.items opened.new.objects.items 0
             self.old.search.account self.new.search.account }
     {
-        let file = ObjectFile::new(source, attributes_at(rt, real));
+        let file = ObjectFile::new(source, attributes_at(system.rt, real));
         self.program(file, path, real, opened)?;
-        self.find_interpreter(rt)?;
+        self.find_interpreter(system.rt)?;
         for index in 0..MOST_OBJECTS {
             let Some(known) = self.objects.get(index) else {
                 break;
             };
-            if self.needs_of(rt, index, &known, opened)? == ControlFlow::TooMany {
+            if self.needs_of(system, index, &known, opened)? == ControlFlow::TooMany {
                 return Ok(self.listed(false));
             }
         }

@@ -3,13 +3,14 @@ ghost use Rattle.std.specs.Prelude.{◌≡◌};
 ghost use Rattle.elf_needs.specs.Budget.{AsksFiles};
 
 use crate::cached_source::CachedSource;
-use crate::candidates::FileSource;
+use crate::candidates::{FileSource, SearchEnd};
 use crate::known_object::{KnownObject, MOST_OBJECTS};
 use crate::links::NeededLibrary;
-use crate::object_file::ObjectFile;
+use crate::object_file::{ObjectFile, ObjectRole};
 use crate::object_reports::{NOWHERE, ObjectPlace, found_identity, report_alone};
 use crate::object_rows::{list_object, show_too_many, show_too_many_paths};
 use crate::open_objects::OpenObjects;
+use crate::search_dirs::SystemFiles;
 use crate::states::ObjectState;
 use crate::walk::{DependencyWalk, NeedsFault, OpenFiles};
 use elf_record::{Cause, Refusal};
@@ -30,7 +31,7 @@ impl<W: Sink> DependencyWalk<'_, '_, W> {
     /// Processes what an object needs.
     pub(crate) fn needs_of<R: Files>(
         &mut self,
-        rt: &R,
+        system: &mut SystemFiles<'_, R, FileSource<R::File>>,
         index: usize,
         known: &KnownObject,
         opened: &mut OpenFiles<R::File>,
@@ -48,7 +49,7 @@ impl<W: Sink> DependencyWalk<'_, '_, W> {
             if objects.has_name(objects.links.text(need.name)) {
                 continue;
             }
-            if self.take(rt, index, known, need, opened)? == ControlFlow::TooMany {
+            if self.take(system, index, known, need, opened)? == ControlFlow::TooMany {
                 return Ok(ControlFlow::TooMany);
             }
         }
@@ -59,7 +60,7 @@ impl<W: Sink> DependencyWalk<'_, '_, W> {
     /// found.
     fn take<R: Files>(
         &mut self,
-        rt: &R,
+        system: &mut SystemFiles<'_, R, FileSource<R::File>>,
         index: usize,
         needer: &KnownObject,
         need: NeededLibrary,
@@ -74,11 +75,16 @@ impl<W: Sink> DependencyWalk<'_, '_, W> {
         let name = objects.links.text(need.name);
         let by = u16::try_from(index).ok();
         if objects.is_interpreter_name(name) {
-            return self.take_interpreter(rt, by, need, opened);
+            return self.take_interpreter(system.rt, by, need, opened);
         }
-        match self.search.find(rt, objects, needer, name)? {
-            Some(file) => self.take_file(rt, by, need, file, opened),
-            None => self.take_none(by, need),
+        match self.search.find(system, objects, needer, name) {
+            Ok(Some(file)) => self.take_file(system.rt, by, need, file, opened),
+            Ok(None) => self.take_none(by, need),
+            Err(SearchEnd::Refused(refusal)) => self.add_refused(by, need, refusal),
+            Err(SearchEnd::Unread(refusal)) => {
+                self.add_alone(by, need, ObjectState::Refused(refusal))
+            }
+            Err(SearchEnd::Failed(fault)) => Err(fault),
         }
     }
 
@@ -188,6 +194,32 @@ impl<W: Sink> DependencyWalk<'_, '_, W> {
         }
     }
 
+    /// Adds a library whose file at the path of the search is refused before it is read, and writes
+    /// its line; or ends the objects.
+    fn add_refused(
+        &mut self,
+        by: Option<u16>,
+        need: NeededLibrary,
+        refusal: Refusal,
+    ) -> Result<ControlFlow, NeedsFault>
+        ensures account { self.new.search.account ≡ self.old.search.account }
+    {
+        if self.objects.len() >= MOST_OBJECTS {
+            return self.end_objects(need.at);
+        }
+        let report = report_alone(ObjectState::Refused(refusal));
+        let place = ObjectPlace {
+            path: self.objects.keep_path(&self.search.path),
+            file: None,
+        };
+        let index = self.add(by, Some(need.name), &place, &report);
+        let path = &self.search.path;
+        match list_object(index, by, report.state, path, self.lines, &mut self.out) {
+            Ok(()) => Ok(ControlFlow::Yes),
+            Err(fault) => Err(NeedsFault::Out(fault)),
+        }
+    }
+
     /// Reads a library that is found at the path of the search, adds it, and writes its line.
     fn add_found<S: Source + Drop>(
         &mut self,
@@ -200,11 +232,12 @@ impl<W: Sink> DependencyWalk<'_, '_, W> {
             self.old.search.account self.new.search.account }
     {
         let mut file = file;
-        let report = self.read(&mut file);
+        let path = self.objects.keep_path(&self.search.path);
+        let report = self.read(&mut file, ObjectRole::Library, path);
         let identity = file.attributes().identity;
         let report = self.keep(file, report, opened)?;
         let place = ObjectPlace {
-            path: self.objects.keep_path(&self.search.path),
+            path,
             file: found_identity(report.state, identity),
         };
         let index = self.add(by, Some(name), &place, &report);

@@ -2,7 +2,7 @@
 ghost use Rattle.elf_needs.specs.Budget.{AsksFile, AsksFiles};
 
 use crate::cached_source::CachedSource;
-use crate::object_file::ObjectFile;
+use crate::object_file::{ObjectFile, ObjectRole};
 use crate::object_reports::{ObjectPlace, ObjectReport, found_identity, report_alone};
 use crate::object_rows::list_object;
 use crate::open_objects::OpenObjects;
@@ -28,24 +28,27 @@ impl<W: Sink> DependencyWalk<'_, '_, W> {
             self.old.search.account self.new.search.account }
     {
         let mut file = file;
-        let report = self.read_program(&mut file);
+        let kept = self.objects.keep_path(real);
+        let report = self.read_program(&mut file, kept);
         let identity = file.attributes().identity;
         let report = self.keep(file, report, opened)?;
         if !matches!(report.state, ObjectState::Found) {
             self.objects.interpreter = None;
         }
         let place = ObjectPlace {
-            path: self.objects.keep_path(real),
+            path: kept,
             file: found_identity(report.state, identity),
         };
         self.add(None, None, &place, &report);
         list_object(0, None, report.state, path, self.lines, &mut self.out).map_err(NeedsFault::Out)
     }
 
-    /// Reads the machine of the program, what it needs, and the path of its interpreter.
+    /// Reads the machine of the program at the path of an index, what it needs, and the path of its
+    /// interpreter.
     fn read_program<S: Source>(
         &mut self,
         file: &mut ObjectFile<S>,
+        path: Option<u32>,
     ) -> Result<ObjectReport, NeedsFault>
         ensures asks { AsksFile file.old file.new self.old.search.account self.new.search.account }
     {
@@ -55,7 +58,7 @@ impl<W: Sink> DependencyWalk<'_, '_, W> {
             Ok(None) | Err(Fault::Refused(_)) => {}
             Err(Fault::Source { .. }) => return Err(NeedsFault::Read),
         }
-        let report = self.read(file)?;
+        let report = self.read(file, ObjectRole::Program, path)?;
         if !matches!(report.state, ObjectState::Found) {
             return Ok(report);
         }

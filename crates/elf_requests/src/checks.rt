@@ -131,6 +131,15 @@ pub struct ArchiveRequest<'a> {
     pub names: Option<NameArgs<'a>>,
 }
 
+/// Which loader's cache is searched, before the directories that are searched last.
+#[derive(Clone, Copy, Drop)]
+pub struct CacheArgs<'a> {
+    /// The path of its file, if one is given; otherwise it is the system's.
+    pub file: Option<&'a str>,
+    /// Whether none is searched: it is left out, or those directories are given.
+    pub none: bool,
+}
+
 /// What programs need: which files, where their libraries are searched, how much may be read for
 /// each, and how a line is written. Directories are separated by colons.
 #[derive(Drop)]
@@ -139,10 +148,12 @@ pub struct NeedsRequest<'a> {
     pub files: PathArgs<'a>,
     /// The directories that are searched before those of DT_RUNPATH; empty if none are given.
     pub library_path: &'a str,
-    /// The directories that are searched last.
-    pub default: &'a str,
+    /// The directories that are searched last, if they are given.
+    pub default: Option<&'a str>,
     /// The root directory for paths that begin with a slash; empty if none is given.
     pub root: &'a str,
+    /// The loader's cache in which libraries are searched.
+    pub cache: CacheArgs<'a>,
     /// How many headers of each file are allowed, and how many bytes of a program and all its
     /// libraries together may be read.
     pub limits: Limits,

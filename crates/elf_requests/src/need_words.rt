@@ -3,19 +3,15 @@ ghost use Rattle.std.specs.Prelude.{◌≡◌, IfSome, None, Ok, Some, codes, un
 ghost use Rattle.clap.specs.Walk.{first_of, rows_of};
 ghost use Rattle.clap.specs.Words.{found_of};
 ghost use Rattle.elf_cli.specs.Listings.{NoneAsked};
-ghost use Rattle.elf_requests.specs.AskedNeeds.{IsNeedsAsked};
+ghost use Rattle.elf_requests.specs.AskedNeeds.{IsCacheAsked, IsNeedsAsked};
 ghost use Rattle.elf_requests.specs.Checks.{ParsesTo};
 ghost use Rattle.elf_requests.specs.Files.{AreFiles};
 
-use crate::checks::{NeedsRequest, ParsedCommand, PathArgs};
+use crate::checks::{CacheArgs, NeedsRequest, ParsedCommand, PathArgs};
 use crate::file_words::files_of;
 use clap::ArgMatches;
 use elf_cli::{RequestFault, format_of, is_set, limits_of, number_of, text_of};
 use std::alloc::{AllocError, Global};
-
-/// The directories in which libraries are searched last, if no others are given.
-const DEFAULT_FOLDERS: &str =
-    "/lib/x86_64-linux-gnu:/usr/lib/x86_64-linux-gnu:/lib64:/usr/lib64:/lib:/usr/lib";
 
 /// Returns what `needs` with these arguments requests, or `None` if there is neither a path nor a
 /// list of paths.
@@ -58,8 +54,9 @@ fn needing_of<'a>(options: &ArgMatches<'a>, files: PathArgs<'a>) -> Option<Needs
     Some(NeedsRequest {
         files,
         library_path: text_or(options, "library-path", ""),
-        default: text_or(options, "default", DEFAULT_FOLDERS),
+        default: text_of(options, "default"),
         root: text_or(options, "root", ""),
+        cache: cache_of(options),
         limits,
         tries,
         format: format_of(options),
@@ -67,6 +64,17 @@ fn needing_of<'a>(options: &ArgMatches<'a>, files: PathArgs<'a>) -> Option<Needs
         unused: is_set(options, "unused"),
         problems: is_set(options, "problems"),
     })
+}
+
+/// Returns the loader's cache in which libraries are searched.
+fn cache_of<'a>(options: &ArgMatches<'a>) -> CacheArgs<'a>
+    ensures { IsCacheAsked (rows_of (found_of options.now)) result }
+{
+    let default = text_of(options, "default");
+    CacheArgs {
+        file: text_of(options, "cache"),
+        none: is_set(options, "no-cache") || default.is_some(),
+    }
 }
 
 /// Returns the value of an argument, or another text if it has none.

@@ -7,11 +7,11 @@ use elf_cli::{
     CANNOT_OPEN, ExitLine, OUT_OF_MEMORY, OUTPUT_BYTES, READ_FAULT, RunEnd, end_run, open,
 };
 use elf_needs::{
-    DependencyWalk, LineOptions, Listed, MOST_OBJECTS, NeedsBuffers, NeedsFault, NeedsOptions,
-    OpenFiles, OpenObjects, SearchDirs,
+    DependencyWalk, LibraryCache, LineOptions, Listed, MOST_OBJECTS, NeedsBuffers, NeedsFault,
+    NeedsOptions, OpenFiles, OpenObjects, SearchDirs, SystemFiles, default_dirs, system_cache,
 };
 use elf_requests::{NeedsRequest, PathArgs};
-use elf_source::{Out, OutFault, Sink, Source, WriteSink, opened_path};
+use elf_source::{FileReader, Out, OutFault, Sink, Source, StreamSource, WriteSink, opened_path};
 use elf_table::{HeaderBuffer, HeaderStore};
 use std::fs;
 use std::io::{self, BufWriter, ErrorKind, Input, Stderr, Write};
@@ -110,10 +110,16 @@ where
         Ok(source) => source,
         Err(ending) => return Err(ending),
     };
+    let cache = match loader_cache(rt, asked) {
+        Ok(cache) => cache,
+        Err(ending) => return Err(ending),
+    };
+    let mut system = SystemFiles { rt, cache };
     let out = Out::new(WriteSink::new(output));
-    let mut walk = DependencyWalk::new(&settings(asked), store, room, out);
+    let default = last_dirs(rt, asked);
+    let mut walk = DependencyWalk::new(&settings(asked, default), store, room, out);
     let listed = walk.list(
-        rt,
+        &mut system,
         source,
         file.as_bytes(),
         real.as_str().as_bytes(),
@@ -153,10 +159,45 @@ pub fn list_after<S: Source + Drop, W: Sink>(
     Ok(status)
 }
 
-/// Returns the settings of a walk.
-pub fn settings<'a>(asked: &NeedsRequest<'a>) -> NeedsOptions<'a>
+/// Opens the loader's cache that is searched, if there is one.
+///
+/// # Errors
+/// A cache that is given cannot be opened, or the system's for a fault of the system.
+pub fn loader_cache<R: Files>(
+    rt: &R,
+    asked: &NeedsRequest<'_>,
+) -> Result<Option<LibraryCache<StreamSource<FileReader<R::File>>>>, ExitLine>
+where
+    R::File: FileExt,
+{
+    if asked.cache.none {
+        return Ok(None);
+    }
+    if let Some(path) = asked.cache.file {
+        return match open(rt, path) {
+            Ok(source) => Ok(Some(LibraryCache::new(source))),
+            Err(ending) => Err(ending),
+        };
+    }
+    match system_cache(rt, asked.root.as_bytes()) {
+        Ok(cache) => Ok(cache),
+        Err(NeedsFault::Read) => Err(READ_FAULT),
+        Err(NeedsFault::Open | NeedsFault::Out(_)) => Err(CANNOT_OPEN),
+    }
+}
+
+/// Returns the directories that are searched last: those that are given, or those of the system.
+pub fn last_dirs<'a, R: Files>(rt: &R, asked: &NeedsRequest<'a>) -> &'a [u8] {
+    match asked.default {
+        Some(text) => text.as_bytes(),
+        None => default_dirs(rt, asked.root.as_bytes()),
+    }
+}
+
+/// Returns the settings of a walk, with the directories that are searched last.
+pub fn settings<'a>(asked: &NeedsRequest<'a>, default: &'a [u8]) -> NeedsOptions<'a>
     ensures library { result.folders.library.now ≡ asked.now.library_path.now }
-    ensures default { result.folders.default.now ≡ asked.now.default.now }
+    ensures default { result.folders.default.now ≡ default.now }
     ensures root { result.folders.root.now ≡ asked.now.root.now }
     ensures budget { result.budget ≡ asked.now.limits.budget }
     ensures tries { result.tries ≡ unwrap_or asked.now.tries 100000 }
@@ -166,7 +207,7 @@ pub fn settings<'a>(asked: &NeedsRequest<'a>) -> NeedsOptions<'a>
     NeedsOptions {
         folders: SearchDirs {
             library: asked.library_path.as_bytes(),
-            default: asked.default.as_bytes(),
+            default,
             root: asked.root.as_bytes(),
         },
         budget: asked.limits.budget,

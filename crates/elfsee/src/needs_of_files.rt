@@ -3,10 +3,10 @@ ghost use Rattle.std.specs.Prelude.{◌≡◌, IfErr};
 ghost use Rattle.elfsee.specs.Ends.{EndsWithoutMemory};
 
 use crate::many::visit_files;
-use crate::needs::settings;
+use crate::needs::{last_dirs, loader_cache, settings};
 use crate::needs_report::{NeedsReport, NeedsRule};
 use elf_cli::{ExitLine, OUT_OF_MEMORY};
-use elf_needs::{MOST_OBJECTS, NeedsBuffers, OpenObjects};
+use elf_needs::{MOST_OBJECTS, NeedsBuffers, OpenObjects, SystemFiles};
 use elf_requests::NeedsRequest;
 use elf_table::HeaderBuffer;
 use std::io::{Input, Stderr};
@@ -26,7 +26,6 @@ pub fn list_needs_of_files<R: Files + Print + Input + AllocGlobal>(
 ) -> Result<ExitLine, ExitLine>
 where
     R::File: FileExt,
-    ensures { IfErr result (λ ending. EndsWithoutMemory ending.0 ending.1.now) }
 {
     let Ok(headers) = HeaderBuffer::new(rt.alloc(), asked.limits.headers) else {
         return Err(OUT_OF_MEMORY);
@@ -38,13 +37,24 @@ where
     else {
         return Err(OUT_OF_MEMORY);
     };
-    let report = NeedsReport::new(rt, rule_of(asked), headers, (room, opened));
+    let cache = match loader_cache(rt, asked) {
+        Ok(cache) => cache,
+        Err(ending) => return Err(ending),
+    };
+    let system = SystemFiles { rt, cache };
+    let report = NeedsReport::new(
+        system,
+        rule_of(asked, last_dirs(rt, asked)),
+        headers,
+        (room, opened),
+    );
     let held = Vec::new(rt.alloc());
     visit_files(rt, &asked.files, report, held, asked.format, terminal)
 }
 
-/// Returns the rule by which a request lists the needs of each file.
-fn rule_of<'a>(asked: &NeedsRequest<'a>) -> NeedsRule<'a>
+/// Returns the rule by which a request lists the needs of each file, with the directories that are
+/// searched last.
+fn rule_of<'a>(asked: &NeedsRequest<'a>, default: &'a [u8]) -> NeedsRule<'a>
     ensures limits { result.limits ≡ asked.now.limits }
     ensures format { result.options.lines.format ≡ asked.now.format }
     ensures problems { result.options.lines.problems ≡ asked.now.problems }
@@ -53,7 +63,7 @@ fn rule_of<'a>(asked: &NeedsRequest<'a>) -> NeedsRule<'a>
 {
     NeedsRule {
         limits: asked.limits,
-        options: settings(asked),
+        options: settings(asked, default),
         symbols: asked.symbols,
         unused: asked.unused,
     }

@@ -8,8 +8,13 @@ use crate::needs::list_after;
 use elf_cli::open;
 use elf_format::show_check;
 use elf_model::{Cause, FileStatus};
-use elf_needs::{DependencyWalk, NeedsBuffers, NeedsFault, NeedsOptions, OpenFiles, is_linked};
-use elf_source::{Counted, DeferredSink, Out, OutFault, RangeSource, Sink, Source, opened_path};
+use elf_needs::{
+    DependencyWalk, NeedsBuffers, NeedsFault, NeedsOptions, OpenFiles, SystemFiles, is_linked,
+};
+use elf_source::{
+    Counted, DeferredSink, FileReader, Out, OutFault, RangeSource, Sink, Source, StreamSource,
+    opened_path,
+};
 use elf_table::{Fault, HeaderBuffer, HeaderStore, Limits};
 use elf_walk::{FileVisitor, HeadedSink, read_short_file_status, status};
 use std::marker::Model;
@@ -41,7 +46,7 @@ pub struct NeedsReport<'a, R: Files>
 where
     R::File: FileExt,
 {
-    rt: &'a R,
+    system: SystemFiles<'a, R, StreamSource<FileReader<R::File>>>,
     rule: NeedsRule<'a>,
     headers: HeaderBuffer,
     /// The memory of a walk, which has it while it lasts.
@@ -70,7 +75,7 @@ where
     /// Creates a visitor with a rule and memory: for headers, with a slot for each that the rule
     /// allows, for a walk, and for the files that it keeps open.
     pub fn new(
-        rt: &'a R,
+        system: SystemFiles<'a, R, StreamSource<FileReader<R::File>>>,
         rule: NeedsRule<'a>,
         headers: HeaderBuffer,
         rooms: (NeedsBuffers, OpenFiles<R::File>),
@@ -80,7 +85,7 @@ where
     {
         let (room, opened) = rooms;
         NeedsReport {
-            rt,
+            system,
             rule,
             headers,
             room: Some(room),
@@ -99,10 +104,11 @@ where
         budget: Option<u64>,
         out: &mut Out<W>,
     ) -> Result<u8, NeedsFault> {
-        let Ok(real) = self.rt.canonicalize(self.rt.alloc(), opened_path(path)) else {
+        let rt = self.system.rt;
+        let Ok(real) = rt.canonicalize(rt.alloc(), opened_path(path)) else {
             return Err(NeedsFault::Open);
         };
-        let Ok(source) = open(self.rt, path) else {
+        let Ok(source) = open(rt, path) else {
             return Err(NeedsFault::Open);
         };
         let Some(room) = self.room.take() else {
@@ -116,7 +122,7 @@ where
         let out = Out::new(HeadedSink::new(out, path.as_bytes(), format));
         let mut walk = DependencyWalk::new(&options, self.headers.store(), room, out);
         let (path, real) = (path.as_bytes(), real.as_str().as_bytes());
-        let listed = walk.list(self.rt, source, path, real, &mut self.opened);
+        let listed = walk.list(&mut self.system, source, path, real, &mut self.opened);
         let NeedsRule {
             symbols,
             unused,

@@ -10,7 +10,7 @@ pub returns : goal.returns
 returns g c =
     let source = c.self.inside.source in
     let scope = c.self.inside.scope in
-    let kept = c.self.invariant in
+    let kept = c.self.invariant.0 in
     let set = c.limit.ensures in
     let did = c.lacks_version-lacks.ensures in
     let few = mul-le-mul_right (record_cost (Version c.args.version.now)) (most_all scope.symbols source.seen.size kept.lies.symbols) in

@@ -7,5 +7,5 @@ pub returns : goal.returns
 returns g c =
     rw (← c.self.view_is)
     (looks_kept _ _ _ c.limit-2.new.self c.self.inside.headers c.self.inside.scope c.self.inside.ready (query_of c.args.wanted.now)
-    c.args.left.now c.spend_budget.new.left c.find_definer-found.result c.self.invariant c.limit.ensures c.find_definer-found.ensures c.limit-2.ensures
+    c.args.left.now c.spend_budget.new.left c.find_definer-found.result c.self.invariant.0 c.limit.ensures c.find_definer-found.ensures c.limit-2.ensures
     (rw (c.asked.ensures, c.asked-asked.ensures) at c.spend_budget.ensures))

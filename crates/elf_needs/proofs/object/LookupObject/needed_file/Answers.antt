@@ -7,7 +7,7 @@ use Rattle.elf_needs.proofs.object.LookupObject.needed_file.Goals as goal
 pub returns : goal.returns
 returns g c =
     let scope = c.self.inside.scope in
-    let kept = c.self.invariant in
+    let kept = c.self.invariant.0 in
     let set = c.limit.ensures in
     let did = c.whole_name-read.ensures in
     let spent = spent_off c.args.left.now c.spend_budget.new.left set did.costs c.limit-2.ensures (rw (c.asked.ensures, c.asked-asked.ensures) at c.spend_budget.ensures) in

@@ -10,7 +10,7 @@ pub returns : goal.returns
 returns g c =
     let source = c.self.inside.source in
     let scope = c.self.inside.scope in
-    let kept = c.self.invariant in
+    let kept = c.self.invariant.0 in
     let set = c.limit.ensures in
     let did = c.reference_of-sought.ensures.did in
     let few = mul-le-mul_right 28 (most_all scope.symbols source.seen.size kept.lies.symbols) in

@@ -8,7 +8,7 @@ pub returns : goal.returns
 returns g c =
     let source = c.self.inside.source in
     let scope = c.self.inside.scope in
-    let kept = c.self.invariant in
+    let kept = c.self.invariant.0 in
     let set = c.limit.ensures in
     let did = c.hashed_symbols-count.ensures in
     let within : scope.hash.size ≤ source.seen.size = omega (arith, kept.lies.table) in

@@ -1,0 +1,14 @@
+-- The lines of the records before this one are written.
+use Rattle.std.proofs.Common.{get_or}
+use Rattle.elf_needs.specs.Prelude.{AsksAll, LookupObjectState}
+use Rattle.elf_needs.specs.NeedWalks.{StepsNeeds}
+use Rattle.elf_needs.proofs.version_lines.check_object.Given as goal
+
+abbrev pub invariant-needs : goal.invariant-needs
+invariant-needs g l = record {
+  asks : AsksAll l.fn.objects l.objects l.fn.left l.left;
+  steps : (d : LookupObjectState) → StepsNeeds (get_or l.objects l.place d).src.seen.size l.walk;
+}
+
+abbrev pub decreases-needs : goal.decreases-needs
+decreases-needs g l = l.walk.cursor.left
