@@ -112,6 +112,7 @@ pub(crate) fn opened_at<R: Files>(
 ) -> Result<Option<ObjectFile<FileSource<R::File>>>, SearchEnd>
 where
     R::File: FileExt,
+    ensures { IfOk result (λ found. IfSome found (λ file. file.asked ≡ 0)) }
 {
     let Ok(path) = str::from_utf8(path) else {
         return Ok(None);
