@@ -2,11 +2,11 @@
 use Rattle.std.specs.List.{starts_with}
 use Rattle.std.proofs.lemmas.List.{drop_all}
 use Rattle.elf_model.specs.Bytes.{field, number, slice}
-use Rattle.std.proofs.Common.{◌≡◌, ℕ, ◌+◌, ◌*◌, ◌-◌, ◌%◌, ◌==◌, ◌<◌, ◌≤◌, ◌||◌, ◌⊎◌, nat_eq, Bool, true, zero, suc, List, [], length, get_or, drop, take, cond, length-take, length-drop, None, Some, Option, IfSome, false, codes, inl, inr, refl, sym, ap, subst, ◌^◌, ◌∙◌, arith, rules}
+use Rattle.std.proofs.Common.{◌≡◌, ℕ, ◌+◌, ◌*◌, ◌%◌, ◌==◌, ◌<◌, ◌≤◌, ◌||◌, ◌⊎◌, nat_eq, Bool, true, List, length, get_or, drop, length-take, length-drop, None, Some, Option, IfSome, false, codes, inl, inr, refl, sym, ap, subst, ◌^◌, ◌∙◌, arith, rules}
 use Rattle.std.proofs.lemmas.Bool.{cases_lt}
 use Rattle.elf_record.proofs.FieldReads.{byte_read}
 use Rattle.elf_cache.specs.CacheReads.{CacheInBounds, IsShape, new_cache_in, old_cache_in}
-use Rattle.elf_model.specs.LoaderCache.{LoaderCache, aligned_to_8, if_within, old_cache}
+use Rattle.elf_model.specs.LoaderCache.{LoaderCache, aligned_to_8, if_within}
 use Rattle.elf_model.specs.Prelude.{after_old_cache, is_new_header, is_old_header, loader_cache}
 
 -- THE LAW: bytes that begin with the magic are a header by their byte order
@@ -111,3 +111,8 @@ pub loader-old : (file : List ℕ) (old found : LoaderCache) → None ≡ new_ca
     → None ≡ new_cache_in file (aligned_to_8 found.strings) → loader_cache file ≡ Some found
 unfolding loader_cache after_old_cache
 loader-old file old found other is within after = grind arith
+
+-- a value that is none of the others
+pub not-some : (found : Option LoaderCache) → ((cache : LoaderCache) → found ≡ Some cache → ⊥) → None ≡ found
+not-some None other = refl
+not-some (Some cache) other = absurd (other cache refl)

@@ -1,5 +1,5 @@
 -- What calls read of a loader's cache, and what they return.
-use Rattle.std.specs.Prelude.{ℕ, ◌≡◌, ◌+◌, ◌-◌, ◌*◌, ◌^◌, ◌<◌, ◌≤◌, ◌⊎◌, List, Bool, true, false, Option, None, Some, Result, Ok, Err}
+use Rattle.std.specs.Prelude.{ℕ, ◌≡◌, ◌+◌, ◌*◌, ◌^◌, ◌<◌, ◌≤◌, ◌⊎◌, List, Bool, true, false, Option, None, Some, Result, Ok, Err}
 use Rattle.elf_model.specs.LoaderCache.{LoaderCache, NEW_ENTRY_SIZE, NEW_HEADER_SIZE, OLD_ENTRY_SIZE, OLD_HEADER_SIZE, cache_entry_flags, cache_entry_hwcap, cache_entry_key, cache_entry_value, new_cache, old_cache}
 use Rattle.elf_model.specs.Prelude.{is_new_header, is_old_header, slice}
 use Rattle.elf_table.specs.declared.fault.Fault.{Fault}

@@ -152,6 +152,7 @@ fn first_path<S: Source>(
     text: &mut NameBuf,
 ) -> Result<bool, Fault>
     requires bounds { CacheInBounds src.old.seen.size cache.now }
+    requires ordered { among.0 ≤ among.1 }
     requires below { among.1 ≤ cache.now.count }
     ensures did { CallDid src.old src.new (fault_of_result result) (8240 * (among.1 - among.0))
         (λ file. ReturnsCacheText (first_path file cache.now (key_order file cache.now name.now)

@@ -1,8 +1,8 @@
 -- Directories appended to others, and the paths in them.
-use Rattle.std.proofs.Common.{◌≡◌, ℕ, suc, ◌+◌, ◌<◌, ◌≤◌, List, [], ◌∷◌, ◌++◌, length, drop, drop-cons, get_or, Option, None, Some, refl, ap, sym, ◌∙◌, append_assoc, add-one}
+use Rattle.std.proofs.Common.{◌≡◌, Bool, true, false, ℕ, suc, ◌+◌, ◌<◌, ◌≤◌, List, [], ◌∷◌, ◌++◌, length, drop, drop-cons, get_or, Option, None, Some, refl, ap, sym, ◌∙◌, append_assoc, add-one}
 use Rattle.std.proofs.Math.ListN.{drop_of_length-le}
 use Rattle.std.specs.List.{cons_option}
-use Rattle.elf_needs.specs.Prelude.{SearchPathText, default_dirs, default_for, dir_paths, dirs_in, dirs_of, first_runpath, needer_of, needers_of, rpath_dirs, rpath_of, search_dirs, searched_paths, unless_runpath}
+use Rattle.elf_needs.specs.Prelude.{SearchPathText, default_dirs, default_for, dir_paths, dirs_in, dirs_of, first_runpath, is_below, is_below_any, needer_of, needers_of, rpath_dirs, rpath_of, search_dirs, searched_paths, unless_runpath}
 use Rattle.elf_needs.specs.declared.search_path_list.SearchPathList.{SearchPathList}
 use Rattle.elf_needs.specs.Searching.{NeedingObject}
 use Rattle.elf_needs.specs.declared.needers.NeedingObject.{NeedingObject as BorrowedNeeder}
@@ -69,3 +69,14 @@ pub no_text : (root name : List ℕ) (lists : List SearchPathList) (at : ℕ) (o
     → old ≡ [] ++ searched_paths root name (dirs_in (drop at lists)) → old ≡ []
 unfolding searched_paths
 no_text root name lists at old gone held = held ∙ ap (λ l. searched_paths root name (dirs_in l)) (drop_of_length-le lists gone)
+
+-- one more directory that a path is not below, or is
+pub below_next : (folder : List ℕ) (others entries : List (List ℕ)) (path : List ℕ) (all : Bool) → all ≡ is_below_any entries path → entries ≡ folder ∷ others → is_below folder path ≡ false
+    → all ≡ is_below_any others path
+unfolding is_below_any
+below_next folder others entries path all held is isnt = held ∙ (ap (λ l. is_below_any l path) is ∙ rw (isnt, is_below_any) refl)
+
+pub below_found : (folder : List ℕ) (others entries : List (List ℕ)) (path : List ℕ) (all : Bool) → all ≡ is_below_any entries path → entries ≡ folder ∷ others → is_below folder path ≡ true
+    → all ≡ true
+unfolding is_below_any
+below_found folder others entries path all held is found = held ∙ (ap (λ l. is_below_any l path) is ∙ rw (found, is_below_any) refl)

@@ -1,6 +1,7 @@
 pub mod PartLaws
 pub mod TokenLaws
 pub mod PathLaws
+pub mod RootLaws
 pub mod OnSearch
 pub mod FolderLaws
 pub mod TextLaws

@@ -1,6 +1,6 @@
 -- How a library is linked: its flags, and that a program is refused.
 use Rattle.std.proofs.Common.{◌≡◌, ℕ, ◌/◌, true, false, List, Option, None, Some, Result, Ok, Err, unwrap_or, refl, sym, ap, ◌∙◌}
-use Rattle.elf_model.specs.Prelude.{IsBudgetRefusal, LinkState, TextRoom, dynamic_segment_index, flags_1_by_segments, is_program_file, library_links, links_of, listed_value, p_filesz, p_offset, segment_at, without_sections}
+use Rattle.elf_model.specs.Prelude.{LinkState, TextRoom, dynamic_segment_index, flags_1_by_segments, is_program_file, library_links, links_of, listed_value, p_filesz, p_offset, segment_at, without_sections}
 use Rattle.elf_model.specs.TraitNumbers.{DT_FLAGS_1}
 use Rattle.elf_model.specs.declared.causes.Cause.TheVariants.{Unsupported}
 use Rattle.elf_model.specs.declared.causes.Refusal.{Refusal}
@@ -8,7 +8,7 @@ use Rattle.elf_table.specs.Prelude.{TableRange, rows}
 use Rattle.elf_table.specs.declared.fault.Fault.{Fault}
 use Rattle.elf_table.specs.declared.fault.Fault.TheVariants.{Refused, Source}
 use Rattle.elf_needs.specs.Entries.{HasFlags, SameTexts}
-use Rattle.elf_needs.specs.Prelude.{KeepsLinks, LinkInfoState, ReturnsLinks}
+use Rattle.elf_needs.specs.Prelude.{LinkInfoState, ReturnsLinks}
 use Rattle.elf_needs.specs.declared.links.LinkInfo.{LinkInfo}
 
 -- links with the same texts are of the same state
@@ -29,6 +29,11 @@ links_same told old new links other (state, is, keeps) same = (
     room = keeps.room;
   },
 )
+
+-- and so are those of a state in other words
+pub links_found : (told other : Result LinkState Refusal) (old new : LinkInfoState) (links shown : LinkInfo) → told ≡ other → ReturnsLinks told old new (Ok links) → SameTexts links shown
+    → ReturnsLinks other old new (Ok shown)
+links_found told other old new links shown is (state, said, keeps) same = links_same other old new links shown (state, sym is ∙ said, keeps) same
 
 module _ (file : List ℕ) where
   -- THE FLAGS

@@ -12,7 +12,7 @@ use Rattle.elf_loader.proofs.RecordWalk.{StepsRelocationWalk, gone_by, walk-next
 use Rattle.elf_needs.proofs.AskLaws.{same_element}
 use Rattle.elf_needs.specs.Bound.{AsksAll}
 use Rattle.elf_needs.specs.Kept.{LookupObjectState}
-use Rattle.elf_needs.specs.NeedWalks.{GoesOn, GoesOnAfter, StepsNeeds}
+use Rattle.elf_needs.specs.NeedWalks.{NeedsWalkGoesOn, GoesOnAfter, StepsNeeds}
 use Rattle.elf_needs.specs.declared.search_scope.WriteEnd.{WriteEnd}
 use Rattle.elf_needs.specs.declared.search_scope.WriteEnd.TheVariants.{Cut, Ended, Whole}
 use Rattle.elf_needs.specs.declared.needed_versions.NeedsWalk.{NeedsWalk}
@@ -27,8 +27,8 @@ count_low : (at count entry size : ℕ) → entry ≡ 1 → (0 < count → at + 
 count_low at zero entry size one within = omega arith
 count_low at (suc n) entry size one within = let low = rw one at (within (omega arith)) in omega (arith, low)
 
-pub most_records : (records : VersionRecordTable) (size : ℕ) → VersionRecordsInBounds size records → max_records records.kind records.table.count ≤ size / 8
-most_records records size lies =
+pub max_need_records : (records : VersionRecordTable) (size : ℕ) → VersionRecordsInBounds size records → max_records records.kind records.table.count ≤ size / 8
+max_need_records records size lies =
     most_kind records.kind records.table.count size (count_low records.table.at records.table.count records.table.entry size records.bytes lies.table)
 
 -- the walk over the records
@@ -50,19 +50,19 @@ pub none_spends : (old new : VersionCursorState) → new ≡ old → unread old 
 none_spends old new same = rw same (omega arith)
 
 -- a walk goes on after the lines of a record
-goes_after : (size : ℕ) (old new : NeedsWalk) (came : WriteEnd) → GoesOn size old new → GoesOnAfter size old new (Ok (Some came))
+goes_after : (size : ℕ) (old new : NeedsWalk) (came : WriteEnd) → NeedsWalkGoesOn size old new → GoesOnAfter size old new (Ok (Some came))
 goes_after size old new (Whole fails) goes = goes
 goes_after size old new Ended goes = tt
 goes_after size old new Cut goes = tt
 
 pub goes_on :
     (objects after : List LookupObjectState) (n : ℕ) (new : LookupObjectState) {l0 l1 : Option ℕ} (before walk : NeedsWalk) (came : WriteEnd) → n < length objects
-    → AsksAll (set objects n new) after l0 l1 → GoesOn new.src.seen.size before walk → (d : LookupObjectState) → GoesOnAfter (get_or after n d).src.seen.size before walk (Ok (Some came))
+    → AsksAll (set objects n new) after l0 l1 → NeedsWalkGoesOn new.src.seen.size before walk → (d : LookupObjectState) → GoesOnAfter (get_or after n d).src.seen.size before walk (Ok (Some came))
 goes_on objects after n new before walk came less asks goes d =
     let low : n < length (set objects n new) = rw (length-set objects n new) less in
     let same : (get_or after n d).src.seen.size ≡ new.src.seen.size =
     (asks.objects.each n d low).same_size ∙ ap (λ (o : LookupObjectState). o.src.seen.size) (get_or-set_same objects n new d less) in
-    goes_after (get_or after n d).src.seen.size before walk came (subst (λ (size : ℕ). GoesOn size before walk) (sym same) goes)
+    goes_after (get_or after n d).src.seen.size before walk came (subst (λ (size : ℕ). NeedsWalkGoesOn size before walk) (sym same) goes)
 
 -- a walk over the records of an object
 pub steps_here : (objects : List LookupObjectState) (n : ℕ) (e : LookupObjectState) (walk : NeedsWalk) → n < length objects → StepsNeeds (get_or objects n e).src.seen.size walk

@@ -104,6 +104,10 @@ module _ (file : List ℕ) where
 pub links_as : (told other : Result LinkState Refusal) (old new : LinkInfoState) (result : Result LinkInfo Fault) → told ≡ other → ReturnsLinks told old new result → ReturnsLinks other old new result
 links_as told other old new result same tells = subst (λ t. ReturnsLinks t old new result) same tells
 
+-- and a refusal of them
+pub links_refused : (told other : Result LinkState Refusal) (old new : LinkInfoState) (fault : Fault) → told ≡ other → ReturnsLinks told old new (Err fault) → ReturnsLinks other old new (Err fault)
+links_refused told other old new fault same tells = links_as told other old new (Err fault) same tells
+
 -- n rows of 16 bytes lie within a source of a size
 pub rows_most : (table : TableRange) (size : ℕ) → table.entry ≡ 16 → table.count * table.entry ≤ size → table.count * 4160 ≤ size / 16 * 4160
 rows_most table size entry within =

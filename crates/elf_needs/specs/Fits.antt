@@ -37,6 +37,6 @@ ReturnsLibraryWithin told left (Err (Source fault at)) = Unit {0}
 
 -- what becomes of a file is that, or its bytes cannot be read; or it is accepted, where the budget
 -- has no room to say
-abbrev pub ReturnsFit : LibraryFile → Option ℕ → LibraryFit → Type 0
-ReturnsFit told left found =
+abbrev pub ReturnsLibraryFit : LibraryFile → Option ℕ → LibraryFit → Type 0
+ReturnsLibraryFit told left found =
     (fitted found ≡ told) ⊎ ((found ≡ fit.Refused (record { at = 0; cause = Short })) ⊎ ((found ≡ fit.Accepted) × (left ≡ None → ⊥)))

@@ -51,8 +51,8 @@ ReturnsKept file headers (Err (src, Refused refusal)) = (IsBudgetRefusal refusal
 ReturnsKept file headers (Err (src, Source fault at)) = Unit {0}
 
 -- how many bytes finding the lookup tables and the tables of versions may request in a known file
-abbrev pub tables_cost : List ℕ → (headers size : ℕ) → ℕ
-tables_cost file headers size = scope_cost file headers + (64 + headers * 56 + size)
+abbrev pub found_tables_cost : List ℕ → (headers size : ℕ) → ℕ
+found_tables_cost file headers size = scope_cost file headers + (64 + headers * 56 + size)
 
 -- the lookup tables are the definition's, and so is a refusal, except one for lack of budget
 abbrev pub FindsScopeOf : List ℕ → Result IsScopeOf Refusal → Result FileTables Fault → Type 0
@@ -61,10 +61,10 @@ FindsScopeOf file told (Err fault) = FindsLookupTables file told (Err fault)
 
 -- THE TABLES of a known file
 pub record FindsTables (file : List ℕ) (headers : ℕ) (old new : CountedState) (result : Result FileTables Fault) : Type 0 where
-  pub costs : CallReads old new (fault_of_result result) (tables_cost file headers old.seen.size)
+  pub costs : CallReads old new (fault_of_result result) (found_tables_cost file headers old.seen.size)
   pub finds : FindsScopeOf file (lookup_tables_of file headers) result
 
 -- THE LOOKUP TABLES ARE FOUND ONCE, in a known file
 pub record KeepsScope (file : List ℕ) (headers : ℕ) (old : CountedState) (result : Result LookupObjectState (CountedState × Fault)) : Type 0 where
-  pub costs : CallReads old (source_of result) (why_back result) (tables_cost file headers old.seen.size)
+  pub costs : CallReads old (source_of result) (why_back result) (found_tables_cost file headers old.seen.size)
   pub tells : ReturnsKept file headers result

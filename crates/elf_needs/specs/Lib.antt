@@ -1,4 +1,5 @@
 pub mod Searching
+pub mod RootPaths
 pub mod Steps
 pub mod WorkedPaths
 pub mod Held

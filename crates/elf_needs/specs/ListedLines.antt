@@ -1,9 +1,10 @@
 -- Which lines are written: all, or only those of problems, which make the exit status 1.
-use Rattle.std.specs.Prelude.{ℕ, ◌&&◌, not, if◌then◌else◌, List, [], ◌∷◌, ◌++◌, Option}
+use Rattle.std.specs.Prelude.{ℕ, ◌&&◌, not, Bool, true, false, if◌then◌else◌, List, [], ◌∷◌, ◌++◌, Option}
 use Rattle.elf_model.specs.Prelude.{BoundItem, Faulty, Told, binding_line, is_unbound, refusal_line}
 use Rattle.elf_model.specs.declared.states.BindingState.{BindingState}
 use Rattle.elf_needs.specs.ObjectLines.{object_line}
 use Rattle.elf_needs.specs.declared.line_options.LineOptions.{LineOptions}
+use Rattle.elf_needs.specs.declared.states.ObjectRow.{ObjectRow}
 use Rattle.elf_needs.specs.declared.states.ObjectState.{ObjectState}
 use Rattle.elf_needs.specs.declared.states.ObjectState.TheVariants as state
 
@@ -22,7 +23,13 @@ abbrev pub listed_text : LineOptions → List BoundItem → List ℕ
 listed_text lines [] = []
 listed_text lines (item ∷ items) = listed_line lines item ++ listed_text lines items
 
+-- a state that does not make the exit status 1
+abbrev pub is_no_problem : ObjectState → Bool
+is_no_problem state.Found = true
+is_no_problem state.Unused = true
+is_no_problem state.Missing = false
+is_no_problem (state.Refused refusal) = false
+
 -- the line of an object: where only problems are written, only if it is missing or refused
-abbrev pub listed_object : LineOptions → ℕ → Option ℕ → ObjectState → List ℕ → List ℕ
-listed_object lines index needer state.Found path = if lines.problems then [] else object_line lines.format index needer state.Found path
-listed_object lines index needer found path = object_line lines.format index needer found path
+abbrev pub listed_object : LineOptions → ObjectRow → List ℕ → List ℕ
+listed_object lines row path = if lines.problems && is_no_problem row.state then [] else object_line lines.format row path

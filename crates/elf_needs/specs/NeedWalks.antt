@@ -23,13 +23,13 @@ pub record StepsNeeds (size : ℕ) (walk : NeedsWalk) : Type 0 where
   pub fewer : walk.cursor.left ≤ max_records walk.records.kind walk.records.table.count
 
 -- a record was read: one fewer is left
-pub record GoesOn (size : ℕ) (old new : NeedsWalk) : Type 0 where
+pub record NeedsWalkGoesOn (size : ℕ) (old new : NeedsWalk) : Type 0 where
   pub steps : StepsNeeds size new
   pub one_fewer : new.cursor.left < old.cursor.left
 
 -- the same, if one was
 abbrev pub GoesOnIf : (size : ℕ) → (old new : NeedsWalk) → Result (Option Bool) Fault → Type 0
-GoesOnIf size old new result = IfOk result (λ step. IfSome step (λ is_version. GoesOn size old new))
+GoesOnIf size old new result = IfOk result (λ step. IfSome step (λ is_version. NeedsWalkGoesOn size old new))
 
 -- how many bytes a step may read: the record, and its name
 abbrev pub need_bytes : ℕ
@@ -44,14 +44,14 @@ pub record ReadsNeed (walk_old walk_new : NeedsWalk) (old new : LookupObjectStat
 
 -- THE EFFECT OF SEARCHING A NEEDED VERSION in a file that should have it: at most the records of
 -- its definitions and as many names are read
-pub record FindsState (needed : NeedsWalk) (old new : LookupObjectState) (left_old left_new : Option ℕ) (result : Result (Option VersionState) Fault) : Type 0 where
+pub record FindsVersionState (needed : NeedsWalk) (old new : LookupObjectState) (left_old left_new : Option ℕ) (result : Result (Option VersionState) Fault) : Type 0 where
   pub costs : SpendsAtMost old.src new.src left_old (fault_of_result result) (old.src.seen.size / 8 * record_cost (Version needed.name))
   pub same_headers : new.headers ≡ old.headers
   pub pays : SpendsBudget left_old left_new old.src.asked new.src.asked
 
 -- a walk goes on after the lines of a record, unless these are the last
 abbrev pub GoesOnAfter : (size : ℕ) → (old new : NeedsWalk) → Result (Option WriteEnd) NeedsFault → Type 0
-GoesOnAfter size old new (Ok (Some (Whole fails))) = GoesOn size old new
+GoesOnAfter size old new (Ok (Some (Whole fails))) = NeedsWalkGoesOn size old new
 GoesOnAfter size old new (Ok (Some Ended)) = Unit {0}
 GoesOnAfter size old new (Ok (Some Cut)) = Unit {0}
 GoesOnAfter size old new (Ok None) = Unit {0}

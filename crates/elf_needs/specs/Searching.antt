@@ -2,6 +2,8 @@
 -- tried for its name, in order, by texts alone (gABI 5, Shared Object Dependencies; ld.so(8)).
 use Rattle.std.specs.Prelude.{◌≡◌, ◌≢◌, ◌<◌, ◌⊎◌, take, ℕ, zero, suc, ◌==◌, ◌&&◌, ◌||◌, nat_eq, nat_lt, not, Bool, true, false, if◌then◌else◌, List, [], ◌∷◌, ◌++◌, length, slice_index, codes, Option, None, Some, option_map}
 use Rattle.std.specs.List.{cons_option, list_any, starts_with}
+use Rattle.elf_needs.specs.declared.states.FoundBy.{FoundBy}
+use Rattle.elf_needs.specs.declared.states.FoundBy.TheVariants as by
 
 -- `:` and `;` separate directories, `/` the names of a path, `$` begins a token
 abbrev pub COLON : ℕ
@@ -64,12 +66,14 @@ expanded origin zero (b ∷ text) = elim (token_at origin (b ∷ text)) [
   | Some token ↦ token.value ++ expanded origin token.size text
 ]
 
--- DIRECTORIES. A list of directories, separated by colons and by another byte, and the directory
--- that replaces `$ORIGIN`: if there is none, no token is replaced
+-- DIRECTORIES. A list of directories, separated by colons and by another byte, the directory that
+-- replaces `$ORIGIN`: if there is none, no token is replaced; and how a library in one of them was
+-- found
 pub record SearchPathText : Type 0 where
   pub text : List ℕ
   pub separator : ℕ
   pub origin : Option (List ℕ)
+  pub found_by : FoundBy
 
 abbrev pub is_separator : (separator b : ℕ) → Bool
 is_separator separator b = b == COLON || b == separator
@@ -136,19 +140,19 @@ pub record NeedingObject : Type 0 where
   pub nodeflib : Bool
 
 -- the directories that a text of an object gives
-abbrev pub object_dirs : (folder text : List ℕ) → SearchPathText
-object_dirs folder text = record { text = text; separator = COLON; origin = Some folder }
+abbrev pub object_dirs : (folder text : List ℕ) → FoundBy → SearchPathText
+object_dirs folder text found_by = record { text = text; separator = COLON; origin = Some folder; found_by = found_by }
 
 -- what an object's own DT_RPATH gives: nothing if it has DT_RUNPATH
 abbrev pub rpath_of : NeedingObject → Option SearchPathText
 rpath_of needer = elim needer.runpath [
   | Some text ↦ None
-  | None ↦ option_map (object_dirs needer.folder) needer.rpath
+  | None ↦ option_map (λ text. object_dirs needer.folder text by.Rpath) needer.rpath
 ]
 
 -- what its DT_RUNPATH gives
 abbrev pub runpath_of : NeedingObject → Option SearchPathText
-runpath_of needer = option_map (object_dirs needer.folder) needer.runpath
+runpath_of needer = option_map (λ text. object_dirs needer.folder text by.Runpath) needer.runpath
 
 -- what DT_RPATH gives of an object, of the one that first needed it, and so on
 unfoldable pub rpath_dirs : List NeedingObject → List SearchPathText
@@ -168,11 +172,11 @@ unless_runpath (Some runpath) folders = []
 -- the library path that is given: semicolons separate its directories too, and tokens are replaced
 -- in it as in a text of the program, whose directory that is
 abbrev pub library_dirs : (program text : List ℕ) → SearchPathText
-library_dirs program text = record { text = text; separator = SEMICOLON; origin = Some program }
+library_dirs program text = record { text = text; separator = SEMICOLON; origin = Some program; found_by = by.LibraryPath }
 
 -- the default directories: no token is replaced in them
 abbrev pub default_dirs : List ℕ → SearchPathText
-default_dirs text = record { text = text; separator = COLON; origin = None }
+default_dirs text = record { text = text; separator = COLON; origin = None; found_by = by.Default }
 
 -- they are left out if the first of these objects says so
 unfoldable pub default_for : List NeedingObject → List ℕ → List ℕ
@@ -186,10 +190,17 @@ abbrev pub search_dirs : (library : SearchPathText) (default : List ℕ) → Lis
 search_dirs library default needers =
     unless_runpath (first_runpath needers) (rpath_dirs needers) ++ (library ∷ cons_option (first_runpath needers) (default_dirs (default_for needers default) ∷ []))
 
--- a path is below one of the default directories
-unfoldable pub is_below_default : (default path : List ℕ) → Bool
-is_below_default default path =
-    list_any (λ folder. starts_with nat_eq path (folder ++ PATH_SLASH ∷ [])) (entries_of COLON default)
+-- a path is below a directory, and below one of some
+abbrev pub is_below : (folder path : List ℕ) → Bool
+is_below folder path = starts_with nat_eq path folder && slice_index path (length folder) == PATH_SLASH
+
+unfoldable pub is_below_any : List (List ℕ) → (path : List ℕ) → Bool
+is_below_any [] path = false
+is_below_any (folder ∷ folders) path = is_below folder path || is_below_any folders path
+
+-- it is below one of the default directories
+abbrev pub is_below_default : (default path : List ℕ) → Bool
+is_below_default default path = is_below_any (entries_of COLON default) path
 
 -- the paths of a name in all of them
 unfoldable pub searched_paths : (root name : List ℕ) → List SearchPathText → List (List ℕ)

@@ -26,7 +26,7 @@ origin_of None = None
 origin_of (Some origin) = Some origin.now
 
 abbrev pub dirs_of : SearchPathList → SearchPathText
-dirs_of folders = record { text = folders.text.now; separator = folders.separator; origin = origin_of folders.origin }
+dirs_of folders = record { text = folders.text.now; separator = folders.separator; origin = origin_of folders.origin; found_by = folders.found_by }
 
 abbrev pub dirs_in : List SearchPathList → List SearchPathText
 dirs_in lists = map dirs_of lists

@@ -2,7 +2,7 @@
 ghost use Rattle.std.specs.Prelude.{◌≡◌, ℕ, List, if◌then◌else◌, Err, IfOk, IfSome, None, Ok, Some};
 ghost use Rattle.elf_model.specs.Prelude.{library_file};
 ghost use Rattle.elf_needs.specs.Budget.{AsksFile, AsksFound};
-ghost use Rattle.elf_needs.specs.Fits.{ReturnsFit};
+ghost use Rattle.elf_needs.specs.Fits.{ReturnsLibraryFit};
 ghost use Rattle.elf_needs.specs.OpenFailures.{is_no_file};
 ghost use Rattle.elf_needs.specs.declared.candidates.SearchEnd.TheVariants.{Failed};
 ghost use Rattle.elf_needs.specs.declared.walk.NeedsFault.TheVariants.{Open};
@@ -55,20 +55,10 @@ where
         return Ok(None);
     };
     let fit = fit_of(&mut file, machine, account);
-    match fit {
-        LibraryFit::Accepted => Ok(Some(file)),
-        fit => {
-            let _ = file.close(account);
-            skipped(fit)
-        }
+    if matches!(fit, LibraryFit::Accepted) {
+        return Ok(Some(file));
     }
-}
-
-/// Returns no file for one that is skipped.
-///
-/// # Errors
-/// It is refused, which ends the search.
-fn skipped<T>(fit: LibraryFit) -> Result<Option<T>, SearchEnd> {
+    let _ = file.close(account);
     match fit {
         LibraryFit::Refused(refusal) => Err(SearchEnd::Refused(refusal)),
         LibraryFit::Skipped | LibraryFit::Accepted => Ok(None),
@@ -85,7 +75,7 @@ fn fit_of<S: Source>(
 ) -> LibraryFit
     ensures asks { AsksFile file.old file.new account.old account.new }
     ensures known { (bytes : List ℕ) → file.old.seen.file ≡ Some bytes →
-        ReturnsFit (library_file machine bytes) account.old.left result }
+        ReturnsLibraryFit (library_file machine bytes) account.old.left result }
 {
     match file.fit(machine, account) {
         Ok(fit) => fit,

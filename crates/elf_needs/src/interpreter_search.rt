@@ -15,7 +15,7 @@ use crate::object_file::{ObjectFile, ObjectRole};
 use crate::object_reports::{ObjectPlace, ObjectReport, found_identity, report_alone};
 use crate::object_rows::list_object;
 use crate::paths::named_path;
-use crate::states::ObjectState;
+use crate::states::{ObjectRow, ObjectState};
 use crate::walk::{DependencyWalk, NeedsFault, OpenFiles};
 use crate::walk_needs::ControlFlow;
 use elf_format::show_refusal;
@@ -194,6 +194,7 @@ impl<W: Sink> DependencyWalk<'_, '_, W> {
         let place = ObjectPlace {
             path: Some(interpreter.path),
             file: found_identity(report.state, interpreter.file),
+            found_by: Some(self.search.found_by),
         };
         let index = self.add(by, Some(name), &place, report);
         self.objects.interpreter = Some(Interpreter {
@@ -201,7 +202,13 @@ impl<W: Sink> DependencyWalk<'_, '_, W> {
             ..*interpreter
         });
         let path = self.objects.path(interpreter.path);
-        match list_object(index, by, report.state, path, self.lines, &mut self.out) {
+        let row = ObjectRow {
+            index,
+            needer: by,
+            state: report.state,
+            found_by: place.found_by,
+        };
+        match list_object(row, path, self.lines, &mut self.out) {
             Ok(()) => Ok(ControlFlow::Yes),
             Err(fault) => Err(NeedsFault::Out(fault)),
         }

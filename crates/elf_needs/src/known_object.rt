@@ -7,6 +7,7 @@ use crate::file_identity::{FileIdentity, is_file};
 use crate::known_interpreter::Interpreter;
 use crate::links::{LinkInfo, LinkInfoStore, NeededLibrary};
 use crate::paths::dir_of_path;
+use crate::states::FoundBy;
 use crate::texts::StringArena;
 use std::alloc::{AllocError, Global};
 
@@ -37,6 +38,8 @@ pub(crate) struct KnownObject {
     pub file: Option<FileIdentity>,
     /// Whether it was found, and is not refused.
     pub found: bool,
+    /// How it was found, if it was.
+    pub found_by: Option<FoundBy>,
     /// What its dynamic entries give.
     pub links: LinkInfo,
     /// The first of its needs, and the one after its last.

@@ -1,7 +1,7 @@
 //! What one file needs.
-ghost use Rattle.std.specs.Prelude.{◌≡◌, ◌<◌, ◌≤◌, ◌^◌, ◌+◌, ◌*◌, ◌/◌, ℕ, List, Ok, length, unwrap_or};
+ghost use Rattle.std.specs.Prelude.{◌≡◌, ◌<◌, ◌≤◌, ◌^◌, ◌+◌, ◌*◌, ◌/◌, ℕ, List, Ok, is_none, length, unwrap_or};
 ghost use Rattle.elf_table.specs.Prelude.{CallDid, HoldsProgramHeaders, fault_of_result};
-ghost use Rattle.elf_model.specs.Prelude.{e_shnum, field, flags_1_by_segments, is_program_file, library_links, links_by_segments, links_ceiling, links_of, loaded_links, lookup_refusal, without_sections};
+ghost use Rattle.elf_model.specs.Prelude.{dynamic_segment_index, e_shnum, field, flags_1_by_segments, is_program_file, library_links, links_by_segments, links_ceiling, links_of, loaded_links, lookup_refusal, without_sections};
 ghost use Rattle.elf_needs.specs.Entries.{HasFlags, ReturnsLinks, SameTexts};
 ghost use Rattle.elf_needs.specs.Reading.{ReturnsLookupRefusal, ReturnsMachine, linked_in_segments, lookup_passed, machine_by};
 
@@ -223,9 +223,18 @@ fn is_program_file(view: &ExecutionView<'_>, flags_1: u64) -> bool
     ensures { (file : List ℕ) → HoldsProgramHeaders file view.now.loaded view.now.store.now →
         flags_1 ≡ flags_1_by_segments file → result ≡ is_program_file file }
 {
-    view.loaded.header().e_type == ET_EXEC
-        || flags_1 & DF_1_PIE != 0
-        || view.first_segment(PT_DYNAMIC).is_none()
+    view.loaded.header().e_type == ET_EXEC || flags_1 & DF_1_PIE != 0 || has_no_dynamic(view)
+}
+
+/// Returns `true` if there is no segment of dynamic entries.
+fn has_no_dynamic(view: &ExecutionView<'_>) -> bool
+    ensures { (file : List ℕ) → HoldsProgramHeaders file view.now.loaded view.now.store.now →
+        result ≡ is_none (dynamic_segment_index file) }
+{
+    match view.first_segment(PT_DYNAMIC) {
+        Some(_) => false,
+        None => true,
+    }
 }
 
 /// Checks the lookup tables; a file without a hash table has none.

@@ -5,6 +5,7 @@ ghost use Rattle.elf_needs.specs.Searching.{default_dirs, default_for, first_run
 ghost use Rattle.elf_needs.specs.Steps.{dirs_in, dirs_of, needer_of, needers_of};
 
 use crate::search_path_list::SearchPathList;
+use crate::states::FoundBy;
 use arrayvec::ArrayVec;
 
 /// An object that needs others: its DT_RPATH and its DT_RUNPATH, if it has them, the directory that
@@ -39,13 +40,18 @@ impl<'a> Default for NeedingObject<'a> {
 pub type SearchPaths<'a> = ArrayVec<SearchPathList<'a>, 515>;
 
 /// Returns the directories that a text of an object gives.
-fn object_dirs<'a>(needer: &NeedingObject<'a>, text: &'a [u8]) -> SearchPathList<'a>
-    ensures { dirs_of result ≡ object_dirs needer.now.folder.now text.now }
+fn object_dirs<'a>(
+    needer: &NeedingObject<'a>,
+    text: &'a [u8],
+    found_by: FoundBy,
+) -> SearchPathList<'a>
+    ensures { dirs_of result ≡ object_dirs needer.now.folder.now text.now found_by }
 {
     SearchPathList {
         text,
         separator: b':',
         origin: Some(needer.folder),
+        found_by,
     }
 }
 
@@ -57,7 +63,7 @@ fn rpath_of<'a>(needer: &NeedingObject<'a>) -> Option<SearchPathList<'a>>
         return None;
     }
     match needer.rpath {
-        Some(text) => Some(object_dirs(needer, text)),
+        Some(text) => Some(object_dirs(needer, text, FoundBy::Rpath)),
         None => None,
     }
 }
@@ -67,7 +73,7 @@ fn runpath_of<'a>(needer: &NeedingObject<'a>) -> Option<SearchPathList<'a>>
     ensures { option_map dirs_of result ≡ runpath_of (needer_of needer.now) }
 {
     match needer.runpath {
-        Some(text) => Some(object_dirs(needer, text)),
+        Some(text) => Some(object_dirs(needer, text, FoundBy::Runpath)),
         None => None,
     }
 }
@@ -80,6 +86,7 @@ fn default_dirs(text: &[u8]) -> SearchPathList<'_>
         text,
         separator: b':',
         origin: None,
+        found_by: FoundBy::Default,
     }
 }
 

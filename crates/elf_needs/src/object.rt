@@ -3,7 +3,7 @@ ghost use Rattle.std.specs.Prelude.{◌≡◌, ◌≤◌, ◌+◌, ◌*◌, ℕ,
 ghost use Rattle.elf_table.specs.Ledger.{CallDid, fault_of_result};
 ghost use Rattle.elf_hash.specs.Prelude.{LookupTablesInBounds, VersionRecordsInBounds};
 ghost use Rattle.elf_needs.specs.Copied.{ReadsKept, copied_symbol};
-ghost use Rattle.elf_needs.specs.NeedWalks.{FindsState, ReadsNeed, StepsNeeds};
+ghost use Rattle.elf_needs.specs.NeedWalks.{FindsVersionState, ReadsNeed, StepsNeeds};
 ghost use Rattle.elf_needs.specs.VersionTables.{FileVersionsInBounds};
 ghost use Rattle.elf_needs.specs.Kept.{FindsTables, KeepsScope, source_of, why_back};
 ghost use Rattle.elf_needs.specs.Looks.{LooksInObject, Prepares};
@@ -267,7 +267,7 @@ impl<S: Source> LookupObject<S> {
         left: &mut Option<u64>,
         needed: &NeedsWalk,
     ) -> Result<Option<VersionState>, Fault>
-        ensures { FindsState needed.now self.old self.new left.old left.new result }
+        ensures { FindsVersionState needed.now self.old self.new left.old left.new result }
     {
         let asked = self.source.asked();
         self.source.limit(*left);

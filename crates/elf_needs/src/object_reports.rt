@@ -9,7 +9,7 @@ use crate::known_object::KnownObject;
 use crate::links::LinkInfo;
 use crate::object_file::{ObjectFile, ObjectRole};
 use crate::open_objects::OpenObjects;
-use crate::states::ObjectState;
+use crate::states::{FoundBy, ObjectState};
 use crate::walk::{DependencyWalk, NeedsFault};
 use elf_source::{Sink, Source};
 use elf_table::Fault;
@@ -30,12 +30,15 @@ pub(crate) struct ObjectPlace {
     pub path: Option<u32>,
     /// Which file it is.
     pub file: Option<FileIdentity>,
+    /// How it was found.
+    pub found_by: Option<FoundBy>,
 }
 
 /// An object that is nowhere.
 pub(crate) const NOWHERE: ObjectPlace = ObjectPlace {
     path: None,
     file: None,
+    found_by: None,
 };
 
 impl<W: Sink> DependencyWalk<'_, '_, W> {
@@ -130,6 +133,7 @@ impl<W: Sink> DependencyWalk<'_, '_, W> {
             name,
             path: at.path,
             file: at.file,
+            found_by: at.found_by,
             found,
             links: report.links,
             needs: report.needs,

@@ -12,6 +12,7 @@ use crate::object_file::{ObjectFile, ReadAccount};
 use crate::path_budget::PathBudget;
 use crate::paths::{CandidatePath, named_path};
 use crate::search_path_list::SearchPathList;
+use crate::states::FoundBy;
 use crate::system_dirs::is_below_default;
 use crate::walk::NeedsFault;
 use elf_source::Source;
@@ -50,6 +51,8 @@ pub(crate) struct Search<'s> {
     pub machine: u16,
     /// The path that is tried.
     pub path: CandidatePath,
+    /// How what is at that path was found.
+    pub found_by: FoundBy,
     /// What is left of the budget, and what was requested.
     pub account: ReadAccount,
     /// How many paths may still be tried.
@@ -58,7 +61,7 @@ pub(crate) struct Search<'s> {
 
 impl Search<'_> {
     /// Searches for the library with a name that an object needs. If it is found, its path is in
-    /// the search's; none is found if one more path would be tried than may be. It is not inlined:
+    /// the search's, and how it was found; none is found if one more path would be tried than may be. It is not inlined:
     /// the stack of its caller would hold its lists while a file is read.
     ///
     /// # Errors
@@ -78,6 +81,7 @@ impl Search<'_> {
         ensures few { self.new.tries.left ≤ self.old.tries.left }
     {
         if memchr(b'/', name).is_some() {
+            self.found_by = FoundBy::Path;
             return self.try_path(system.rt, name);
         }
         let mut lists = no_lists();
@@ -143,7 +147,10 @@ impl Search<'_> {
             Ok(true)
                 if needer.links.has_nodeflib()
                     && is_below_default(self.folders.default, path.bytes()) => { Ok(None) }
-            Ok(true) => self.try_path(system.rt, path.bytes()),
+            Ok(true) => {
+                self.found_by = FoundBy::Cache;
+                self.try_path(system.rt, path.bytes())
+            }
             Ok(false) => Ok(None),
             Err(Fault::Refused(refusal)) => Err(SearchEnd::Unread(refusal)),
             Err(Fault::Source { .. }) => Err(SearchEnd::Failed(NeedsFault::Read)),
@@ -205,6 +212,7 @@ impl Search<'_> {
     {
         let mut search = search;
         while search.next(&mut self.path, &mut self.tries) {
+            self.found_by = search.found_by();
             if let Some(found) = self.try_candidate(rt)? {
                 return Ok(Some(found));
             }
@@ -235,6 +243,7 @@ fn gather<'a>(
         text: folders.library,
         separator: b';',
         origin: Some(objects.program_folder()),
+        found_by: FoundBy::LibraryPath,
     };
     gather_dirs(&chain[..count], library, folders.default, lists);
 }

@@ -1,6 +1,8 @@
 //! Lists of directories.
 ghost use Rattle.std.specs.Prelude.{◌≡◌, []};
 
+use crate::states::FoundBy;
+
 /// A list of directories, separated by colons, and the directory that replaces `$ORIGIN` in it; if
 /// there is none, a `$` is a byte like any other.
 #[derive(Clone, Copy)]
@@ -11,6 +13,8 @@ pub struct SearchPathList<'a> {
     pub separator: u8,
     /// The directory of the object that has the text.
     pub origin: Option<&'a [u8]>,
+    /// How a library in one of them was found.
+    pub found_by: FoundBy,
 }
 
 impl<'a> Default for SearchPathList<'a> {
@@ -21,6 +25,7 @@ impl<'a> Default for SearchPathList<'a> {
             text: b"",
             separator: b':',
             origin: None,
+            found_by: FoundBy::Default,
         }
     }
 }

@@ -1,7 +1,6 @@
 //! The default directories.
-ghost use Rattle.std.specs.List.{starts_with};
-ghost use Rattle.std.specs.Prelude.{◌≡◌, ◌++◌, ◌∷◌, [], nat_eq};
-ghost use Rattle.elf_needs.specs.Searching.{PATH_SLASH, is_below_default};
+ghost use Rattle.std.specs.Prelude.{◌≡◌};
+ghost use Rattle.elf_needs.specs.Searching.{is_below, is_below_default};
 
 use crate::path_elements::first_entry;
 use crate::paths::{CandidatePath, named_path};
@@ -46,6 +45,7 @@ fn is_dir<R: Files>(rt: &R, root: &[u8], name: &[u8]) -> bool {
 }
 
 /// Returns `true` if a path is below one of the default directories.
+#[tactic(auto, unfolding(crate::specs::Searching::entries_of, crate::specs::Searching::is_below_any))]
 pub(crate) fn is_below_default(default: &[u8], path: &[u8]) -> bool
     ensures { result ≡ is_below_default default.now path.now }
 {
@@ -66,7 +66,7 @@ pub(crate) fn is_below_default(default: &[u8], path: &[u8]) -> bool
 
 /// Returns `true` if a path is below a directory.
 fn is_below(folder: &[u8], path: &[u8]) -> bool
-    ensures { result ≡ starts_with nat_eq path.now (folder.now ++ PATH_SLASH ∷ []) }
+    ensures { result ≡ is_below folder.now path.now }
 {
-    path.len() > folder.len() && path[folder.len()] == b'/' && path.starts_with(folder)
+    path.starts_with(folder) && path.len() > folder.len() && path[folder.len()] == b'/'
 }

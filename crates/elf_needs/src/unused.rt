@@ -11,7 +11,7 @@ use crate::object_rows::list_object;
 use crate::open_objects::OpenObjects;
 use crate::reference_names::ReferenceNames;
 use crate::search_scope::{SearchScope, index_at};
-use crate::states::ObjectState;
+use crate::states::{ObjectRow, ObjectState};
 use crate::walk::{DependencyWalk, NeedsFault};
 use elf_format::show_refusal;
 use elf_model::BindingState;
@@ -116,10 +116,13 @@ impl<W: Sink> DependencyWalk<'_, '_, W> {
                 continue;
             }
             let path = objects.path_of(&known);
-            let (state, lines) = (ObjectState::Unused, self.lines);
-            list_object(index, known.needer, state, path, lines, &mut self.out).map_err(
-                NeedsFault::Out,
-            )?;
+            let row = ObjectRow {
+                index,
+                needer: known.needer,
+                state: ObjectState::Unused,
+                found_by: known.found_by,
+            };
+            list_object(row, path, self.lines, &mut self.out).map_err(NeedsFault::Out)?;
         }
         Ok(())
     }

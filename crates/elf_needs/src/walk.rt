@@ -13,6 +13,7 @@ use crate::open_objects::OpenObjects;
 use crate::path_budget::PathBudget;
 use crate::paths::CandidatePath;
 use crate::search_dirs::{Search, SearchDirs, SystemFiles};
+use crate::states::FoundBy;
 use crate::walk_needs::ControlFlow;
 use elf_source::{Out, OutFault, Sink};
 use elf_table::HeaderStore;
@@ -90,6 +91,7 @@ impl<'w, 's, W: Sink> DependencyWalk<'w, 's, W> {
                 folders: settings.folders,
                 machine: 0,
                 path: CandidatePath::new(),
+                found_by: FoundBy::Path,
                 account: ReadAccount {
                     left: settings.budget,
                     spent: 0,

@@ -11,10 +11,11 @@ use crate::object_reports::{NOWHERE, ObjectPlace, found_identity, report_alone};
 use crate::object_rows::{list_object, show_too_many, show_too_many_paths};
 use crate::open_objects::OpenObjects;
 use crate::search_dirs::SystemFiles;
-use crate::states::ObjectState;
+use crate::states::{FoundBy, ObjectRow, ObjectState};
 use crate::walk::{DependencyWalk, NeedsFault, OpenFiles};
 use elf_record::{Cause, Refusal};
 use elf_source::{Sink, Source};
+use memchr::memchr;
 use std::os::unix::fs::FileExt;
 use std::rt::Files;
 
@@ -75,6 +76,7 @@ impl<W: Sink> DependencyWalk<'_, '_, W> {
         let name = objects.links.text(need.name);
         let by = u16::try_from(index).ok();
         if objects.is_interpreter_name(name) {
+            self.search.found_by = interpreter_found_by(name);
             return self.take_interpreter(system.rt, by, need, opened);
         }
         match self.search.find(system, objects, needer, name) {
@@ -188,7 +190,13 @@ impl<W: Sink> DependencyWalk<'_, '_, W> {
         }
         let index = self.add(by, Some(need.name), &NOWHERE, &report_alone(state));
         let shown = self.objects.links.text(need.name);
-        match list_object(index, by, state, shown, self.lines, &mut self.out) {
+        let row = ObjectRow {
+            index,
+            needer: by,
+            state,
+            found_by: None,
+        };
+        match list_object(row, shown, self.lines, &mut self.out) {
             Ok(()) => Ok(ControlFlow::Yes),
             Err(fault) => Err(NeedsFault::Out(fault)),
         }
@@ -211,10 +219,17 @@ impl<W: Sink> DependencyWalk<'_, '_, W> {
         let place = ObjectPlace {
             path: self.objects.keep_path(&self.search.path),
             file: None,
+            found_by: Some(self.search.found_by),
         };
         let index = self.add(by, Some(need.name), &place, &report);
         let path = &self.search.path;
-        match list_object(index, by, report.state, path, self.lines, &mut self.out) {
+        let row = ObjectRow {
+            index,
+            needer: by,
+            state: report.state,
+            found_by: place.found_by,
+        };
+        match list_object(row, path, self.lines, &mut self.out) {
             Ok(()) => Ok(ControlFlow::Yes),
             Err(fault) => Err(NeedsFault::Out(fault)),
         }
@@ -239,12 +254,27 @@ impl<W: Sink> DependencyWalk<'_, '_, W> {
         let place = ObjectPlace {
             path,
             file: found_identity(report.state, identity),
+            found_by: Some(self.search.found_by),
         };
         let index = self.add(by, Some(name), &place, &report);
         let path = &self.search.path;
-        match list_object(index, by, report.state, path, self.lines, &mut self.out) {
+        let row = ObjectRow {
+            index,
+            needer: by,
+            state: report.state,
+            found_by: place.found_by,
+        };
+        match list_object(row, path, self.lines, &mut self.out) {
             Ok(()) => Ok(ControlFlow::Yes),
             Err(fault) => Err(NeedsFault::Out(fault)),
         }
+    }
+}
+
+/// Returns how the interpreter is found by its name.
+fn interpreter_found_by(name: &[u8]) -> FoundBy {
+    match memchr(b'/', name) {
+        Some(_) => FoundBy::Path,
+        None => FoundBy::Listed,
     }
 }

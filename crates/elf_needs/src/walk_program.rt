@@ -6,7 +6,7 @@ use crate::object_file::{ObjectFile, ObjectRole};
 use crate::object_reports::{ObjectPlace, ObjectReport, found_identity, report_alone};
 use crate::object_rows::list_object;
 use crate::open_objects::OpenObjects;
-use crate::states::ObjectState;
+use crate::states::{ObjectRow, ObjectState};
 use crate::walk::{DependencyWalk, NeedsFault};
 use elf_record::{Cause, Refusal};
 use elf_source::{Sink, Source};
@@ -38,9 +38,16 @@ impl<W: Sink> DependencyWalk<'_, '_, W> {
         let place = ObjectPlace {
             path: kept,
             file: found_identity(report.state, identity),
+            found_by: None,
         };
         self.add(None, None, &place, &report);
-        list_object(0, None, report.state, path, self.lines, &mut self.out).map_err(NeedsFault::Out)
+        let row = ObjectRow {
+            index: 0,
+            needer: None,
+            state: report.state,
+            found_by: None,
+        };
+        list_object(row, path, self.lines, &mut self.out).map_err(NeedsFault::Out)
     }
 
     /// Reads the machine of the program at the path of an index, what it needs, and the path of its

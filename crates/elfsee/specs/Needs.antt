@@ -26,10 +26,10 @@ is_of_other_type BadClass = true
 is_of_other_type cause = false
 
 -- no more is requested from a source than a budget allows, and no less was requested than before
-pub record AsksNoMore (budget : Option ℕ) (old new : CountedState) : Type 0 where
+pub record AsksWithinBudget (budget : Option ℕ) (old new : CountedState) : Type 0 where
   pub grows : old.asked ≤ new.asked
   pub within : IfSome budget (λ bytes. new.asked ≤ old.asked + bytes)
 
 -- WHAT IS REQUESTED from one of many files to find whether its needs are listed
 abbrev pub AsksWithinLimit : NeedsRule → (path : List ℕ) → CountedState → CountedState → OutState → OutState → Result ℕ OutFault → Type 0
-AsksWithinLimit rule path old new before after result = AsksNoMore rule.limits.budget old new
+AsksWithinLimit rule path old new before after result = AsksWithinBudget rule.limits.budget old new

@@ -8,7 +8,8 @@ use elf_cli::{
 };
 use elf_needs::{
     DependencyWalk, LibraryCache, LineOptions, Listed, MOST_OBJECTS, NeedsBuffers, NeedsFault,
-    NeedsOptions, OpenFiles, OpenObjects, SearchDirs, SystemFiles, default_dirs, system_cache,
+    NeedsOptions, OpenFiles, OpenObjects, RootedFiles, SearchDirs, SystemFiles, default_dirs,
+    system_cache,
 };
 use elf_requests::{NeedsRequest, PathArgs};
 use elf_source::{FileReader, Out, OutFault, Sink, Source, StreamSource, WriteSink, opened_path};
@@ -35,9 +36,10 @@ pub fn report_needs<R: Files + Print + Input + AllocGlobal>(
 where
     R::File: FileExt,
 {
-    match only_file(rt, &asked.files) {
-        Some(file) => list_needs(rt, asked, file),
-        None => list_needs_of_files(rt, asked, terminal),
+    let files = RootedFiles::new(rt, asked.root, rt.alloc());
+    match only_file(&files, &asked.files) {
+        Some(file) => list_needs(&files, asked, file),
+        None => list_needs_of_files(&files, asked, terminal),
     }
 }
 

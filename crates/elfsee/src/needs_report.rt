@@ -2,7 +2,7 @@
 ghost use Rattle.std.specs.Prelude.{◌≡◌, ◌-◌, ◌≤◌, ◌^◌, ℕ, List, Some, option_map};
 ghost use Rattle.elf_needs.specs.Prelude.{ReturnsLinked, linked_file};
 ghost use Rattle.elf_walk.specs.Telling.{StandsWhole};
-ghost use Rattle.elfsee.specs.Needs.{AsksNoMore, is_of_other_type};
+ghost use Rattle.elfsee.specs.Needs.{AsksWithinBudget, is_of_other_type};
 
 use crate::needs::list_after;
 use elf_cli::open;
@@ -189,7 +189,7 @@ fn is_listed<S: Source>(
     limits: Limits,
 ) -> Result<bool, FileStatus>
     requires { src.old.asked ≤ 2 ^ 127 }
-    ensures asks { AsksNoMore limits.budget src.old src.new }
+    ensures asks { AsksWithinBudget limits.budget src.old src.new }
 {
     if src.length() < HEADER_BYTES {
         return match read_short_file_status(src, limits.budget) {
@@ -215,7 +215,7 @@ fn is_linked_within<S: Source>(
     store: &mut HeaderStore,
     budget: Option<u64>,
 ) -> Result<bool, Fault>
-    ensures asks { AsksNoMore budget src.old src.new }
+    ensures asks { AsksWithinBudget budget src.old src.new }
     ensures known { (file : List ℕ) → src.old.seen.file ≡ Some file →
         ReturnsLinked (linked_file file store.old.slots) result }
 {

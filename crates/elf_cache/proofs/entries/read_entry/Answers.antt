@@ -1,5 +1,5 @@
 -- An entry lies in the file, whose length is below 2^64.
-use Rattle.std.proofs.Common.{◌≡◌, ℕ, ◌+◌, ◌*◌, ◌<◌, ◌≤◌, ap, arith}
+use Rattle.std.proofs.Common.{ℕ, ◌*◌, ap, arith}
 use Rattle.elf_cache.proofs.CacheLaws.{entry-within}
 use Rattle.elf_cache.proofs.entries.read_entry.Goals as goal
 

@@ -1,5 +1,5 @@
 -- The three fields; there is no other.
-use Rattle.std.proofs.Common.{◌≡◌, ℕ, List, length, take, drop, ◌≤◌, length-take, refl, sym, ap, ◌∙◌, arith}
+use Rattle.std.proofs.Common.{ℕ, List, length, drop, ◌≤◌, length-take, ap, ◌∙◌, arith}
 use Rattle.elf_model.specs.Bytes.{field, slice}
 use Rattle.elf_cache.proofs.CacheLaws.{no-hwcap}
 use Rattle.elf_table.proofs.LedgerLaws.{CallDid-as, CallDid-of}

@@ -1,5 +1,5 @@
 -- Outside of the file there is no text, and else the bytes before the NUL are it.
-use Rattle.std.proofs.Common.{◌≡◌, ℕ, ◌+◌, ◌-◌, ◌<◌, ◌≤◌, length, min, List, ap, subst, ◌∙◌, arith, refl}
+use Rattle.std.proofs.Common.{◌≡◌, ℕ, ◌+◌, ◌≤◌, ap, subst, ◌∙◌, arith, refl}
 use Rattle.elf_model.specs.Prelude.{NulFound, slice}
 use Rattle.elf_cache.proofs.CacheTextLaws.{text-outside, text-searched}
 use Rattle.elf_table.specs.Windows.{WindowState}

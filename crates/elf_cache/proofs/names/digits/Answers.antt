@@ -1,6 +1,6 @@
 -- One digit after another.
-use Rattle.std.proofs.Common.{◌≡◌, ℕ, ◌+◌, ◌-◌, ◌*◌, ◌%◌, ◌^◌, ◌≤◌, List, [], ◌∷◌, None, Some, length, get_or, take, drop, refl, sym, ap, ◌∙◌, arith, rules}
-use Rattle.elf_model.specs.LoaderCache.{name_ranks, number_rank}
+use Rattle.std.proofs.Common.{◌≡◌, ℕ, ◌+◌, ◌-◌, ◌*◌, ◌%◌, ◌^◌, None, Some, length, get_or, take, drop, sym, ap, ◌∙◌, arith}
+use Rattle.elf_model.specs.LoaderCache.{name_ranks}
 use Rattle.elf_cache.proofs.NameRankLaws.{ranks-more, ranks-ended, ranks-past, rest-is, rest-none}
 use Rattle.elf_cache.proofs.names.digits.Goals as goal
 use Rattle.elf_cache.proofs.names.digits.Goals.{then-loop-count-test+else-is_digit, else-loop-count-test}

@@ -1,5 +1,5 @@
 -- An entry with another name ends them, and one that gives a path is the first.
-use Rattle.std.proofs.Common.{ℕ, ◌+◌, ◌-◌, ◌*◌, ◌<◌, ◌≤◌, ◌≡◌, sym, ap, ◌∙◌, arith}
+use Rattle.std.proofs.Common.{◌+◌, ◌-◌, ◌*◌, ◌≡◌, sym, ap, ◌∙◌, arith}
 use Rattle.elf_model.specs.Prelude.{first_path, key_order}
 use Rattle.elf_table.proofs.LedgerLaws.{CallDid-as, CallDid-then}
 use Rattle.elf_cache.proofs.SearchLaws.{path-ends, path-found, path-more, path-other}
@@ -30,6 +30,7 @@ loop-index-preserved g c =
     let among = c.args.among in
     record {
       least = omega (arith, c.loop-index.invariant.least);
+      most = omega (arith, c.loop-index-test.true);
       did = CallDid-as (8240 * (at + 1 - among.0)) (omega (arith, c.loop-index.invariant.least))
           (CallDid-then (CallDid-then c.loop-index.invariant.did c.in_ok-has_name.ensures.did) c.in_ok-read_path.ensures.did)
           (λ file both costs.
@@ -45,7 +46,7 @@ returns-clause-did g c =
     let at = c.loop-index.index in
     let among = c.args.among in
     let none : among.1 - at ≡ 0 = omega (arith, c.loop-index-test.false) in
-    CallDid-as (8240 * (among.1 - among.0)) ? c.loop-index.invariant.did
+    CallDid-as (8240 * (among.1 - among.0)) (omega (arith, c.loop-index.invariant.least, c.loop-index.invariant.most)) c.loop-index.invariant.did
     (λ file is costs.
     let order = key_order file c.args.cache.now c.args.name.now in
     is ∙ ap (first_path file c.args.cache.now order at) none ∙ path-ends order file c.args.cache.now at)

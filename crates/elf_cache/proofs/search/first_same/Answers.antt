@@ -1,5 +1,5 @@
 -- The entry before has the name, or the first one is found.
-use Rattle.std.proofs.Common.{ℕ, ◌+◌, ◌-◌, ◌*◌, ◌<◌, ◌≤◌, ◌≡◌, sym, ap, ◌∙◌, arith}
+use Rattle.std.proofs.Common.{◌-◌, ◌*◌, ◌≡◌, sym, ap, ◌∙◌, arith}
 use Rattle.elf_model.specs.Prelude.{first_same, key_order}
 use Rattle.elf_table.proofs.LedgerLaws.{CallDid-as, CallDid-then}
 use Rattle.elf_cache.proofs.SearchLaws.{same-ends, same-first, same-more}

@@ -1,5 +1,5 @@
 -- By the magic, and the byte order.
-use Rattle.std.proofs.Common.{ℕ, ◌%◌, ◌==◌, get_or, refl, sym, ◌∙◌, arith}
+use Rattle.std.proofs.Common.{◌%◌, ◌==◌, get_or, refl, sym, ◌∙◌, arith}
 use Rattle.elf_cache.proofs.CacheLaws.{new-header-is, or-other}
 use Rattle.elf_cache.proofs.table.is_new_header.Goals as goal
 

@@ -1,5 +1,5 @@
 -- Where the file is too short there is no header.
-use Rattle.std.proofs.Common.{ℕ, ◌+◌, ◌<◌, length, List, sym, arith}
+use Rattle.std.proofs.Common.{◌+◌, ◌<◌, arith}
 use Rattle.elf_cache.proofs.CacheLaws.{no-new-header}
 use Rattle.elf_table.proofs.LedgerLaws.{CallDid-as, CallDid-none, CallDid-sized}
 use Rattle.elf_cache.proofs.table.new_table.Goals as goal

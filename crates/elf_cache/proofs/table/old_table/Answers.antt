@@ -1,5 +1,5 @@
 -- The header where the file has it, and by its magic.
-use Rattle.std.proofs.Common.{ℕ, ◌+◌, ◌*◌, ◌<◌, ◌≡◌, length, List, drop, take, length-take, length-drop, refl, sym, ap, ◌∙◌, arith}
+use Rattle.std.proofs.Common.{◌+◌, ◌*◌, length, drop, length-take, length-drop, sym, ap, ◌∙◌, arith}
 use Rattle.elf_cache.proofs.CacheLaws.{no-old-header, old-none, old-some}
 use Rattle.elf_table.proofs.LedgerLaws.{CallDid-as, CallDid-none, CallDid-of, CallDid-sized}
 use Rattle.elf_cache.proofs.table.old_table.Goals as goal

@@ -7,3 +7,8 @@ pub returns : goal.returns
 returns c =
     let higher = higher_are c.args.front.now (omega arith) in
     omega (arith, higher, c.u64_at.ensures, c.byte_at-first.ensures)
+
+pub overflow_sub-result : goal.overflow_sub-result
+overflow_sub-result c =
+    let higher = higher_are c.args.front.now (omega arith) in
+    omega (arith, higher, c.u64_at.ensures, c.byte_at-first.ensures)

@@ -4,9 +4,9 @@ use Rattle.std.proofs.lemmas.Result.{err_from_is_err_and}
 use Rattle.elf_table.proofs.Absent.{none-of}
 use Rattle.elf_table.proofs.LedgerLaws.{CallDid-as, CallDid-none, CallDid-stop, CallDid-then}
 use Rattle.elf_hash.proofs.FoundLaws.{dynamic_is, index_is, size_within}
-use Rattle.elf_needs.proofs.LibraryLaws.{flags_none, flags_some, links_same}
+use Rattle.elf_needs.proofs.LibraryLaws.{flags_none, flags_some, links_found, links_same}
 use Rattle.elf_needs.proofs.LoopLaws.{read_links_stop}
-use Rattle.elf_needs.proofs.ReadingLaws.{entries_are, links_as, rows_most, segments_none, table_stops}
+use Rattle.elf_needs.proofs.ReadingLaws.{entries_are, links_refused, rows_most, segments_none, table_stops}
 use Rattle.elf_needs.proofs.link_reader.entry_links.Goals as goal
 
 pub returns-in_default : goal.returns-in_default
@@ -46,7 +46,7 @@ returns-in_err-links g c =
     (λ file told costs views.
     let some = index_is file ∙ (sym (c.first_segment.ensures.first file views) ∙ c.in-Some.is) in
     let is = dynamic_is file _ some _ (c.in_ok-table.ensures.held file views) in
-    (links_as _ _ _ _ _ (entries_are file c.args.links.now.held.room _ some is.0 c.in_ok-table.table is.1 _ told.0.0) (told.1 views), tt)))
+    (links_refused _ _ c.args.links.now c.args.links.now _ (entries_are file c.args.links.now.held.room _ some is.0 c.in_ok-table.table is.1 _ told.0.0) (told.1 views), tt)))
 
 pub returns : goal.returns
 returns g c =
@@ -56,8 +56,7 @@ returns g c =
     CallDid-as _ (omega (arith, fits, sized, most, c.requires)) (CallDid-then c.in_ok-values.ensures.did c.in_ok-links.ensures)
     (λ file told costs views.
     let some = index_is file ∙ (sym (c.first_segment.ensures.first file views) ∙ c.in-Some.is) in
-    let is = dynamic_is file _ some _ (c.in_ok-table.ensures.held file views) in
-    let links = links_as _ _ _ _ _ (entries_are file c.args.links.now.held.room _ some is.0 c.in_ok-table.table is.1 _ told.0.0) (told.1 views) in (
-      links_same _ _ _ _ _ links c.with_flags-2.ensures.texts,
+    let is = dynamic_is file _ some _ (c.in_ok-table.ensures.held file views) in (
+      links_found _ _ _ _ _ _ (entries_are file c.args.links.now.held.room _ some is.0 c.in_ok-table.table is.1 _ told.0.0) (told.1 views) c.with_flags-2.ensures.texts,
       c.with_flags-2.ensures.flags file views (flags_some file _ some c.in_ok-table.table is.1 _ told.0.1),
     ))
