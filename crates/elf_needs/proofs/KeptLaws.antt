@@ -1,12 +1,13 @@
 -- What is kept of a file.
-use Rattle.std.proofs.Common.{◌≡◌, ℕ, List, None, Option, Ok, Err, sym, ap, subst, ◌∙◌}
+use Rattle.std.proofs.Common.{◌≡◌, ℕ, true, List, None, Option, Ok, Err, sym, ap, subst, ◌∙◌}
 use Rattle.elf_model.specs.LoaderScope.{lookup_tables_of}
 use Rattle.elf_source.specs.Source.{CountedState, SetsLimit, SourceState}
 use Rattle.elf_table.specs.Prelude.{CallDid}
 use Rattle.elf_table.specs.declared.fault.Fault.{Fault}
 use Rattle.elf_table.specs.declared.fault.Fault.TheVariants.{Refused, Source}
 use Rattle.elf_hash.specs.Prelude.{FindsLookupTables, LookupTablesInBounds}
-use Rattle.elf_needs.specs.Kept.{FindsTables, IsKept, ReturnsKept}
+use Rattle.elf_needs.specs.Kept.{FindsTables, IsKept, KnowsVersions, ReturnsKept}
+use Rattle.elf_needs.proofs.VersionTableLaws.{hidden_file}
 use Rattle.elf_needs.specs.VersionTables.{FileVersionsInBounds}
 use Rattle.elf_needs.specs.declared.object.FileTables.{FileTables}
 use Rattle.elf_needs.specs.declared.version_tables.FileVersions.{FileVersions}
@@ -28,10 +29,16 @@ pub back_tells : (file : List ℕ) (headers : ℕ) (src : CountedState) (fault :
 back_tells file headers src (Refused refusal) finds = finds
 back_tells file headers src (Source fault at) finds = tt
 
--- what lies within a source does so after a call
-pub sized : {old new : CountedState} {stop : Option Fault} {n : ℕ} {P : List ℕ → Type 0} {versions : FileVersions} → CallDid old new stop n P → FileVersionsInBounds old.seen.size versions
-    → FileVersionsInBounds new.seen.size versions
-sized {versions = versions} did lies = subst (λ (size : ℕ). FileVersionsInBounds size versions) (sym did.costs.reads.keeps.same_size) lies
+-- what was found of the versions, in a source that hides its section headers
+pub knows_found : (old new : CountedState) (headers : ℕ) (found : FileTables) (n : ℕ) → old.hides ≡ true → CallDid old new None n (λ file. FindsTables file headers old new (Ok found))
+    → FileVersionsInBounds old.seen.size found.versions → KnowsVersions new.seen found.versions
+knows_found old new headers found n hides did lies = record {
+  lies = subst (λ (size : ℕ). FileVersionsInBounds size found.versions) (sym did.costs.reads.keeps.same_size) lies;
+  known = λ file held.
+      let before = sym did.costs.reads.keeps.same_file ∙ held in
+      let hidden = hidden_file old hides file before in
+      ((did.known file before).versions hidden.0, hidden.1);
+}
 
 -- how many headers were allowed
 pub kept_with : {a b c : ℕ} → a ≡ b → b ≡ c → a ≡ c
@@ -41,10 +48,11 @@ kept_with first second = first ∙ second
 pub did_anyway : {a b : CountedState} {stop : Option Fault} {n : ℕ} {P : List ℕ → Type 0} → CallDid a b stop n P → CallDid a b None n P
 did_anyway p = record { costs = record { reads = p.costs.reads; says = tt }; known = p.known }
 
--- what lies within a source does so after a call between two limits
-pub sized_between :
-    {a b c d : CountedState} {left : Option ℕ} {stop : Option Fault} {n : ℕ} {P : List ℕ → Type 0} {versions : FileVersions} → FileVersionsInBounds a.seen.size versions → SetsLimit a b left
-    → CallDid b c stop n P → SetsLimit c d None → FileVersionsInBounds d.seen.size versions
-sized_between {versions = versions} lies set did free =
-    subst (λ (size : ℕ). FileVersionsInBounds size versions)
-    (sym (ap (λ (s : SourceState). s.size) free.seen ∙ did.costs.reads.keeps.same_size ∙ ap (λ (s : SourceState). s.size) set.seen)) lies
+-- what is known of the versions stays so after a call between two limits
+pub knows_between :
+    {a b c d : CountedState} {left : Option ℕ} {stop : Option Fault} {n : ℕ} {P : List ℕ → Type 0} {versions : FileVersions} → KnowsVersions a.seen versions → SetsLimit a b left
+    → CallDid b c stop n P → SetsLimit c d None → KnowsVersions d.seen versions
+knows_between {a} {b} {c} {d} {versions = versions} knows set did free =
+    let size : d.seen.size ≡ a.seen.size = ap (λ (s : SourceState). s.size) free.seen ∙ did.costs.reads.keeps.same_size ∙ ap (λ (s : SourceState). s.size) set.seen in
+    let file : d.seen.file ≡ a.seen.file = ap (λ (s : SourceState). s.file) free.seen ∙ did.costs.reads.keeps.same_file ∙ ap (λ (s : SourceState). s.file) set.seen in
+    record { lies = subst (λ (n : ℕ). FileVersionsInBounds n versions) (sym size) knows.lies; known = λ bytes held. knows.known bytes (sym file ∙ held) }

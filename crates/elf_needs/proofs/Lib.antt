@@ -14,10 +14,13 @@ pub mod LibraryLaws
 pub mod FitLaws
 pub mod BindLaws
 pub mod CopiedLaws
+pub mod UnusedLaws
 pub mod DefinerLaws
 pub mod KeptLaws
 pub mod LackLaws
 pub mod NeedLaws
+pub mod VersionTableLaws
+pub mod NeedReadLaws
 pub mod OpenLaws
 pub mod ReadyLaws
 pub mod SoughtLaws

@@ -1,6 +1,6 @@
 -- What is kept of a file in which names are looked up.
-use Rattle.std.specs.Prelude.{ℕ, ◌≡◌, ◌+◌, ◌*◌, List, Option, None, Some, Result, Ok, Err, IfSome}
-use Rattle.elf_model.specs.Prelude.{IsBudgetRefusal, LookupTables as IsScopeOf, lookup_tables_of}
+use Rattle.std.specs.Prelude.{ℕ, ◌≡◌, ◌+◌, ◌*◌, List, Option, None, Some, Result, Ok, Err, IfOk, IfSome}
+use Rattle.elf_model.specs.Prelude.{IsBudgetRefusal, LookupTables as IsScopeOf, e_shnum, lookup_tables_of, without_sections}
 use Rattle.elf_model.specs.declared.causes.Refusal.{Refusal}
 use Rattle.elf_source.specs.Source.{CountedState, SourceState}
 use Rattle.elf_table.specs.Prelude.{CallReads, fault_of_result}
@@ -10,7 +10,9 @@ use Rattle.elf_hash.specs.Prelude.{FindsLookupTables, IsLookupTables, LookupTabl
 use Rattle.elf_hash.specs.declared.table.HashTable.{HashTable}
 use Rattle.elf_hash.specs.declared.lookup_tables.LookupTables.{LookupTables}
 use Rattle.elf_needs.specs.Ready.{IsReadyIf}
+use Rattle.elf_needs.specs.VersionTables.{AreVersionsOf, FileVersionsInBounds}
 use Rattle.elf_needs.specs.declared.object.FileTables.{FileTables}
+use Rattle.elf_needs.specs.declared.version_tables.FileVersions.{FileVersions}
 
 -- its source, and how many headers were allowed when the lookup tables were found
 pub record LookupObjectState : Type 0 where
@@ -63,6 +65,12 @@ FindsScopeOf file told (Err fault) = FindsLookupTables file told (Err fault)
 pub record FindsTables (file : List ℕ) (headers : ℕ) (old new : CountedState) (result : Result FileTables Fault) : Type 0 where
   pub costs : CallReads old new (fault_of_result result) (found_tables_cost file headers old.seen.size)
   pub finds : FindsScopeOf file (lookup_tables_of file headers) result
+  pub versions : e_shnum file ≡ 0 → IfOk result (λ found. AreVersionsOf file found.versions)
+
+-- THE TABLES OF VERSIONS ARE THE FILE'S, of a source that shows no section headers
+pub record KnowsVersions (seen : SourceState) (versions : FileVersions) : Type 0 where
+  pub lies : FileVersionsInBounds seen.size versions
+  pub known : (file : List ℕ) → seen.file ≡ Some file → AreVersionsOf file versions × (without_sections file ≡ file)
 
 -- THE LOOKUP TABLES ARE FOUND ONCE, in a known file
 pub record KeepsScope (file : List ℕ) (headers : ℕ) (old : CountedState) (result : Result LookupObjectState (CountedState × Fault)) : Type 0 where

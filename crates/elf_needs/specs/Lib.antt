@@ -23,7 +23,6 @@ pub mod Bound
 pub mod Copied
 pub mod Requests
 pub mod Budget
-pub mod Caches
 pub mod Called
 pub mod Walked
 pub mod ObjectLines

@@ -2,7 +2,7 @@
 ghost use Rattle.std.specs.Prelude.{◌≡◌, ℕ, List, Some};
 ghost use Rattle.elf_cache.specs.Prelude.{ReturnsCacheText};
 ghost use Rattle.elf_model.specs.Prelude.{path_in_cache};
-ghost use Rattle.elf_needs.specs.Caches.{PaysAccount};
+ghost use Rattle.elf_needs.specs.Budget.{AsksClosed};
 
 use crate::budget::spend_budget;
 use crate::candidates::{FileSource, SearchEnd, opened_at};
@@ -58,7 +58,7 @@ impl<S: Source + Drop> LibraryCache<S> {
         name: &[u8],
         path: &mut NameBuf,
     ) -> Result<bool, Fault>
-        ensures pays { PaysAccount self.old self.new account.old account.new }
+        ensures asks { AsksClosed 0 account.old account.new }
         ensures known { (file : List ℕ) → self.old.seen.file ≡ Some file →
             ReturnsCacheText (path_in_cache file name.now) path.new result }
     {

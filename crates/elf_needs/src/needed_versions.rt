@@ -1,9 +1,10 @@
 //! The versions that a file needs, one by one.
-ghost use Rattle.std.specs.Prelude.{◌≡◌, ℕ};
-ghost use Rattle.elf_table.specs.Prelude.{CallDid, StringsInBounds, fault_of_result};
-ghost use Rattle.elf_model.specs.Prelude.{SOUGHT_BYTES, name_bytes};
-ghost use Rattle.elf_hash.specs.Prelude.{VersionRecordsInBounds};
-ghost use Rattle.elf_needs.specs.NeedWalks.{GoesOnIf, StepsNeeds, need_bytes};
+ghost use Rattle.std.specs.Prelude.{◌≡◌, ◌∷◌, [], ℕ, List};
+ghost use Rattle.elf_table.specs.Prelude.{CallDid, StringsInBounds, fault_of_result, strings_in};
+ghost use Rattle.elf_model.specs.Prelude.{Meets, SOUGHT_BYTES, VersionRecordRead, VersionRecordTable as IsTableOf, VisitedRecord, name_bytes, needed_versions, readings_of};
+ghost use Rattle.elf_hash.specs.Prelude.{IsVersionRecordTable, VersionRecordsInBounds};
+ghost use Rattle.elf_note.specs.Reading.{IsVersion};
+ghost use Rattle.elf_needs.specs.NeedWalks.{GoesOnIf, IsNeedsOf, ReturnsNeed, StepsNeeds, StepsNeedsOf, need_bytes, needs_left};
 
 use crate::reference::whole_name;
 use elf_hash::VersionRecordTable;
@@ -34,7 +35,12 @@ pub(crate) struct NeedsWalk {
 impl NeedsWalk {
     /// Creates a walk before the first of the records.
     pub(crate) fn new(records: &VersionRecordTable) -> NeedsWalk
-        ensures { (size : ℕ) → VersionRecordsInBounds size records.now → StepsNeeds size result }
+        ensures steps { (size : ℕ) → VersionRecordsInBounds size records.now →
+            StepsNeeds size result }
+        ensures starts { (file : List ℕ) (told : IsTableOf) →
+            IsVersionRecordTable file told records.now → IsNeedsOf file told result
+            × (needs_left file told result
+            ≡ needed_versions file [] (readings_of file told [])) }
     {
         NeedsWalk {
             records: *records,
@@ -56,7 +62,8 @@ impl NeedsWalk {
     pub(crate) fn advance<S: Source>(&mut self, src: &mut Counted<S>) -> Result<Option<bool>, Fault>
         requires { StepsNeeds src.old.seen.size self.old }
         ensures did { CallDid src.old src.new (fault_of_result result) need_bytes
-            (λ file. Unit {0}) }
+            (λ file. (told : IsTableOf) → IsNeedsOf file told self.old →
+            StepsNeedsOf file told self.old self.new result) }
         ensures goes { GoesOnIf src.old.seen.size self.old self.new result }
     {
         let Some(given) = self.cursor.advance(src)? else {
@@ -77,7 +84,11 @@ impl NeedsWalk {
     ) -> Result<bool, Fault>
         requires { StringsInBounds src.old.seen.size self.old.records.names }
         ensures did { CallDid src.old src.new (fault_of_result result) (name_bytes SOUGHT_BYTES)
-            (λ file. Unit {0}) }
+            (λ file. (met : VisitedRecord) (others : List VersionRecordRead) →
+            IsVersion file met given.now → ReturnsNeed
+            (needed_versions file self.old.library
+            (Meets (strings_in file self.old.records.names) met ∷ others))
+            (needed_versions file self.new.library others) self.new result) }
         ensures same { (self.new.cursor ≡ self.old.cursor)
             × (self.new.records ≡ self.old.records) }
     {

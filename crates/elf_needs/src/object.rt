@@ -2,9 +2,10 @@
 ghost use Rattle.std.specs.Prelude.{◌≡◌, ◌≤◌, ◌+◌, ◌*◌, ℕ, List, Some, IfOk, IfSome, length, true};
 ghost use Rattle.elf_table.specs.Ledger.{CallDid, fault_of_result};
 ghost use Rattle.elf_hash.specs.Prelude.{LookupTablesInBounds, VersionRecordsInBounds};
+ghost use Rattle.elf_model.specs.Style.{without_sections};
 ghost use Rattle.elf_needs.specs.Copied.{ReadsKept, copied_symbol};
 ghost use Rattle.elf_needs.specs.NeedWalks.{FindsVersionState, ReadsNeed, StepsNeeds};
-ghost use Rattle.elf_needs.specs.VersionTables.{FileVersionsInBounds};
+ghost use Rattle.elf_needs.specs.VersionTables.{AreNeedsOf, FileVersionsInBounds};
 ghost use Rattle.elf_needs.specs.Kept.{FindsTables, KeepsScope, source_of, why_back};
 ghost use Rattle.elf_needs.specs.Looks.{LooksInObject, Prepares};
 ghost use Rattle.elf_needs.specs.Sought.{CountsHashed, LooksForVersion, ReadsFileName, Seeks, reference_bytes};
@@ -43,15 +44,14 @@ pub struct LookupObject<S: Source> {
 }
 
 impl<S: Source> Model for LookupObject<S> {
-    ghost use Rattle.elf_needs.specs.Kept.{IsKept, LookupObjectState};
-    ghost use Rattle.elf_needs.specs.VersionTables.{FileVersionsInBounds};
+    ghost use Rattle.elf_needs.specs.Kept.{IsKept, KnowsVersions, LookupObjectState};
 
     ghost Value = { LookupObjectState };
 
     ghost view = { λ o. record { src = o.source; headers = o.headers } };
 
     ghost invariant = { λ o. IsKept o.source.seen o.headers o.scope o.ready
-        × FileVersionsInBounds o.source.seen.size o.versions };
+        × KnowsVersions o.source.seen o.versions };
 }
 
 impl<S: Source> LookupObject<S> {
@@ -230,6 +230,8 @@ impl<S: Source> LookupObject<S> {
     pub(crate) fn needs(&self) -> Result<Option<VersionRecordTable>, Fault>
         ensures lies { IfOk result (λ records.
             IfSome records (VersionRecordsInBounds self.now.src.seen.size)) }
+        ensures known { (file : List ℕ) → self.now.src.seen.file ≡ Some file →
+            AreNeedsOf file result × (without_sections file ≡ file) }
     {
         self.versions.needs
     }

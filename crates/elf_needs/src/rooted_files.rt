@@ -2,6 +2,7 @@
 
 use crate::paths::CandidatePath;
 use crate::root_path::{PathEntries, PathEntry, resolve};
+use memchr::memrchr;
 use std::alloc::{Alloc, Allocator, Global};
 use std::fmt::Display;
 use std::fs::{self, Metadata, OpenOptions, Permissions};
@@ -39,17 +40,72 @@ impl<'r, R> RootedFiles<'r, R> {
 }
 
 impl<R: Files> RootedFiles<'_, R> {
-    /// Resolves a path within the root. It is not inlined: the stack of its callers would hold its
-    /// paths though no root is given.
+    /// Resolves a path within the root.
     ///
     /// # Errors
     /// Those of [`resolve`].
-    #[inline(never)]
-    fn resolve(&self, within: &str, found: &mut CandidatePath) -> io::Result<()> {
-        match resolve(self, self.root.as_bytes(), within.as_bytes(), found) {
+    fn resolve(&self, within: &[u8], found: &mut CandidatePath) -> io::Result<()> {
+        match resolve(self, self.root.as_bytes(), within, found) {
             Ok(()) => Ok(()),
             Err(kind) => Err(io::Error::from(kind)),
         }
+    }
+
+    /// Opens the file at a path within the root. It is not inlined: the stack of its caller would
+    /// hold its paths though no root is given.
+    ///
+    /// # Errors
+    /// Those of [`resolve`]; it cannot be opened.
+    #[inline(never)]
+    fn open_within(&self, how: &OpenOptions, within: &str) -> io::Result<R::File> {
+        let mut found = CandidatePath::new();
+        self.resolve(within.as_bytes(), &mut found)?;
+        self.rt.open_file(how, text(&found)?)
+    }
+
+    /// Opens the directory at a path within the root. It is not inlined, like the one before.
+    ///
+    /// # Errors
+    /// Those of [`resolve`]; it cannot be opened.
+    #[inline(never)]
+    fn open_dir_within(&self, within: &str) -> io::Result<R::Dir> {
+        let mut found = CandidatePath::new();
+        self.resolve(within.as_bytes(), &mut found)?;
+        self.rt.open_dir(text(&found)?)
+    }
+
+    /// Examines what a path within the root leads to. It is not inlined, like those before.
+    ///
+    /// # Errors
+    /// Those of [`resolve`]; it cannot be examined.
+    #[inline(never)]
+    fn metadata_within(&self, within: &str) -> io::Result<Metadata> {
+        let mut found = CandidatePath::new();
+        self.resolve(within.as_bytes(), &mut found)?;
+        self.rt.metadata(text(&found)?)
+    }
+
+    /// Examines what is at a path within the root, whose last name is followed by no slash, and
+    /// follows no link there. It is not inlined, like those before.
+    ///
+    /// # Errors
+    /// Those of [`resolve`]; it cannot be examined.
+    #[inline(never)]
+    fn entry_within(&self, within: &str) -> io::Result<Metadata> {
+        let bytes = within.as_bytes();
+        let Some(slash) = memrchr(b'/', bytes) else {
+            return self.metadata_within(within);
+        };
+        let name = &bytes[slash + 1..];
+        if matches!(name, b"" | b"." | b"..") {
+            return self.metadata_within(within);
+        }
+        let mut found = CandidatePath::new();
+        self.resolve(&bytes[..slash], &mut found)?;
+        if found.try_push(b'/').is_err() || found.try_extend_from_slice(name).is_err() {
+            return Err(io::Error::from(ErrorKind::InvalidFilename));
+        }
+        self.rt.symlink_metadata(text(&found)?)
     }
 }
 
@@ -100,34 +156,31 @@ impl<R: Files> Files for RootedFiles<'_, R> {
     type Dir = R::Dir;
 
     fn open_file(&self, how: &OpenOptions, path: &str) -> io::Result<R::File> {
-        let Some(within) = self.within(path) else {
-            return self.rt.open_file(how, path);
-        };
-        let mut found = CandidatePath::new();
-        self.resolve(within, &mut found)?;
-        self.rt.open_file(how, text(&found)?)
+        match self.within(path) {
+            Some(within) => self.open_within(how, within),
+            None => self.rt.open_file(how, path),
+        }
     }
 
     fn open_dir(&self, path: &str) -> io::Result<R::Dir> {
-        let Some(within) = self.within(path) else {
-            return self.rt.open_dir(path);
-        };
-        let mut found = CandidatePath::new();
-        self.resolve(within, &mut found)?;
-        self.rt.open_dir(text(&found)?)
+        match self.within(path) {
+            Some(within) => self.open_dir_within(within),
+            None => self.rt.open_dir(path),
+        }
     }
 
     fn metadata(&self, path: &str) -> io::Result<Metadata> {
-        let Some(within) = self.within(path) else {
-            return self.rt.metadata(path);
-        };
-        let mut found = CandidatePath::new();
-        self.resolve(within, &mut found)?;
-        self.rt.metadata(text(&found)?)
+        match self.within(path) {
+            Some(within) => self.metadata_within(within),
+            None => self.rt.metadata(path),
+        }
     }
 
     fn symlink_metadata(&self, path: &str) -> io::Result<Metadata> {
-        self.rt.symlink_metadata(path)
+        match self.within(path) {
+            Some(within) => self.entry_within(within),
+            None => self.rt.symlink_metadata(path),
+        }
     }
 
     fn canonicalize<B: Allocator>(&self, alloc: B, path: &str) -> io::Result<PathBuf<B>> {
@@ -135,7 +188,7 @@ impl<R: Files> Files for RootedFiles<'_, R> {
             return self.rt.canonicalize(alloc, path);
         };
         let mut found = CandidatePath::new();
-        self.resolve(within, &mut found)?;
+        self.resolve(within.as_bytes(), &mut found)?;
         Ok(PathBuf::from_str(alloc, text(&found)?)?)
     }
 

@@ -1,7 +1,9 @@
 //! The tables of symbol versions that a file has, by its program headers.
-ghost use Rattle.std.specs.Prelude.{◌≡◌, ◌+◌, ◌*◌, ◌^◌, ◌<◌, IfErr, IfOk};
-ghost use Rattle.elf_table.specs.Prelude.{CallDid, IsOfCheck, StringsInBounds, fault_of_result};
-ghost use Rattle.elf_needs.specs.VersionTables.{FileVersionsInBounds, refused_versions};
+ghost use Rattle.std.specs.Prelude.{◌≡◌, ◌+◌, ◌*◌, ◌^◌, ◌<◌, ℕ, List, IfErr, IfOk};
+ghost use Rattle.elf_table.specs.Prelude.{CallDid, ChecksThenValue, HoldsProgramHeaders, IsOfCheck, StringsInBounds, fault_of_result, strings_in};
+ghost use Rattle.elf_model.specs.Prelude.{e_shnum, segment_strings};
+ghost use Rattle.elf_hash.specs.Prelude.{AreTaggedEntries};
+ghost use Rattle.elf_needs.specs.VersionTables.{AreVersionsAt, FileVersionsInBounds, ReturnsInSegments, ReturnsVersions, refused_versions, strings_checks};
 
 use elf_hash::{DynamicTags, VersionRecordTable, first_entries, load_by_segments, segment_records};
 use elf_record::VersionKind;
@@ -35,7 +37,8 @@ pub(crate) fn find_file_versions<S: Source>(
     store: &mut HeaderStore,
 ) -> Result<FileVersions, Fault>
     ensures did { CallDid src.old src.new (fault_of_result result)
-        (64 + store.old.slots * 56 + src.old.seen.size) (λ file. Unit {0}) }
+        (64 + store.old.slots * 56 + src.old.seen.size)
+        (λ file. e_shnum file ≡ 0 → ReturnsVersions file store.old.slots result) }
     ensures slots { store.new.slots ≡ store.old.slots }
     ensures lies { IfOk result (FileVersionsInBounds src.old.seen.size) }
 {
@@ -51,7 +54,8 @@ fn versions_by_segments<S: Source>(
     requires size { view.now.loaded.size ≡ src.old.seen.size }
     requires small { view.now.loaded.size < 2 ^ 63 }
     ensures did { CallDid src.old src.new (fault_of_result result) src.old.seen.size
-        (λ file. Unit {0}) }
+        (λ file. HoldsProgramHeaders file view.now.loaded view.now.store.now →
+        ReturnsInSegments file result) }
     ensures lies { IfOk result (FileVersionsInBounds src.old.seen.size) }
 {
     let Some(segment) = view.first_segment(PT_DYNAMIC) else {
@@ -71,6 +75,10 @@ fn versions_at(view: &ExecutionView<'_>, found: &DynamicTags) -> Result<FileVers
     requires small { view.now.loaded.size < 2 ^ 63 }
     ensures lies { IfOk result (FileVersionsInBounds view.now.loaded.size) }
     ensures refusal { IfErr result IsOfCheck }
+    ensures held { (file : List ℕ) (at : ℕ) →
+        HoldsProgramHeaders file view.now.loaded view.now.store.now →
+        AreTaggedEntries file at found.now →
+        ChecksThenValue (strings_checks file at) (AreVersionsAt file at) result }
 {
     let names = strings_of(view, found)?;
     Ok(FileVersions {
@@ -84,6 +92,10 @@ fn versions_at(view: &ExecutionView<'_>, found: &DynamicTags) -> Result<FileVers
 fn strings_of(view: &ExecutionView<'_>, found: &DynamicTags) -> Result<Names, Fault>
     ensures lies { IfOk result (StringsInBounds view.now.loaded.size) }
     ensures refusal { IfErr result IsOfCheck }
+    ensures held { (file : List ℕ) (at : ℕ) →
+        HoldsProgramHeaders file view.now.loaded view.now.store.now →
+        AreTaggedEntries file at found.now → ChecksThenValue (strings_checks file at)
+        (λ names. strings_in file names ≡ segment_strings file at) result }
 {
     let Some(strtab) = found.strtab else {
         return Ok(Names::new(0, 0));

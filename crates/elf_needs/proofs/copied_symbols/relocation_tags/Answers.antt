@@ -32,14 +32,16 @@ entries-preserved g c =
           ∙ value-step file l.cursor new DT_RELASZ l.size (goes-fewer i.goes s file h) (goes-place i.goes s file h c.requires.rows) ∙ i.size file h;
     }
 
-pub returns-clause-did : goal.returns-clause-did
-returns-clause-did g c =
+pub returns : goal.returns
+returns g c =
     let l = c.entries in
     let i = l.invariant in
     let a = c.in_ok-advance.ensures in
-    CallDid-of (goes-reads i.goes a.asks.reads) tt (λ file h.
-    let none = (ended l.src.seen.file l.cursor c.advance.new.self c.in_ok-advance.field-0 c.if-branch.false a.steps).none_left file in
     record {
-      its_address = sym (value-end file l.cursor DT_RELA l.address none) ∙ i.address file h;
-      its_size = sym (value-end file l.cursor DT_RELASZ l.size none) ∙ i.size file h;
-    })
+      did = CallDid-of (goes-reads i.goes a.asks.reads) tt (λ file h.
+          let none = (ended l.src.seen.file l.cursor c.advance.new.self c.in_ok-advance.field-0 c.if-branch.false a.steps).none_left file in
+          record {
+            its_address = sym (value-end file l.cursor DT_RELA l.address none) ∙ i.address file h;
+            its_size = sym (value-end file l.cursor DT_RELASZ l.size none) ∙ i.size file h;
+          });
+    }

@@ -20,9 +20,9 @@ returns-in_err-found g c =
     let p = err_from_is_err_and c.from_residual-in_err-found.result c.from_residual-in_err-found.ensures.1 in
     let fits = size_within _ _ c.in_ok-table.ensures.lies.within in
     rw (p.1, p.2)
-    (CallReads-more _ (omega (arith, fits, c.requires)) c.in_err-found.ensures.costs)
+    (CallReads-more _ (omega (arith, fits, c.requires)) c.in_err-found.ensures.did.costs)
 
 pub returns : goal.returns
 returns g c =
     let fits = size_within _ _ c.in_ok-table.ensures.lies.within in
-    checked_after _ (omega (arith, fits, c.requires)) c.mapped_relocations.result c.mapped_relocations.ensures.refusal c.in_ok-found.ensures.costs
+    checked_after _ (omega (arith, fits, c.requires)) c.mapped_relocations.result c.mapped_relocations.ensures.refusal c.in_ok-found.ensures.did.costs

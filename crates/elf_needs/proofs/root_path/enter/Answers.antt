@@ -1,4 +1,4 @@
-use Rattle.std.proofs.Common.{◌≡◌, ◌++◌, subst, Result, OnOk}
+use Rattle.std.proofs.Common.{◌≡◌, ◌++◌, subst, OnOk}
 use Rattle.elf_needs.proofs.RootLaws.{entered_after}
 use Rattle.elf_needs.proofs.root_path.enter.Goals as goal
 

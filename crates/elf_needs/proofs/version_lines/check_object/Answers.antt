@@ -9,7 +9,7 @@ needs-init g c = record {
   asks = asks_none c.args.objects.now c.args.left.now;
   steps =
       steps_here c.args.objects.now c.args.place c.index-objects-place.result c.new-walk.result c.requires
-      (c.new-walk.ensures _ (rw (c.in-Ok-Some.is, c.in-Ok-Some.field-0-is) at c.needs-2.ensures.lies));
+      (c.new-walk.ensures.steps _ (rw (c.in-Ok-Some.is, c.in-Ok-Some.field-0-is) at c.needs-2.ensures.lies));
 }
 
 pub needs-smaller : goal.needs-smaller

@@ -2,7 +2,7 @@
 use Rattle.std.proofs.Common.{ap}
 use Rattle.elf_source.specs.Source.{SourceState}
 use Rattle.elf_needs.specs.Ready.{ready_bytes}
-use Rattle.elf_needs.proofs.KeptLaws.{sized_between}
+use Rattle.elf_needs.proofs.KeptLaws.{knows_between}
 use Rattle.elf_needs.proofs.SpendLaws.{kept_prepared, prepares_as, spent_off}
 use Rattle.elf_needs.proofs.object.LookupObject.prepare.Goals as goal
 
@@ -16,4 +16,4 @@ returns g c =
 pub invariant_of-self : goal.invariant_of-self
 invariant_of-self g c =
     rw c.unwrap_or-self-inside.ensures
-    (kept_prepared c.self.inside.headers c.self.inside.scope c.self.inside.ready _ c.self.invariant.0 c.limit.ensures c.ready_table-ready.ensures.did c.ready_table-ready.ensures.place c.limit-2.ensures, sized_between c.self.invariant.1 c.limit.ensures c.ready_table-ready.ensures.did c.limit-2.ensures)
+    (kept_prepared c.self.inside.headers c.self.inside.scope c.self.inside.ready _ c.self.invariant.0 c.limit.ensures c.ready_table-ready.ensures.did c.ready_table-ready.ensures.place c.limit-2.ensures, knows_between c.self.invariant.1 c.limit.ensures c.ready_table-ready.ensures.did c.limit-2.ensures)
