@@ -15,6 +15,7 @@ pub mod LackLaws
 pub mod NeedLaws
 pub mod VersionTableLaws
 pub mod NeedReadLaws
+pub mod DefinedLaws
 pub mod OpenLaws
 pub mod ReadyLaws
 pub mod SoughtLaws

@@ -1,16 +1,19 @@
 -- The versions that a file needs, as they are read.
 use Rattle.std.specs.Prelude.{ℕ, ◌≡◌, ◌+◌, ◌*◌, ◌/◌, ◌<◌, ◌≤◌, Bool, true, false, List, [], ◌∷◌, Option, None, Some, Result, Ok, Err, IfOk, IfSome}
 use Rattle.elf_model.specs.Prelude.{Faulty, IsBudgetRefusal, NeededVersion, NeededVersionRead, Needs, SOUGHT_BYTES, Version, VersionRecordTable as IsTableOf, max_records, name_bytes, needed_versions, record_cost, state_by_segments}
+use Rattle.elf_model.specs.declared.causes.Refusal.{Refusal}
 use Rattle.elf_model.specs.declared.states.VersionState.{VersionState}
+use Rattle.elf_model.specs.declared.versions.VersionKind.TheVariants.{Definition}
 use Rattle.elf_table.specs.Prelude.{fault_of_result}
 use Rattle.elf_table.specs.declared.fault.Fault.{Fault}
 use Rattle.elf_table.specs.declared.fault.Fault.TheVariants.{Refused, Source}
 use Rattle.elf_hash.specs.Prelude.{IsVersionRecordTable, VersionRecordsInBounds}
 use Rattle.elf_note.specs.Prelude.{IsCursorOf, bytes_each}
+use Rattle.elf_note.specs.declared.record_position.RecordPosition.{RecordPosition}
 use Rattle.elf_loader.proofs.LeftReadings.{left_of}
 use Rattle.elf_needs.specs.Kept.{LookupObjectState}
 use Rattle.elf_needs.specs.Looks.{SpendsAtMost, SpendsBudget}
-use Rattle.elf_needs.specs.Sought.{ReturnsAs}
+use Rattle.elf_needs.specs.Sought.{RefusesAs, ReturnsAs}
 use Rattle.elf_needs.specs.declared.needed_versions.NeedsWalk.{NeedsWalk}
 use Rattle.elf_needs.specs.declared.search_scope.WriteEnd.{WriteEnd}
 use Rattle.elf_needs.specs.declared.search_scope.WriteEnd.TheVariants.{Cut, Ended, Whole}
@@ -85,6 +88,17 @@ pub record FindsState (needed : NeedsWalk) (old new : LookupObjectState) (left_o
   pub same_headers : new.headers ≡ old.headers
   pub pays : SpendsBudget left_old left_new old.src.asked new.src.asked
   pub known : (file : List ℕ) → old.src.seen.file ≡ Some file → ReturnsAs (Ok (state_by_segments file (needed_of needed))) result
+
+-- whether a version is defined, by one record and the others: it is the record's, or that of the
+-- others; or the refusal, except one for lack of budget
+abbrev pub DefinesOne : (all left : Result Bool Refusal) → Result Bool Fault → Type 0
+DefinesOne all left (Ok true) = all ≡ Ok true
+DefinesOne all left (Ok false) = all ≡ left
+DefinesOne all left (Err fault) = RefusesAs all fault
+
+-- a walk over definitions reads only these
+abbrev pub AtDefinition : Option RecordPosition → Type 0
+AtDefinition standing = IfSome standing (λ s. s.kind ≡ Definition)
 
 -- a walk goes on after the lines of a record, unless these are the last
 abbrev pub GoesOnAfter : (size : ℕ) → (old new : NeedsWalk) → Result (Option WriteEnd) NeedsFault → Type 0

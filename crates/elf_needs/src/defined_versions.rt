@@ -1,9 +1,14 @@
 //! Whether a file defines a version that another needs.
-ghost use Rattle.std.specs.Prelude.{◌+◌, ◌*◌, ◌/◌, ◌≤◌, length};
-ghost use Rattle.elf_table.specs.Prelude.{CallDid, StringsInBounds, fault_of_result};
-ghost use Rattle.elf_model.specs.Prelude.{Version, max_records, pad64, record_cost};
-ghost use Rattle.elf_hash.specs.Prelude.{VersionRecordsInBounds};
-ghost use Rattle.elf_needs.specs.VersionTables.{FileVersionsInBounds};
+ghost use Rattle.std.specs.Prelude.{◌≡◌, ◌+◌, ◌*◌, ◌/◌, ◌≤◌, ◌∷◌, [], List, None, Some, Ok, if◌then◌else◌, length};
+ghost use Rattle.elf_table.specs.Prelude.{CallDid, StringsInBounds, fault_of_result, strings_in};
+ghost use Rattle.elf_model.specs.Prelude.{Meets, Version, VersionRecordRead, VersionRecordTable as IsTableOf, VisitedRecord, define_version, max_records, pad64, readings_of, record_cost, state_by_records, state_by_segments};
+ghost use Rattle.elf_model.specs.declared.states.VersionState.TheVariants as state;
+ghost use Rattle.elf_model.specs.declared.versions.VersionKind.TheVariants.{Definition};
+ghost use Rattle.elf_hash.specs.Prelude.{IsVersionRecordTable, VersionRecordsInBounds};
+ghost use Rattle.elf_note.specs.Reading.{IsVersion};
+ghost use Rattle.elf_needs.specs.NeedWalks.{DefinesOne, needed_of};
+ghost use Rattle.elf_needs.specs.Sought.{ReturnsAs};
+ghost use Rattle.elf_needs.specs.VersionTables.{AreVersionsOf, FileVersionsInBounds};
 
 use crate::faults::is_reported_alone;
 use crate::needed_versions::NeedsWalk;
@@ -27,14 +32,18 @@ pub(crate) fn state_in<S: Source>(
 ) -> Result<Option<VersionState>, Fault>
     requires lies { FileVersionsInBounds src.old.seen.size versions.now }
     ensures did { CallDid src.old src.new (fault_of_result result)
-        (src.old.seen.size / 8 * record_cost (Version needed.now.name)) (λ file. Unit {0}) }
+        (src.old.seen.size / 8 * record_cost (Version needed.now.name))
+        (λ file. AreVersionsOf file versions.now →
+        ReturnsAs (Ok (state_by_segments file (needed_of needed.now))) result) }
 {
-    let records = match &versions.definitions {
-        Ok(Some(records)) => records,
-        Ok(None) => return Ok(state_without(versions.has_versym)),
+    let found = match versions.definitions {
+        Ok(found) => found,
         Err(_) => return Ok(Some(VersionState::Refused)),
     };
-    match defines(src, records, needed.name.bytes(), needed.hash) {
+    let Some(records) = found else {
+        return Ok(state_without(versions.has_versym));
+    };
+    match defines(src, &records, needed.name.bytes(), needed.hash) {
         Ok(defined) => Ok(state_by(defined, needed.weak)),
         Err(fault) if is_reported_alone(fault) => Err(fault),
         Err(_) => Ok(Some(VersionState::Refused)),
@@ -42,7 +51,9 @@ pub(crate) fn state_in<S: Source>(
 }
 
 /// Returns the state of a version of a file that has no definitions.
-fn state_without(has_versym: bool) -> Option<VersionState> {
+fn state_without(has_versym: bool) -> Option<VersionState>
+    ensures { result ≡ (if has_versym then None else Some state.Bare) }
+{
     if has_versym {
         return None;
     }
@@ -50,7 +61,9 @@ fn state_without(has_versym: bool) -> Option<VersionState> {
 }
 
 /// Returns the state of a version that a file defines or not.
-fn state_by(defined: bool, weak: bool) -> Option<VersionState> {
+fn state_by(defined: bool, weak: bool) -> Option<VersionState>
+    ensures { result ≡ state_by_records weak (Ok defined) }
+{
     if defined || weak {
         return None;
     }
@@ -73,7 +86,10 @@ fn defines<S: Source>(
     requires within { VersionRecordsInBounds src.old.seen.size records.now }
     ensures did { CallDid src.old src.new (fault_of_result result)
         (max_records records.now.kind records.now.table.count
-        * (28 + pad64 (length version.now + 1))) (λ file. Unit {0}) }
+        * (28 + pad64 (length version.now + 1)))
+        (λ file. (told : IsTableOf) → IsVersionRecordTable file told records.now →
+        records.now.kind ≡ Definition →
+        ReturnsAs (define_version file version.now hash (readings_of file told [])) result) }
 {
     let mut cursor = VersionCursor::one_by_one(records.kind, records.head, records.table);
     'records: while let Some(given) = cursor.advance(src)? {
@@ -98,7 +114,11 @@ fn is_version<S: Source>(
     requires most { length version.now ≤ 4096 }
     requires within { StringsInBounds src.old.seen.size names.now }
     ensures did { CallDid src.old src.new (fault_of_result result)
-        (pad64 (length version.now + 1)) (λ file. Unit {0}) }
+        (pad64 (length version.now + 1))
+        (λ file. (met : VisitedRecord) (others : List VersionRecordRead) →
+        IsVersion file met given.now → met.kind ≡ Definition → DefinesOne
+        (define_version file version.now hash (Meets (strings_in file names.now) met ∷ others))
+        (define_version file version.now hash others) result) }
 {
     if given.hash != hash {
         return Ok(false);
