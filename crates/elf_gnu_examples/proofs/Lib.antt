@@ -1,1 +1,2 @@
 pub mod OnExamples
+pub mod OnBindings

@@ -1,5 +1,5 @@
--- Worked examples of the interpreter that a file names, of the refusals of its path in order, and of
--- its line.
+-- Worked examples of the interpreter that a file names, of the refusals of its path in order, and
+-- of its line.
 use Rattle.std.specs.Prelude.{ℕ, ◌≡◌, List, ◌++◌, codes, true, false, Option, None, Some, Result, Ok, Err}
 use Rattle.elf_model.specs.Prelude.{interpreter_line, interpreter_of, is_interpreter, little, object, one_load, program_header, with_bytes, zeros}
 use Rattle.elf_model.specs.declared.causes.Cause.TheVariants.{NameUnended, NotElf, TableOutside}
@@ -9,7 +9,8 @@ use Rattle.elf_model.specs.declared.formats.Format.TheVariants.{Columns, Object}
 abbrev InterpreterIs : List ℕ → Result (Option (List ℕ)) Refusal → Type 0
 InterpreterIs file named = interpreter_of file 2 ≡ named
 
--- a shared object with a program header of type INTERP: this many bytes from 0x78 on, and these there
+-- a shared object with a program header of type INTERP: this many bytes from 0x78 on, and these
+-- there
 abbrev naming : (size : ℕ) → List ℕ → List ℕ
 naming size bytes = object 1 (program_header 3 4 0x78 0 size 1 ++ bytes)
 
@@ -22,8 +23,8 @@ InterpreterIsItsPath =
     × InterpreterIs (object 2 (program_header 3 4 0xb0 0 3 1 ++ program_header 3 4 0xb0 0 9 1 ++ codes "ld" ++ zeros 1)) (Ok (Some (codes "ld")))
     × InterpreterIs one_load (Ok None)
 
--- refusals: of the file header; of a range that ends one byte past the file's end; of one byte; of a
--- last byte that is not NUL
+-- refusals: of the file header; of a range that ends one byte past the file's end; of one byte; of
+-- a last byte that is not NUL
 abbrev pub InterpretersAreRefusedInOrder : Type 0
 InterpretersAreRefusedInOrder =
     InterpreterIs (with_bytes 0 (little 1 0) (naming 3 (codes "ld"))) (Err (record { at = 0; cause = NotElf }))

@@ -72,8 +72,8 @@ abbrev x1 : Option (List ℕ)
 x1 = Some (codes "/x.1")
 
 -- another magic, byte order or number of entries: no cache. A key outside of the file ends the
--- search, and a value outside is passed over; a text may end with the file. Of entries that are not in
--- order not all are found
+-- search, and an entry whose value is outside is skipped; a string may end at the end of the file.
+-- If entries are not sorted, some are not found
 abbrev pub DamagedCachesAreSearched : Type 0
 DamagedCachesAreSearched =
     IsFound (with_bytes 0 (little 1 0) new_shape) None None

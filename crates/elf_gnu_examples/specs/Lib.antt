@@ -19,4 +19,6 @@ pub mod ExamplesBoundSymbols
 pub mod ExamplesLinks
 pub mod ExamplesLoaderCache
 pub mod ExamplesInterpreters
+pub mod ExamplesNeededVersions
+pub mod ExamplesLibraryFiles
 pub mod Prelude

@@ -7,7 +7,7 @@ pub fn interpreter_is_its_path()
     ensures { InterpreterIsItsPath }
 {}
 
-/// Files at fault.
+/// Malformed files.
 #[tactic(auto, unfolding(elf_model::proofs::OnLiterals::on_literals, elf_model::proofs::OnLoader::on_loader, crate::proofs::OnExamples::on_examples))]
 pub fn interpreters_are_refused_in_order()
     ensures { InterpretersAreRefusedInOrder }

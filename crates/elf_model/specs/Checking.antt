@@ -28,16 +28,16 @@ listed_state None = state.Ok
 listed_state (Some refusal) = if is_not_elf refusal.cause then state.NoElf else state.Refused refusal
 
 -- the state of a file that is too short for a file header, by what it is
-abbrev pub short_state : ℕ → FileMagic → FileStatus
-short_state size sort.Elf = state.Refused (record { at = size; cause = Short })
-short_state size sort.Undecided = state.Refused undecided
-short_state size _ = state.NoElf
+abbrev pub short_file_status : ℕ → FileMagic → FileStatus
+short_file_status size sort.Elf = state.Refused (record { at = size; cause = Short })
+short_file_status size sort.Undecided = state.Refused undecided
+short_file_status size _ = state.NoElf
 
 -- THE STATE of a file within a budget, by the fault of its listing, or if it is too short for a
 -- file header by what it is
 abbrev pub state_of : Option ℕ → List ℕ → Option Refusal → FileStatus
 state_of budget file fault =
-    if nat_lt (length file) FILE_HEADER_SIZE then short_state (length file) (file_magic false budget file) else listed_state fault
+    if nat_lt (length file) FILE_HEADER_SIZE then short_file_status (length file) (file_magic false budget file) else listed_state fault
 
 -- a state is that of the listing of a file within a budget: with no budget, of its report
 pub record IsStateOf (budget : Option ℕ) (file : List ℕ) (headers : ℕ) (style : ListingStyle) (parts : ℕ) (found : FileStatus) : Type 0 where

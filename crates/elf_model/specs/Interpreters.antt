@@ -55,8 +55,8 @@ interpreter_by_segments file headers = elim (first_refusal (header_checks file +
 unfoldable pub interpreter_of : List ℕ → (headers : ℕ) → Result (Option (List ℕ)) Refusal
 interpreter_of file headers = interpreter_by_segments (without_sections file) headers
 
--- A FILE CAN BE THE INTERPRETER of a program of a machine: it is of 64 bits, little-endian and of that
--- machine, and executable or shared (gABI 5, Program Interpreter)
+-- A FILE CAN BE THE INTERPRETER of a program of a machine: it is of 64 bits, little-endian and of
+-- that machine, and executable or shared (gABI 5, Program Interpreter)
 unfoldable pub is_interpreter : (machine : ℕ) → List ℕ → Bool
 is_interpreter machine file = elim (machine_in file) [
   | None ↦ false

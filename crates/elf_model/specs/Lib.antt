@@ -85,4 +85,6 @@ pub mod BindingLines
 pub mod Interpreters
 pub mod BoundSymbols
 pub mod LoaderCache
+pub mod NeededVersions
+pub mod LibraryFiles
 pub mod Prelude

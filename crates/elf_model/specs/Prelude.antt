@@ -62,6 +62,8 @@ unfoldable pub use Rattle.elf_model.specs.Hash.{bucket_of, end_among, end_at_wor
 pub use Rattle.elf_model.specs.HeaderTables.{HeaderTable, TableKind, file_sections, file_segments, first_typed, header_field, held_headers}
 pub use Rattle.elf_model.specs.Interpreters.{interpreter_line}
 unfoldable pub use Rattle.elf_model.specs.Interpreters.{interpreter_at, interpreter_by_segments, interpreter_front, interpreter_of, interpreter_state, is_interpreter, loaded_interpreter}
+pub use Rattle.elf_model.specs.LibraryFiles.{Accepted, DF_1_NODEFLIB, LibraryFile, RefusedAt, Skipped, library_front_checks, has_other_abi, is_for_machine, library_checks}
+unfoldable pub use Rattle.elf_model.specs.LibraryFiles.{flags_1_by_segments, is_program_file, library_file, library_links}
 unfoldable pub use Rattle.elf_model.specs.LineFronts.{dynamic_prefix, note_prefix, relocation_prefix, section_prefix, symbol_prefix}
 pub use Rattle.elf_model.specs.Lines.{SHOWN_DESCRIPTOR, cut_mark, name_member, named_line, note_line}
 unfoldable pub use Rattle.elf_model.specs.Lines.{descriptor_text, escaped, header_line, hex_bytes, line_described, line_named, name_byte_text, name_text, note_tail, refusal_line, segment_line, steps_line}
@@ -88,6 +90,8 @@ unfoldable pub use Rattle.elf_model.specs.NameTables.{bindings, dynamic_tag_text
 pub use Rattle.elf_model.specs.Names.{DisplayedName, IsEmptyAtZero, IsNameBytesAt, IsNameOf, IsNulTerminatedAt, is_empty_at_zero, name_bytes, nul_in, pad64, shown_of}
 pub use Rattle.elf_model.specs.Names.DisplayedName.{Cut}
 unfoldable pub use Rattle.elf_model.specs.Names.{begins, same, shown}
+pub use Rattle.elf_model.specs.NeededVersions.{RecordsRefused, NeedRefused, InterpreterAlone, VersionAbsent, NeededVersion, NeededVersionRead, Needs, NoProvider, ProvidedBy, Provider, VersionItem, VersionedObjects, any_lacking, file_of_index, index_of_provider, item_by_state, needed_version_fields, needed_version_line, provider_field, state_by_records, version_item_line, version_items, version_items_text, versions_needed}
+unfoldable pub use Rattle.elf_model.specs.NeededVersions.{define_version, needed_version_front, needed_versions, version_records_at, state_by_segments, state_in_file, state_of_needed, version_item, version_items_from, version_items_of, version_state_name, versions_needed_at, versions_needed_by_segments}
 pub use Rattle.elf_model.specs.NoteLaws.{BeforeNulExactly, CutIsWalked, FitsOrIsCut, FittingIsWalked, IsAligned, IsNoteInTable, NoteShownCutExactly, NoteShownWholeExactly, OneListAtMost, RowsAligned, RowsStand, WalkedFits, WalkedIsCut}
 pub use Rattle.elf_model.specs.Notes.{AllPadded, CutAt, EndsInSpelling, EndsInZeros, IsNoteEncoding, NextNote, Note, NoteRow, NoteScan, Notes, OneNote, Padded, alignment_gap, are_zeros, before_nul, bytes_to_alignment, capped, descriptor_start, escaped_size, first_end, first_note, note_align, padded_size, with_note}
 unfoldable pub use Rattle.elf_model.specs.Notes.{next_note, note_rows, note_shown, walk_from, walked}

@@ -36,6 +36,6 @@ pub use causes::{Cause, Refusal};
 pub use formats::Format;
 pub use missing::{LayoutAddress, MissingAddress};
 pub use relocation_types::{Formula, RelocationBase, RelocationType, ValueRange};
-pub use states::{BindingState, FileMagic, FileStatus};
+pub use states::{BindingState, FileMagic, FileStatus, VersionState};
 pub use traits::{Hardening, ProgramKind, Relro, SearchPath, SegmentTraits, TraitColumn};
 pub use versions::VersionKind;

@@ -1,4 +1,5 @@
-//! The states of a file among many, and of a symbol that an object of a program references.
+//! The states of a file among many, and of a symbol and a version that an object of a program
+//! references.
 use crate::causes::Refusal;
 
 /// The state of a file among many.
@@ -55,4 +56,17 @@ pub enum BindingState {
         /// The index of the object.
         object: u16,
     },
+}
+
+/// The state of a version that an object needs, if a program does not start for it.
+#[derive(Clone, Copy)]
+pub enum VersionState {
+    /// No object is the file that should have it.
+    NoFile,
+    /// That object has no versions.
+    Bare,
+    /// That object has definitions, and not this one.
+    NoVersion,
+    /// The definitions of that object have a fault before this one.
+    Refused,
 }
