@@ -1,10 +1,11 @@
 -- What was requested from objects, one call after another.
-use Rattle.std.proofs.Common.{◌≡◌, ℕ, zero, suc, ◌+◌, ◌<◌, ◌≤◌, ◌-◌, ◌^◌, ◌⊎◌, min, List, [], ◌∷◌, ◌++◌, length, take, length-set, get_or, get_or-set_other, get_or-set_same, set, inl, inr, Option, None, Some, Result, Err, refl, sym, ap, subst, ◌∙◌, arith}
+use Rattle.std.proofs.Common.{◌≡◌, ℕ, zero, suc, ◌+◌, ◌<◌, ◌≤◌, ◌-◌, ◌^◌, ◌⊎◌, min, List, [], ◌∷◌, ◌++◌, length, take, length-set, get_or, get_or-set_other, get_or-set_same, set, inl, inr, Option, None, Some, Result, Ok, Err, IfErr, refl, sym, ap, subst, ◌∙◌, arith}
 use Rattle.std.proofs.lemmas.Bool.{cases_eq, cases_lt}
 use Rattle.std.proofs.lemmas.List.Sums.{sum_by-set}
 use Rattle.elf_model.specs.Prelude.{IsBudgetRefusal, SymbolQuery}
 use Rattle.elf_model.specs.declared.causes.Refusal.{Refusal}
 use Rattle.elf_source.specs.Source.{counted}
+use Rattle.elf_table.specs.Ledger.{fault_of_result}
 use Rattle.elf_table.specs.declared.fault.Fault.{Fault}
 use Rattle.elf_table.specs.declared.fault.Fault.TheVariants.{Refused, Source}
 use Rattle.elf_needs.specs.Prelude.{AreObjectFiles, AskedFirst, AsksAll, BindsAcross, FailsIn, FaultLeaves, LookupObjectState, SameObject, SpendsAtMost, SpendsBudget, asked_of_all, reached}
@@ -14,9 +15,9 @@ use Rattle.elf_needs.specs.Bound.{OnlyShort, UsesUp}
 use Rattle.elf_needs.proofs.OpenLaws.{pays_then}
 
 same_none : (o : LookupObjectState) → SameObject o o
-same_none o = record { same_file = refl; same_headers = refl; grows = omega arith }
+same_none o = record { same_size = refl; same_file = refl; same_headers = refl; grows = omega arith }
 
-same_element : (xs : List LookupObjectState) (n : ℕ) (d e : LookupObjectState) → n < length xs → get_or xs n d ≡ get_or xs n e
+pub same_element : (xs : List LookupObjectState) (n : ℕ) (d e : LookupObjectState) → n < length xs → get_or xs n d ≡ get_or xs n e
 same_element [] n d e less = absurd (omega (arith, less))
 same_element (x ∷ xs) zero d e less = refl
 same_element (x ∷ xs) (suc n) d e less = same_element xs n d e (omega (arith, less))
@@ -44,6 +45,7 @@ asks_then {a} {b} {c} {l0} {l1} {l2} p q = record {
         let first = p.objects.each k d less in
         let second = q.objects.each k d (omega (arith, less, p.objects.same_length)) in
         record {
+          same_size = second.same_size ∙ first.same_size;
           same_file = second.same_file ∙ first.same_file;
           same_headers = second.same_headers ∙ first.same_headers;
           grows = omega (arith, first.grows, second.grows);
@@ -66,12 +68,12 @@ module _ (objects : List LookupObjectState) (n : ℕ) (d new : LookupObjectState
 
 -- by what it spent
 pub spends_same : {old new : LookupObjectState} {left : Option ℕ} {stop : Option Fault} {n : ℕ} → SpendsAtMost old.src new.src left stop n → new.headers ≡ old.headers → SameObject old new
-spends_same spends headers = record { same_file = spends.keeps.same_file; same_headers = headers; grows = spends.grows }
+spends_same spends headers = record { same_size = spends.keeps.same_size; same_file = spends.keeps.same_file; same_headers = headers; grows = spends.grows }
 
 -- some were searched
 module _ (wanted : SymbolQuery) (old new : List LookupObjectState) (n : ℕ) (first : AskedFirst wanted old new n) where
   first_same : (k : ℕ) (d : LookupObjectState) → (k < n) ⊎ (n ≤ k) → SameObject (get_or old k d) (get_or new k d)
-  first_same k d (inl low) = let asked = first.asked k d low in record { same_file = asked.keeps.same_file; same_headers = asked.same_headers; grows = asked.grows }
+  first_same k d (inl low) = let asked = first.asked k d low in record { same_size = asked.keeps.same_size; same_file = asked.keeps.same_file; same_headers = asked.same_headers; grows = asked.grows }
   first_same k d (inr past) = rw (first.others k d past) (same_none (get_or old k d))
 
 pub asks_bind : {wanted : SymbolQuery} {old new : List LookupObjectState} {l0 l1 : Option ℕ} {result : Result BindResult BindFault} → BindsAcross wanted old new l0 l1 result → AsksAll old new l0 l1
@@ -106,6 +108,12 @@ short_one objects n d new l1 {l0} {most} (Refused refusal) less spends pays = λ
     (n, λ e. subst (λ (o : LookupObjectState). UsesUp o l1 refusal) (sym (get_or-set_same objects n new e less)) (used_up (get_or objects n d) new l0 l1 most refusal spends.says budget pays spends.keeps.same_size))
 short_one objects n d new l1 (Source fault at) less spends pays = tt
 
+-- the same, if it failed
+pub short_if : {X : Type 0} (objects : List LookupObjectState) (n : ℕ) (d new : LookupObjectState) (l1 : Option ℕ) {l0 : Option ℕ} {most : ℕ} → n < length objects → (result : Result X Fault)
+    → SpendsAtMost (get_or objects n d).src new.src l0 (fault_of_result result) most → SpendsBudget l0 l1 (get_or objects n d).src.asked new.src.asked → IfErr result (OnlyShort (set objects n new) l1)
+short_if objects n d new l1 less (Ok x) spends pays = tt
+short_if objects n d new l1 less (Err fault) spends pays = short_one objects n d new l1 fault less spends pays
+
 -- of the object that a lookup over all stopped in
 pub short_bind : {wanted : SymbolQuery} {old new : List LookupObjectState} {l0 l1 : Option ℕ} (blame : BindFault) → BindsAcross wanted old new l0 l1 (Err blame) → OnlyShort new l1 blame.fault
 short_bind {wanted} {old} {new} {l0} {l1} blame binds = by_fault blame.fault (λ d. binds.says d)
@@ -119,7 +127,7 @@ short_bind {wanted} {old} {new} {l0} {l1} blame binds = by_fault blame.fault (λ
     )
     by_fault (Source fault at) fails = tt
 
--- what stands before others is what so many of all are
+-- a prefix of a list is its first elements
 pub front_taken : (n : ℕ) (objects others : List LookupObjectState) → length objects ≡ n → take n (objects ++ others) ≡ objects
 front_taken zero [] others e = refl
 front_taken (suc n) [] others e = absurd (omega (arith, e))

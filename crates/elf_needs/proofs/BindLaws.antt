@@ -2,7 +2,7 @@
 use Rattle.std.proofs.Common.{◌≡◌, ℕ, zero, suc, ◌+◌, ◌<◌, ◌≤◌, ◌⊎◌, List, [], ◌∷◌, length, length-set, get_or, get_or-set_other, get_or-set_same, set, drop, inl, inr, Option, None, Some, Result, Ok, Err, refl, ap, subst, ◌∙◌, arith}
 use Rattle.std.proofs.lemmas.Bool.{cases_lt}
 use Rattle.std.proofs.lemmas.List.Sums.{sum_by-set}
-use Rattle.elf_model.specs.Prelude.{BoundTo, BoundToNone, DefinerLookup, StoppedIn, SymbolQuery, bound_from, bound_in, bound_or, definition_lookup}
+use Rattle.elf_model.specs.Prelude.{BoundTo, BoundToNone, StoppedIn, SymbolQuery, bound_from, bound_in, bound_or, definition_lookup}
 use Rattle.elf_model.specs.declared.causes.Refusal.{Refusal}
 use Rattle.elf_model.specs.Bindings as model
 use Rattle.elf_table.specs.declared.fault.Fault.{Fault}

@@ -179,14 +179,14 @@ module _ (file : List ℕ) (told : IsScopeOf) (wanted : SymbolQuery) where
   module _ (counts : first_refusal (counts_check file told ∷ []) ≡ None) where
     pub defines_excluded : {a b : CountedState} → compared.refused ≡ None → ReturnsExcluded file told wanted.name (Ok true) → CallReads a b None 12
         → DefinesAfter wanted 28 0 (definition_in file told wanted) a b (Ok None)
-    defines_excluded told_all none costs =
+    defines_excluded listed_all none costs =
         let is_wanted : ℕ → Bool = λ (number : ℕ). is_among number compared.numbers in
         let walk : definer_walk file told wanted is_wanted ≡ record { answer = Ok None; tried = 0; read = 0 } = definer_walk_is file told wanted is_wanted ∙ none _ in
         record {
           spent = 12;
           costs = costs;
           within = omega arith;
-          tells = ap (λ (d : DefinerLookup). d.answer) (shaped counts ∙ with_told told_all) ∙ ap (λ (w : NoteScan). w.answer) walk;
+          tells = ap (λ (d : DefinerLookup). d.answer) (shaped counts ∙ with_told listed_all) ∙ ap (λ (w : NoteScan). w.answer) walk;
         }
 
     pub defines_unread : {a b : CountedState} (fault : Fault) → IsOfRead fault → CallReads a b (Some fault) 12 → DefinesAfter wanted 28 0 (definition_in file told wanted) a b (Err fault)

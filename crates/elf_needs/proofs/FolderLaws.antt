@@ -1,9 +1,9 @@
 -- Directories appended to others, and the paths in them.
-use Rattle.std.proofs.Common.{◌≡◌, ℕ, suc, ◌+◌, ◌<◌, ◌≤◌, List, [], ◌∷◌, ◌++◌, length, drop, drop-cons, get_or, Option, None, Some, refl, ap, sym, ◌∙◌, append_assoc, add-one}
+use Rattle.std.proofs.Common.{◌≡◌, Bool, true, false, ℕ, suc, ◌+◌, ◌<◌, ◌≤◌, List, [], ◌∷◌, ◌++◌, length, drop, drop-cons, get_or, Option, None, Some, refl, ap, sym, ◌∙◌, append_assoc, add-one}
 use Rattle.std.proofs.Math.ListN.{drop_of_length-le}
 use Rattle.std.specs.List.{cons_option}
-use Rattle.elf_needs.specs.Prelude.{SearchPathText, dir_paths, dirs_in, dirs_of, first_runpath, given_dirs, needer_of, needers_of, rpath_dirs, rpath_of, search_dirs, searched_paths, unless_runpath}
-use Rattle.elf_needs.specs.declared.folders.SearchPathList.{SearchPathList}
+use Rattle.elf_needs.specs.Prelude.{SearchPathText, default_dirs, default_for, dir_paths, dirs_in, dirs_of, first_runpath, is_below, is_below_any, needer_of, needers_of, rpath_dirs, rpath_of, search_dirs, searched_paths, unless_runpath}
+use Rattle.elf_needs.specs.declared.search_path_list.SearchPathList.{SearchPathList}
 use Rattle.elf_needs.specs.Searching.{NeedingObject}
 use Rattle.elf_needs.specs.declared.needers.NeedingObject.{NeedingObject as BorrowedNeeder}
 
@@ -39,18 +39,19 @@ rpath_all needers i lists all gone held =
     sym (append_none lists) ∙ (sym (ap (λ l. lists ++ rpath_dirs (needers_of l)) (drop_of_length-le needers gone)) ∙ held)
 
 -- the texts in their order
-pub in_order : (library default : List ℕ) (needers : List NeedingObject) (first second third all : List SearchPathText)
+pub in_order : (library : SearchPathText) (default : List ℕ) (needers : List NeedingObject) (first second third all : List SearchPathText)
     → first ≡ unless_runpath (first_runpath needers) (rpath_dirs needers)
-    → second ≡ first ++ given_dirs library ∷ []
+    → second ≡ first ++ library ∷ []
     → third ≡ second ++ cons_option (first_runpath needers) []
-    → all ≡ third ++ given_dirs default ∷ []
+    → all ≡ third ++ default_dirs (default_for needers default) ∷ []
     → all ≡ search_dirs library default needers
 in_order library default needers first second third all one two three four =
+    let last = default_dirs (default_for needers default) in
     four
-    ∙ (ap (λ l. l ++ given_dirs default ∷ []) three
-    ∙ (before_others second (first_runpath needers) (given_dirs default ∷ [])
-    ∙ (ap (λ l. l ++ cons_option (first_runpath needers) (given_dirs default ∷ [])) (two ∙ ap (λ l. l ++ given_dirs library ∷ []) one)
-    ∙ append_assoc (unless_runpath (first_runpath needers) (rpath_dirs needers)) (given_dirs library ∷ []) (cons_option (first_runpath needers) (given_dirs default ∷ [])))))
+    ∙ (ap (λ l. l ++ last ∷ []) three
+    ∙ (before_others second (first_runpath needers) (last ∷ [])
+    ∙ (ap (λ l. l ++ cons_option (first_runpath needers) (last ∷ [])) (two ∙ ap (λ l. l ++ library ∷ []) one)
+    ∙ append_assoc (unless_runpath (first_runpath needers) (rpath_dirs needers)) (library ∷ []) (cons_option (first_runpath needers) (last ∷ [])))))
 
 -- the paths of the next text
 pub next_text : (root name : List ℕ) (lists : List SearchPathList) (d : SearchPathList) (at : ℕ) (old tries : List (List ℕ)) → at < length lists
@@ -68,3 +69,14 @@ pub no_text : (root name : List ℕ) (lists : List SearchPathList) (at : ℕ) (o
     → old ≡ [] ++ searched_paths root name (dirs_in (drop at lists)) → old ≡ []
 unfolding searched_paths
 no_text root name lists at old gone held = held ∙ ap (λ l. searched_paths root name (dirs_in l)) (drop_of_length-le lists gone)
+
+-- one more directory that a path is not below, or is
+pub below_next : (folder : List ℕ) (others entries : List (List ℕ)) (path : List ℕ) (all : Bool) → all ≡ is_below_any entries path → entries ≡ folder ∷ others → is_below folder path ≡ false
+    → all ≡ is_below_any others path
+unfolding is_below_any
+below_next folder others entries path all held is isnt = held ∙ (ap (λ l. is_below_any l path) is ∙ rw (isnt, is_below_any) refl)
+
+pub below_found : (folder : List ℕ) (others entries : List (List ℕ)) (path : List ℕ) (all : Bool) → all ≡ is_below_any entries path → entries ≡ folder ∷ others → is_below folder path ≡ true
+    → all ≡ true
+unfolding is_below_any
+below_found folder others entries path all held is found = held ∙ (ap (λ l. is_below_any l path) is ∙ rw (found, is_below_any) refl)

@@ -10,7 +10,7 @@ use Rattle.elf_table.specs.Prelude.{CallReads, CursorState, IsAt, IsOfRead, Tabl
 use Rattle.elf_table.specs.declared.fault.Fault.{Fault}
 use Rattle.elf_table.specs.declared.fault.Fault.TheVariants.{Refused, Source}
 use Rattle.elf_note.specs.DynCursors.{DynCursorState, StartsEntries, entries_left}
-use Rattle.elf_needs.specs.Prelude.{KeepsLinks, LinkInfoState, ReturnsLinks}
+use Rattle.elf_needs.specs.Prelude.{KeepsLinks, LinkInfoState, ReturnsLinks, no_info}
 use Rattle.elf_needs.specs.declared.links.LinkInfo.{LinkInfo}
 
 -- a call after reads that leave this much of what all may read
@@ -31,7 +31,7 @@ pub account_start : (c : CursorState) (table : TableRange) → c.failed ≡ None
 account_start c table none unread left = rw (none, unread, left) refl
 
 -- nothing is stored yet
-pub keeps_none : (held : LinkInfoState) (links : LinkInfo) → links ≡ record { soname = None; rpath = None; runpath = None }
+pub keeps_none : (held : LinkInfoState) (links : LinkInfo) → links ≡ no_info
     → KeepsLinks held held links (record { links = no_link_info; room = held.held.room })
 keeps_none held links is = rw is (record {
   more = [];
@@ -66,7 +66,7 @@ module _ (file : List ℕ) (address size : Option ℕ) where
 
   -- before the first entry
   pub links_start : (table : TableRange) (d : DynCursorState) → StartsEntries table d → (held : LinkInfoState) (links : LinkInfo)
-      → links ≡ record { soname = None; rpath = None; runpath = None }
+      → links ≡ no_info
       → LeftLinks (linked_from file address size table.at (record { links = no_link_info; room = held.held.room }) (dynamic_count file table.at table.count))
       file address size (next_row d.cursor) (entries_left file d) held held links
   links_start table d s held links is =

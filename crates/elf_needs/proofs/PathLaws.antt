@@ -46,48 +46,37 @@ made_of new text true short (t, is, put) =
 made_of new text false short long = is_long text (behind_none (length text) (long text refl))
 
 -- by the directory that an entry names
-by_folder : (root name : List ℕ) (origin : Option (List ℕ)) (entry folder : List ℕ) → dir_of_entry origin entry ≡ Some folder
-    → entry_path root name origin entry ≡ if_short (path_in (root_before root entry ++ folder) name)
+by_folder : (root name : List ℕ) (origin : Option (List ℕ)) (entry : List ℕ) → entry_path root name origin entry ≡ if_short (path_in (root_before root entry ++ dir_of_entry origin entry) name)
 unfolding entry_path
-by_folder root name origin entry folder is = rw (entry_path, is) refl
-
-no_folder : (root name : List ℕ) (origin : Option (List ℕ)) (entry : List ℕ) → dir_of_entry origin entry ≡ None → entry_path root name origin entry ≡ None
-unfolding entry_path
-no_folder root name origin entry is = rw (entry_path, is) refl
+by_folder root name origin entry = refl
 
 module _ (root name : List ℕ) (origin : Option (List ℕ)) (entry : List ℕ) where
   -- a path that is too long
-  pub too_long : ((folder : List ℕ) → dir_of_entry origin entry ≡ Some folder → MOST_PATH_BYTES < length (root_before root entry) + length folder)
-      → entry_path root name origin entry ≡ None
-  too_long long = go (dir_of_entry origin entry) refl
-    where
-      go : (found : Option (List ℕ)) → dir_of_entry origin entry ≡ found → entry_path root name origin entry ≡ None
-      go None is = no_folder root name origin entry is
-      go (Some folder) is =
-          let l = long folder is in
-          let before = length-append (root_before root entry) folder in
-          by_folder root name origin entry folder is ∙ is_long _ (long_path (root_before root entry ++ folder) name (omega (arith, l, before)))
+  too_long : MOST_PATH_BYTES < length (root_before root entry) + length (dir_of_entry origin entry) → entry_path root name origin entry ≡ None
+  too_long long =
+      let before = length-append (root_before root entry) (dir_of_entry origin entry) in
+      by_folder root name origin entry ∙ is_long _ (long_path (root_before root entry ++ dir_of_entry origin entry) name (omega (arith, long, before)))
 
   pub entry_made : (mid put new : List ℕ) (r : Bool) → (r ≡ true → length new ≤ MOST_PATH_BYTES) → PutsText [] mid (Some (root_before root entry)) true
-      → PutsText mid put (dir_of_entry origin entry) true → PutsText put new (Some (after_dir put ++ name)) r
+      → PutsText mid put (Some (dir_of_entry origin entry)) true → PutsText put new (Some (after_dir put ++ name)) r
       → IsMade new (entry_path root name origin entry) r
   entry_made mid put new r short (text, is, rooted) (folder, found, behind) last =
-      let e : put ≡ root_before root entry ++ folder = behind ∙ ap (λ t. t ++ folder) (rooted ∙ sym (some_same is)) in
+      let e : put ≡ root_before root entry ++ dir_of_entry origin entry = behind ∙ (ap (λ t. t ++ folder) (rooted ∙ sym (some_same is)) ∙ ap (λ t. root_before root entry ++ t) (sym (some_same found))) in
       let whole : PutsText [] new (Some (path_in put name)) r = puts_both [] put new put (after_dir put ++ name) r (put, refl, refl) last in
       let made = made_of new (path_in put name) r short whole in
-      at_made (by_folder root name origin entry folder found ∙ ap (λ t. if_short (path_in t name)) (sym e)) r made
+      at_made (by_folder root name origin entry ∙ ap (λ t. if_short (path_in t name)) (sym e)) r made
     where
       at_made : {wanted other : Option (List ℕ)} → wanted ≡ other → (r : Bool) → IsMade new other r → IsMade new wanted r
       at_made is true made = is ∙ made
       at_made is false made = is ∙ made
 
   pub not_rooted : (new : List ℕ) → PutsText [] new (Some (root_before root entry)) false → IsMade new (entry_path root name origin entry) false
-  not_rooted new long = too_long (λ folder is. let l = behind_none (length (root_before root entry)) (long (root_before root entry) refl) in omega (arith, l))
+  not_rooted new long = too_long (let l = behind_none (length (root_before root entry)) (long (root_before root entry) refl) in omega (arith, l))
 
-  pub not_named : (mid new : List ℕ) → PutsText [] mid (Some (root_before root entry)) true → PutsText mid new (dir_of_entry origin entry) false
+  pub not_named : (mid new : List ℕ) → PutsText [] mid (Some (root_before root entry)) true → PutsText mid new (Some (dir_of_entry origin entry)) false
       → IsMade new (entry_path root name origin entry) false
-  not_named mid new (text, is, rooted) long = too_long (λ folder found.
-      let l = long folder found in
+  not_named mid new (text, is, rooted) long = too_long (
+      let l = long (dir_of_entry origin entry) refl in
       let e : length mid ≡ length (root_before root entry) = ap length (rooted ∙ sym (some_same is)) in
       omega (arith, l, e))
 

@@ -14,7 +14,7 @@ use Rattle.elf_note.specs.declared.string_values.DynamicStrings.{DynamicStrings}
 use Rattle.elf_hash.proofs.SettleLaws.{checked_fails}
 use Rattle.elf_hash.specs.Prelude.{FindsLookupTables, LoadsSegments}
 use Rattle.elf_needs.proofs.LoopLaws.{keeps_none}
-use Rattle.elf_needs.specs.Prelude.{LinkInfoState, ReturnsLinks, ReturnsLookupRefusal, linked_in_segments, lookup_passed}
+use Rattle.elf_needs.specs.Prelude.{HasFlags, LinkInfoState, ReturnsLinks, ReturnsLookupRefusal, linked_in_segments, lookup_passed, no_info}
 use Rattle.elf_needs.specs.declared.links.LinkInfo.{LinkInfo}
 
 -- A LOOKUP: a file without a hash table is skipped, so that a call did not stop
@@ -96,13 +96,17 @@ module _ (file : List ℕ) where
   segments_are : (room : TextRoom) → dynamic_segment_index file ≡ None → linked_in_segments file room ≡ Ok (record { links = no_link_info; room = room })
   segments_are room none = rw (none, linked_in_segments) refl
 
-  pub segments_none : dynamic_segment_index file ≡ None → (held : LinkInfoState) (links : LinkInfo) → links ≡ record { soname = None; rpath = None; runpath = None }
+  pub segments_none : dynamic_segment_index file ≡ None → (held : LinkInfoState) (links : LinkInfo) → links ≡ no_info
       → ReturnsLinks (linked_in_segments file held.held.room) held held (Ok links)
   segments_none none held links is = (_, segments_are held.held.room none, keeps_none held links is)
 
 -- links in other words
 pub links_as : (told other : Result LinkState Refusal) (old new : LinkInfoState) (result : Result LinkInfo Fault) → told ≡ other → ReturnsLinks told old new result → ReturnsLinks other old new result
 links_as told other old new result same tells = subst (λ t. ReturnsLinks t old new result) same tells
+
+-- and a refusal of them
+pub links_refused : (told other : Result LinkState Refusal) (old new : LinkInfoState) (fault : Fault) → told ≡ other → ReturnsLinks told old new (Err fault) → ReturnsLinks other old new (Err fault)
+links_refused told other old new fault same tells = links_as told other old new (Err fault) same tells
 
 -- n rows of 16 bytes lie within a source of a size
 pub rows_most : (table : TableRange) (size : ℕ) → table.entry ≡ 16 → table.count * table.entry ≤ size → table.count * 4160 ≤ size / 16 * 4160
@@ -135,10 +139,11 @@ unfolding links_of
 links_are file headers room = refl
 
 pub found_hidden : {a b c d : CountedState} (headers : ℕ) (room : TextRoom) (old new : LinkInfoState) (result : Result LinkInfo Fault) (most : ℕ → ℕ) → MasksSectionHeaders a b true → MasksSectionHeaders c d a.hides
-    → CallDid b c (fault_of_result result) (most b.seen.size) (λ file. e_shnum file ≡ 0 → ReturnsLinks (links_by_segments file headers room) old new result)
-    → CallDid a d (fault_of_result result) (most a.seen.size) (λ file. ReturnsLinks (links_of file headers room) old new result)
+    → CallDid b c (fault_of_result result) (most b.seen.size) (λ file. e_shnum file ≡ 0 → ReturnsLinks (links_by_segments file headers room) old new result × HasFlags file result)
+    → CallDid a d (fault_of_result result) (most a.seen.size) (λ file. ReturnsLinks (links_of file headers room) old new result × HasFlags (without_sections file) result)
 found_hidden {a} {b} {c} {d} headers room old new result most hide show did = record {
   costs = subst (λ (size : ℕ). CallReads a d (fault_of_result result) (most size)) hide.same_size (charges_hidden _ (fault_of_result result) hide show did.costs);
   known = λ file held.
-      links_as _ _ old new result (links_are file headers room) (did.known (without_sections file) (hide.shows refl file held) (view_tells_of_none file).1);
+      let links = did.known (without_sections file) (hide.shows refl file held) (view_tells_of_none file).1 in
+      (links_as _ _ old new result (links_are file headers room) links.0, links.1);
 }

@@ -1,5 +1,5 @@
 -- A line written in pieces ends in the name and the referenced version.
-use Rattle.std.proofs.Common.{◌≡◌, ℕ, List, ◌++◌, refl, sym, ap, ◌∙◌, append_assoc}
+use Rattle.std.proofs.Common.{◌≡◌, ℕ, List, ◌++◌, sym, ap, ◌∙◌, append_assoc}
 use Rattle.std.specs.Prelude.{codes}
 use Rattle.elf_model.specs.Prelude.{closing, escaped, member_key, name_member, name_text, quoted, string_text, version_member}
 use Rattle.elf_model.specs.BindingLines.{line_requested}

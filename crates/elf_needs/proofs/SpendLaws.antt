@@ -11,6 +11,7 @@ use Rattle.elf_loader.specs.Lookups.{lookup_bytes}
 use Rattle.elf_hash.specs.Prelude.{IsLookupTables, LookupTablesInBounds, place_of_table}
 use Rattle.elf_hash.specs.declared.table.HashTable.{HashTable}
 use Rattle.elf_hash.specs.declared.lookup_tables.LookupTables.{LookupTables}
+use Rattle.elf_needs.specs.Filters.{filter_bytes}
 use Rattle.elf_needs.specs.Prelude.{DefinesAfter, DefinesIn, FaultLeaves, IsKept, IsReadyIf, IsReadyIn, LooksInObject, OverLeft, Prepares, ReturnsReady, SpendsAtMost, SpendsBudget, kept_cost, ready_bytes}
 use Rattle.std.specs.Result.{result_unwrap_or}
 
@@ -107,7 +108,7 @@ kept_ready old new headers scope before ready kept size file placed told = recor
 }
 
 -- THE LAW: what lookups have in common is read
-pub prepares_as : (a d : CountedState) (headers : ℕ) (left left_new : Option ℕ) (stop : Option Fault) (n : ℕ) → n ≡ ready_bytes a.seen.size → SpendsAtMost a d left stop n → SpendsBudget left left_new a.asked d.asked
+pub prepares_as : (a d : CountedState) (headers : ℕ) (left left_new : Option ℕ) (stop : Option Fault) (n : ℕ) → n ≡ ready_bytes a.seen.size + filter_bytes → SpendsAtMost a d left stop n → SpendsBudget left left_new a.asked d.asked
     → Prepares (record { src = a; headers = headers }) (record { src = d; headers = headers }) left left_new
 prepares_as a d headers left left_new stop n is spends pays =
     let most = spends.at_most in

@@ -1,6 +1,6 @@
 -- The effect of binding the symbols of a program's objects, over files that are kept open.
 use Rattle.std.specs.Prelude.{ℕ, ◌≡◌, ◌+◌, ◌<◌, ◌≤◌, ◌⊎◌, Bool, true, false, List, [], ◌++◌, length, get_or, Option, None, Some, Result, Ok, Err}
-use Rattle.elf_model.specs.Prelude.{BoundItem, BoundObjects, Faulty, IsBudgetRefusal, LookupTables as IsScopeOf, Told, any_unbound, before_items, bound_text, file_of_version, is_weak, lookup_tables_of, refusal_line, symbol_offset}
+use Rattle.elf_model.specs.Prelude.{BoundItem, BoundObjects, Faulty, IsBudgetRefusal, LookupTables as IsScopeOf, Told, any_unbound, before_items, file_of_version, is_weak, lookup_tables_of, refusal_line, symbol_offset}
 use Rattle.elf_model.specs.declared.states.BindingState.{BindingState}
 use Rattle.elf_source.specs.Source.{counted}
 use Rattle.elf_model.specs.declared.formats.Format.{Format}
@@ -11,6 +11,8 @@ use Rattle.elf_table.specs.declared.fault.Fault.TheVariants.{Refused, Source}
 use Rattle.elf_needs.specs.Binds.{AreObjectFiles, asked_of_all}
 use Rattle.elf_needs.specs.Kept.{LookupObjectState}
 use Rattle.elf_needs.specs.Looks.{SpendsBudget}
+use Rattle.elf_needs.specs.ListedLines.{listed_text}
+use Rattle.elf_needs.specs.declared.line_options.LineOptions.{LineOptions}
 use Rattle.elf_needs.specs.declared.reference.SymbolReference.{SymbolReference}
 use Rattle.elf_loader.specs.Naming.{IsFileIf}
 use Rattle.elf_needs.specs.Called.{called_by}
@@ -27,10 +29,11 @@ abbrev pub bound_of : (headers : ℕ) → (files : List (List ℕ)) → (indexes
 bound_of headers files indexes known = record { files = files; indexes = indexes; headers = headers; called = called_by known }
 
 abbrev pub bound_among : (headers : ℕ) → List (List ℕ) → SearchScope → BoundObjects
-bound_among headers files among = bound_of headers files among.indexes.now among.known.now
+bound_among headers files scope = bound_of headers files scope.indexes.now scope.known.now
 
 -- an object is unchanged, except how many bytes were requested from it; and each of some
 pub record SameObject (old new : LookupObjectState) : Type 0 where
+  pub same_size : new.src.seen.size ≡ old.src.seen.size
   pub same_file : new.src.seen.file ≡ old.src.seen.file
   pub same_headers : new.headers ≡ old.headers
   pub grows : old.src.asked ≤ new.src.asked
@@ -78,33 +81,33 @@ ReturnsItem told object symbol name version (Err (Source fault at)) = Unit {0}
 
 -- a text is a prefix of the lines, each whole, and then that of a refusal for lack of budget, which
 -- is short there
-pub record IsCutText (format : Format) (all : List BoundItem) (short : Refusal → Type 0) (text : List ℕ) : Type 0 where
+pub record IsCutText (lines : LineOptions) (all : List BoundItem) (short : Refusal → Type 0) (text : List ℕ) : Type 0 where
   pub front : List BoundItem
   pub rest : List BoundItem
   pub split : all ≡ front ++ rest
   pub refusal : Refusal
   pub for_budget : IsBudgetRefusal refusal
   pub is_short : short refusal
-  pub text_is : text ≡ bound_text format front ++ refusal_line format refusal
+  pub text_is : text ≡ listed_text lines front ++ refusal_line lines.format refusal
 
 -- only the first lines were written
-pub record WritesFront (format : Format) (all : List BoundItem) (old new : OutState) : Type 0 where
+pub record WritesFront (lines : LineOptions) (all : List BoundItem) (old new : OutState) : Type 0 where
   pub front : List BoundItem
   pub rest : List BoundItem
   pub split : all ≡ front ++ rest
-  pub takes : SinkTakes old new (bound_text format front)
+  pub takes : SinkTakes old new (listed_text lines front)
 
 -- THE EFFECT OF WRITING THE LINES: all of them are written; or, only if the budget is short, a
 -- prefix of them and the line that reports it; or a read failed after a prefix; or the output
 -- failed in one of these texts. No file is opened for it
-abbrev pub WritesLines : Format → List BoundItem → (short : Refusal → Type 0) → OutState → OutState → Result WriteEnd NeedsFault → Type 0
-WritesLines format all short old new (Ok (Whole fails)) = SinkTakes old new (bound_text format all) × (fails ≡ any_unbound all)
-WritesLines format all short old new (Ok Ended) = SinkTakes old new (bound_text format all) × (any_unbound all ≡ true)
-WritesLines format all short old new (Ok Cut) = (text : List ℕ) × IsCutText format all short text × SinkTakes old new text
-WritesLines format all short old new (Err Read) = WritesFront format all old new
-WritesLines format all short old new (Err Open) = ⊥
-WritesLines format all short old new (Err (Out fault)) =
-    (text : List ℕ) × ((text ≡ bound_text format all) ⊎ (IsCutText format all short text)) × SinkTakesPrefix old new text × IsOutFault new fault
+abbrev pub WritesLines : LineOptions → List BoundItem → (short : Refusal → Type 0) → OutState → OutState → Result WriteEnd NeedsFault → Type 0
+WritesLines lines all short old new (Ok (Whole fails)) = SinkTakes old new (listed_text lines all) × (fails ≡ any_unbound all)
+WritesLines lines all short old new (Ok Ended) = SinkTakes old new (listed_text lines all) × (any_unbound all ≡ true)
+WritesLines lines all short old new (Ok Cut) = (text : List ℕ) × IsCutText lines all short text × SinkTakes old new text
+WritesLines lines all short old new (Err Read) = WritesFront lines all old new
+WritesLines lines all short old new (Err Open) = ⊥
+WritesLines lines all short old new (Err (Out fault)) =
+    (text : List ℕ) × ((text ≡ listed_text lines all) ⊎ (IsCutText lines all short text)) × SinkTakesPrefix old new text × IsOutFault new fault
 
 -- how the items of an object go on after those of one symbol: a fault is the last
 abbrev pub LeadsItems : Option BoundItem → Result WriteEnd NeedsFault → Type 0
@@ -114,8 +117,8 @@ LeadsItems item (Ok Cut) = Unit {0}
 LeadsItems item (Err fault) = Unit {0}
 
 -- THE EFFECT OF WRITING THE LINE OF A SYMBOL
-pub record WritesSymbol (format : Format) (item : Option BoundItem) (short : Refusal → Type 0) (old new : OutState) (result : Result WriteEnd NeedsFault) : Type 0 where
-  pub writes : WritesLines format (before_items item []) short old new result
+pub record WritesSymbol (lines : LineOptions) (item : Option BoundItem) (short : Refusal → Type 0) (old new : OutState) (result : Result WriteEnd NeedsFault) : Type 0 where
+  pub writes : WritesLines lines (before_items item []) short old new result
   pub leads : LeadsItems item result
 
 -- the effect of writing the line of a fault: that of a refusal, which ends the lines of an object,
@@ -136,10 +139,10 @@ failing_of Ended = Some true
 failing_of Cut = None
 
 -- n of the items are written, and the others are left
-pub record WritesSoFar (format : Format) (all left : List BoundItem) (old new : OutState) (fails : Bool) : Type 0 where
+pub record WritesSoFar (lines : LineOptions) (all left : List BoundItem) (old new : OutState) (fails : Bool) : Type 0 where
   pub front : List BoundItem
   pub split : all ≡ front ++ left
-  pub takes : SinkTakes old new (bound_text format front)
+  pub takes : SinkTakes old new (listed_text lines front)
   pub fails_is : fails ≡ any_unbound front
 
 -- the exit status after lines: 1 if they report that a symbol is missing, or its state cannot be
@@ -151,7 +154,7 @@ status_after Ended status = 1
 status_after Cut status = 1
 
 -- THE EFFECT OF WRITING THE BINDINGS OF ALL OBJECTS
-abbrev pub WritesBindings : Format → List BoundItem → (short : Refusal → Type 0) → OutState → OutState → (status : ℕ) → Result ℕ NeedsFault → Type 0
-WritesBindings format all short old new before (Ok status) =
-    (came : WriteEnd) × WritesLines format all short old new (Ok came) × (status ≡ status_after came before)
-WritesBindings format all short old new before (Err fault) = WritesLines format all short old new (Err fault)
+abbrev pub WritesBindings : LineOptions → List BoundItem → (short : Refusal → Type 0) → OutState → OutState → (status : ℕ) → Result ℕ NeedsFault → Type 0
+WritesBindings lines all short old new before (Ok status) =
+    (end : WriteEnd) × WritesLines lines all short old new (Ok end) × (status ≡ status_after end before)
+WritesBindings lines all short old new before (Err fault) = WritesLines lines all short old new (Err fault)

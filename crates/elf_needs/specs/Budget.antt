@@ -29,6 +29,12 @@ pub record AsksFound {E : Type 0} (before after : ReadAccount) (result : Result 
   pub spends : before.spent ≤ after.spent
   pub pays : SpendsBudgetAtLeast before.left after.left before.spent (after.spent + asked_of_found result)
 
+-- WHAT WAS REQUESTED FROM FILES THAT ARE CLOSED, for any sources: what is left of the budget
+-- decreases by at least that, except n bytes that were read before
+pub record AsksClosed (asked : ℕ) (before after : ReadAccount) : Type 0 where
+  pub spends : before.spent ≤ after.spent
+  pub pays : SpendsBudgetAtLeast before.left after.left (before.spent + asked) after.spent
+
 -- WHAT WAS REQUESTED FROM THE FILES OF OBJECTS, for any sources: what is left of the budget
 -- decreases by at least what was requested from all files closed since, and from all that are kept,
 -- except n bytes that were read from one of these before

@@ -1,14 +1,18 @@
 -- What dynamic entries give about how a file is linked, and what is stored of it.
-use Rattle.std.specs.Prelude.{ℕ, ◌≡◌, ◌<◌, ◌==◌, Bool, true, false, List, [], ◌∷◌, ◌++◌, length, slice_index_or, Option, None, Some, Result, Ok, Err}
-use Rattle.elf_model.specs.Prelude.{Cut, DT_RPATH, DT_RUNPATH, DT_SONAME, DisplayedName, IsBudgetRefusal, LinkState, NeededName, TextRoom, has_room}
+use Rattle.std.specs.Prelude.{ℕ, ◌≡◌, ◌<◌, ◌==◌, not, Bool, true, false, List, [], ◌∷◌, ◌++◌, length, slice_index_or, Option, None, Some, Result, Ok, Err}
+use Rattle.elf_model.specs.Prelude.{Cut, DF_1_NODEFLIB, DT_RPATH, DT_RUNPATH, DT_SONAME, DisplayedName, IsBudgetRefusal, LinkState, NeededName, TextRoom, flags_1_by_segments, has_room, is_program_file, listed_value}
+use Rattle.elf_model.specs.TraitNumbers.{DT_FLAGS_1}
+use Rattle.std.specs.Int.RustNames.{bit_and}
+use Rattle.elf_note.specs.Prelude.{AreStrings}
 use Rattle.elf_model.specs.declared.causes.Cause.{Cause}
 use Rattle.elf_model.specs.declared.causes.Refusal.{Refusal}
 use Rattle.elf_model.specs.declared.causes.Cause.TheVariants.{TooLong}
 use Rattle.elf_model.specs.Names.DisplayedName.{Whole}
-use Rattle.elf_table.specs.Prelude.{StringTableRange, strings_in}
+use Rattle.elf_table.specs.Prelude.{StringTableRange, TableRange, strings_in}
 use Rattle.elf_table.specs.declared.fault.Fault.{Fault}
 use Rattle.elf_table.specs.declared.fault.Fault.TheVariants.{Refused, Source}
 use Rattle.elf_needs.specs.Held.{LinkInfoState, with_text}
+use Rattle.elf_needs.specs.declared.entry_values.EntryValues.{EntryValues}
 use Rattle.elf_needs.specs.declared.links.LinkInfo.{LinkInfo}
 use Rattle.elf_needs.specs.declared.links.NeededLibrary.{NeededLibrary}
 
@@ -55,7 +59,33 @@ with_index links tag index = record {
   soname = first_index links.soname (tag == DT_SONAME) index;
   rpath = first_index links.rpath (tag == DT_RPATH) index;
   runpath = first_index links.runpath (tag == DT_RUNPATH) index;
+  flags_1 = links.flags_1;
+  is_program = links.is_program;
 }
+
+-- what a file without entries has
+abbrev pub no_info : LinkInfo
+no_info = record { soname = None; rpath = None; runpath = None; flags_1 = 0; is_program = false }
+
+-- flags with that of a file whose needs are not searched for in the default directories
+abbrev pub has_nodeflib : (flags : ℕ) → Bool
+has_nodeflib flags = not (bit_and flags DF_1_NODEFLIB == 0)
+
+-- links with the same texts
+pub record SameTexts (old new : LinkInfo) : Type 0 where
+  pub same_soname : new.soname ≡ old.soname
+  pub same_rpath : new.rpath ≡ old.rpath
+  pub same_runpath : new.runpath ≡ old.runpath
+
+-- the flags are a file's, and it is a program or not
+abbrev pub HasFlags : List ℕ → Result LinkInfo Fault → Type 0
+HasFlags file (Ok links) = (links.flags_1 ≡ flags_1_by_segments file) × (links.is_program ≡ is_program_file file)
+HasFlags file (Err fault) = Unit {0}
+
+-- what the listed entries of a table say of its strings, and the value of one with flags
+abbrev pub AreEntryValues : List ℕ → TableRange → EntryValues → Type 0
+AreEntryValues file table values =
+    AreStrings file table values.strings × (values.flags_1 ≡ listed_value file table.at table.count DT_FLAGS_1)
 
 -- a text at an index, if there is one, is a given text
 abbrev pub IsHeldText : List (List ℕ) → Option ℕ → Option (List ℕ) → Type 0

@@ -1,14 +1,18 @@
 -- What is kept of a file in which names are looked up.
-use Rattle.std.specs.Prelude.{ℕ, ◌≡◌, List, Option, None, Some, Result, Ok, Err, IfSome}
-use Rattle.elf_model.specs.Prelude.{IsBudgetRefusal, LookupTables as IsScopeOf, lookup_tables_of}
+use Rattle.std.specs.Prelude.{ℕ, ◌≡◌, ◌+◌, ◌*◌, List, Option, None, Some, Result, Ok, Err, IfOk, IfSome}
+use Rattle.elf_model.specs.Prelude.{IsBudgetRefusal, LookupTables as IsScopeOf, e_shnum, lookup_tables_of, without_sections}
+use Rattle.elf_model.specs.declared.causes.Refusal.{Refusal}
 use Rattle.elf_source.specs.Source.{CountedState, SourceState}
-use Rattle.elf_table.specs.Prelude.{CallReads}
+use Rattle.elf_table.specs.Prelude.{CallReads, fault_of_result}
 use Rattle.elf_table.specs.declared.fault.Fault.{Fault}
 use Rattle.elf_table.specs.declared.fault.Fault.TheVariants.{Refused, Source}
-use Rattle.elf_hash.specs.Prelude.{IsLookupTables, LookupTablesInBounds, place_of_table, scope_cost}
+use Rattle.elf_hash.specs.Prelude.{FindsLookupTables, IsLookupTables, LookupTablesInBounds, place_of_table, scope_cost}
 use Rattle.elf_hash.specs.declared.table.HashTable.{HashTable}
 use Rattle.elf_hash.specs.declared.lookup_tables.LookupTables.{LookupTables}
 use Rattle.elf_needs.specs.Ready.{IsReadyIf}
+use Rattle.elf_needs.specs.VersionTables.{AreVersionsOf, FileVersionsInBounds}
+use Rattle.elf_needs.specs.declared.file_tables.FileTables.{FileTables}
+use Rattle.elf_needs.specs.declared.version_tables.FileVersions.{FileVersions}
 
 -- its source, and how many headers were allowed when the lookup tables were found
 pub record LookupObjectState : Type 0 where
@@ -48,7 +52,27 @@ ReturnsKept file headers (Ok kept) = kept.headers ≡ headers
 ReturnsKept file headers (Err (src, Refused refusal)) = (IsBudgetRefusal refusal → ⊥) → lookup_tables_of file headers ≡ Err refusal
 ReturnsKept file headers (Err (src, Source fault at)) = Unit {0}
 
+-- how many bytes finding the lookup tables and the tables of versions may request in a known file
+abbrev pub found_tables_cost : List ℕ → (headers size : ℕ) → ℕ
+found_tables_cost file headers size = scope_cost file headers + (64 + headers * 56 + size)
+
+-- the lookup tables are the definition's, and so is a refusal, except one for lack of budget
+abbrev pub FindsScopeOf : List ℕ → Result IsScopeOf Refusal → Result FileTables Fault → Type 0
+FindsScopeOf file told (Ok found) = FindsLookupTables file told (Ok found.scope)
+FindsScopeOf file told (Err fault) = FindsLookupTables file told (Err fault)
+
+-- THE TABLES of a known file
+pub record FindsTables (file : List ℕ) (headers : ℕ) (old new : CountedState) (result : Result FileTables Fault) : Type 0 where
+  pub costs : CallReads old new (fault_of_result result) (found_tables_cost file headers old.seen.size)
+  pub finds : FindsScopeOf file (lookup_tables_of file headers) result
+  pub versions : e_shnum file ≡ 0 → IfOk result (λ found. AreVersionsOf file found.versions)
+
+-- THE TABLES OF VERSIONS ARE THE FILE'S, of a source that shows no section headers
+pub record KnowsVersions (seen : SourceState) (versions : FileVersions) : Type 0 where
+  pub lies : FileVersionsInBounds seen.size versions
+  pub known : (file : List ℕ) → seen.file ≡ Some file → AreVersionsOf file versions × (without_sections file ≡ file)
+
 -- THE LOOKUP TABLES ARE FOUND ONCE, in a known file
 pub record KeepsScope (file : List ℕ) (headers : ℕ) (old : CountedState) (result : Result LookupObjectState (CountedState × Fault)) : Type 0 where
-  pub costs : CallReads old (source_of result) (why_back result) (scope_cost file headers)
+  pub costs : CallReads old (source_of result) (why_back result) (found_tables_cost file headers old.seen.size)
   pub tells : ReturnsKept file headers result

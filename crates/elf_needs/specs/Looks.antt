@@ -1,5 +1,5 @@
 -- The effect of a lookup in one file of several, with a shared budget.
-use Rattle.std.specs.Prelude.{ℕ, ◌≡◌, ◌+◌, ◌<◌, ◌≤◌, List, Option, None, Some, Result, IfSome}
+use Rattle.std.specs.Prelude.{ℕ, ◌≡◌, ◌+◌, ◌<◌, ◌≤◌, List, Option, None, Some, Result, Ok, IfSome}
 use Rattle.elf_model.specs.Prelude.{IsBudgetRefusal, SymbolQuery, definition_cost, definition_lookup}
 use Rattle.elf_source.specs.Source.{CountedState, IsSourceFault, KeepsSource, SameView, counted}
 use Rattle.elf_table.specs.Prelude.{fault_of_result}
@@ -7,6 +7,7 @@ use Rattle.elf_table.specs.declared.fault.Fault.{Fault}
 use Rattle.elf_table.specs.declared.fault.Fault.TheVariants.{Refused, Source}
 use Rattle.elf_loader.specs.Lookups.{lookup_bytes}
 use Rattle.elf_needs.specs.Definers.{ReturnsDefiner}
+use Rattle.elf_needs.specs.Filters.{filter_bytes}
 use Rattle.elf_needs.specs.Kept.{LookupObjectState}
 use Rattle.elf_needs.specs.Ready.{ready_bytes}
 
@@ -51,6 +52,11 @@ pub record DefinesIn (file : List ℕ) (wanted : SymbolQuery) (old new : LookupO
   pub costs : SpendsAtMost old.src new.src left (fault_of_result result) (kept_cost file old.headers wanted)
   pub tells : ReturnsDefiner (definition_lookup file old.headers wanted) result
 
+-- A NAME IS EXCLUDED: no limit is set, and in a known file the lookup finds no definition
+pub record ExcludesName (wanted : SymbolQuery) (object : LookupObjectState) : Type 0 where
+  pub free : object.src.most ≡ None
+  pub known : (file : List ℕ) → object.src.seen.file ≡ Some file → (definition_lookup file object.headers wanted).answer ≡ Ok None
+
 -- THE EFFECT OF A LOOKUP IN ONE FILE
 pub record LooksInObject (wanted : SymbolQuery) (old new : LookupObjectState) (left_old left_new : Option ℕ) (result : Result (Option ℕ) Fault) : Type 0 where
   pub costs : SpendsAtMost old.src new.src left_old (fault_of_result result) (lookup_bytes 28 old.src.seen.size wanted)
@@ -64,9 +70,9 @@ pub record FailsIn (wanted : SymbolQuery) (old new : LookupObjectState) (left_ne
   pub pays : SpendsBudget left left_new old.src.asked new.src.asked
   pub says : FaultLeaves old.src new.src left (lookup_bytes 28 old.src.seen.size wanted) fault
 
--- THE EFFECT OF READING ONCE WHAT LOOKUPS HAVE IN COMMON: at most that is read, and what is left of
--- the budget decreases by it
+-- THE EFFECT OF READING ONCE WHAT LOOKUPS HAVE IN COMMON: at most that is read, and the words of
+-- the filter that are kept, and what is left of the budget decreases by it
 pub record Prepares (old new : LookupObjectState) (left_old left_new : Option ℕ) : Type 0 where
-  pub costs : SpendsAtMost old.src new.src left_old None (ready_bytes old.src.seen.size)
+  pub costs : SpendsAtMost old.src new.src left_old None (ready_bytes old.src.seen.size + filter_bytes)
   pub same_headers : new.headers ≡ old.headers
   pub pays : SpendsBudget left_old left_new old.src.asked new.src.asked

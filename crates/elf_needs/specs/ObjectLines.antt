@@ -1,10 +1,14 @@
 -- The lines of the objects that a program needs.
 use Rattle.std.specs.Prelude.{ℕ, [], ◌∷◌, List, codes, Option, None, Some}
-use Rattle.elf_model.specs.Prelude.{ArgSpec, Decimal, Field, Fields, Hexadecimal, LinePrefix, NameOrDecimal, closed_line, fault_fields, front, named_line}
+use Rattle.elf_model.specs.Prelude.{ArgSpec, Decimal, Field, Fields, Hexadecimal, LinePrefix, NameOrDecimal, closed_line, fault_fields, front, named_line, with_fields}
 use Rattle.elf_model.specs.declared.states.FileStatus.{FileStatus}
 use Rattle.elf_model.specs.declared.formats.Format.{Format}
+use Rattle.elf_model.specs.declared.formats.Format.TheVariants.{Columns, Object}
 use Rattle.elf_model.specs.Names.DisplayedName.{Whole}
 use Rattle.elf_model.specs.declared.states.FileStatus.TheVariants as file
+use Rattle.elf_needs.specs.declared.states.FoundBy.{FoundBy}
+use Rattle.elf_needs.specs.declared.states.FoundBy.TheVariants as by
+use Rattle.elf_needs.specs.declared.states.ObjectRow.{ObjectRow}
 use Rattle.elf_needs.specs.declared.states.ObjectState.{ObjectState}
 use Rattle.elf_needs.specs.declared.states.ObjectState.TheVariants as state
 
@@ -13,32 +17,54 @@ unfoldable pub object_state_name : ObjectState → List ℕ
 object_state_name state.Found = codes "found"
 object_state_name state.Missing = codes "missing"
 object_state_name (state.Refused refusal) = codes "refused"
+object_state_name state.Unused = codes "unused"
 
 -- a malformed file, if an object is refused
 abbrev pub file_state : ObjectState → FileStatus
 file_state (state.Refused refusal) = file.Refused refusal
 file_state state.Found = file.Ok
 file_state state.Missing = file.Ok
+file_state state.Unused = file.Ok
 
 -- the index of the object that first needed one; a hyphen for the file itself
 abbrev pub needer_field : Option ℕ → Field
 needer_field None = NameOrDecimal (codes "needed_by") 5 (Some (codes "-")) 0
 needer_field (Some index) = NameOrDecimal (codes "needed_by") 5 None index
 
+-- the word of how an object was found
+unfoldable pub found_by_name : FoundBy → List ℕ
+found_by_name by.Path = codes "path"
+found_by_name by.Listed = codes "known"
+found_by_name by.Rpath = codes "rpath"
+found_by_name by.LibraryPath = codes "library-path"
+found_by_name by.Runpath = codes "runpath"
+found_by_name by.Cache = codes "cache"
+found_by_name by.Default = codes "default"
+
+-- how an object was found: only an object of JSON has it
+abbrev pub found_by_fields : Format → Option FoundBy → List Field
+found_by_fields Columns found_by = []
+found_by_fields Object None = []
+found_by_fields Object (Some found_by) = ArgSpec (codes "by") 0 (found_by_name found_by) ∷ []
+
 -- an object: its index, the one that first needed it, its state, and its refusal
-abbrev pub object_fields : ℕ → Option ℕ → ObjectState → Fields
-object_fields index needer found = record {
+abbrev pub object_fields : ObjectRow → Fields
+object_fields row = record {
   letter = codes "L";
-  fields = Decimal (codes "index") 5 index ∷ needer_field needer ∷ ArgSpec (codes "state") 8 (object_state_name found) ∷ fault_fields (file_state found);
+  fields = Decimal (codes "index") 5 row.index ∷ needer_field row.needer ∷ ArgSpec (codes "state") 8 (object_state_name row.state) ∷ fault_fields (file_state row.state);
 }
 
 -- an object's line up to its path
-unfoldable pub object_front : Format → ℕ → Option ℕ → ObjectState → LinePrefix
-object_front format index needer found = front format (codes "path") (object_fields index needer found)
+unfoldable pub object_front : Format → ObjectRow → LinePrefix
+object_front format row = record {
+  format = format;
+  key = codes "path";
+  text = with_fields format (front format (codes "path") (object_fields row)).text (found_by_fields format row.found_by);
+}
 
 -- THE LINE OF AN OBJECT, with its path, or the name of one that is missing
-abbrev pub object_line : Format → ℕ → Option ℕ → ObjectState → List ℕ → List ℕ
-object_line format index needer found path = named_line (object_front format index needer found) (Whole path)
+abbrev pub object_line : Format → ObjectRow → List ℕ → List ℕ
+object_line format row path = named_line (object_front format row) (Whole path)
 
 -- the line that ends the objects: the offset of the dynamic entry that leads to it, and why
 unfoldable pub objects_end_line : Format → ℕ → (cause : List ℕ) → List ℕ

@@ -3,8 +3,8 @@ use Rattle.std.specs.Prelude.{Bool, true, false}
 use Rattle.std.specs.declared.io.ErrorKind.{ErrorKind}
 use Rattle.std.specs.declared.io.ErrorKind.TheVariants as kind
 
--- THERE IS NO FILE, or none that this process may open, so that the next path is tried; otherwise the
--- system has a fault, or lacks room
+-- THERE IS NO FILE, or none that this process may open, so that the next path is tried; otherwise
+-- the system has a fault, or lacks room
 abbrev pub is_no_file : ErrorKind → Bool
 is_no_file kind.NotFound = true
 is_no_file kind.NotADirectory = true

@@ -45,7 +45,7 @@ ReturnsMachineWithin left file (Ok machine) = machine ≡ machine_in file
 ReturnsMachineWithin left file (Err (Refused refusal)) = left ≡ None → ⊥
 ReturnsMachineWithin left file (Err (Source fault at)) = Unit {0}
 
--- a file fits that is for a machine, or where the budget has no room to tell
+-- a file fits if it is for a machine, or if the budget is too small to read for which it is
 abbrev pub ReturnsMachineFit : (machine : ℕ) → Option ℕ → List ℕ → Result Bool NeedsFault → Type 0
 ReturnsMachineFit machine left file (Ok true) = left ≡ None → machine_in file ≡ Some machine
 ReturnsMachineFit machine left file (Ok false) = machine_in file ≡ Some machine → ⊥

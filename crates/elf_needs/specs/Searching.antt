@@ -2,10 +2,15 @@
 -- tried for its name, in order, by texts alone (gABI 5, Shared Object Dependencies; ld.so(8)).
 use Rattle.std.specs.Prelude.{◌≡◌, ◌≢◌, ◌<◌, ◌⊎◌, take, ℕ, zero, suc, ◌==◌, ◌&&◌, ◌||◌, nat_eq, nat_lt, not, Bool, true, false, if◌then◌else◌, List, [], ◌∷◌, ◌++◌, length, slice_index, codes, Option, None, Some, option_map}
 use Rattle.std.specs.List.{cons_option, list_any, starts_with}
+use Rattle.elf_needs.specs.declared.states.FoundBy.{FoundBy}
+use Rattle.elf_needs.specs.declared.states.FoundBy.TheVariants as by
 
--- `:` separates directories, `/` the names of a path, `$` begins a token
+-- `:` and `;` separate directories, `/` the names of a path, `$` begins a token
 abbrev pub COLON : ℕ
 COLON = 58
+
+abbrev pub SEMICOLON : ℕ
+SEMICOLON = 59
 
 abbrev pub PATH_SLASH : ℕ
 PATH_SLASH = 47
@@ -46,40 +51,49 @@ token_in origin bytes =
     (token_or (token_size bytes (codes "LIB") (codes "{LIB}")) (codes "lib/x86_64-linux-gnu")
     (token_or (token_size bytes (codes "PLATFORM") (codes "{PLATFORM}")) (codes "x86_64") None))
 
--- a text after its first bytes, with its tokens replaced; none if a `$` begins none
-unfoldable pub expanded : (origin : List ℕ) (skip : ℕ) (text : List ℕ) → Option (List ℕ)
-expanded origin skip [] = Some []
+-- the token with which a text begins
+unfoldable pub token_at : (origin text : List ℕ) → Option Token
+token_at origin [] = None
+token_at origin (b ∷ text) = elim (b == DOLLAR) [ false ↦ None | true ↦ token_in origin text ]
+
+-- a text after its first bytes, with its tokens replaced; a `$` that begins none is a byte like any
+-- other
+unfoldable pub expanded : (origin : List ℕ) (skip : ℕ) (text : List ℕ) → List ℕ
+expanded origin skip [] = []
 expanded origin (suc skip) (b ∷ text) = expanded origin skip text
-expanded origin zero (b ∷ text) = elim (b == DOLLAR) [
-  | false ↦ option_map (λ rest. b ∷ rest) (expanded origin 0 text)
-  | true ↦ elim (token_in origin text) [
-    | None ↦ None
-    | Some token ↦ option_map (λ rest. token.value ++ rest) (expanded origin token.size text)
-  ]
+expanded origin zero (b ∷ text) = elim (token_at origin (b ∷ text)) [
+  | None ↦ b ∷ expanded origin 0 text
+  | Some token ↦ token.value ++ expanded origin token.size text
 ]
 
--- DIRECTORIES. A list of directories, and the directory that replaces `$ORIGIN`: if there is none a
--- `$` is a byte like any other
+-- DIRECTORIES. A list of directories, separated by colons and by another byte, the directory that
+-- replaces `$ORIGIN`: if there is none, no token is replaced; and how a library in one of them was
+-- found
 pub record SearchPathText : Type 0 where
   pub text : List ℕ
+  pub separator : ℕ
   pub origin : Option (List ℕ)
+  pub found_by : FoundBy
 
--- the entries of a list, separated by colons
-unfoldable pub parted : (entry text : List ℕ) → List (List ℕ)
-parted entry [] = entry ∷ []
-parted entry (b ∷ text) = elim (b == COLON) [
-  | true ↦ entry ∷ parted [] text
-  | false ↦ parted (entry ++ b ∷ []) text
+abbrev pub is_separator : (separator b : ℕ) → Bool
+is_separator separator b = b == COLON || b == separator
+
+-- the entries of a list
+unfoldable pub parted : (separator : ℕ) (entry text : List ℕ) → List (List ℕ)
+parted separator entry [] = entry ∷ []
+parted separator entry (b ∷ text) = elim (is_separator separator b) [
+  | true ↦ entry ∷ parted separator [] text
+  | false ↦ parted separator (entry ++ b ∷ []) text
 ]
 
 -- an empty text has none
-unfoldable pub entries_of : List ℕ → List (List ℕ)
-entries_of [] = []
-entries_of (b ∷ text) = parted [] (b ∷ text)
+unfoldable pub entries_of : (separator : ℕ) → List ℕ → List (List ℕ)
+entries_of separator [] = []
+entries_of separator (b ∷ text) = parted separator [] (b ∷ text)
 
 -- the directory that an entry names
-unfoldable pub dir_of_entry : Option (List ℕ) → List ℕ → Option (List ℕ)
-dir_of_entry None entry = Some entry
+unfoldable pub dir_of_entry : Option (List ℕ) → List ℕ → List ℕ
+dir_of_entry None entry = entry
 dir_of_entry (Some origin) entry = expanded origin 0 entry
 
 -- PATHS. What begins with a slash is below another root
@@ -103,13 +117,9 @@ path_in folder name = folder ++ (after_dir folder ++ name)
 abbrev pub if_short : List ℕ → Option (List ℕ)
 if_short path = if nat_lt MOST_PATH_BYTES (length path) then None else Some path
 
--- the path of a name in the directory that an entry names: none if a `$` begins no token, or if it
--- is too long
+-- the path of a name in the directory that an entry names: none if it is too long
 unfoldable pub entry_path : (root name : List ℕ) (origin : Option (List ℕ)) (entry : List ℕ) → Option (List ℕ)
-entry_path root name origin entry = elim (dir_of_entry origin entry) [
-  | None ↦ None
-  | Some folder ↦ if_short (path_in (root_before root entry ++ folder) name)
-]
+entry_path root name origin entry = if_short (path_in (root_before root entry ++ dir_of_entry origin entry) name)
 
 -- the paths of a name in the directories that entries name
 unfoldable pub entry_paths : (root name : List ℕ) (origin : Option (List ℕ)) → List (List ℕ) → List (List ℕ)
@@ -118,25 +128,31 @@ entry_paths root name origin (entry ∷ entries) = cons_option (entry_path root 
 
 -- the paths of a name in a list of directories
 abbrev pub dir_paths : (root name : List ℕ) → SearchPathText → List (List ℕ)
-dir_paths root name folders = entry_paths root name folders.origin (entries_of folders.text)
+dir_paths root name folders = entry_paths root name folders.origin (entries_of folders.separator folders.text)
 
--- THE ORDER. An object that needs others: its DT_RPATH and its DT_RUNPATH, if it has them, and the
--- directory that it is in
+-- THE ORDER. An object that needs others: its DT_RPATH and its DT_RUNPATH, if it has them, the
+-- directory that it is in, and whether its needs are not searched for in the default directories
+-- (DF_1_NODEFLIB)
 pub record NeedingObject : Type 0 where
   pub rpath : Option (List ℕ)
   pub runpath : Option (List ℕ)
   pub folder : List ℕ
+  pub nodeflib : Bool
+
+-- the directories that a text of an object gives
+abbrev pub object_dirs : (folder text : List ℕ) → FoundBy → SearchPathText
+object_dirs folder text found_by = record { text = text; separator = COLON; origin = Some folder; found_by = found_by }
 
 -- what an object's own DT_RPATH gives: nothing if it has DT_RUNPATH
 abbrev pub rpath_of : NeedingObject → Option SearchPathText
 rpath_of needer = elim needer.runpath [
   | Some text ↦ None
-  | None ↦ option_map (λ text. record { text = text; origin = Some needer.folder }) needer.rpath
+  | None ↦ option_map (λ text. object_dirs needer.folder text by.Rpath) needer.rpath
 ]
 
 -- what its DT_RUNPATH gives
 abbrev pub runpath_of : NeedingObject → Option SearchPathText
-runpath_of needer = option_map (λ text. record { text = text; origin = Some needer.folder }) needer.runpath
+runpath_of needer = option_map (λ text. object_dirs needer.folder text by.Runpath) needer.runpath
 
 -- what DT_RPATH gives of an object, of the one that first needed it, and so on
 unfoldable pub rpath_dirs : List NeedingObject → List SearchPathText
@@ -153,28 +169,68 @@ abbrev pub unless_runpath : Option SearchPathText → List SearchPathText → Li
 unless_runpath None folders = folders
 unless_runpath (Some runpath) folders = []
 
--- directories given on a command line
-abbrev pub given_dirs : List ℕ → SearchPathText
-given_dirs text = record { text = text; origin = None }
+-- the library path that is given: semicolons separate its directories too, and tokens are replaced
+-- in it as in a text of the program, whose directory that is
+abbrev pub library_dirs : (program text : List ℕ) → SearchPathText
+library_dirs program text = record { text = text; separator = SEMICOLON; origin = Some program; found_by = by.LibraryPath }
+
+-- the default directories: no token is replaced in them
+abbrev pub default_dirs : List ℕ → SearchPathText
+default_dirs text = record { text = text; separator = COLON; origin = None; found_by = by.Default }
+
+-- the directories of a system, which are searched if no others are given, by whether `/lib` and
+-- `/usr/lib` have a directory `x86_64-linux-gnu`: if so, `/lib64` or `/usr/lib64` is not searched
+unfoldable pub system_dirs : (lib usr : Bool) → List ℕ
+system_dirs lib usr =
+    codes "/lib/x86_64-linux-gnu:/usr/lib/x86_64-linux-gnu" ++ ((if lib then [] else codes ":/lib64") ++ ((if usr then [] else codes ":/usr/lib64") ++ codes ":/lib:/usr/lib"))
+
+-- they are left out if the first of these objects says so
+unfoldable pub default_for : List NeedingObject → List ℕ → List ℕ
+default_for [] default = default
+default_for (needer ∷ above) default = if needer.nodeflib then [] else default
 
 -- THE DIRECTORIES in which a library is searched that an object needs, the first of these; after it
 -- comes the object that first needed it, and so on. Its DT_RPATH and theirs, unless it has
 -- DT_RUNPATH; the given library path; its DT_RUNPATH; the default directories
-abbrev pub search_dirs : (library default : List ℕ) → List NeedingObject → List SearchPathText
+abbrev pub search_dirs : (library : SearchPathText) (default : List ℕ) → List NeedingObject → List SearchPathText
 search_dirs library default needers =
-    unless_runpath (first_runpath needers) (rpath_dirs needers) ++ (given_dirs library ∷ cons_option (first_runpath needers) (given_dirs default ∷ []))
+    unless_runpath (first_runpath needers) (rpath_dirs needers) ++ (library ∷ cons_option (first_runpath needers) (default_dirs (default_for needers default) ∷ []))
+
+-- a path is below a directory, and below one of some
+abbrev pub is_below : (folder path : List ℕ) → Bool
+is_below folder path = starts_with nat_eq path folder && slice_index path (length folder) == PATH_SLASH
+
+unfoldable pub is_below_any : List (List ℕ) → (path : List ℕ) → Bool
+is_below_any [] path = false
+is_below_any (folder ∷ folders) path = is_below folder path || is_below_any folders path
+
+-- it is below one of the default directories
+abbrev pub is_below_default : (default path : List ℕ) → Bool
+is_below_default default path = is_below_any (entries_of COLON default) path
 
 -- the paths of a name in all of them
 unfoldable pub searched_paths : (root name : List ℕ) → List SearchPathText → List (List ℕ)
 searched_paths root name [] = []
 searched_paths root name (folders ∷ others) = dir_paths root name folders ++ searched_paths root name others
 
--- THE PATHS THAT ARE TRIED for a name: if it has a slash that path alone
-unfoldable pub paths_tried : (root library default : List ℕ) → List NeedingObject → (name : List ℕ) → List (List ℕ)
-paths_tried root library default needers name = elim (list_any (λ b. b == PATH_SLASH) name) [
+-- the name of a library that an object needs: its tokens are replaced as in a text of the object,
+-- the first of these
+unfoldable pub replaced_name : List NeedingObject → List ℕ → List ℕ
+replaced_name [] name = name
+replaced_name (needer ∷ above) name = expanded needer.folder 0 name
+
+-- the paths that are tried for a name whose tokens are replaced: if it has a slash that path alone
+unfoldable pub paths_of_name : (root : List ℕ) (library : SearchPathText) (default : List ℕ) → List NeedingObject → (name : List ℕ) → List (List ℕ)
+paths_of_name root library default needers name = elim (list_any (λ b. b == PATH_SLASH) name) [
   | true ↦ cons_option (if_short (root_before root name ++ name)) []
   | false ↦ searched_paths root name (search_dirs library default needers)
 ]
+
+-- THE PATHS THAT ARE TRIED for the name of a library that an object needs, with a program's
+-- directory
+unfoldable pub paths_tried : (root program library default : List ℕ) → List NeedingObject → (name : List ℕ) → List (List ℕ)
+paths_tried root program library default needers name =
+    paths_of_name root (library_dirs program library) default needers (replaced_name needers name)
 
 -- THE DIRECTORY of a path: what is before its last slash, `/` if nothing is, and the current
 -- directory if there is no slash

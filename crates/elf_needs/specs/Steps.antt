@@ -2,7 +2,7 @@
 use Rattle.std.specs.Prelude.{ℕ, ◌≡◌, ◌+◌, ◌<◌, Bool, true, false, List, [], ◌++◌, length, map, Option, None, Some}
 use Rattle.std.specs.Borrow.{Bor}
 use Rattle.elf_needs.specs.Searching.{SearchPathText, MOST_PATH_BYTES, NeedingObject, Token, parted}
-use Rattle.elf_needs.specs.declared.folders.SearchPathList.{SearchPathList}
+use Rattle.elf_needs.specs.declared.search_path_list.SearchPathList.{SearchPathList}
 use Rattle.elf_needs.specs.declared.needers.NeedingObject.{NeedingObject as BorrowedNeeder}
 use Rattle.elf_needs.specs.declared.tokens.StringToken.{StringToken}
 
@@ -26,22 +26,22 @@ origin_of None = None
 origin_of (Some origin) = Some origin.now
 
 abbrev pub dirs_of : SearchPathList → SearchPathText
-dirs_of folders = record { text = folders.text.now; origin = origin_of folders.origin }
+dirs_of folders = record { text = folders.text.now; separator = folders.separator; origin = origin_of folders.origin; found_by = folders.found_by }
 
 abbrev pub dirs_in : List SearchPathList → List SearchPathText
 dirs_in lists = map dirs_of lists
 
 -- objects by borrowed texts
 abbrev pub needer_of : BorrowedNeeder → NeedingObject
-needer_of needer = record { rpath = origin_of needer.rpath; runpath = origin_of needer.runpath; folder = needer.folder.now }
+needer_of needer = record { rpath = origin_of needer.rpath; runpath = origin_of needer.runpath; folder = needer.folder.now; nodeflib = needer.nodeflib }
 
 abbrev pub needers_of : List BorrowedNeeder → List NeedingObject
 needers_of needers = map needer_of needers
 
 -- the entries of what is left of a text; if none is left there is none
-abbrev pub left_entries : Option (Bor (List ℕ)) → List (List ℕ)
-left_entries None = []
-left_entries (Some text) = parted [] text.now
+abbrev pub left_entries : (separator : ℕ) → Option (Bor (List ℕ)) → List (List ℕ)
+left_entries separator None = []
+left_entries separator (Some text) = parted separator [] text.now
 
 -- how many bytes are left of a text, with one for each of its entries' ends
 abbrev pub left_bytes : Option (Bor (List ℕ)) → ℕ

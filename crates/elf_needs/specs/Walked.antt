@@ -1,15 +1,17 @@
--- What becomes of an object that is read.
-use Rattle.std.specs.Prelude.{ℕ, None}
+-- The state of an object that was read.
+use Rattle.std.specs.Prelude.{ℕ}
+use Rattle.elf_needs.specs.Entries.{no_info}
 use Rattle.elf_needs.specs.declared.states.ObjectState.{ObjectState}
-use Rattle.elf_needs.specs.declared.states.ObjectState.TheVariants.{Found, Missing, Refused}
-use Rattle.elf_needs.specs.declared.walk.ObjectReport.{ObjectReport}
+use Rattle.elf_needs.specs.declared.states.ObjectState.TheVariants.{Found, Missing, Refused, Unused}
+use Rattle.elf_needs.specs.declared.object_reports.ObjectReport.{ObjectReport}
 
 -- the exit status once an object of a state is listed: 1 where that is missing or refused
 abbrev pub status_with : ObjectState → ℕ → ℕ
 status_with Found status = status
 status_with Missing status = 1
 status_with (Refused refusal) status = 1
+status_with Unused status = status
 
--- the report of an object of which nothing but its state is told
-abbrev pub told_alone : ObjectState → ObjectReport
-told_alone state = record { state = state; links = record { soname = None; rpath = None; runpath = None }; needs = 0; needs_end = 0 }
+-- the report of an object of which only the state is known
+abbrev pub report_alone : ObjectState → ObjectReport
+report_alone state = record { state = state; links = no_info; needs = 0; needs_end = 0 }

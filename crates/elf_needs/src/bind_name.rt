@@ -3,6 +3,7 @@ ghost use Rattle.elf_needs.specs.Binds.{BindsAcross};
 ghost use Rattle.elf_loader.specs.Lookups.{AreShort};
 ghost use Rattle.elf_options.specs.Wants.{query_of};
 
+use crate::kept_filter::filter_hash;
 use crate::object::LookupObject;
 use elf_options::SymbolQuery;
 use elf_source::Source;
@@ -49,8 +50,9 @@ pub fn bind<S: Source>(
     requires { AreShort (query_of wanted.now) }
     ensures { BindsAcross (query_of wanted.now) objects.old objects.new left.old left.new result }
 {
+    let hash = filter_hash(wanted);
     for object in 0..objects.len() {
-        match objects[object].look(left, wanted) {
+        match objects[object].look(left, wanted, hash) {
             Ok(Some(symbol)) => return Ok(BindResult::Bound { object, symbol }),
             Ok(None) => {}
             Err(fault) => return Err(BindFault { object, fault }),

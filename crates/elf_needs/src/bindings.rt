@@ -5,7 +5,7 @@ ghost use Rattle.elf_model.specs.BoundSymbols.{before_items, bound_item, bound_i
 ghost use Rattle.elf_model.specs.LoaderScope.{LookupTables as IsScopeOf, lookup_tables_of};
 ghost use Rattle.elf_needs.specs.Bound.{AsksAll, IsBudgetShort, ReturnsFault, WritesBindings, WritesLines, WritesSymbol, bound_among, bound_of, status_after};
 
-use crate::binding_rows::show_binding;
+use crate::binding_rows::list_binding;
 use crate::binding_states::is_unbound;
 use crate::bound_states::{DefinitionAt, item_of};
 use crate::faults::is_budget_fault;
@@ -22,7 +22,8 @@ use elf_table::Fault;
 impl<W: Sink> DependencyWalk<'_, '_, W> {
     /// Writes a line for each symbol that the listed objects reference, in their order: the object
     /// that defines it is the first, of all in order, in which a loader's lookup by segments finds
-    /// the name among its defined symbols.
+    /// the name among its defined symbols. If only problems are written, the lines of symbols that
+    /// are bound or weak are not.
     ///
     /// Returns the exit status: 1 also if one is missing, or a lookup is refused. A fault of an
     /// object's own symbol, name or version ends its lines. Requests at most the bytes left of the
@@ -36,29 +37,29 @@ impl<W: Sink> DependencyWalk<'_, '_, W> {
             self.old.search.account.left self.new.search.account.left }
         ensures known { (headers : ℕ) (files : List (List ℕ)) →
             AreObjectFiles headers opened.old.objects.items files →
-            WritesBindings self.old.format
+            WritesBindings self.old.lines
             (bound_items (bound_of headers files opened.old.indexes.items self.old.objects))
             (IsBudgetShort opened.new.objects.items self.new.search.account.left)
             self.old.out self.new.out
             self.old.status result }
     {
-        let among = SearchScope {
+        let scope = SearchScope {
             indexes: &opened.indexes,
             known: &self.objects,
-            format: self.format,
+            lines: self.lines,
         };
         let left = &mut self.search.account.left;
-        let came = bind_all(&mut opened.objects, &among, left, &mut self.out)?;
-        self.status = status_after(came, self.status);
+        let end = bind_all(&mut opened.objects, &scope, left, &mut self.out)?;
+        self.status = status_after(end, self.status);
         Ok(self.status)
     }
 }
 
 /// Returns the exit status after lines.
-fn status_after(came: WriteEnd, status: u8) -> u8
-    ensures { result ≡ status_after came status }
+pub(crate) fn status_after(end: WriteEnd, status: u8) -> u8
+    ensures { result ≡ status_after end status }
 {
-    match came {
+    match end {
         WriteEnd::Whole { fails: false } => status,
         WriteEnd::Whole { fails: true } | WriteEnd::Ended | WriteEnd::Cut => 1,
     }
@@ -70,21 +71,21 @@ fn status_after(came: WriteEnd, status: u8) -> u8
 /// A read or the output failed.
 fn bind_all<S: Source, W: Sink>(
     objects: &mut [LookupObject<S>],
-    among: &SearchScope<'_>,
+    scope: &SearchScope<'_>,
     left: &mut Option<u64>,
     out: &mut Out<W>,
 ) -> Result<WriteEnd, NeedsFault>
     ensures asks { AsksAll objects.old objects.new left.old left.new }
     ensures known { (headers : ℕ) (files : List (List ℕ)) →
         AreObjectFiles headers objects.old files →
-        WritesLines among.now.format (bound_items (bound_among headers files among.now))
+        WritesLines scope.now.lines (bound_items (bound_among headers files scope.now))
         (IsBudgetShort objects.new left.new) out.old out.new result }
 {
     let mut names = ReferenceNames::new();
     let mut fails = false;
     for place in 0..objects.len() {
-        let came = bind_object(objects, among, place, &mut names, left, out)?;
-        let Some(more) = failing(came) else {
+        let end = bind_object(objects, scope, place, &mut names, left, out)?;
+        let Some(more) = failing(end) else {
             return Ok(WriteEnd::Cut);
         };
         fails = either(fails, more);
@@ -98,7 +99,7 @@ fn bind_all<S: Source, W: Sink>(
 /// A read or the output failed.
 fn bind_object<S: Source, W: Sink>(
     objects: &mut [LookupObject<S>],
-    among: &SearchScope<'_>,
+    scope: &SearchScope<'_>,
     place: usize,
     names: &mut ReferenceNames,
     left: &mut Option<u64>,
@@ -108,17 +109,17 @@ fn bind_object<S: Source, W: Sink>(
     ensures asks { AsksAll objects.old objects.new left.old left.new }
     ensures known { (headers : ℕ) (files : List (List ℕ)) →
         AreObjectFiles headers objects.old files →
-        WritesLines among.now.format (object_items (bound_among headers files among.now) place
+        WritesLines scope.now.lines (object_items (bound_among headers files scope.now) place
         (get_or files place [])) (IsBudgetShort objects.new left.new) out.old out.new result }
 {
     let count = match objects[place].symbol_count(left) {
         Ok(count) => count,
-        Err(fault) => return tell(fault, among.format, out),
+        Err(fault) => return tell(fault, scope.lines.format, out),
     };
     let mut fails = false;
     for symbol in 1..count {
         let at = DefinitionAt { place, symbol };
-        let more = match bind_symbol(objects, among, at, names, left, out)? {
+        let more = match bind_symbol(objects, scope, at, names, left, out)? {
             WriteEnd::Whole { fails } => fails,
             WriteEnd::Ended => return Ok(WriteEnd::Ended),
             WriteEnd::Cut => return Ok(WriteEnd::Cut),
@@ -128,13 +129,14 @@ fn bind_object<S: Source, W: Sink>(
     Ok(WriteEnd::Whole { fails })
 }
 
-/// Looks up what a symbol references, and writes its line, if it references something.
+/// Looks up what a symbol references, and writes its line, if it references something and lines of
+/// its state are written.
 ///
 /// # Errors
 /// A read or the output failed.
 fn bind_symbol<S: Source, W: Sink>(
     objects: &mut [LookupObject<S>],
-    among: &SearchScope<'_>,
+    scope: &SearchScope<'_>,
     at: DefinitionAt,
     names: &mut ReferenceNames,
     left: &mut Option<u64>,
@@ -146,18 +148,18 @@ fn bind_symbol<S: Source, W: Sink>(
         AreObjectFiles headers objects.old files →
         lookup_tables_of (get_or files at.place []) headers ≡ Ok told →
         at.symbol < told.table.symbols →
-        WritesSymbol among.now.format (bound_item (bound_among headers files among.now) at.place
+        WritesSymbol scope.now.lines (bound_item (bound_among headers files scope.now) at.place
         (get_or files at.place []) told.symbols at.symbol) (IsBudgetShort objects.new left.new) out.old out.new
         result }
 {
-    let state = match item_of(objects, among, at, names, left) {
+    let state = match item_of(objects, scope, at, names, left) {
         Ok(Some(state)) => state,
         Ok(None) => return Ok(WriteEnd::Whole { fails: false }),
-        Err(fault) => return tell(fault, among.format, out),
+        Err(fault) => return tell(fault, scope.lines.format, out),
     };
-    let object = index_at(among.indexes, at.place);
+    let object = index_at(scope.indexes, at.place);
     let wanted = names.wanted();
-    match show_binding(object, at.symbol, state, &wanted, among.format, out) {
+    match list_binding(object, at.symbol, state, &wanted, scope.lines, out) {
         Ok(()) => Ok(WriteEnd::Whole {
             fails: is_unbound(state),
         }),
@@ -169,7 +171,11 @@ fn bind_symbol<S: Source, W: Sink>(
 ///
 /// # Errors
 /// A read or the output failed.
-fn tell<W: Sink>(fault: Fault, format: Format, out: &mut Out<W>) -> Result<WriteEnd, NeedsFault>
+pub(crate) fn tell<W: Sink>(
+    fault: Fault,
+    format: Format,
+    out: &mut Out<W>,
+) -> Result<WriteEnd, NeedsFault>
     ensures { ReturnsFault format fault out.old out.new result }
 {
     let Fault::Refused(refusal) = fault else {

@@ -33,7 +33,7 @@ pub(crate) struct DefinitionAt {
 /// Those of [`LookupObject::sought`], and of [`state_of`].
 pub(crate) fn item_of<S: Source>(
     objects: &mut [LookupObject<S>],
-    among: &SearchScope<'_>,
+    scope: &SearchScope<'_>,
     at: DefinitionAt,
     names: &mut ReferenceNames,
     left: &mut Option<u64>,
@@ -45,9 +45,9 @@ pub(crate) fn item_of<S: Source>(
         AreObjectFiles headers objects.old files →
         lookup_tables_of (get_or files at.place []) headers ≡ Ok told →
         at.symbol < told.table.symbols →
-        ReturnsItem (bound_item (bound_among headers files among.now) at.place
+        ReturnsItem (bound_item (bound_among headers files scope.now) at.place
         (get_or files at.place []) told.symbols at.symbol)
-        (get_or among.now.indexes.now at.place 0) at.symbol names.new.name
+        (get_or scope.now.indexes.now at.place 0) at.symbol names.new.name
         (asked_name (asked_if names.new.versioned names.new.version)) result }
 {
     let one = &mut objects[at.place];
@@ -56,7 +56,7 @@ pub(crate) fn item_of<S: Source>(
         return Ok(None);
     };
     names.versioned = sought.versioned;
-    let state = state_of(objects, among, at, &sought, names, left)?;
+    let state = state_of(objects, scope, at, &sought, names, left)?;
     Ok(Some(state))
 }
 
@@ -66,7 +66,7 @@ pub(crate) fn item_of<S: Source>(
 /// A read failed, or the budget is exhausted; or a fault of the name of the needed file.
 fn state_of<S: Source>(
     objects: &mut [LookupObject<S>],
-    among: &SearchScope<'_>,
+    scope: &SearchScope<'_>,
     at: DefinitionAt,
     sought: &SymbolReference,
     names: &mut ReferenceNames,
@@ -80,7 +80,7 @@ fn state_of<S: Source>(
     ensures version { names.new.version ≡ names.old.version }
     ensures versioned { names.new.versioned ≡ names.old.versioned }
     ensures known { OfSought objects.old at.place at.symbol sought.now (λ headers files told.
-        ReturnsAs (state_in (bound_among headers files among.now) (get_or files at.place [])
+        ReturnsAs (state_in (bound_among headers files scope.now) (get_or files at.place [])
         told.symbols at.symbol (record {
           name = names.old.name;
           asked = asked_if sought.now.versioned names.old.version;
@@ -89,11 +89,11 @@ fn state_of<S: Source>(
     let wanted = names.wanted();
     match bind(objects, left, &wanted) {
         Ok(BindResult::Bound { object, symbol }) => Ok(BindingState::Bound {
-            object: index_at(among.indexes, object),
+            object: index_at(scope.indexes, object),
             symbol,
         }),
         Ok(BindResult::Unbound) => {
-            let lacks = lacks_version(objects, among, at, sought, names, left)?;
+            let lacks = lacks_version(objects, scope, at, sought, names, left)?;
             Ok(unbound_state(sought.weak, lacks))
         }
         Err(BindFault { object, fault }) => {
@@ -101,7 +101,7 @@ fn state_of<S: Source>(
                 return Err(fault);
             }
             Ok(BindingState::Refused {
-                object: index_at(among.indexes, object),
+                object: index_at(scope.indexes, object),
             })
         }
     }
@@ -114,7 +114,7 @@ fn state_of<S: Source>(
 /// A fault of the name of the needed file; a read failed; or the budget is exhausted.
 fn lacks_version<S: Source>(
     objects: &mut [LookupObject<S>],
-    among: &SearchScope<'_>,
+    scope: &SearchScope<'_>,
     at: DefinitionAt,
     sought: &SymbolReference,
     names: &mut ReferenceNames,
@@ -127,7 +127,7 @@ fn lacks_version<S: Source>(
     ensures version { names.new.version ≡ names.old.version }
     ensures versioned { names.new.versioned ≡ names.old.versioned }
     ensures known { OfSought objects.old at.place at.symbol sought.now (λ headers files told.
-        ReturnsAs (missing_version_requested (bound_among headers files among.now)
+        ReturnsAs (missing_version_requested (bound_among headers files scope.now)
         (get_or files at.place [])
         told.symbols at.symbol (asked_name (asked_if sought.now.versioned names.old.version)))
         result) }
@@ -144,7 +144,7 @@ fn lacks_version<S: Source>(
     objects[at.place].needed_file(left, file, &mut names.file)?;
     lacks_in(
         objects,
-        among,
+        scope,
         names.file.bytes(),
         names.version.bytes(),
         left,
@@ -158,7 +158,7 @@ fn lacks_version<S: Source>(
 /// A read failed; or the budget is exhausted.
 fn lacks_in<S: Source>(
     objects: &mut [LookupObject<S>],
-    among: &SearchScope<'_>,
+    scope: &SearchScope<'_>,
     name: &[u8],
     version: &[u8],
     left: &mut Option<u64>,
@@ -168,13 +168,13 @@ fn lacks_in<S: Source>(
     ensures short { IfErr result (OnlyShort objects.new left.new) }
     ensures known { (headers : ℕ) (files : List (List ℕ)) →
         AreObjectFiles headers objects.old files →
-        ReturnsAs (Ok (object_lacks (bound_among headers files among.now) name.now version.now))
+        ReturnsAs (Ok (object_lacks (bound_among headers files scope.now) name.now version.now))
         result }
 {
-    let Some(index) = among.known.called(name) else {
+    let Some(index) = scope.known.called(name) else {
         return Ok(false);
     };
-    let Some(place) = place_of(among.indexes, index) else {
+    let Some(place) = place_of(scope.indexes, index) else {
         return Ok(false);
     };
     if place >= objects.len() {

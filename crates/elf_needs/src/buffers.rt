@@ -1,4 +1,6 @@
 //! The memory of a walk over a program's objects.
+ghost use Rattle.elf_needs.specs.Called.{HoldsNothing};
+
 use crate::known_object::ObjectList;
 use std::alloc::{AllocError, Global};
 
@@ -18,5 +20,12 @@ impl NeedsBuffers {
         Ok(NeedsBuffers {
             objects: ObjectList::new(alloc)?,
         })
+    }
+
+    /// Empties the memory, so that it can be used for another program. None of it is released.
+    pub(crate) fn clear(&mut self)
+        ensures { HoldsNothing self.new.objects }
+    {
+        self.objects.clear();
     }
 }

@@ -1,85 +1,116 @@
 //! Files that may be the one that is searched for.
 ghost use Rattle.std.specs.Prelude.{◌≡◌, ℕ, List, if◌then◌else◌, Err, IfOk, IfSome, None, Ok, Some};
-ghost use Rattle.elf_needs.specs.Budget.{AsksFile, AsksFound};
+ghost use Rattle.elf_model.specs.Prelude.{library_file};
+ghost use Rattle.elf_needs.specs.Budget.{AsksFile, AsksFound, asked_of_found};
+ghost use Rattle.elf_needs.specs.Fits.{ReturnsLibraryFit, not_accepted};
 ghost use Rattle.elf_needs.specs.OpenFailures.{is_no_file};
-ghost use Rattle.elf_needs.specs.Reading.{ReturnsMachineFit};
+ghost use Rattle.elf_needs.specs.declared.candidates.SearchEnd.TheVariants.{Failed};
 ghost use Rattle.elf_needs.specs.declared.walk.NeedsFault.TheVariants.{Open};
 
+use crate::file_identity::{FileAttributes, NO_ATTRIBUTES, file_attributes};
+use crate::library_files::LibraryFit;
 use crate::object_file::{ObjectFile, ReadAccount};
 use crate::open_failures::is_no_file;
 use crate::walk::NeedsFault;
+use elf_record::{Cause, Refusal};
 use elf_source::{FileReader, Source, StreamSource};
 use elf_table::Fault;
 use std::io::ErrorKind;
-use std::os::unix::fs::FileExt;
+use std::os::unix::fs::{FileExt, FileTypeExt};
 use std::rt::Files;
 use std::{fs, str};
 
 /// A file of the system, read at offsets.
 pub(crate) type FileSource<F> = StreamSource<FileReader<F>>;
 
-/// Opens the file at a path, if it is a regular one that can be opened, 64-bit, little-endian and
-/// for this machine. Requests at most the bytes left of the budget, if there is one; those
-/// requested are subtracted. A file that is skipped is closed.
+/// Why a search ends without a file.
+#[derive(Clone, Copy)]
+pub(crate) enum SearchEnd {
+    /// The file at a path ends it, and is refused.
+    Refused(Refusal),
+    /// The budget has no room for what is read of the loader's cache.
+    Unread(Refusal),
+    /// The walk ends.
+    Failed(NeedsFault),
+}
+
+/// Opens the file at a path, if it can be the library of a machine. Requests at most the bytes left
+/// of the budget, if there is one; those requested are subtracted. A file that is skipped or refused
+/// is closed.
 ///
 /// # Errors
-/// A read failed, or the path cannot be opened for a fault of the system.
+/// Why the search ends: what is at the path is no library, and is refused, or the path cannot be
+/// opened for a fault of the system.
 pub(crate) fn candidate<R: Files>(
     rt: &R,
     path: &[u8],
     machine: u16,
     account: &mut ReadAccount,
-) -> Result<Option<ObjectFile<FileSource<R::File>>>, NeedsFault>
+) -> Result<Option<ObjectFile<FileSource<R::File>>>, SearchEnd>
 where
     R::File: FileExt,
     ensures { AsksFound account.old account.new result }
 {
-    let Some(mut file) = opened(rt, path)? else {
+    let Some(mut file) = opened_at(rt, path)? else {
         return Ok(None);
     };
-    let fitting = fits(&mut file, machine, account);
-    if matches!(fitting, Ok(true)) {
+    let fit = fit_of(&mut file, machine, account);
+    if matches!(fit, LibraryFit::Accepted) {
         return Ok(Some(file));
     }
     let _ = file.close(account);
-    match fitting {
-        Ok(_) => Ok(None),
-        Err(fault) => Err(fault),
+    not_accepted(fit)
+}
+
+/// Returns no file for one that is skipped.
+///
+/// # Errors
+/// It is refused, which ends the search.
+fn not_accepted<S: Source>(fit: LibraryFit) -> Result<Option<ObjectFile<S>>, SearchEnd>
+    ensures ends { result ≡ not_accepted fit }
+    ensures none { asked_of_found result ≡ 0 }
+{
+    match fit {
+        LibraryFit::Refused(refusal) => Err(SearchEnd::Refused(refusal)),
+        LibraryFit::Skipped | LibraryFit::Accepted => Ok(None),
     }
 }
 
-/// Returns whether a file is of 64 bits, little-endian and of this machine, or the budget has no room to
-/// tell. No more is asked for than what is left of the budget, if there is one; what was asked for is taken
-/// off.
-///
-/// # Errors
-/// A read failed.
-fn fits<S: Source>(
+/// Returns whether a file is accepted, skipped or refused. It is accepted too if the budget is too
+/// small to find that out. A file whose bytes cannot be read is refused. No more is requested than
+/// the bytes left of the budget, if there is one; those requested are subtracted.
+fn fit_of<S: Source>(
     file: &mut ObjectFile<S>,
     machine: u16,
     account: &mut ReadAccount,
-) -> Result<bool, NeedsFault>
+) -> LibraryFit
     ensures asks { AsksFile file.old file.new account.old account.new }
     ensures known { (bytes : List ℕ) → file.old.seen.file ≡ Some bytes →
-        ReturnsMachineFit machine account.old.left bytes result }
+        ReturnsLibraryFit (library_file machine bytes) account.old.left result }
 {
-    match file.machine(account) {
-        Ok(Some(found)) => Ok(found == machine),
-        Ok(None) => Ok(false),
-        // The budget has no room for it: that is reported when the file is read.
-        Err(Fault::Refused(_)) => Ok(true),
-        Err(Fault::Source { .. }) => Err(NeedsFault::Read),
+    match file.fit(machine, account) {
+        Ok(fit) => fit,
+        // The budget is too small for it, which is reported when the file is read.
+        Err(Fault::Refused(_)) => LibraryFit::Accepted,
+        Err(Fault::Source { .. }) => LibraryFit::Refused(NO_BYTES),
     }
 }
 
-/// Opens the file at a path, if it is a regular one that can be opened.
+/// The refusal of what has no bytes that can be read.
+const NO_BYTES: Refusal = Refusal {
+    at: 0,
+    cause: Cause::Short,
+};
+
+/// Opens the file at a path, if it can be opened.
 ///
 /// # Errors
-/// It cannot be opened for a fault of the system, or its length cannot be determined.
-fn opened<R: Files>(
+/// It is no regular file, or its length cannot be determined, so that it is refused; or it cannot be
+/// opened for a fault of the system. A socket cannot be opened.
+pub(crate) fn opened_at<R: Files>(
     rt: &R,
     path: &[u8],
-) -> Result<Option<ObjectFile<FileSource<R::File>>>, NeedsFault>
+) -> Result<Option<ObjectFile<FileSource<R::File>>>, SearchEnd>
 where
     R::File: FileExt,
     ensures { IfOk result (λ found. IfSome found (λ file. file.asked ≡ 0)) }
@@ -87,18 +118,19 @@ where
     let Ok(path) = str::from_utf8(path) else {
         return Ok(None);
     };
-    match fs::metadata(rt, path) {
-        Ok(found) if found.is_file() => {}
-        Ok(_) => return Ok(None),
+    let attributes = match fs::metadata(rt, path) {
+        Ok(found) if found.is_file() => file_attributes(&found),
+        Ok(found) if found.file_type().is_socket() => return Ok(None),
+        Ok(_) => return Err(SearchEnd::Refused(NO_BYTES)),
         Err(error) => return unopened(error.kind()),
-    }
+    };
     let file = match fs::open(rt, path) {
         Ok(file) => file,
         Err(error) => return unopened(error.kind()),
     };
     match StreamSource::over(FileReader::new(file)) {
-        Ok(source) => Ok(Some(ObjectFile::new(source))),
-        Err(_) => Err(NeedsFault::Read),
+        Ok(source) => Ok(Some(ObjectFile::new(source, attributes))),
+        Err(_) => Err(SearchEnd::Refused(NO_BYTES)),
     }
 }
 
@@ -106,12 +138,23 @@ where
 ///
 /// # Errors
 /// It is for a fault of the system.
-fn unopened<T>(kind: ErrorKind) -> Result<Option<T>, NeedsFault>
-    ensures { result ≡ (if is_no_file kind then Ok None else Err Open) }
+fn unopened<T>(kind: ErrorKind) -> Result<Option<T>, SearchEnd>
+    ensures { result ≡ (if is_no_file kind then Ok None else Err (Failed Open)) }
 {
     if is_no_file(kind) {
         Ok(None)
     } else {
-        Err(NeedsFault::Open)
+        Err(SearchEnd::Failed(NeedsFault::Open))
+    }
+}
+
+/// Returns what the system says of the file at a path, if that is known.
+pub(crate) fn attributes_at<R: Files>(rt: &R, path: &[u8]) -> FileAttributes {
+    let Ok(path) = str::from_utf8(path) else {
+        return NO_ATTRIBUTES;
+    };
+    match fs::metadata(rt, path) {
+        Ok(found) => file_attributes(&found),
+        Err(_) => NO_ATTRIBUTES,
     }
 }

@@ -3,7 +3,7 @@ ghost use Rattle.std.specs.Prelude.{◌≡◌, ◌+◌, ◌*◌, ◌==◌, ℕ, 
 ghost use Rattle.elf_table.specs.Prelude.{CallDid, HoldsProgramHeaders, IsOfCheck, StringsInBounds, TableInBounds, fault_of_result, size_of};
 ghost use Rattle.elf_model.specs.Prelude.{LinkState, d_tag, dynamic_count, is_link, linked_from, linked_with, no_link_info, strings_at};
 ghost use Rattle.elf_record.specs.Dyn.{IsDyn};
-ghost use Rattle.elf_needs.specs.Entries.{KeepsLinks, ReturnsLinks, ReturnsStrings, with_index};
+ghost use Rattle.elf_needs.specs.Entries.{KeepsLinks, ReturnsLinks, ReturnsStrings, no_info, with_index};
 ghost use Rattle.elf_needs.specs.Held.{LinkInfoState};
 
 use crate::links::{LinkInfo, LinkInfoStore, NeededLibrary};
@@ -58,12 +58,14 @@ pub(crate) fn list_link_info<S: Source>(
 
 /// Returns the link information of no entries.
 pub(crate) fn no_link_info() -> LinkInfo
-    ensures { result ≡ record { soname = None; rpath = None; runpath = None } }
+    ensures { result ≡ no_info }
 {
     LinkInfo {
         soname: None,
         rpath: None,
         runpath: None,
+        flags_1: 0,
+        is_program: false,
     }
 }
 
@@ -147,6 +149,8 @@ fn with_text(links: LinkInfo, tag: u64, text: u32) -> LinkInfo
         soname: links.soname.or(text_of(tag, DT_SONAME, text)),
         rpath: links.rpath.or(text_of(tag, DT_RPATH, text)),
         runpath: links.runpath.or(text_of(tag, DT_RUNPATH, text)),
+        flags_1: links.flags_1,
+        is_program: links.is_program,
     }
 }
 

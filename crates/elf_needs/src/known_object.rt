@@ -1,18 +1,24 @@
 //! The objects that are known so far.
-ghost use Rattle.std.specs.Prelude.{◌≡◌, ◌++◌, ◌∷◌, [], IfSome, is_some, length, option_map, position, slice_get};
+ghost use Rattle.std.specs.Prelude.{◌≡◌, ◌++◌, ◌∷◌, [], IfSome, is_some, length, option_map, position, slice_get, true};
 ghost use Rattle.elf_needs.specs.Held.{with_text};
-ghost use Rattle.elf_needs.specs.Called.{IsDirOfObject, called_by, is_called, is_text, index_by_short_name, text_told};
+ghost use Rattle.elf_needs.specs.Called.{HoldsNothing, IsDirOfObject, alias_of, aliased, called_by, first_called, is_alias, is_called, is_text, index_by_short_name, is_object_file, object_by_file, text_told};
 
+use crate::file_identity::{FileIdentity, is_file};
+use crate::known_interpreter::Interpreter;
 use crate::links::{LinkInfo, LinkInfoStore, NeededLibrary};
 use crate::paths::dir_of_path;
+use crate::states::FoundBy;
 use crate::texts::StringArena;
 use std::alloc::{AllocError, Global};
 
 /// The maximum number of objects of a program.
 pub const MOST_OBJECTS: usize = 512;
 
-/// How many bytes of paths there is room for: 4,096 for each object.
-const PATH_ROOM: u32 = 2_097_152;
+/// How many bytes of paths, and how many paths, there is room for: 4,096 for each object, and for
+/// the interpreter's path, as the program has it and as it is shown.
+const PATH_ROOM: u32 = 2_105_344;
+
+const MOST_PATHS: u32 = 514;
 /// How many bytes of texts, and how many texts, there is room for, shared by all objects: 8,192 and
 /// 64 for each.
 const TEXT_ROOM: u32 = 4_194_304;
@@ -28,6 +34,12 @@ pub(crate) struct KnownObject {
     pub name: Option<u32>,
     /// The index of its path, whose directory replaces `$ORIGIN`.
     pub path: Option<u32>,
+    /// Which file it is, if it is found and that is known.
+    pub file: Option<FileIdentity>,
+    /// Whether it was found, and is not refused.
+    pub found: bool,
+    /// How it was found, if it was.
+    pub found_by: Option<FoundBy>,
     /// What its dynamic entries give.
     pub links: LinkInfo,
     /// The first of its needs, and the one after its last.
@@ -35,28 +47,53 @@ pub(crate) struct KnownObject {
     pub needs_end: usize,
 }
 
+/// One more name of an object, under which its file was found again.
+#[derive(Clone, Copy)]
+pub(crate) struct ObjectAlias {
+    /// The index of the name.
+    pub name: u32,
+    /// The index of the object.
+    pub object: u16,
+}
+
 /// The objects that are known, with their texts, in memory that is allocated once.
 #[derive(Drop)]
 pub struct ObjectList {
     /// What their dynamic entries give.
     pub(crate) links: LinkInfoStore,
-    paths: StringArena,
+    pub(crate) paths: StringArena,
     known: Vec<KnownObject>,
+    aliases: Vec<ObjectAlias>,
+    /// The interpreter that the program names, if it names one.
+    pub(crate) interpreter: Option<Interpreter>,
 }
 
 impl ObjectList {
     /// Creates an empty list of objects. Allocates its memory from `alloc`: for each of 512 objects
-    /// 4,096 bytes of paths, 8,192 of texts, 1,544 for the locations of texts and needs, and its
-    /// record.
+    /// 4,096 bytes of paths, 8,192 of texts, 2,056 for the locations of texts and needs and for more
+    /// names, and its record.
     ///
     /// # Errors
     /// Out of memory.
     pub(crate) fn new(alloc: Global) -> Result<ObjectList, AllocError> {
         Ok(ObjectList {
             links: LinkInfoStore::new(alloc, TEXT_ROOM, MOST_TEXTS)?,
-            paths: StringArena::new(alloc, PATH_ROOM, MOST_OBJECTS as u32)?,
+            paths: StringArena::new(alloc, PATH_ROOM, MOST_PATHS)?,
             known: Vec::with_capacity(alloc, MOST_OBJECTS)?,
+            aliases: Vec::with_capacity(alloc, MOST_TEXTS as usize)?,
+            interpreter: None,
         })
+    }
+
+    /// Removes all objects and their texts. Its memory is kept.
+    pub(crate) fn clear(&mut self)
+        ensures { HoldsNothing self.new }
+    {
+        self.links.clear();
+        self.paths.clear();
+        self.known.clear();
+        self.aliases.clear();
+        self.interpreter = None;
     }
 
     /// Returns the number of objects.
@@ -122,21 +159,77 @@ impl ObjectList {
         }
     }
 
+    /// Returns the path of an object, or its name if its path is not stored.
+    pub(crate) fn path_of(&self, known: &KnownObject) -> &[u8] {
+        match (known.path, known.name) {
+            (Some(path), _) => self.paths.get(path),
+            (None, Some(name)) => self.links.text(name),
+            (None, None) => b"",
+        }
+    }
+
     /// Returns the directory of an object, which replaces `$ORIGIN`.
     pub(crate) fn folder(&self, known: &KnownObject) -> &[u8]
         ensures { IsDirOfObject self.now.paths.texts known.now.path result.now }
     {
-        match known.path {
+        self.folder_of(known.path)
+    }
+
+    /// Returns the directory of the path at an index.
+    pub(crate) fn folder_of(&self, path: Option<u32>) -> &[u8]
+        ensures { IsDirOfObject self.now.paths.texts path result.now }
+    {
+        match path {
             Some(path) => dir_of_path(self.paths.get(path)),
             None => b".",
         }
     }
 
-    /// Returns `true` if an object has a name: it was needed by it, or it is its DT_SONAME.
+    /// Adds one more name of an object. Returns whether there is room for it.
+    pub(crate) fn add_alias(&mut self, name: u32, object: u16) -> bool
+        ensures added { result ≡ true → self.new.aliases.items
+            ≡ self.old.aliases.items ++ record { name = name; object = object } ∷ [] }
+        ensures objects { self.new.known ≡ self.old.known }
+        ensures texts { (self.new.paths ≡ self.old.paths) × (self.new.links ≡ self.old.links) }
+        ensures interpreter { self.new.interpreter ≡ self.old.interpreter }
+    {
+        if self.aliases.len() >= MOST_TEXTS as usize {
+            return false;
+        }
+        self.aliases.push(ObjectAlias { name, object }).is_ok()
+    }
+
+    /// Returns the index of the first object that is a file, if one is.
+    pub(crate) fn with_file(&self, file: Option<FileIdentity>) -> Option<u16>
+        ensures { result ≡ object_by_file self.now file }
+    {
+        match file {
+            Some(file) => index_by_short_name(self.position_by_file(file)),
+            None => None,
+        }
+    }
+
+    /// Returns the position of the first object that is a file.
+    fn position_by_file(&self, file: FileIdentity) -> Option<usize>
+        ensures { result ≡ position (is_object_file file) self.now.known.items }
+    {
+        self.known
+            .iter()
+            .position(|known| is_object_file(known, file))
+    }
+
+    /// Returns the directory of the program, which replaces `$ORIGIN` in a library path.
+    pub(crate) fn program_folder(&self) -> &[u8] {
+        match self.known.first() {
+            Some(program) => self.folder(program),
+            None => b".",
+        }
+    }
+
+    /// Returns `true` if an object has a name: it was needed by it, or it is its DT_SONAME, or one
+    /// of its other names.
     pub(crate) fn has_name(&self, name: &[u8]) -> bool
-        ensures { result
-            ≡ is_some (position (is_called self.now.links.held.texts name.now)
-            self.now.known.items) }
+        ensures { result ≡ is_some (first_called self.now name.now) }
     {
         self.first_called(name).is_some()
     }
@@ -150,6 +243,53 @@ impl ObjectList {
 
     /// Returns the position of the first object that has a name.
     fn first_called(&self, name: &[u8]) -> Option<usize>
+        ensures { result ≡ first_called self.now name.now }
+    {
+        match self.alias_of(name) {
+            Some(object) => Some(usize::from(object)),
+            None => self.first_named(name),
+        }
+    }
+
+    /// Returns the index of the object of which a name is one more.
+    fn alias_of(&self, name: &[u8]) -> Option<u16>
+        ensures { result ≡ alias_of self.now name.now }
+    {
+        match self.first_alias(name) {
+            Some(place) => self.aliased(place),
+            None => None,
+        }
+    }
+
+    /// Returns the object of one more name, by its position.
+    fn aliased(&self, place: usize) -> Option<u16>
+        ensures { result ≡ aliased self.now.aliases.items place }
+    {
+        match self.aliases.get(place) {
+            Some(alias) => Some(alias.object),
+            None => None,
+        }
+    }
+
+    /// Returns the position of the first of more names that is a name.
+    fn first_alias(&self, name: &[u8]) -> Option<usize>
+        ensures { result
+            ≡ position (is_alias self.now.links.held.texts name.now) self.now.aliases.items }
+    {
+        self.aliases
+            .iter()
+            .position(|alias| self.is_alias(alias, name))
+    }
+
+    /// Returns `true` if one of more names is a name.
+    fn is_alias(&self, alias: &ObjectAlias, name: &[u8]) -> bool
+        ensures { result ≡ is_alias self.now.links.held.texts name.now alias.now }
+    {
+        is_text(self.text(Some(alias.name)), name)
+    }
+
+    /// Returns the position of the first object that was needed by a name or has it.
+    fn first_named(&self, name: &[u8]) -> Option<usize>
         ensures { result
             ≡ position (is_called self.now.links.held.texts name.now) self.now.known.items }
     {
@@ -166,6 +306,13 @@ impl ObjectList {
     }
 }
 
+/// Returns `true` if an object is a file.
+fn is_object_file(known: &KnownObject, file: FileIdentity) -> bool
+    ensures { result ≡ is_object_file file known.now }
+{
+    is_file(known.file, file)
+}
+
 /// Returns an index of 16 bits, if it is one.
 fn index_by_short_name(found: Option<usize>) -> Option<u16>
     ensures { result ≡ index_by_short_name found }
@@ -177,7 +324,7 @@ fn index_by_short_name(found: Option<usize>) -> Option<u16>
 }
 
 /// Returns `true` if a text is given, and equals a name.
-fn is_text(text: Option<&[u8]>, name: &[u8]) -> bool
+pub(crate) fn is_text(text: Option<&[u8]>, name: &[u8]) -> bool
     ensures { result ≡ is_text (option_map (λ t. t.now) text.entry) name.now }
 {
     match text {

@@ -3,9 +3,10 @@ ghost use Rattle.std.specs.Prelude.{◌≡◌, ◌<◌, ◌≤◌, ◌∷◌, []
 ghost use Rattle.elf_needs.specs.Searching.{searched_paths};
 ghost use Rattle.elf_needs.specs.Steps.{dirs_in};
 
-use crate::folders::SearchPathList;
 use crate::path_budget::PathBudget;
 use crate::paths::CandidatePath;
+use crate::search_path_list::SearchPathList;
+use crate::states::FoundBy;
 use crate::tries::CandidatePaths;
 use std::marker::Model;
 
@@ -66,5 +67,17 @@ impl<'a> LibrarySearch<'a> {
             self.at += 1;
         }
         true
+    }
+
+    /// Returns how a library at the path that was composed last is found: by the list that the path
+    /// is from.
+    pub(crate) fn found_by(&self) -> FoundBy {
+        match self.at {
+            0 => FoundBy::Default,
+            next => match self.lists.get(next - 1) {
+                Some(list) => list.found_by,
+                None => FoundBy::Default,
+            },
+        }
     }
 }

@@ -1,9 +1,10 @@
 //! What a file needs, and where that is stored.
-ghost use Rattle.std.specs.Prelude.{◌≡◌, ◌<◌, ◌++◌, ◌∷◌, [], ◌&&◌, ℕ, List, IfOk, IfSome, IsNone, is_some, nat_lt, length, slice_get, slice_index_or, if◌then◌else◌};
+ghost use Rattle.std.specs.Prelude.{◌≡◌, ◌+◌, ◌<◌, ◌≤◌, ◌++◌, ◌∷◌, [], ◌&&◌, ℕ, List, IfOk, IfSome, IsNone, Some, false, is_some, true, nat_lt, length, slice_get, slice_index_or, if◌then◌else◌};
 ghost use Rattle.elf_table.specs.Prelude.{CallDid, StringsInBounds, fault_of_result, strings_in};
 ghost use Rattle.elf_model.specs.Prelude.{LINK_TEXT_BYTES, shown};
 ghost use Rattle.elf_needs.specs.Held.{with_text};
-ghost use Rattle.elf_needs.specs.Entries.{ReturnsText, text_by};
+ghost use Rattle.elf_needs.specs.declared.links.NeededLibrary.{NeededLibrary};
+ghost use Rattle.elf_needs.specs.Entries.{ReturnsText, has_nodeflib, text_by};
 
 use crate::texts::StringArena;
 use elf_record::Cause;
@@ -14,6 +15,9 @@ use std::marker::Model;
 
 /// How many bytes of a text are read: a longer one is refused.
 const TEXT_CAP: NameLimit = NameLimit { bytes: 4096 };
+
+/// The flag of DT_FLAGS_1 of a file whose needs are not searched for in the default directories.
+const DF_1_NODEFLIB: u64 = 0x800;
 
 /// A library that a file needs.
 #[derive(Clone, Copy)]
@@ -34,6 +38,20 @@ pub struct LinkInfo {
     pub rpath: Option<u32>,
     /// DT_RUNPATH: the same, in its place.
     pub runpath: Option<u32>,
+    /// DT_FLAGS_1, a GNU extension; 0 if there is none.
+    pub flags_1: u64,
+    /// Whether the file is a program, which is no library: it is of the type EXEC, its DT_FLAGS_1
+    /// says so, or it has no dynamic entries.
+    pub is_program: bool,
+}
+
+impl LinkInfo {
+    /// Returns `true` if what the file needs is not searched for in the default directories.
+    pub(crate) fn has_nodeflib(&self) -> bool
+        ensures { result ≡ has_nodeflib self.now.flags_1 }
+    {
+        self.flags_1 & DF_1_NODEFLIB != 0
+    }
 }
 
 /// The texts of many files, and what they need, one after the other, in memory that is allocated
@@ -75,6 +93,16 @@ impl LinkInfoStore {
             needs: Vec::with_capacity(alloc, texts as usize)?,
             name: NameBuf::new(),
         })
+    }
+
+    /// Removes all texts and needs. Its memory is kept.
+    pub(crate) fn clear(&mut self)
+        ensures none { (self.new.held.texts ≡ []) × (self.new.needs ≡ []) }
+        ensures room { (self.old.held.room.bytes ≤ self.new.held.room.bytes)
+            × (self.new.held.room.texts ≡ self.old.held.room.texts + length self.old.held.texts) }
+    {
+        self.needs.clear();
+        self.texts.clear();
     }
 
     /// Returns the text at an index, or the empty text if there is none.
@@ -141,6 +169,30 @@ impl LinkInfoStore {
             return false;
         }
         self.needs.push(need).unwrap();
+        true
+    }
+
+    /// Gives the need at an index another name, which is stored. Returns whether there is such a
+    /// need and room for the name: otherwise nothing changes.
+    pub(crate) fn rename(&mut self, index: usize, name: &[u8]) -> bool
+        ensures none { result ≡ false → self.new ≡ self.old }
+        ensures held { result ≡ true → self.new.held ≡ with_text self.old.held name.now }
+        ensures same { length self.new.needs ≡ length self.old.needs }
+        ensures others { (k : ℕ) → (k ≡ index → ⊥) →
+            slice_get self.new.needs k ≡ slice_get self.old.needs k }
+        ensures named { result ≡ true → (need : NeededLibrary) →
+            slice_get self.old.needs index ≡ Some need →
+            slice_get self.new.needs index
+            ≡ Some (record { at = need.at; name = length self.old.held.texts }) }
+    {
+        if index >= self.needs.len() {
+            return false;
+        }
+        let Some(name) = self.texts.push(name) else {
+            return false;
+        };
+        let at = self.needs[index].at;
+        self.needs[index] = NeededLibrary { at, name };
         true
     }
 }

@@ -1,14 +1,16 @@
 //! The directories in which a library that an object needs is searched.
 ghost use Rattle.std.specs.Prelude.{◌≡◌, ◌<◌, ◌≤◌, ◌+◌, ◌++◌, [], length, option_map};
 ghost use Rattle.std.specs.List.{cons_option};
-ghost use Rattle.elf_needs.specs.Searching.{first_runpath, given_dirs, rpath_dirs, rpath_of, runpath_of, search_dirs};
+ghost use Rattle.elf_needs.specs.Searching.{default_dirs, default_for, first_runpath, object_dirs, rpath_dirs, rpath_of, runpath_of, search_dirs};
 ghost use Rattle.elf_needs.specs.Steps.{dirs_in, dirs_of, needer_of, needers_of};
 
-use crate::folders::SearchPathList;
+use crate::search_path_list::SearchPathList;
+use crate::states::FoundBy;
 use arrayvec::ArrayVec;
 
-/// An object that needs others: its DT_RPATH and its DT_RUNPATH, if it has them, and the directory
-/// that it is in (gABI 5, Shared Object Dependencies).
+/// An object that needs others: its DT_RPATH and its DT_RUNPATH, if it has them, the directory that
+/// it is in (gABI 5, Shared Object Dependencies), and whether its needs are not searched for in the
+/// default directories.
 #[derive(Clone, Copy)]
 pub struct NeedingObject<'a> {
     /// Its DT_RPATH.
@@ -17,6 +19,8 @@ pub struct NeedingObject<'a> {
     pub runpath: Option<&'a [u8]>,
     /// The directory that it is in.
     pub folder: &'a [u8],
+    /// Whether its needs have no default directories: DF_1_NODEFLIB.
+    pub nodeflib: bool,
 }
 
 impl<'a> Default for NeedingObject<'a> {
@@ -27,12 +31,29 @@ impl<'a> Default for NeedingObject<'a> {
             rpath: None,
             runpath: None,
             folder: b"",
+            nodeflib: false,
         }
     }
 }
 
 /// Lists of directories, in the order in which they are searched.
 pub type SearchPaths<'a> = ArrayVec<SearchPathList<'a>, 515>;
+
+/// Returns the directories that a text of an object gives.
+fn object_dirs<'a>(
+    needer: &NeedingObject<'a>,
+    text: &'a [u8],
+    found_by: FoundBy,
+) -> SearchPathList<'a>
+    ensures { dirs_of result ≡ object_dirs needer.now.folder.now text.now found_by }
+{
+    SearchPathList {
+        text,
+        separator: b':',
+        origin: Some(needer.folder),
+        found_by,
+    }
+}
 
 /// Returns what an object's own DT_RPATH gives: nothing if it has DT_RUNPATH.
 fn rpath_of<'a>(needer: &NeedingObject<'a>) -> Option<SearchPathList<'a>>
@@ -42,10 +63,7 @@ fn rpath_of<'a>(needer: &NeedingObject<'a>) -> Option<SearchPathList<'a>>
         return None;
     }
     match needer.rpath {
-        Some(text) => Some(SearchPathList {
-            text,
-            origin: Some(needer.folder),
-        }),
+        Some(text) => Some(object_dirs(needer, text, FoundBy::Rpath)),
         None => None,
     }
 }
@@ -55,19 +73,34 @@ fn runpath_of<'a>(needer: &NeedingObject<'a>) -> Option<SearchPathList<'a>>
     ensures { option_map dirs_of result ≡ runpath_of (needer_of needer.now) }
 {
     match needer.runpath {
-        Some(text) => Some(SearchPathList {
-            text,
-            origin: Some(needer.folder),
-        }),
+        Some(text) => Some(object_dirs(needer, text, FoundBy::Runpath)),
         None => None,
     }
 }
 
-/// Returns directories given on a command line.
-fn given_dirs(text: &[u8]) -> SearchPathList<'_>
-    ensures { dirs_of result ≡ given_dirs text.now }
+/// Returns the default directories.
+fn default_dirs(text: &[u8]) -> SearchPathList<'_>
+    ensures { dirs_of result ≡ default_dirs text.now }
 {
-    SearchPathList { text, origin: None }
+    SearchPathList {
+        text,
+        separator: b':',
+        origin: None,
+        found_by: FoundBy::Default,
+    }
+}
+
+/// Returns the default directories for what an object needs, the first of some.
+#[tactic(auto, unfolding(crate::specs::Searching::default_for))]
+fn default_for<'a>(needers: &[NeedingObject<'a>], default: &'a [u8]) -> &'a [u8]
+    ensures { result.now ≡ default_for (needers_of needers.now) default.now }
+{
+    if let Some(needer) = needers.first() {
+        if needer.nodeflib {
+            return b"";
+        }
+    }
+    default
 }
 
 /// Returns what DT_RUNPATH of the first of some objects gives.
@@ -82,44 +115,45 @@ fn first_runpath<'a>(needers: &[NeedingObject<'a>]) -> Option<SearchPathList<'a>
 }
 
 /// Appends directories, if there are any.
-fn put_dirs<'a>(lists: &mut SearchPaths<'a>, folders: Option<SearchPathList<'a>>)
+fn put_dirs<'a>(lists: &mut SearchPaths<'a>, list: Option<SearchPathList<'a>>)
     requires { length lists.old.items < 515 }
-    ensures folders { dirs_in lists.new.items
-        ≡ dirs_in lists.old.items ++ cons_option (option_map dirs_of folders.entry) [] }
+    ensures dirs { dirs_in lists.new.items
+        ≡ dirs_in lists.old.items ++ cons_option (option_map dirs_of list.entry) [] }
     ensures len { length lists.new.items ≤ length lists.old.items + 1 }
 {
-    if let Some(folders) = folders {
-        lists.push(folders);
+    if let Some(list) = list {
+        lists.push(list);
     }
 }
 
 /// Appends the lists of the directories in which a library is searched that an object needs, the
-/// first of at most 512; after it comes the object that first needed it, and so on.
+/// first of at most 512; after it comes the object that first needed it, and so on. The last list is
+/// that of the default directories, and is empty if the object has none.
 pub fn gather_dirs<'a>(
     needers: &[NeedingObject<'a>],
-    library: &'a [u8],
+    library: SearchPathList<'a>,
     default: &'a [u8],
     lists: &mut SearchPaths<'a>,
 )
     requires { length needers.now ≤ 512 }
     ensures { dirs_in lists.new.items
-        ≡ search_dirs library.now default.now (needers_of needers.now) }
+        ≡ search_dirs (dirs_of library.entry) default.now (needers_of needers.now) }
 {
     let runpath = first_runpath(needers);
     lists.clear();
     if runpath.is_none() {
         gather_rpaths(needers, lists);
     }
-    put_dirs(lists, Some(given_dirs(library)));
+    put_dirs(lists, Some(library));
     put_dirs(lists, runpath);
-    put_dirs(lists, Some(given_dirs(default)));
+    put_dirs(lists, Some(default_dirs(default_for(needers, default))));
 }
 
 /// Appends what DT_RPATH of objects gives to no directories.
 fn gather_rpaths<'a>(needers: &[NeedingObject<'a>], lists: &mut SearchPaths<'a>)
     requires few { length needers.now ≤ 512 }
     requires none { lists.old.items ≡ [] }
-    ensures folders { dirs_in lists.new.items ≡ rpath_dirs (needers_of needers.now) }
+    ensures dirs { dirs_in lists.new.items ≡ rpath_dirs (needers_of needers.now) }
     ensures few { length lists.new.items ≤ 512 }
 {
     for needer in needers {

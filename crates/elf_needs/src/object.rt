@@ -1,23 +1,38 @@
 //! A file in which names are looked up.
-ghost use Rattle.std.specs.Prelude.{◌≡◌, ◌≤◌, ◌+◌, ◌*◌, length, true};
-ghost use Rattle.elf_table.specs.Ledger.{CallDid};
+ghost use Rattle.std.specs.Prelude.{◌≡◌, ◌≤◌, ◌+◌, ◌*◌, ℕ, List, Some, IfOk, IfSome, IsTrue, length, true};
+ghost use Rattle.elf_table.specs.Ledger.{CallDid, fault_of_result};
+ghost use Rattle.elf_hash.specs.Prelude.{VersionRecordsInBounds};
+ghost use Rattle.elf_model.specs.Prelude.{SymbolQuery as IsWanted};
+ghost use Rattle.elf_model.specs.Style.{without_sections};
+ghost use Rattle.elf_needs.specs.Copied.{ReadsKept, copied_symbol};
+ghost use Rattle.elf_needs.specs.NeedWalks.{FindsVersionState, ReadsNeed, StepsNeeds};
+ghost use Rattle.elf_needs.specs.VersionTables.{AreNeedsOf};
+ghost use Rattle.elf_needs.specs.Filters.{IsHashOf};
 ghost use Rattle.elf_needs.specs.Kept.{KeepsScope, source_of, why_back};
-ghost use Rattle.elf_needs.specs.Looks.{LooksInObject, Prepares};
-ghost use Rattle.elf_needs.specs.Sought.{CountsHashed, LooksForVersion, ReadsFileName, Seeks};
+ghost use Rattle.elf_needs.specs.Looks.{ExcludesName, LooksInObject, Prepares};
+ghost use Rattle.elf_needs.specs.Sought.{CountsHashed, LooksForVersion, ReadsFileName, Seeks, reference_bytes};
 ghost use Rattle.elf_loader.specs.Lookups.{AreShort};
 ghost use Rattle.elf_options.specs.Wants.{query_of};
 
 use crate::budget::spend_budget;
+use crate::copied_symbols::{copied_at, dynamic_relocations, named_symbol};
+use crate::defined_versions::state_in;
 use crate::definition::find_definer;
+use crate::file_tables::{FileTables, find_tables};
 use crate::hashed::hashed_symbols;
+use crate::kept_filter::KeptFilter;
 use crate::missing_version::lacks_version;
+use crate::needed_versions::NeedsWalk;
 use crate::ready::ready_table;
 use crate::reference::{SymbolReference, reference_of, whole_name};
-use elf_hash::{HashTable, LookupTables, find_lookup_tables};
+use crate::reference_names::ReferenceNames;
+use crate::version_tables::FileVersions;
+use elf_hash::{HashTable, LookupTables, VersionRecordTable};
+use elf_model::VersionState;
 use elf_note::VersionRecord;
 use elf_options::SymbolQuery;
 use elf_source::{Counted, Source};
-use elf_table::{Fault, HeaderStore, NameBuf};
+use elf_table::{Fault, HeaderStore, NameBuf, Names};
 use std::marker::Model;
 
 /// A file in which names are looked up: its source, and its lookup tables.
@@ -25,19 +40,25 @@ use std::marker::Model;
 pub struct LookupObject<S: Source> {
     source: Counted<S>,
     scope: LookupTables,
+    versions: FileVersions,
     headers: u16,
     // The hash table with its counts, if no lookup is refused before its walk, once that is known.
     ready: Option<HashTable>,
+    // The words of the hash table's filter that are kept: none if a budget is set.
+    filter: KeptFilter,
 }
 
 impl<S: Source> Model for LookupObject<S> {
-    ghost use Rattle.elf_needs.specs.Kept.{IsKept, LookupObjectState};
+    ghost use Rattle.elf_needs.specs.Filters.{KeepsFilter};
+    ghost use Rattle.elf_needs.specs.Kept.{IsKept, KnowsVersions, LookupObjectState};
 
     ghost Value = { LookupObjectState };
 
     ghost view = { λ o. record { src = o.source; headers = o.headers } };
 
-    ghost invariant = { λ o. IsKept o.source.seen o.headers o.scope o.ready };
+    ghost invariant = { λ o. IsKept o.source.seen o.headers o.scope o.ready
+        × KnowsVersions o.source.seen o.versions
+        × KeepsFilter o.source o.scope.hash o.filter };
 }
 
 impl<S: Source> LookupObject<S> {
@@ -54,24 +75,27 @@ impl<S: Source> LookupObject<S> {
     ) -> Result<LookupObject<S>, (Counted<S>, Fault)>
         requires by_segments { source.hides ≡ true }
         ensures did { CallDid source (source_of result) (why_back result)
-            (64 + 64 * store.old.slots + source.seen.size)
+            (2 * (64 + 64 * store.old.slots + source.seen.size))
             (λ file. KeepsScope file store.old.slots source result) }
         ensures slots { store.new.slots ≡ store.old.slots }
     {
         let mut source = source;
-        match find_lookup_tables(&mut source, store) {
-            Ok(scope) => Ok(LookupObject {
+        match find_tables(&mut source, store) {
+            Ok(FileTables { scope, versions }) => Ok(LookupObject {
                 source,
                 scope,
+                versions,
                 headers: store.slots(),
                 ready: None,
+                filter: KeptFilter::new(),
             }),
             Err(fault) => Err((source, fault)),
         }
     }
 
-    /// Reads once what its lookups have in common: the counts of the hash table, and whether the
-    /// records of versions have no fault.
+    /// Reads once what its lookups have in common: the counts of the hash table, whether the
+    /// records of versions have no fault, and without a budget the first words of the table's
+    /// filter, at most 4,096 bytes.
     ///
     /// What is refused or fails is skipped, and each lookup reports it. Requests at most the bytes
     /// left of the budget, if there is one; those requested are subtracted. On return no limit is
@@ -82,6 +106,9 @@ impl<S: Source> LookupObject<S> {
         let asked = self.source.asked();
         self.source.limit(*left);
         let ready = ready_table(&mut self.source, &self.scope);
+        let keeps = left.is_none();
+        self.filter
+            .load_if(keeps, &mut self.source, &self.scope.hash);
         self.source.limit(None);
         spend_budget(left, self.source.asked() - asked);
         self.ready = ready.unwrap_or(None);
@@ -94,25 +121,46 @@ impl<S: Source> LookupObject<S> {
         self.source.asked()
     }
 
-    /// Looks up the symbol that defines a name. Requests at most the bytes left of the budget, if
-    /// there is one; those requested are subtracted. On return no limit is set.
+    /// Looks up the symbol that defines a name, of which `hash` is what [`filter_hash`] returns.
+    /// Nothing is read if the words that are kept of the filter exclude it. Requests at most the
+    /// bytes left of the budget, if there is one; those requested are subtracted. On return no
+    /// limit is set.
     ///
     /// # Errors
     /// Those of [`find_definer`].
+    ///
+    /// [`filter_hash`]: crate::kept_filter::filter_hash
     pub(crate) fn look(
         &mut self,
         left: &mut Option<u64>,
         wanted: &SymbolQuery<'_>,
+        hash: Option<u32>,
     ) -> Result<Option<u64>, Fault>
-        requires { AreShort (query_of wanted.now) }
+        requires short { AreShort (query_of wanted.now) }
+        requires hash { IfSome hash (IsHashOf (query_of wanted.now)) }
         ensures { LooksInObject (query_of wanted.now) self.old self.new left.old left.new result }
     {
+        if self.excludes(hash) {
+            return Ok(None);
+        }
         let asked = self.source.asked();
         self.source.limit(*left);
         let found = find_definer(&mut self.source, &self.scope, &self.ready, wanted);
         self.source.limit(None);
         spend_budget(left, self.source.asked() - asked);
         found
+    }
+
+    /// Returns `true` if no lookup is refused before its walk, and the words that are kept of the
+    /// filter exclude a hash.
+    fn excludes(&self, hash: Option<u32>) -> bool
+        ensures { IsTrue result → (wanted : IsWanted) → IfSome hash (IsHashOf wanted) →
+            ExcludesName wanted self.now }
+    {
+        match hash {
+            Some(hash) if self.ready.is_some() => self.filter.excludes(hash),
+            _ => false,
+        }
     }
 
     /// Returns the number of its symbols, by its hash table, of those that there is room for: the
@@ -206,5 +254,132 @@ impl<S: Source> LookupObject<S> {
         self.source.limit(None);
         spend_budget(left, self.source.asked() - asked);
         lacks
+    }
+
+    /// Returns the table of the versions that it needs, if there is one.
+    ///
+    /// # Errors
+    /// The refusal of the entry that locates it.
+    pub(crate) fn needs(&self) -> Result<Option<VersionRecordTable>, Fault>
+        ensures lies { IfOk result (λ records.
+            IfSome records (VersionRecordsInBounds self.now.src.seen.size)) }
+        ensures known { (file : List ℕ) → self.now.src.seen.file ≡ Some file →
+            AreNeedsOf file result × (without_sections file ≡ file) }
+    {
+        self.versions.needs
+    }
+
+    /// Reads the next record of the versions that it needs, as [`NeedsWalk::advance`] does.
+    /// Requests at most the bytes left of the budget, if there is one; those requested are
+    /// subtracted. On return no limit is set.
+    ///
+    /// # Errors
+    /// Those of [`NeedsWalk::advance`].
+    pub(crate) fn next_need(
+        &mut self,
+        left: &mut Option<u64>,
+        walk: &mut NeedsWalk,
+    ) -> Result<Option<bool>, Fault>
+        requires { StepsNeeds self.old.src.seen.size walk.old }
+        ensures { ReadsNeed walk.old walk.new self.old self.new left.old left.new result }
+    {
+        let asked = self.source.asked();
+        self.source.limit(*left);
+        let step = walk.advance(&mut self.source);
+        self.source.limit(None);
+        spend_budget(left, self.source.asked() - asked);
+        step
+    }
+
+    /// Returns the state of a version that it should have, or `None` if that is not listed, as
+    /// [`state_in`] does. Requests at most the bytes left of the budget, if there is one; those
+    /// requested are subtracted. On return no limit is set.
+    ///
+    /// # Errors
+    /// Those of [`state_in`].
+    pub(crate) fn version_state(
+        &mut self,
+        left: &mut Option<u64>,
+        needed: &NeedsWalk,
+    ) -> Result<Option<VersionState>, Fault>
+        ensures { FindsVersionState needed.now self.old self.new left.old left.new result }
+    {
+        let asked = self.source.asked();
+        self.source.limit(*left);
+        let state = state_in(&mut self.source, &self.versions, needed);
+        self.source.limit(None);
+        spend_budget(left, self.source.asked() - asked);
+        state
+    }
+
+    /// Returns where its relocation entries are in its bytes, as [`dynamic_relocations`] does.
+    ///
+    /// The program headers are loaded into the store, which is free again afterwards. Requests at
+    /// most the bytes left of the budget, if there is one; those requested are subtracted. On
+    /// return no limit is set.
+    ///
+    /// # Errors
+    /// Those of [`dynamic_relocations`].
+    pub(crate) fn relocations(
+        &mut self,
+        left: &mut Option<u64>,
+        store: &mut HeaderStore,
+    ) -> Result<Option<Names>, Fault>
+        ensures costs { ReadsKept self.old self.new left.old left.new (fault_of_result result)
+            (64 + store.old.slots * 56 + self.old.src.seen.size) }
+        ensures slots { store.new.slots ≡ store.old.slots }
+    {
+        let asked = self.source.asked();
+        self.source.limit(*left);
+        let found = dynamic_relocations(&mut self.source, store);
+        self.source.limit(None);
+        spend_budget(left, self.source.asked() - asked);
+        found
+    }
+
+    /// Returns the index of the symbol whose data the relocation entry at a file offset copies, as
+    /// [`copied_at`] does.
+    ///
+    /// Requests at most the bytes left of the budget, if there is one; those requested are
+    /// subtracted. On return no limit is set.
+    ///
+    /// # Errors
+    /// Those of [`copied_at`].
+    pub(crate) fn copied(&mut self, left: &mut Option<u64>, at: u64) -> Result<Option<u64>, Fault>
+        ensures costs { ReadsKept self.old self.new left.old left.new (fault_of_result result) 24 }
+        ensures known { (file : List ℕ) → self.old.src.seen.file ≡ Some file →
+            IfOk result (λ copied. copied ≡ copied_symbol file at) }
+    {
+        let asked = self.source.asked();
+        self.source.limit(*left);
+        let copied = copied_at(&mut self.source, at);
+        self.source.limit(None);
+        spend_budget(left, self.source.asked() - asked);
+        copied
+    }
+
+    /// Reads the name of the symbol at an index, and the version that it needs, into `names`,
+    /// whether it is defined or not, as [`named_symbol`] does.
+    ///
+    /// Requests at most the bytes left of the budget, if there is one; those requested are
+    /// subtracted. On return no limit is set.
+    ///
+    /// # Errors
+    /// Those of [`named_symbol`].
+    pub(crate) fn name_of(
+        &mut self,
+        left: &mut Option<u64>,
+        index: u64,
+        names: &mut ReferenceNames,
+    ) -> Result<bool, Fault>
+        ensures { ReadsKept self.old self.new left.old left.new (fault_of_result result)
+            (reference_bytes self.old.src.seen.size) }
+    {
+        let asked = self.source.asked();
+        self.source.limit(*left);
+        let named = named_symbol(&mut self.source, &self.scope.symbols, index, names);
+        self.source.limit(None);
+        spend_budget(left, self.source.asked() - asked);
+        named
     }
 }

@@ -1,15 +1,30 @@
 //! The file of an object, before names are looked up in it.
 ghost use Rattle.std.specs.Prelude.{◌≡◌, ◌≤◌, ℕ, List, Some};
 ghost use Rattle.elf_needs.specs.Budget.{AsksFile};
+ghost use Rattle.elf_model.specs.Prelude.{interpreter_of, is_interpreter, library_file};
+ghost use Rattle.elf_needs.specs.Fits.{ReturnsLibraryWithin};
+ghost use Rattle.elf_needs.specs.Interpreting.{ReturnsInterpreter, ReturnsIsInterpreter};
 ghost use Rattle.elf_needs.specs.Reading.{ReturnsMachineWithin};
 ghost use Rattle.elf_source.specs.Source.{counted};
 
 use crate::budget::spend_budget;
-use crate::link_reader::{machine_of, read_link_info};
+use crate::file_identity::FileAttributes;
+use crate::interpreter::{is_interpreter, read_interpreter};
+use crate::library_files::{LibraryFit, library_fit};
+use crate::link_reader::{machine_of, read_library_links, read_link_info};
 use crate::links::{LinkInfo, LinkInfoStore};
 use elf_source::{Counted, Source};
-use elf_table::{Fault, HeaderStore};
+use elf_table::{Fault, HeaderStore, NameBuf};
 use std::marker::Model;
+
+/// Which object a file is read for.
+#[derive(Clone, Copy)]
+pub(crate) enum ObjectRole {
+    /// The program.
+    Program,
+    /// A library that an object needs.
+    Library,
+}
 
 /// How much may be requested from files, and how much was.
 #[derive(Drop)]
@@ -24,6 +39,7 @@ pub(crate) struct ReadAccount {
 /// calls that subtract what they request. It is released only by [`ObjectFile::close`].
 pub(crate) struct ObjectFile<S: Source> {
     source: Counted<S>,
+    attributes: FileAttributes,
 }
 
 impl<S: Source> Model for ObjectFile<S> {
@@ -36,13 +52,19 @@ impl<S: Source> Model for ObjectFile<S> {
 
 impl<S: Source> ObjectFile<S> {
     /// Creates a file from which nothing was requested yet.
-    pub(crate) fn new(source: S) -> Self
+    pub(crate) fn new(source: S, attributes: FileAttributes) -> Self
         ensures asked { result.asked ≡ 0 }
         ensures source { result.source ≡ S.seen source }
     {
         ObjectFile {
             source: Counted::new(source),
+            attributes,
         }
+    }
+
+    /// Returns what the system says of it.
+    pub(crate) fn attributes(&self) -> FileAttributes {
+        self.attributes
     }
 
     /// Returns its machine, as [`machine_of`] does. Requests at most the bytes left of the budget,
@@ -63,13 +85,36 @@ impl<S: Source> ObjectFile<S> {
         machine
     }
 
-    /// Reads how it is linked, as [`read_link_info`] does. Requests at most the bytes left of the
-    /// budget, if there is one; those requested are subtracted.
+    /// Returns whether it ends a search for a library, as [`library_fit`] does. Requests at most the
+    /// bytes left of the budget, if there is one; those requested are subtracted.
     ///
     /// # Errors
-    /// Those of [`read_link_info`].
+    /// Those of [`library_fit`].
+    pub(crate) fn fit(
+        &mut self,
+        machine: u16,
+        account: &mut ReadAccount,
+    ) -> Result<LibraryFit, Fault>
+        ensures asks { AsksFile self.old self.new account.old account.new }
+        ensures known { (file : List ℕ) → self.old.seen.file ≡ Some file →
+            ReturnsLibraryWithin (library_file machine file) account.old.left result }
+    {
+        let asked = self.source.asked();
+        self.source.limit(account.left);
+        let fit = library_fit(&mut self.source, machine);
+        self.source.limit(None);
+        spend_budget(&mut account.left, self.source.asked() - asked);
+        fit
+    }
+
+    /// Reads how it is linked, as [`read_link_info`] or [`read_library_links`] does. Requests at most
+    /// the bytes left of the budget, if there is one; those requested are subtracted.
+    ///
+    /// # Errors
+    /// Those of the one that reads it.
     pub(crate) fn links(
         &mut self,
+        role: ObjectRole,
         account: &mut ReadAccount,
         store: &mut HeaderStore,
         links: &mut LinkInfoStore,
@@ -78,10 +123,70 @@ impl<S: Source> ObjectFile<S> {
     {
         let asked = self.source.asked();
         self.source.limit(account.left);
-        let found = read_link_info(&mut self.source, store, links);
+        let found = match role {
+            ObjectRole::Program => read_link_info(&mut self.source, store, links),
+            ObjectRole::Library => read_library_links(&mut self.source, store, links),
+        };
         self.source.limit(None);
         spend_budget(&mut account.left, self.source.asked() - asked);
         found
+    }
+
+    /// Reads the path of the interpreter that it names, as [`read_interpreter`] does. Requests at
+    /// most the bytes left of the budget, if there is one; those requested are subtracted.
+    ///
+    /// # Errors
+    /// Those of [`read_interpreter`].
+    pub(crate) fn interpreter(
+        &mut self,
+        account: &mut ReadAccount,
+        store: &mut HeaderStore,
+        path: &mut NameBuf,
+    ) -> Result<bool, Fault>
+        ensures asks { AsksFile self.old self.new account.old account.new }
+        ensures known { (file : List ℕ) → self.old.seen.file ≡ Some file →
+            ReturnsInterpreter (interpreter_of file store.old.slots) path.new result }
+    {
+        let asked = self.source.asked();
+        self.source.limit(account.left);
+        let named = read_interpreter(&mut self.source, store, path);
+        self.source.limit(None);
+        spend_budget(&mut account.left, self.source.asked() - asked);
+        named
+    }
+
+    /// Returns whether it can be the interpreter of a program of a machine, as [`is_interpreter`]
+    /// does. Requests at most the bytes left of the budget, if there is one; those requested are
+    /// subtracted.
+    ///
+    /// # Errors
+    /// Those of [`is_interpreter`].
+    pub(crate) fn interprets(
+        &mut self,
+        account: &mut ReadAccount,
+        machine: u16,
+    ) -> Result<bool, Fault>
+        ensures asks { AsksFile self.old self.new account.old account.new }
+        ensures known { (file : List ℕ) → self.old.seen.file ≡ Some file →
+            ReturnsIsInterpreter (is_interpreter machine file) result }
+    {
+        let asked = self.source.asked();
+        self.source.limit(account.left);
+        let interprets = is_interpreter(&mut self.source, machine);
+        self.source.limit(None);
+        spend_budget(&mut account.left, self.source.asked() - asked);
+        interprets
+    }
+
+    /// Returns the source of a file from which nothing was requested.
+    pub(crate) fn into_source(self) -> S
+        ensures source { S.seen result ≡ self.source }
+    {
+        let ObjectFile {
+            source,
+            attributes: _,
+        } = self;
+        source.into_inner()
     }
 
     /// Returns the source. What was requested from it is added to what was requested from files.
@@ -92,7 +197,10 @@ impl<S: Source> ObjectFile<S> {
         ensures spent { account.new.spent ≡ counted account.old.spent self.asked }
     {
         account.spent = account.spent.saturating_add(self.source.asked());
-        let ObjectFile { source } = self;
+        let ObjectFile {
+            source,
+            attributes: _,
+        } = self;
         source.into_inner()
     }
 }

@@ -1,39 +1,93 @@
 //! The lines of the objects that a program needs.
 ghost use Rattle.std.specs.Prelude.{◌≡◌, ◌≤◌, length};
+ghost use Rattle.arrayvec.specs.ArrayVec.{array_vec_len};
+ghost use Rattle.elf_model.specs.Prelude.{fault_fields, with_fields};
 ghost use Rattle.elf_source.specs.Output.{OutPuts};
 ghost use Rattle.elf_format.specs.Fronts.{front_of};
-ghost use Rattle.elf_needs.specs.ObjectLines.{file_state, object_front, object_line, object_state_name, objects_end_line, too_many_line, too_many_paths_line};
+ghost use Rattle.elf_needs.specs.ObjectLines.{file_state, found_by_fields, found_by_name, object_front, object_line, object_state_name, objects_end_line, too_many_line, too_many_paths_line};
+ghost use Rattle.elf_needs.specs.ListedLines.{listed_object};
 
-use crate::states::ObjectState;
+use crate::line_options::LineOptions;
+use crate::states::{FoundBy, ObjectRow, ObjectState};
 use elf_format::{
-    Columns, Json, LineBuf, LinePrefix, Render, begin, begin_named, put_closing, put_decimal,
-    put_fault, put_hex_field, put_name_or_decimal, put_text, show_named,
+    Columns, Json, LineBuf, LinePrefix, Render, begin, begin_named, cause_word, put_closing,
+    put_decimal, put_hex_field, put_name_or_decimal, put_text, show_named,
 };
 use elf_model::{FileStatus, Format};
 use elf_source::{Out, OutFault, Sink};
 
 /// Writes the `L` line of an object up to its path.
 #[tactic(auto, unfolding(crate::specs::ObjectLines::object_front))]
-fn object_row<R: Render>(
-    front: &mut LinePrefix,
-    index: u16,
-    needer: Option<u16>,
-    state: ObjectState,
-)
-    ensures front { front_of front.new ≡ object_front R.FORMAT index needer state }
+fn object_row<R: Render>(front: &mut LinePrefix, row: ObjectRow)
+    ensures front { front_of front.new ≡ object_front R.FORMAT row }
     ensures key { length front.new.key.now ≤ 16 }
 {
     begin_named::<R>(front, b"L", b"path");
     let line = &mut front.line;
-    put_decimal::<R>(line, b"index", 5, u64::from(index), b' ');
-    match needer {
+    put_decimal::<R>(line, b"index", 5, u64::from(row.index), b' ');
+    match row.needer {
         None => put_name_or_decimal::<R>(line, b"needed_by", 5, Some("-"), 0),
         Some(needer) => {
             put_name_or_decimal::<R>(line, b"needed_by", 5, None, u64::from(needer));
         }
     }
-    put_text::<R>(line, b"state", 8, object_state_name(state).as_bytes(), b' ');
-    put_fault::<R>(line, file_state(state));
+    let state = object_state_name(row.state).as_bytes();
+    put_text::<R>(line, b"state", 8, state, b' ');
+    put_refusal::<R>(line, file_state(row.state));
+    put_found_by::<R>(line, row.found_by);
+}
+
+/// Appends the offset and the cause of a refusal; in columns a hyphen if there is none.
+#[tactic(auto, unfolding(elf_model::specs::Fields::with_field))]
+fn put_refusal<R: Render>(line: &mut LineBuf, state: FileStatus)
+    requires { array_vec_len line.old ≤ 120 }
+    ensures items { line.new.items ≡ with_fields R.FORMAT line.old.items (fault_fields state) }
+    ensures len { array_vec_len line.new ≤ 210 }
+{
+    if let FileStatus::Refused(refusal) = state {
+        let cause = cause_word(refusal.cause).as_bytes();
+        put_hex_field::<R>(line, b"place", 16, refusal.at, b' ');
+        put_text::<R>(line, b"cause", 0, cause, b' ');
+        return;
+    }
+    match R::FORMAT {
+        Format::Columns => line.try_extend_from_slice(b"- ").unwrap(),
+        Format::Object => {}
+    }
+}
+
+/// Appends how an object was found, in an object of JSON.
+fn put_found_by<R: Render>(line: &mut LineBuf, found_by: Option<FoundBy>)
+    requires { array_vec_len line.old ≤ 210 }
+    ensures { line.new.items
+        ≡ with_fields R.FORMAT line.old.items (found_by_fields R.FORMAT found_by) }
+{
+    let Some(found_by) = found_by else {
+        return;
+    };
+    match R::FORMAT {
+        Format::Columns => {}
+        Format::Object => {
+            put_text::<R>(line, b"by", 0, found_by_name(found_by).as_bytes(), b' ');
+        }
+    }
+}
+
+/// Returns the word of how an object was found.
+#[tactic(auto, unfolding(crate::specs::ObjectLines::found_by_name))]
+fn found_by_name(found_by: FoundBy) -> &'static str
+    ensures word { result.now ≡ found_by_name found_by }
+    ensures short { length result.now ≤ 12 }
+{
+    match found_by {
+        FoundBy::Path => "path",
+        FoundBy::Listed => "known",
+        FoundBy::Rpath => "rpath",
+        FoundBy::LibraryPath => "library-path",
+        FoundBy::Runpath => "runpath",
+        FoundBy::Cache => "cache",
+        FoundBy::Default => "default",
+    }
 }
 
 /// Returns the state of a malformed file, if an object is refused.
@@ -42,7 +96,7 @@ fn file_state(state: ObjectState) -> FileStatus
 {
     match state {
         ObjectState::Refused(refusal) => FileStatus::Refused(refusal),
-        ObjectState::Found | ObjectState::Missing => FileStatus::Ok,
+        ObjectState::Found | ObjectState::Missing | ObjectState::Unused => FileStatus::Ok,
     }
 }
 
@@ -56,33 +110,51 @@ fn object_state_name(state: ObjectState) -> &'static str
         ObjectState::Found => "found",
         ObjectState::Missing => "missing",
         ObjectState::Refused(_) => "refused",
+        ObjectState::Unused => "unused",
     }
 }
 
 /// Writes the line of an object.
 ///
 /// Its fields are the object's index, the index of the object that first needed it, its state, the
-/// file offset and the cause of its refusal, and its path, or its name if it is missing, escaped as
-/// names are.
+/// file offset and the cause of its refusal, in JSON how it was found, and its path, or its name if
+/// it is missing, escaped as names are.
 ///
 /// # Errors
 /// A fault of the output, with a prefix of the line written.
 pub fn show_object<W: Sink>(
-    index: u16,
-    needer: Option<u16>,
-    state: ObjectState,
+    row: ObjectRow,
     path: &[u8],
     format: Format,
     out: &mut Out<W>,
 ) -> Result<(), OutFault>
-    ensures puts { OutPuts out.old out.new result (object_line format index needer state path.now) }
+    ensures puts { OutPuts out.old out.new result (object_line format row path.now) }
 {
     let mut front = LinePrefix::new();
     match format {
-        Format::Columns => object_row::<Columns>(&mut front, index, needer, state),
-        Format::Object => object_row::<Json>(&mut front, index, needer, state),
+        Format::Columns => object_row::<Columns>(&mut front, row),
+        Format::Object => object_row::<Json>(&mut front, row),
     }
     show_named(&mut front, path, false, out)
+}
+
+/// Writes the line of an object as [`show_object`] does; if only problems are written, that of one
+/// that is missing or refused.
+///
+/// # Errors
+/// A fault of the output, with a prefix of the line written.
+pub(crate) fn list_object<W: Sink>(
+    row: ObjectRow,
+    path: &[u8],
+    lines: LineOptions,
+    out: &mut Out<W>,
+) -> Result<(), OutFault>
+    ensures puts { OutPuts out.old out.new result (listed_object lines row path.now) }
+{
+    match row.state {
+        ObjectState::Found | ObjectState::Unused if lines.problems => out.put(b""),
+        _ => show_object(row, path, lines.format, out),
+    }
 }
 
 /// Writes the line that ends the objects if one more is needed than are listed: the file offset of

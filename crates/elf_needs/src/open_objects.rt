@@ -1,5 +1,6 @@
 //! The objects of a program whose files are kept open, so that names can be looked up in them.
 ghost use Rattle.std.specs.Prelude.{◌≡◌, [], IfOk};
+ghost use Rattle.elf_needs.specs.Looks.{SpendsBudget};
 ghost use Rattle.elf_needs.specs.Opens.{AsksKept, KeepsIndex, KeepsOne};
 
 use crate::budget::spend_budget;
@@ -19,15 +20,17 @@ pub struct OpenObjects<S: Source + Drop> {
     /// Their indices among all.
     pub indexes: Vec<u16>,
     most: usize,
+    // Whether symbols are looked up in them.
+    symbols: bool,
 }
 
 impl<S: Source + Drop> OpenObjects<S> {
-    /// Creates an empty list with room for the given number of objects. Allocates its memory from
-    /// `alloc`.
+    /// Creates an empty list with room for the given number of objects, in which symbols are looked
+    /// up or not. Allocates its memory from `alloc`.
     ///
     /// # Errors
     /// Out of memory.
-    pub fn new(alloc: Global, most: usize) -> Result<OpenObjects<S>, AllocError>
+    pub fn new(alloc: Global, most: usize, symbols: bool) -> Result<OpenObjects<S>, AllocError>
         ensures none { IfOk result (λ o. o.objects.items ≡ []) }
         ensures most { IfOk result (λ o. o.most ≡ most) }
     {
@@ -35,7 +38,18 @@ impl<S: Source + Drop> OpenObjects<S> {
             objects: Vec::with_capacity(alloc, most)?,
             indexes: Vec::with_capacity(alloc, most)?,
             most,
+            symbols,
         })
+    }
+
+    /// Closes all objects. Its memory is kept.
+    pub fn clear(&mut self)
+        ensures objects { self.new.objects.items ≡ [] }
+        ensures indexes { self.new.indexes.items ≡ [] }
+        ensures most { self.new.most ≡ self.old.most }
+    {
+        self.objects.clear();
+        self.indexes.clear();
     }
 
     /// Adds an object after the others.
@@ -54,7 +68,8 @@ impl<S: Source + Drop> OpenObjects<CachedSource<S>> {
     /// Keeps the file of the object with an index open, if there is room for it and it has a hash
     /// table.
     ///
-    /// Lookups in it use its program headers, as a loader's do, ignoring its section headers.
+    /// Lookups in it use its program headers, as a loader's do, ignoring its section headers. What
+    /// they have in common is read only if symbols are looked up.
     /// Requests at most the bytes left of the budget, if there is one; those requested are
     /// subtracted. Without a budget it is read by whole pages.
     ///
@@ -80,7 +95,7 @@ impl<S: Source + Drop> OpenObjects<CachedSource<S>> {
             Ok(object) => {
                 let mut object = object;
                 spend_budget(left, object.asked());
-                object.prepare(left);
+                prepare_if(self.symbols, &mut object, left);
                 self.push(index, object);
                 Ok(())
             }
@@ -89,5 +104,14 @@ impl<S: Source + Drop> OpenObjects<CachedSource<S>> {
                 without_hash(fault)
             }
         }
+    }
+}
+
+/// Reads what the lookups in an object have in common, if symbols are looked up.
+fn prepare_if<S: Source>(symbols: bool, object: &mut LookupObject<S>, left: &mut Option<u64>)
+    ensures { SpendsBudget left.old left.new object.old.src.asked object.new.src.asked }
+{
+    if symbols {
+        object.prepare(left);
     }
 }

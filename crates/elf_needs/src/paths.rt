@@ -3,7 +3,7 @@ ghost use Rattle.std.specs.Prelude.{◌≡◌, ◌==◌, ◌∷◌, ◌++◌, �
 ghost use Rattle.elf_needs.specs.Searching.{MOST_PATH_BYTES, PATH_SLASH, after_dir, root_before, entry_path, expanded, IsDirOf, dir_of_entry, if_short, is_rooted};
 ghost use Rattle.elf_needs.specs.Steps.{IsMade, PutsText, origin_of};
 
-use crate::tokens::token_in;
+use crate::tokens::token_at;
 use arrayvec::ArrayVec;
 use memchr::memrchr;
 
@@ -26,33 +26,32 @@ fn put_byte(path: &mut CandidatePath, byte: u8) -> bool
 }
 
 /// Returns `true` if a text begins with a slash.
-fn is_rooted(text: &[u8]) -> bool
+pub(crate) fn is_rooted(text: &[u8]) -> bool
     ensures { result ≡ is_rooted text.now }
 {
     !text.is_empty() && text[0] == b'/'
 }
 
-/// Appends a text to a path, with its tokens replaced. Returns whether each `$` begins a token and
-/// all of it fits.
-fn put_expanded(path: &mut CandidatePath, text: &[u8], origin: &[u8]) -> bool
-    ensures { PutsText path.old.items path.new.items (expanded origin.now 0 text.now) result }
+/// Appends a text to a path, with its tokens replaced. Returns whether it fits.
+pub(crate) fn put_expanded(path: &mut CandidatePath, text: &[u8], origin: &[u8]) -> bool
+    ensures { PutsText path.old.items path.new.items (Some (expanded origin.now 0 text.now)) result }
 {
     let mut at = 0;
     while at < text.len() {
-        if text[at] != b'$' {
-            if !put_byte(path, text[at]) {
-                return false;
+        match token_at(origin, &text[at..]) {
+            None => {
+                if !put_byte(path, text[at]) {
+                    return false;
+                }
+                at += 1;
             }
-            at += 1;
-            continue;
+            Some(token) => {
+                if !put(path, token.value) {
+                    return false;
+                }
+                at += 1 + token.size;
+            }
         }
-        let Some(token) = token_in(origin, &text[at + 1..]) else {
-            return false;
-        };
-        if !put(path, token.value) {
-            return false;
-        }
-        at += 1 + token.size;
     }
     true
 }
@@ -61,7 +60,7 @@ fn put_expanded(path: &mut CandidatePath, text: &[u8], origin: &[u8]) -> bool
 #[tactic(auto, unfolding(crate::specs::Searching::dir_of_entry))]
 fn put_dir(path: &mut CandidatePath, entry: &[u8], origin: Option<&[u8]>) -> bool
     ensures { PutsText path.old.items path.new.items
-        (dir_of_entry (origin_of origin.entry) entry.now) result }
+        (Some (dir_of_entry (origin_of origin.entry) entry.now)) result }
 {
     match origin {
         None => put(path, entry),

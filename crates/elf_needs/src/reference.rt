@@ -32,11 +32,11 @@ pub struct SymbolReference {
 
 /// The version that a symbol references.
 #[derive(Clone, Copy)]
-struct VersionReference {
+pub(crate) struct VersionReference {
     /// Whether it needs one.
-    versioned: bool,
+    pub versioned: bool,
     /// The record of the needed file that it is of, if there is one.
-    file: Option<VersionRecord>,
+    pub file: Option<VersionRecord>,
 }
 
 /// No version.
@@ -169,7 +169,7 @@ pub(crate) fn whole_name<S: Source>(
 ///
 /// # Errors
 /// Those of [`reference_symbol`] after its name.
-fn reference_version<S: Source>(
+pub(crate) fn reference_version<S: Source>(
     src: &mut Counted<S>,
     symbols: &DynamicSymbols,
     index: u64,

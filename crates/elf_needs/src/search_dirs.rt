@@ -3,28 +3,43 @@ ghost use Rattle.std.specs.Prelude.{◌≡◌, ◌≤◌, length};
 ghost use Rattle.elf_needs.specs.Called.{above_of};
 ghost use Rattle.elf_needs.specs.Budget.{AsksFound};
 
-use crate::candidates::{FileSource, candidate};
+use crate::candidates::{FileSource, SearchEnd, candidate};
 use crate::known_object::{KnownObject, MOST_OBJECTS, ObjectList};
 use crate::library_search::LibrarySearch;
+use crate::loader_cache::LibraryCache;
 use crate::needers::{NeedingObject, SearchPaths, gather_dirs};
 use crate::object_file::{ObjectFile, ReadAccount};
 use crate::path_budget::PathBudget;
 use crate::paths::{CandidatePath, named_path};
+use crate::search_path_list::SearchPathList;
+use crate::states::FoundBy;
+use crate::system_dirs::is_below_default;
 use crate::walk::NeedsFault;
+use elf_source::Source;
+use elf_table::{Fault, NameBuf};
 use memchr::memchr;
 use std::os::unix::fs::FileExt;
 use std::rt::Files;
 
-/// The directories given on a command line, each a colon-separated list, and the root that precedes
-/// each directory that begins with a slash.
+/// The directories given on a command line, each a list separated by colons, and the root that
+/// precedes each directory that begins with a slash.
 #[derive(Clone, Copy)]
 pub struct SearchDirs<'a> {
-    /// Those that come before an object's DT_RUNPATH.
+    /// Those that come before an object's DT_RUNPATH; semicolons separate them too.
     pub library: &'a [u8],
     /// Those that come last.
     pub default: &'a [u8],
     /// The other root.
     pub root: &'a [u8],
+}
+
+/// The system in which libraries are searched.
+#[derive(Drop)]
+pub struct SystemFiles<'f, R, S: Source + Drop> {
+    /// The files.
+    pub rt: &'f R,
+    /// The loader's cache, if one is searched.
+    pub cache: Option<LibraryCache<S>>,
 }
 
 /// A search for a library of a machine: its parameters, and what is left of the budget.
@@ -36,6 +51,8 @@ pub(crate) struct Search<'s> {
     pub machine: u16,
     /// The path that is tried.
     pub path: CandidatePath,
+    /// How what is at that path was found.
+    pub found_by: FoundBy,
     /// What is left of the budget, and what was requested.
     pub account: ReadAccount,
     /// How many paths may still be tried.
@@ -44,44 +61,150 @@ pub(crate) struct Search<'s> {
 
 impl Search<'_> {
     /// Searches for the library with a name that an object needs. If it is found, its path is in
-    /// the search's; none is found if one more path would be tried than may be. It is not inlined:
+    /// the search's, and how it was found; none is found if one more path would be tried than may be. It is not inlined:
     /// the stack of its caller would hold its lists while a file is read.
     ///
     /// # Errors
-    /// A read failed.
+    /// Why the search ended: a file on a path is refused, a path cannot be opened for a fault of the
+    /// system, a read of the cache failed, or the budget has no room for what is read of it.
     #[inline(never)]
     pub(crate) fn find<R: Files>(
         &mut self,
-        rt: &R,
+        system: &mut SystemFiles<'_, R, FileSource<R::File>>,
         objects: &ObjectList,
         needer: &KnownObject,
         name: &[u8],
-    ) -> Result<Option<ObjectFile<FileSource<R::File>>>, NeedsFault>
+    ) -> Result<Option<ObjectFile<FileSource<R::File>>>, SearchEnd>
     where
         R::File: FileExt,
         ensures asks { AsksFound self.old.account self.new.account result }
         ensures few { self.new.tries.left ≤ self.old.tries.left }
     {
         if memchr(b'/', name).is_some() {
-            if !self.tries.take() {
-                return Ok(None);
-            }
-            if !named_path(&mut self.path, self.folders.root, name) {
-                return Ok(None);
-            }
-            return candidate(rt, &self.path, self.machine, &mut self.account);
+            self.found_by = FoundBy::Path;
+            return self.try_path(system.rt, name);
         }
         let mut lists = no_lists();
         gather(objects, needer, &self.folders, &mut lists);
-        self.try_all(rt, LibrarySearch::new(self.folders.root, name, &lists))
+        self.find_in(system, needer, name, &lists)
+    }
+
+    /// Searches for the library with a name in lists of directories, and before the last of them in
+    /// the loader's cache.
+    ///
+    /// # Errors
+    /// Those of [`Search::find`].
+    fn find_in<R: Files>(
+        &mut self,
+        system: &mut SystemFiles<'_, R, FileSource<R::File>>,
+        needer: &KnownObject,
+        name: &[u8],
+        lists: &[SearchPathList<'_>],
+    ) -> Result<Option<ObjectFile<FileSource<R::File>>>, SearchEnd>
+    where
+        R::File: FileExt,
+        ensures asks { AsksFound self.old.account self.new.account result }
+        ensures few { self.new.tries.left ≤ self.old.tries.left }
+    {
+        let root = self.folders.root;
+        let last = lists.len().saturating_sub(1);
+        let first = LibrarySearch::new(root, name, &lists[..last]);
+        if let Some(found) = self.try_all(system.rt, first)? {
+            return Ok(Some(found));
+        }
+        if self.tries.is_over {
+            return Ok(None);
+        }
+        if let Some(found) = self.try_cache(system, needer, name)? {
+            return Ok(Some(found));
+        }
+        self.try_all(system.rt, LibrarySearch::new(root, name, &lists[last..]))
+    }
+
+    /// Tries the path that the loader's cache has for the name of a library that an object needs, if
+    /// there is a cache. A path below a default directory is not tried if the object's needs are not
+    /// searched for there.
+    ///
+    /// # Errors
+    /// Those of [`Search::find`].
+    #[inline(never)]
+    fn try_cache<R: Files>(
+        &mut self,
+        system: &mut SystemFiles<'_, R, FileSource<R::File>>,
+        needer: &KnownObject,
+        name: &[u8],
+    ) -> Result<Option<ObjectFile<FileSource<R::File>>>, SearchEnd>
+    where
+        R::File: FileExt,
+        ensures asks { AsksFound self.old.account self.new.account result }
+        ensures few { self.new.tries.left ≤ self.old.tries.left }
+    {
+        let Some(cache) = &mut system.cache else {
+            return Ok(None);
+        };
+        let mut path = NameBuf::new();
+        match cache.path(&mut self.account, name, &mut path) {
+            Ok(true)
+                if needer.links.has_nodeflib()
+                    && is_below_default(self.folders.default, path.bytes()) => { Ok(None) }
+            Ok(true) => {
+                self.found_by = FoundBy::Cache;
+                self.try_path(system.rt, path.bytes())
+            }
+            Ok(false) => Ok(None),
+            Err(Fault::Refused(refusal)) => Err(SearchEnd::Unread(refusal)),
+            Err(Fault::Source { .. }) => Err(SearchEnd::Failed(NeedsFault::Read)),
+        }
+    }
+
+    /// Tries a path, below the root if it begins with a slash.
+    ///
+    /// # Errors
+    /// A read failed, or the path cannot be opened for a fault of the system.
+    fn try_path<R: Files>(
+        &mut self,
+        rt: &R,
+        path: &[u8],
+    ) -> Result<Option<ObjectFile<FileSource<R::File>>>, SearchEnd>
+    where
+        R::File: FileExt,
+        ensures asks { AsksFound self.old.account self.new.account result }
+        ensures few { self.new.tries.left ≤ self.old.tries.left }
+    {
+        if !self.tries.take() {
+            return Ok(None);
+        }
+        if !named_path(&mut self.path, self.folders.root, path) {
+            return Ok(None);
+        }
+        self.try_candidate(rt)
+    }
+
+    /// Tries the path that is composed.
+    ///
+    /// # Errors
+    /// A read failed, or the path cannot be opened for a fault of the system.
+    fn try_candidate<R: Files>(
+        &mut self,
+        rt: &R,
+    ) -> Result<Option<ObjectFile<FileSource<R::File>>>, SearchEnd>
+    where
+        R::File: FileExt,
+        ensures asks { AsksFound self.old.account self.new.account result }
+        ensures same { self.new.tries ≡ self.old.tries }
+    {
+        candidate(rt, &self.path, self.machine, &mut self.account)
     }
 
     /// Tries paths, one after another.
+    ///
+    /// # Errors
+    /// Those of [`Search::find`].
     fn try_all<R: Files>(
         &mut self,
         rt: &R,
         search: LibrarySearch<'_>,
-    ) -> Result<Option<ObjectFile<FileSource<R::File>>>, NeedsFault>
+    ) -> Result<Option<ObjectFile<FileSource<R::File>>>, SearchEnd>
     where
         R::File: FileExt,
         ensures asks { AsksFound self.old.account self.new.account result }
@@ -89,7 +212,8 @@ impl Search<'_> {
     {
         let mut search = search;
         while search.next(&mut self.path, &mut self.tries) {
-            if let Some(found) = candidate(rt, &self.path, self.machine, &mut self.account)? {
+            self.found_by = search.found_by();
+            if let Some(found) = self.try_candidate(rt)? {
                 return Ok(Some(found));
             }
         }
@@ -115,7 +239,13 @@ fn gather<'a>(
 ) {
     let mut chain = [NeedingObject::default(); MOST_OBJECTS];
     let count = put_chain(objects, needer, &mut chain);
-    gather_dirs(&chain[..count], folders.library, folders.default, lists);
+    let library = SearchPathList {
+        text: folders.library,
+        separator: b';',
+        origin: Some(objects.program_folder()),
+        found_by: FoundBy::LibraryPath,
+    };
+    gather_dirs(&chain[..count], library, folders.default, lists);
 }
 
 /// Copies an object, the one that first needed it, and so on up to the program, up to the capacity,
@@ -133,6 +263,7 @@ fn put_chain<'a>(
             rpath: objects.text(known.links.rpath),
             runpath: objects.text(known.links.runpath),
             folder: objects.folder(&known),
+            nodeflib: known.links.has_nodeflib(),
         };
         let Some(above) = above(objects, &known) else {
             return place + 1;

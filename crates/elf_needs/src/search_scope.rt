@@ -3,7 +3,7 @@ ghost use Rattle.std.specs.Prelude.{◌≡◌, ◌==◌, ◌||◌, get_or, posit
 ghost use Rattle.elf_needs.specs.Bound.{failing_of};
 
 use crate::known_object::ObjectList;
-use elf_model::Format;
+use crate::line_options::LineOptions;
 
 /// The objects in which names are looked up.
 #[derive(Clone, Copy)]
@@ -12,8 +12,8 @@ pub(crate) struct SearchScope<'a> {
     pub indexes: &'a [u16],
     /// All objects.
     pub known: &'a ObjectList,
-    /// How a line is written.
-    pub format: Format,
+    /// Which lines are written, and how.
+    pub lines: LineOptions,
 }
 
 /// The result of writing the lines.
@@ -49,10 +49,10 @@ pub(crate) fn place_of(indexes: &[u16], index: u16) -> Option<usize>
 
 /// Returns whether lines that were written report that something is missing, or `None` if the
 /// budget is exhausted.
-pub(crate) fn failing(came: WriteEnd) -> Option<bool>
-    ensures { result ≡ failing_of came }
+pub(crate) fn failing(end: WriteEnd) -> Option<bool>
+    ensures { result ≡ failing_of end }
 {
-    match came {
+    match end {
         WriteEnd::Whole { fails } => Some(fails),
         WriteEnd::Ended => Some(true),
         WriteEnd::Cut => None,

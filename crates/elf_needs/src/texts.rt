@@ -1,5 +1,5 @@
 //! Texts in memory that is allocated once.
-ghost use Rattle.std.specs.Prelude.{◌≡◌, ◌<◌, ◌++◌, ◌∷◌, [], ℕ, List, IfOk, IfSome, IsNone, is_some, nat_lt, ◌&&◌, length, slice_index_or};
+ghost use Rattle.std.specs.Prelude.{◌≡◌, ◌+◌, ◌<◌, ◌≤◌, ◌++◌, ◌∷◌, [], ℕ, List, IfOk, IfSome, IsNone, is_some, nat_lt, ◌&&◌, length, slice_index_or};
 ghost use Rattle.elf_model.specs.Prelude.{has_room, slice};
 ghost use Rattle.elf_needs.specs.Held.{with_text};
 
@@ -64,6 +64,16 @@ impl StringArena {
             most_bytes: bytes,
             most_texts: texts,
         })
+    }
+
+    /// Removes all texts. Its memory is kept.
+    pub fn clear(&mut self)
+        ensures none { self.new.texts ≡ [] }
+        ensures bytes { self.old.room.bytes ≤ self.new.room.bytes }
+        ensures texts { self.new.room.texts ≡ self.old.room.texts + length self.old.texts }
+    {
+        self.bytes.clear();
+        self.places.clear();
     }
 
     /// Returns the number of texts.

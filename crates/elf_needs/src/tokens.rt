@@ -1,6 +1,6 @@
-//! Tokens in the name of a directory.
-ghost use Rattle.std.specs.Prelude.{◌≡◌, ◌≤◌, length, not, option_map, slice_index, IfSome};
-ghost use Rattle.elf_needs.specs.Searching.{is_name_byte, token_in, token_size};
+//! Tokens in the name of a library or of a directory.
+ghost use Rattle.std.specs.Prelude.{◌≡◌, ◌<◌, ◌≤◌, length, not, option_map, slice_index, IfSome};
+ghost use Rattle.elf_needs.specs.Searching.{is_name_byte, token_at, token_in, token_size};
 ghost use Rattle.elf_needs.specs.Steps.{token_of};
 
 /// A token: its replacement, and how many bytes it has after its `$`.
@@ -12,9 +12,21 @@ pub(crate) struct StringToken<'a> {
     pub size: usize,
 }
 
+/// Returns the token with which a text begins, if it does.
+#[tactic(auto, unfolding(crate::specs::Searching::token_at))]
+pub(crate) fn token_at<'a>(origin: &'a [u8], text: &[u8]) -> Option<StringToken<'a>>
+    ensures token { option_map token_of result ≡ token_at origin.now text.now }
+    ensures within { IfSome result (λ token. token.size < length text.now) }
+{
+    if text.is_empty() || text[0] != b'$' {
+        return None;
+    }
+    token_in(origin, &text[1..])
+}
+
 /// Returns the token that bytes after a `$` begin with, if they do.
 #[tactic(auto, unfolding(crate::specs::Searching::token_in))]
-pub(crate) fn token_in<'a>(origin: &'a [u8], bytes: &[u8]) -> Option<StringToken<'a>>
+fn token_in<'a>(origin: &'a [u8], bytes: &[u8]) -> Option<StringToken<'a>>
     ensures token { option_map token_of result ≡ token_in origin.now bytes.now }
     ensures within { IfSome result (λ token. token.size ≤ length bytes.now) }
 {

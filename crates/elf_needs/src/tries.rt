@@ -3,10 +3,10 @@ ghost use Rattle.std.specs.Prelude.{◌≡◌, ◌<◌, ◌≤◌, ◌∷◌, []
 ghost use Rattle.elf_needs.specs.Searching.{dir_paths};
 ghost use Rattle.elf_needs.specs.Steps.{dirs_of};
 
-use crate::folder_entries::first_entry;
-use crate::folders::SearchPathList;
 use crate::path_budget::PathBudget;
+use crate::path_elements::first_entry;
 use crate::paths::{CandidatePath, put_entry};
+use crate::search_path_list::SearchPathList;
 use std::marker::Model;
 
 /// The paths of a name in a list of directories that were not tried yet.
@@ -15,6 +15,8 @@ pub struct CandidatePaths<'a> {
     root: &'a [u8],
     name: &'a [u8],
     origin: Option<&'a [u8]>,
+    /// What separates directories besides a colon.
+    separator: u8,
     /// What is left of the list.
     left: Option<&'a [u8]>,
 }
@@ -26,25 +28,27 @@ impl<'a> Model for CandidatePaths<'a> {
 
     ghost Value = { List (List ℕ) };
 
-    ghost view = { λ t. entry_paths t.root.now t.name.now (origin_of t.origin) (left_entries t.left) };
+    ghost view = { λ t. entry_paths t.root.now t.name.now (origin_of t.origin)
+        (left_entries t.separator t.left) };
 }
 
 impl<'a> CandidatePaths<'a> {
     /// Creates the paths of a name in a list of directories, below a root, which precedes each
     /// directory that begins with a slash.
     #[tactic(auto, unfolding(crate::specs::Searching::entries_of, crate::specs::Searching::entry_paths))]
-    pub fn new(root: &'a [u8], name: &'a [u8], folders: SearchPathList<'a>) -> CandidatePaths<'a>
-        ensures { result ≡ dir_paths root.now name.now (dirs_of folders.entry) }
+    pub fn new(root: &'a [u8], name: &'a [u8], list: SearchPathList<'a>) -> CandidatePaths<'a>
+        ensures { result ≡ dir_paths root.now name.now (dirs_of list.entry) }
     {
-        let left = if folders.text.is_empty() {
+        let left = if list.text.is_empty() {
             None
         } else {
-            Some(folders.text)
+            Some(list.text)
         };
         CandidatePaths {
             root,
             name,
-            origin: folders.origin,
+            origin: list.origin,
+            separator: list.separator,
             left,
         }
     }
@@ -58,6 +62,7 @@ impl<'a> CandidatePaths<'a> {
             root,
             name,
             origin: None,
+            separator: b':',
             left: None,
         }
     }
@@ -75,8 +80,8 @@ impl<'a> CandidatePaths<'a> {
             if !tries.take() {
                 return false;
             }
-            let entry = first_entry(text);
-            self.left = entry.behind;
+            let entry = first_entry(text, self.separator);
+            self.left = entry.after;
             if put_entry(path, self.root, self.name, entry.text, self.origin) {
                 return true;
             }

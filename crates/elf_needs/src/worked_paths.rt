@@ -1,5 +1,5 @@
 //! Worked examples of the paths that are tried for a library, each computed by the prover.
-ghost use Rattle.elf_needs.specs.WorkedPaths.{DirsAreJoined, NamesArePaths, RpathsGoUp, RunpathsAreOwn, TokensStand};
+ghost use Rattle.elf_needs.specs.WorkedPaths.{DefaultsAreLeftOut, DirsAreJoined, NamesArePaths, NamesHaveTokens, RpathsGoUp, RunpathsAreOwn, TokensStand};
 
 /// Proves that a name with a slash in it is a path.
 #[tactic(auto, unfolding(crate::proofs::OnSearch::on_search))]
@@ -23,6 +23,18 @@ pub fn runpaths_are_own()
 #[tactic(auto, unfolding(crate::proofs::OnSearch::on_search))]
 pub fn tokens_stand()
     ensures { TokensStand }
+{}
+
+/// Proves that tokens of a name are replaced.
+#[tactic(auto, unfolding(crate::proofs::OnSearch::on_search))]
+pub fn names_have_tokens()
+    ensures { NamesHaveTokens }
+{}
+
+/// Proves which needs have no default directories.
+#[tactic(auto, unfolding(crate::proofs::OnSearch::on_search))]
+pub fn defaults_are_left_out()
+    ensures { DefaultsAreLeftOut }
 {}
 
 /// Proves how directories and names are joined, with another root too.

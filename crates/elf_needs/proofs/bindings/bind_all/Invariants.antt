@@ -8,7 +8,7 @@ abbrev pub invariant-loop-place : goal.invariant-loop-place
 invariant-loop-place g l = record {
   asks : AsksAll l.fn.objects l.objects l.fn.left l.left;
   known : (headers : ℕ) (files : List (List ℕ)) → AreObjectFiles headers l.fn.objects files
-      → WritesSoFar l.among.format (bound_items (bound_among headers files l.among)) (objects_items (bound_among headers files l.among) l.place (drop l.place files))
+      → WritesSoFar l.scope.lines (bound_items (bound_among headers files l.scope)) (objects_items (bound_among headers files l.scope) l.place (drop l.place files))
       l.fn.out l.out l.fails;
   end : l.place-end ≡ length l.fn.objects;
 }

@@ -17,11 +17,11 @@ returns-in-Err-clause-asks g c =
 pub returns-in-Err-clause-known : goal.returns-in-Err-clause-known
 returns-in-Err-clause-known g c =
     λ headers files are.
-    let objects = bound_among headers files c.args.among.now in
+    let objects = bound_among headers files c.args.scope.now in
     let here = file_here headers c.args.place c.args.objects.now files c.index-objects-place.result are c.requires in
     let told = c.symbol_count.ensures.known (get_or files c.args.place []) here.0 in
     let scope = ap (lookup_tables_of (get_or files c.args.place [])) (sym here.1) ∙ told.1 in
-    faulted_lines c.args.among.now.format (object_items objects c.args.place (get_or files c.args.place [])) (IsBudgetShort (set c.args.objects.now c.args.place c.symbol_count.new.self) c.symbol_count.new.left) c.in-Err.fault c.args.out.now c.tell.new.out c.tell.result
+    faulted_lines c.args.scope.now.lines (object_items objects c.args.place (get_or files c.args.place [])) (IsBudgetShort (set c.args.objects.now c.args.place c.symbol_count.new.self) c.symbol_count.new.left) c.in-Err.fault c.args.out.now c.tell.new.out c.tell.result
     (items_refused objects c.args.place (get_or files c.args.place []) told.0 scope c.in-Err.fault (rw c.in-Err.is at told.2))
     (only_of (set c.args.objects.now c.args.place c.symbol_count.new.self) c.symbol_count.new.left c.in-Err.fault
     (short_one c.args.objects.now c.args.place c.index-objects-place.result c.symbol_count.new.self _ c.in-Err.fault c.requires (rw c.in-Err.is at c.symbol_count.ensures.costs) c.symbol_count.ensures.pays)) c.tell.ensures
@@ -31,7 +31,7 @@ loop-symbol-init g c =
     let e = c.symbol_count.ensures in
     record {
       asks = asks_one c.args.objects.now c.args.place c.index-objects-place.result c.symbol_count.new.self c.requires (spends_same e.costs e.same_headers) e.pays;
-      known = λ headers files are told found hashed. so_far_none c.args.among.now.format _ c.args.out.now;
+      known = λ headers files are told found hashed. so_far_none c.args.scope.now.lines _ c.args.out.now;
     }
 
 pub returns-in_err-fails-clause-asks : goal.returns-in_err-fails-clause-asks
@@ -45,7 +45,7 @@ returns-in_err-fails-clause-known g c =
     rw (p.1, p.2)
     (λ headers files are.
     let has = counted_in headers c.args.place c.in-Ok.count c.args.objects.now files c.index-objects-place.result c.symbol_count.new.self c.symbol_count.result c.in-Ok.is c.symbol_count.ensures are c.requires in
-    symbol_ends (bound_among headers files c.args.among.now) c.args.place (get_or files c.args.place []) c.in-Ok.count l.symbol has (omega (arith, c.loop-symbol-test.true)) c.bind_symbol.new.out
+    symbol_ends (bound_among headers files c.args.scope.now) c.args.place (get_or files c.args.place []) c.in-Ok.count l.symbol has (omega (arith, c.loop-symbol-test.true)) c.bind_symbol.new.out
     (i.known headers files are has.told has.scope has.hashed) (IsBudgetShort c.bind_symbol.new.objects c.bind_symbol.new.left) (Err c.in_err-fails.field-0.0) tt
     (c.in_err-fails.ensures.known headers files has.told (are_kept headers files i.asks are) has.scope (omega (arith, has.fits, c.loop-symbol-test.true))))
 
@@ -58,7 +58,7 @@ returns-in-Ended-clause-known g c =
     let i = l.invariant in
     λ headers files are.
     let has = counted_in headers c.args.place c.in-Ok.count c.args.objects.now files c.index-objects-place.result c.symbol_count.new.self c.symbol_count.result c.in-Ok.is c.symbol_count.ensures are c.requires in
-    symbol_ends (bound_among headers files c.args.among.now) c.args.place (get_or files c.args.place []) c.in-Ok.count l.symbol has (omega (arith, c.loop-symbol-test.true)) c.bind_symbol.new.out
+    symbol_ends (bound_among headers files c.args.scope.now) c.args.place (get_or files c.args.place []) c.in-Ok.count l.symbol has (omega (arith, c.loop-symbol-test.true)) c.bind_symbol.new.out
     (i.known headers files are has.told has.scope has.hashed) (IsBudgetShort c.bind_symbol.new.objects c.bind_symbol.new.left) (Ok Ended) tt
     (rw c.in-Ended.is at (c.in_ok-fails.ensures.known headers files has.told (are_kept headers files i.asks are) has.scope (omega (arith, has.fits, c.loop-symbol-test.true))))
 
@@ -71,7 +71,7 @@ returns-in-Cut-clause-known g c =
     let i = l.invariant in
     λ headers files are.
     let has = counted_in headers c.args.place c.in-Ok.count c.args.objects.now files c.index-objects-place.result c.symbol_count.new.self c.symbol_count.result c.in-Ok.is c.symbol_count.ensures are c.requires in
-    symbol_ends (bound_among headers files c.args.among.now) c.args.place (get_or files c.args.place []) c.in-Ok.count l.symbol has (omega (arith, c.loop-symbol-test.true)) c.bind_symbol.new.out
+    symbol_ends (bound_among headers files c.args.scope.now) c.args.place (get_or files c.args.place []) c.in-Ok.count l.symbol has (omega (arith, c.loop-symbol-test.true)) c.bind_symbol.new.out
     (i.known headers files are has.told has.scope has.hashed) (IsBudgetShort c.bind_symbol.new.objects c.bind_symbol.new.left) (Ok Cut) tt
     (rw c.in-Cut.is at (c.in_ok-fails.ensures.known headers files has.told (are_kept headers files i.asks are) has.scope (omega (arith, has.fits, c.loop-symbol-test.true))))
 
@@ -85,7 +85,7 @@ loop-symbol-preserved g c =
           let has : SymbolsIn (get_or files c.args.place []) headers c.in-Ok.count =
           record { told = told; scope = scope; hashed = hashed; fits = hashed_fits (get_or files c.args.place []) told c.in-Ok.count hashed } in
           rw c.either-fails.ensures
-          (symbol_more (bound_among headers files c.args.among.now) c.args.place (get_or files c.args.place []) c.in-Ok.count l.symbol has (omega (arith, c.loop-symbol-test.true)) c.bind_symbol.new.out
+          (symbol_more (bound_among headers files c.args.scope.now) c.args.place (get_or files c.args.place []) c.in-Ok.count l.symbol has (omega (arith, c.loop-symbol-test.true)) c.bind_symbol.new.out
           (i.known headers files are told scope hashed) (IsBudgetShort c.bind_symbol.new.objects c.bind_symbol.new.left) c.in-Whole.fails
           (rw c.in-Whole.is at (c.in_ok-fails.ensures.known headers files told (are_kept headers files i.asks are) scope (omega (arith, has.fits, c.loop-symbol-test.true)))));
     }
@@ -95,7 +95,7 @@ returns-clause-known g c =
     let l = c.loop-symbol in
     let i = l.invariant in
     λ headers files are.
-    let objects = bound_among headers files c.args.among.now in
+    let objects = bound_among headers files c.args.scope.now in
     let file = get_or files c.args.place [] in
     let has = counted_in headers c.args.place c.in-Ok.count c.args.objects.now files c.index-objects-place.result c.symbol_count.new.self c.symbol_count.result c.in-Ok.is c.symbol_count.ensures are c.requires in
     let none = items_none objects c.args.place file has.told.symbols l.symbol c.in-Ok.count (omega (arith, c.loop-symbol-test.false)) in

@@ -9,8 +9,8 @@ invariant-loop-symbol g l = record {
   asks : AsksAll l.fn.objects l.objects l.fn.left l.left;
   known : (headers : ℕ) (files : List (List ℕ)) → AreObjectFiles headers l.fn.objects files → (told : IsScopeOf)
       → lookup_tables_of (get_or files l.place []) headers ≡ Ok told → symbols_hashed (get_or files l.place []) told ≡ Ok l.count
-      → WritesSoFar l.among.format
-      (items_from (bound_among headers files l.among) l.place (get_or files l.place []) told.symbols 1 (l.count - 1))
-      (items_from (bound_among headers files l.among) l.place (get_or files l.place []) told.symbols l.symbol (l.count - l.symbol))
+      → WritesSoFar l.scope.lines
+      (items_from (bound_among headers files l.scope) l.place (get_or files l.place []) told.symbols 1 (l.count - 1))
+      (items_from (bound_among headers files l.scope) l.place (get_or files l.place []) told.symbols l.symbol (l.count - l.symbol))
       l.fn.out l.out l.fails;
 }

@@ -20,7 +20,7 @@ returns-in_err-sought-clause-known g c =
     (λ headers files told are found below.
     let here = file_here headers c.args.at.place c.args.objects.now files c.index-objects-at.result are c.requires in
     let tells = c.in_err-sought.ensures.known (get_or files c.args.at.place []) told here.0 (ap (lookup_tables_of (get_or files c.args.at.place [])) here.1 ∙ found) below in
-    item_fault (bound_among headers files c.args.among.now) c.args.at.place (get_or files c.args.at.place []) told.symbols c.args.at.symbol true [] [] [] None 0 _ tells)
+    item_fault (bound_among headers files c.args.scope.now) c.args.at.place (get_or files c.args.at.place []) told.symbols c.args.at.symbol true [] [] [] None 0 _ tells)
 
 pub returns-in_default-clause-asks : goal.returns-in_default-clause-asks
 returns-in_default-clause-asks g c =
@@ -33,7 +33,7 @@ returns-in_default-clause-known g c =
     λ headers files told are found below.
     let here = file_here headers c.args.at.place c.args.objects.now files c.index-objects-at.result are c.requires in
     let tells = c.in_ok-sought.ensures.known (get_or files c.args.at.place []) told here.0 (ap (lookup_tables_of (get_or files c.args.at.place [])) here.1 ∙ found) below in
-    item_none (bound_among headers files c.args.among.now) c.args.at.place (get_or files c.args.at.place []) told.symbols c.args.at.symbol (rw none at tells)
+    item_none (bound_among headers files c.args.scope.now) c.args.at.place (get_or files c.args.at.place []) told.symbols c.args.at.symbol (rw none at tells)
 
 pub returns-in_err-state-clause-asks : goal.returns-in_err-state-clause-asks
 returns-in_err-state-clause-asks g c =
@@ -51,7 +51,7 @@ returns-in_err-state-clause-known g c =
     let scope = ap (lookup_tables_of (get_or files c.args.at.place [])) here.1 ∙ found in
     let tells = rw c.in-Some.is at (c.in_ok-sought.ensures.known (get_or files c.args.at.place []) told here.0 scope below) in
     let of = rw c.in-Some.is at (c.in_ok-sought.ensures.of_file (get_or files c.args.at.place []) told here.0 scope below) in
-    item_stopped (bound_among headers files c.args.among.now) c.args.at.place (get_or files c.args.at.place []) told.symbols c.args.at.symbol c.sought.new.name c.sought.new.version c.in-Some.sought.versioned tells.0 [] None 0 _
+    item_stopped (bound_among headers files c.args.scope.now) c.args.at.place (get_or files c.args.at.place []) told.symbols c.args.at.symbol c.sought.new.name c.sought.new.version c.in-Some.sought.versioned tells.0 [] None 0 _
     (c.in_err-state.ensures.known headers files told (are_kept headers files asks are) found (omega (arith, below)) tells.1 of))
 
 pub returns-clause-asks : goal.returns-clause-asks
@@ -72,7 +72,7 @@ returns-clause-known g c =
     let version = c.state_of.ensures.version in
     let versioned = c.state_of.ensures.versioned in
     rw (name, version, versioned)
-    (item_state (bound_among headers files c.args.among.now) c.args.at.place (get_or files c.args.at.place []) told.symbols c.args.at.symbol c.sought.new.name c.sought.new.version c.in-Some.sought.versioned tells.0 c.in_ok-state.state
+    (item_state (bound_among headers files c.args.scope.now) c.args.at.place (get_or files c.args.at.place []) told.symbols c.args.at.symbol c.sought.new.name c.sought.new.version c.in-Some.sought.versioned tells.0 c.in_ok-state.state
     (c.in_ok-state.ensures.known headers files told (are_kept headers files asks are) found (omega (arith, below)) tells.1 of))
 
 pub returns-in_err-sought-clause-short : goal.returns-in_err-sought-clause-short

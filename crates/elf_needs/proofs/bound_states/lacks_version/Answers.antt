@@ -11,19 +11,19 @@ use Rattle.elf_needs.proofs.bound_states.lacks_version.Goals as goal
 pub returns-then-not-sought-clause-known : goal.returns-then-not-sought-clause-known
 returns-then-not-sought-clause-known g c =
     λ headers files told are found some weak is.
-    lacks_unversioned (bound_among headers files c.args.among.now) (get_or files c.args.at.place []) told.symbols c.args.at.symbol c.args.names.now.version c.args.sought.now.versioned c.if-not-sought.true
+    lacks_unversioned (bound_among headers files c.args.scope.now) (get_or files c.args.at.place []) told.symbols c.args.at.symbol c.args.names.now.version c.args.sought.now.versioned c.if-not-sought.true
 
 pub returns-then-sought-clause-known : goal.returns-then-sought-clause-known
 returns-then-sought-clause-known g c =
     λ headers files told are found some weak is.
-    lacks_weak (bound_among headers files c.args.among.now) (get_or files c.args.at.place []) told.symbols c.args.at.symbol c.args.names.now.version c.args.sought.now.versioned c.args.sought.now.weak
+    lacks_weak (bound_among headers files c.args.scope.now) (get_or files c.args.at.place []) told.symbols c.args.at.symbol c.args.names.now.version c.args.sought.now.versioned c.args.sought.now.weak
     c.if-not-sought.false weak c.if-sought.true
 
 pub returns-in_default-clause-known : goal.returns-in_default-clause-known
 returns-in_default-clause-known g c =
     let none = none-of c.args.sought.now.file c.in_default.not-Some in
     λ headers files told are found some weak is.
-    lacks_fileless (bound_among headers files c.args.among.now) (get_or files c.args.at.place []) told.symbols c.args.at.symbol c.args.names.now.version c.args.sought.now.versioned c.args.sought.now.weak
+    lacks_fileless (bound_among headers files c.args.scope.now) (get_or files c.args.at.place []) told.symbols c.args.at.symbol c.args.names.now.version c.args.sought.now.versioned c.args.sought.now.weak
     c.if-not-sought.false weak c.if-sought.false c.args.sought.now.file is none
 
 pub returns-in_err-needed_file-clause-asks : goal.returns-in_err-needed_file-clause-asks
@@ -38,7 +38,7 @@ returns-in_err-needed_file-clause-known g c =
     (λ headers files told are found some weak is.
     let here = file_here headers c.args.at.place c.args.objects.now files c.index-objects-at.result are c.requires in
     let tells = c.in_err-needed_file.ensures.known (get_or files c.args.at.place []) told here.0 (ap (lookup_tables_of (get_or files c.args.at.place [])) here.1 ∙ found) some in
-    lacks_unnamed (bound_among headers files c.args.among.now) (get_or files c.args.at.place []) told.symbols c.args.at.symbol c.args.names.now.version c.args.sought.now.versioned c.args.sought.now.weak
+    lacks_unnamed (bound_among headers files c.args.scope.now) (get_or files c.args.at.place []) told.symbols c.args.at.symbol c.args.names.now.version c.args.sought.now.versioned c.args.sought.now.weak
     c.if-not-sought.false weak c.if-sought.false c.in-Some.file c.args.sought.now.file is c.in-Some.is c.needed_file.new.name _ tells)
 
 pub returns-clause-asks : goal.returns-clause-asks
@@ -53,7 +53,7 @@ returns-clause-known g c =
     let asks = asks_one c.args.objects.now c.args.at.place c.index-objects-at.result c.needed_file.new.self c.requires (spends_same e.costs e.same_headers) e.pays in
     let here = file_here headers c.args.at.place c.args.objects.now files c.index-objects-at.result are c.requires in
     let tells = c.in_ok-needed_file.ensures.known (get_or files c.args.at.place []) told here.0 (ap (lookup_tables_of (get_or files c.args.at.place [])) here.1 ∙ found) some in
-    let named = lacks_named (bound_among headers files c.args.among.now) (get_or files c.args.at.place []) told.symbols c.args.at.symbol c.args.names.now.version c.args.sought.now.versioned c.args.sought.now.weak
+    let named = lacks_named (bound_among headers files c.args.scope.now) (get_or files c.args.at.place []) told.symbols c.args.at.symbol c.args.names.now.version c.args.sought.now.versioned c.args.sought.now.weak
     c.if-not-sought.false weak c.if-sought.false c.in-Some.file c.args.sought.now.file is c.in-Some.is c.needed_file.new.name tells in
     rw named (rw (c.bytes.ensures.value, c.bytes-2.ensures.value) at (c.lacks_in.ensures.known headers files (are_kept headers files asks are)))
 

@@ -17,7 +17,7 @@ returns-in_err-lacks-in-Ok-Unbound-clause-known g c =
     let w = wanted_is (query_of c.wanted-wanted.result) c.args.names.now.name (asked_if c.args.sought.now.versioned c.args.names.now.version) c.wanted-wanted.ensures.name (rw c.requires.versioned at c.wanted-wanted.ensures.asked) in
     rw (p.1, p.2)
     (λ headers files told are found some weak is.
-    state_fault (bound_among headers files c.args.among.now) (get_or files c.args.at.place []) told.symbols c.args.at.symbol _ _
+    state_fault (bound_among headers files c.args.scope.now) (get_or files c.args.at.place []) told.symbols c.args.at.symbol _ _
     (rw (w, c.in-Ok-Unbound.is, c.in-Ok-Unbound.field-0-is) at (c.bind.ensures.tells headers files are))
     (c.in_err-lacks-in-Ok-Unbound.ensures.known headers files told (are_kept headers files (asks_bind c.bind.ensures) are) found some weak is))
 
@@ -35,7 +35,7 @@ returns-in-Ok-Bound-clause-known g c =
     let w = wanted_is (query_of c.wanted-wanted.result) c.args.names.now.name (asked_if c.args.sought.now.versioned c.args.names.now.version) c.wanted-wanted.ensures.name (rw c.requires.versioned at c.wanted-wanted.ensures.asked) in
     λ headers files told are found some weak is.
     rw (c.index_at.ensures)
-    (state_bound (bound_among headers files c.args.among.now) (get_or files c.args.at.place []) told.symbols c.args.at.symbol _ c.in-Ok-Bound.object c.in-Ok-Bound.symbol
+    (state_bound (bound_among headers files c.args.scope.now) (get_or files c.args.at.place []) told.symbols c.args.at.symbol _ c.in-Ok-Bound.object c.in-Ok-Bound.symbol
     (rw (w, c.in-Ok-Bound.is, c.in-Ok-Bound.field-0-is) at (c.bind.ensures.tells headers files are)))
 
 pub returns-in_ok-lacks-in-Ok-Unbound-clause-asks : goal.returns-in_ok-lacks-in-Ok-Unbound-clause-asks
@@ -46,7 +46,7 @@ returns-in_ok-lacks-in-Ok-Unbound-clause-known g c =
     let w = wanted_is (query_of c.wanted-wanted.result) c.args.names.now.name (asked_if c.args.sought.now.versioned c.args.names.now.version) c.wanted-wanted.ensures.name (rw c.requires.versioned at c.wanted-wanted.ensures.asked) in
     λ headers files told are found some weak is.
     rw (c.unbound_state.ensures, weak)
-    (state_none (bound_among headers files c.args.among.now) (get_or files c.args.at.place []) told.symbols c.args.at.symbol _ c.in_ok-lacks-in-Ok-Unbound.lacks
+    (state_none (bound_among headers files c.args.scope.now) (get_or files c.args.at.place []) told.symbols c.args.at.symbol _ c.in_ok-lacks-in-Ok-Unbound.lacks
     (rw (w, c.in-Ok-Unbound.is, c.in-Ok-Unbound.field-0-is) at (c.bind.ensures.tells headers files are))
     (c.in_ok-lacks-in-Ok-Unbound.ensures.known headers files told (are_kept headers files (asks_bind c.bind.ensures) are) found some weak is))
 
@@ -58,5 +58,5 @@ returns-else-is_reported_alone-clause-known g c =
     let w = wanted_is (query_of c.wanted-wanted.result) c.args.names.now.name (asked_if c.args.sought.now.versioned c.args.names.now.version) c.wanted-wanted.ensures.name (rw c.requires.versioned at c.wanted-wanted.ensures.asked) in
     λ headers files told are found some weak is.
     rw (c.index_at-in-Err.ensures)
-    (state_refused (bound_among headers files c.args.among.now) (get_or files c.args.at.place []) told.symbols c.args.at.symbol _ c.in-Err.field-0 (rw c.if-is_reported_alone.false at c.is_reported_alone.ensures)
+    (state_refused (bound_among headers files c.args.scope.now) (get_or files c.args.at.place []) told.symbols c.args.at.symbol _ c.in-Err.field-0 (rw c.if-is_reported_alone.false at c.is_reported_alone.ensures)
     (rw (w, c.in-Err.is) at (c.bind.ensures.tells headers files are)))

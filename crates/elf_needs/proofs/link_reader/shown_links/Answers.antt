@@ -11,7 +11,7 @@ returns-in_err-loaded-clause-did g c =
     let ceiling = ceiling_is c.args.src.now.seen.size c.args.store.now.slots in
     rw (p.1, p.2)
     (CallDid-as _ (omega (arith, ceiling)) c.in_err-loaded.ensures.did
-    (λ file told costs none. load_stops file c.args.store.now.slots c.args.links.now.held.room c.args.links.now c.args.links.now _ c.load_by_segments.new.store (told none).loads))
+    (λ file told costs none. (load_stops file c.args.store.now.slots c.args.links.now.held.room c.args.links.now c.args.links.now _ c.load_by_segments.new.store (told none).loads, tt)))
 
 pub returns-clause-did : goal.returns-clause-did
 returns-clause-did g c =
@@ -22,4 +22,5 @@ returns-clause-did g c =
     CallDid-as _ (omega (arith, ceiling, same, part)) (CallDid-then first c.link_info_by_segments.ensures)
     (λ file told costs none.
     let loads = (told.0 none).loads in
-    links_as _ _ _ _ _ (shown_is file c.args.store.now.slots c.args.links.now.held.room loads.0) (told.1 loads.1))
+    let links = told.1 loads.1 in
+    (links_as _ _ _ _ _ (shown_is file c.args.store.now.slots c.args.links.now.held.room loads.0) links.0, links.1))

@@ -9,11 +9,11 @@ loop-needer-preserved c =
     let len = c.put_dirs.ensures.len in
     let few = c.loop-needer.invariant.few in
     record {
-      folders =
-          rpath_more c.args.needers.now _ c.loop-needer.needer-index _ _ _ c.loop-needer-test.true c.loop-needer.invariant.folders
-          (c.put_dirs.ensures.folders ∙ ap (λ some. dirs_in c.loop-needer.lists.items ++ cons_option some []) c.rpath_of.ensures);
+      dirs =
+          rpath_more c.args.needers.now _ c.loop-needer.needer-index _ _ _ c.loop-needer-test.true c.loop-needer.invariant.dirs
+          (c.put_dirs.ensures.dirs ∙ ap (λ some. dirs_in c.loop-needer.lists.items ++ cons_option some []) c.rpath_of.ensures);
       few = omega (arith, len, few);
     }
 
-pub returns-clause-folders : goal.returns-clause-folders
-returns-clause-folders c = rpath_all c.args.needers.now c.loop-needer.needer-index _ _ c.loop-needer-test.false c.loop-needer.invariant.folders
+pub returns-clause-dirs : goal.returns-clause-dirs
+returns-clause-dirs c = rpath_all c.args.needers.now c.loop-needer.needer-index _ _ c.loop-needer-test.false c.loop-needer.invariant.dirs

@@ -5,6 +5,6 @@ use Rattle.elf_needs.proofs.needers.gather_rpaths.Given as goal
 
 abbrev pub invariant-loop-needer : goal.invariant-loop-needer
 invariant-loop-needer l = record {
-  folders : dirs_in l.lists.items ++ rpath_dirs (needers_of (drop l.needer-index l.fn.needers)) ≡ rpath_dirs (needers_of l.fn.needers);
+  dirs : dirs_in l.lists.items ++ rpath_dirs (needers_of (drop l.needer-index l.fn.needers)) ≡ rpath_dirs (needers_of l.fn.needers);
   few : length l.lists.items ≤ l.needer-index;
 }

@@ -1,4 +1,5 @@
--- The paths that are left of a text, and those of the texts after it, are those that there were, and no more may be tried.
+-- The paths that are left of a text, and those of the texts after it, are those that there were,
+-- and no more may be tried.
 use Rattle.std.proofs.Common.{◌≡◌, ◌≤◌, ◌++◌, ◌-◌, length, drop}
 use Rattle.elf_needs.specs.Prelude.{dirs_in, searched_paths}
 use Rattle.elf_needs.proofs.library_search.LibrarySearch.next.Given as goal

@@ -4,13 +4,14 @@ use Rattle.elf_table.proofs.LedgerLaws.{CallReads-more}
 use Rattle.elf_loader.proofs.ReadLaws.{most_all}
 use Rattle.elf_needs.specs.Sought.{reference_bytes}
 use Rattle.elf_needs.proofs.SpendLaws.{spent_off}
+use Rattle.elf_needs.proofs.FilterLaws.{kept_between}
 use Rattle.elf_needs.proofs.object.LookupObject.sought.Goals as goal
 
 pub returns : goal.returns
 returns g c =
     let source = c.self.inside.source in
     let scope = c.self.inside.scope in
-    let kept = c.self.invariant in
+    let kept = c.self.invariant.0 in
     let set = c.limit.ensures in
     let did = c.reference_of-sought.ensures.did in
     let few = mul-le-mul_right 28 (most_all scope.symbols source.seen.size kept.lies.symbols) in
@@ -32,3 +33,6 @@ returns g c =
           let here = rw same at is.is in
           c.reference_of-sought.ensures.file file (rw set.seen held) told.symbols here.symbols;
     })
+
+pub invariant_of-self : goal.invariant_of-self
+invariant_of-self g c = kept_between c.limit.ensures c.reference_of-sought.ensures.did.costs.reads.keeps c.limit-2.ensures c.self.invariant

@@ -7,4 +7,4 @@ pub returns-in-Ok : goal.returns-in-Ok
 returns-in-Ok g c =
     let first = opened_pays c.args.left.now c.spend_budget.new.left (c.mask_section_headers.ensures.same_asked ∙ c.new-source.ensures.asked) c.limit.ensures c.in-Ok.ensures.did.costs.reads
     (rw c.asked.ensures at c.spend_budget.ensures) in
-    kept_asks c.spend_budget.new.left c.in-Ok.object.src.asked c.prepare.new.self first c.prepare.ensures.pays c.push.ensures.one
+    kept_asks c.spend_budget.new.left c.in-Ok.object.src.asked c.prepare_if.new.object first c.prepare_if.ensures c.push.ensures.one

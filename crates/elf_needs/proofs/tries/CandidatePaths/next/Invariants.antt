@@ -5,7 +5,7 @@ use Rattle.elf_needs.proofs.tries.CandidatePaths.next.Given as goal
 
 abbrev pub invariant-loop-self : goal.invariant-loop-self
 invariant-loop-self l = record {
-  paths : l.fn.self ≡ entry_paths l.self-inside.root.now l.self-inside.name.now (origin_of l.self-inside.origin) (left_entries l.self-inside.left);
+  paths : l.fn.self ≡ entry_paths l.self-inside.root.now l.self-inside.name.now (origin_of l.self-inside.origin) (left_entries l.self-inside.separator l.self-inside.left);
   few : l.tries.left ≤ l.fn.tries.left;
 }
 

@@ -1,0 +1,4 @@
+pub mod NameRankLaws
+pub mod CacheLaws
+pub mod CacheTextLaws
+pub mod SearchLaws

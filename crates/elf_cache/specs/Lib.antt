@@ -1,0 +1,2 @@
+pub mod CacheReads
+pub mod Prelude

@@ -1,0 +1,98 @@
+//! A loader's cache in which libraries are searched.
+ghost use Rattle.std.specs.Prelude.{◌≡◌, ℕ, List, Some};
+ghost use Rattle.elf_cache.specs.Prelude.{ReturnsCacheText};
+ghost use Rattle.elf_model.specs.Prelude.{path_in_cache};
+ghost use Rattle.elf_needs.specs.Budget.{AsksClosed};
+ghost use Rattle.elf_needs.specs.Caches.{PaysAccount};
+
+use crate::budget::spend_budget;
+use crate::candidates::{FileSource, SearchEnd, opened_at};
+use crate::object_file::{ObjectFile, ReadAccount};
+use crate::paths::{CandidatePath, named_path};
+use crate::walk::NeedsFault;
+use elf_cache::read_path_in_cache;
+use elf_source::{Counted, Source};
+use elf_table::{Fault, NameBuf};
+use std::marker::Model;
+use std::os::unix::fs::FileExt;
+use std::rt::Files;
+
+/// The path of the system's cache.
+const CACHE_PATH: &[u8] = b"/etc/ld.so.cache";
+
+/// A loader's cache: a file with the paths of libraries, by their names (glibc, `elf/dl-cache.c`).
+#[derive(Drop)]
+pub struct LibraryCache<S: Source + Drop> {
+    source: Counted<S>,
+}
+
+impl<S: Source + Drop> Model for LibraryCache<S> {
+    ghost use Rattle.elf_source.specs.Source.{CountedState};
+
+    ghost Value = { CountedState };
+
+    ghost view = { λ c. c.source };
+}
+
+impl<S: Source + Drop> LibraryCache<S> {
+    /// Creates a cache of a file of which nothing was read yet.
+    pub fn new(source: S) -> LibraryCache<S> {
+        LibraryCache {
+            source: Counted::new(source),
+        }
+    }
+
+    /// Creates a cache of a file that was opened.
+    fn of_file(file: ObjectFile<S>) -> LibraryCache<S> {
+        LibraryCache::new(file.into_source())
+    }
+
+    /// Reads the path of a name into `path`. Returns `false` if there is none, or if the file is no
+    /// cache; then, and after a fault, the contents of `path` are unspecified. Requests at most the
+    /// bytes left of the budget, if there is one; those requested are subtracted.
+    ///
+    /// # Errors
+    /// Returns a fault of a read, or the refusal `Budget`.
+    pub(crate) fn path(
+        &mut self,
+        account: &mut ReadAccount,
+        name: &[u8],
+        path: &mut NameBuf,
+    ) -> Result<bool, Fault>
+        ensures asks { AsksClosed 0 account.old account.new }
+        ensures pays { PaysAccount self.old self.new account.old account.new }
+        ensures known { (file : List ℕ) → self.old.seen.file ≡ Some file →
+            ReturnsCacheText (path_in_cache file name.now) path.new result }
+    {
+        let asked = self.source.asked();
+        self.source.limit(account.left);
+        let found = read_path_in_cache(&mut self.source, name, path);
+        self.source.limit(None);
+        let spent = self.source.asked() - asked;
+        spend_budget(&mut account.left, spent);
+        account.spent = account.spent.saturating_add(spent);
+        found
+    }
+}
+
+/// Opens the system's cache below a root, if it is a regular file that can be opened.
+///
+/// # Errors
+/// It cannot be opened for a fault of the system, or its length cannot be determined.
+pub fn system_cache<R: Files>(
+    rt: &R,
+    root: &[u8],
+) -> Result<Option<LibraryCache<FileSource<R::File>>>, NeedsFault>
+where
+    R::File: FileExt,
+{
+    let mut path = CandidatePath::new();
+    if !named_path(&mut path, root, CACHE_PATH) {
+        return Ok(None);
+    }
+    match opened_at(rt, &path) {
+        Ok(Some(file)) => Ok(Some(LibraryCache::of_file(file))),
+        Ok(None) | Err(SearchEnd::Refused(_) | SearchEnd::Unread(_)) => Ok(None),
+        Err(SearchEnd::Failed(fault)) => Err(fault),
+    }
+}

@@ -1,0 +1,173 @@
+//! The state of an object that was read.
+ghost use Rattle.std.specs.Prelude.{◌≡◌};
+ghost use Rattle.elf_needs.specs.Budget.{AsksFile, AsksFiles};
+ghost use Rattle.elf_needs.specs.Walked.{report_alone, status_with};
+
+use crate::cached_source::CachedSource;
+use crate::file_identity::FileIdentity;
+use crate::known_object::KnownObject;
+use crate::links::LinkInfo;
+use crate::object_file::{ObjectFile, ObjectRole};
+use crate::open_objects::OpenObjects;
+use crate::states::{FoundBy, ObjectState};
+use crate::walk::{DependencyWalk, NeedsFault};
+use elf_source::{Sink, Source};
+use elf_table::Fault;
+
+/// The result for an object: its state, what its dynamic entries give, and where its needs are.
+#[derive(Clone, Copy)]
+pub(crate) struct ObjectReport {
+    pub state: ObjectState,
+    pub links: LinkInfo,
+    pub needs: usize,
+    pub needs_end: usize,
+}
+
+/// Where an object is, as far as that is known.
+#[derive(Clone, Copy)]
+pub(crate) struct ObjectPlace {
+    /// The index of its path.
+    pub path: Option<u32>,
+    /// Which file it is.
+    pub file: Option<FileIdentity>,
+    /// How it was found.
+    pub found_by: Option<FoundBy>,
+}
+
+/// An object that is nowhere.
+pub(crate) const NOWHERE: ObjectPlace = ObjectPlace {
+    path: None,
+    file: None,
+    found_by: None,
+};
+
+impl<W: Sink> DependencyWalk<'_, '_, W> {
+    /// Reads what the file at the path of an index needs. What was requested from it is subtracted
+    /// from the budget. It is not inlined: the stack of its callers would hold its buffers twice.
+    #[inline(never)]
+    pub(crate) fn read<S: Source>(
+        &mut self,
+        file: &mut ObjectFile<S>,
+        role: ObjectRole,
+        path: Option<u32>,
+    ) -> Result<ObjectReport, NeedsFault>
+        ensures asks { AsksFile file.old file.new self.old.search.account self.new.search.account }
+    {
+        let needs = self.objects.links.needs();
+        let account = &mut self.search.account;
+        match file.links(role, account, &mut self.store, &mut self.objects.links) {
+            Ok(links) => Ok(self.named(links, needs, path)),
+            Err(Fault::Refused(refusal)) => Ok(report_alone(ObjectState::Refused(refusal))),
+            Err(Fault::Source { .. }) => Err(NeedsFault::Read),
+        }
+    }
+
+    /// Replaces the tokens in the names of what the object at a path needs, the last needs from an
+    /// index on. It is refused if a name has no room then.
+    fn named(&mut self, links: LinkInfo, needs: usize, path: Option<u32>) -> ObjectReport
+        ensures account { self.new.search.account ≡ self.old.search.account }
+    {
+        let needs_end = self.objects.links.needs();
+        let root = self.search.folders.root;
+        match self.objects.replace_names(needs, needs_end, path, root) {
+            None => ObjectReport {
+                state: ObjectState::Found,
+                links,
+                needs,
+                needs_end,
+            },
+            Some(refusal) => report_alone(ObjectState::Refused(refusal)),
+        }
+    }
+
+    /// Closes the file of the next object, and keeps its source open, if it is found and there is
+    /// room for it.
+    #[inline(never)]
+    pub(crate) fn keep<S: Source + Drop>(
+        &mut self,
+        file: ObjectFile<S>,
+        report: Result<ObjectReport, NeedsFault>,
+        opened: &mut OpenObjects<CachedSource<S>>,
+    ) -> Result<ObjectReport, NeedsFault>
+        ensures asks { AsksFiles opened.old.objects.items opened.new.objects.items file.asked
+            self.old.search.account self.new.search.account }
+    {
+        let source = file.close(&mut self.search.account);
+        let report = report?;
+        let Ok(index) = u16::try_from(self.objects.len()) else {
+            return Ok(report);
+        };
+        if !matches!(report.state, ObjectState::Found) {
+            return Ok(report);
+        }
+        match opened.keep(
+            index,
+            source,
+            &mut self.store,
+            &mut self.search.account.left,
+        ) {
+            Ok(()) => Ok(report),
+            Err(Fault::Refused(refusal)) => Ok(report_alone(ObjectState::Refused(refusal))),
+            Err(Fault::Source { .. }) => Err(NeedsFault::Read),
+        }
+    }
+
+    /// Adds an object, and returns its index.
+    pub(crate) fn add(
+        &mut self,
+        needer: Option<u16>,
+        name: Option<u32>,
+        at: &ObjectPlace,
+        report: &ObjectReport,
+    ) -> u16
+        ensures account { self.new.search.account ≡ self.old.search.account }
+        ensures status { self.new.status ≡ status_with report.now.state self.old.status }
+        ensures same { (self.new.lines ≡ self.old.lines) × (self.new.out ≡ self.old.out) }
+    {
+        let found = matches!(report.state, ObjectState::Found);
+        if matches!(report.state, ObjectState::Missing | ObjectState::Refused(_)) {
+            self.status = 1;
+        }
+        let added = self.objects.add(KnownObject {
+            needer,
+            name,
+            path: at.path,
+            file: at.file,
+            found_by: at.found_by,
+            found,
+            links: report.links,
+            needs: report.needs,
+            needs_end: report.needs_end,
+        });
+        added.unwrap_or(0)
+    }
+}
+
+/// Returns the result for an object of which nothing but its state is known.
+pub(crate) fn report_alone(state: ObjectState) -> ObjectReport
+    ensures { result ≡ report_alone state }
+{
+    ObjectReport {
+        state,
+        links: LinkInfo {
+            soname: None,
+            rpath: None,
+            runpath: None,
+            flags_1: 0,
+            is_program: false,
+        },
+        needs: 0,
+        needs_end: 0,
+    }
+}
+
+/// Returns which file an object is, if it is found.
+pub(crate) fn found_identity(
+    state: ObjectState,
+    file: Option<FileIdentity>,
+) -> Option<FileIdentity> {
+    match state {
+        ObjectState::Found => file,
+        ObjectState::Missing | ObjectState::Refused(_) | ObjectState::Unused => None,
+    }
+}

@@ -1,0 +1,280 @@
+//! The libraries that an object needs.
+ghost use Rattle.std.specs.Prelude.{◌≡◌};
+ghost use Rattle.elf_needs.specs.Budget.{AsksFiles};
+
+use crate::cached_source::CachedSource;
+use crate::candidates::{FileSource, SearchEnd};
+use crate::known_object::{KnownObject, MOST_OBJECTS};
+use crate::links::NeededLibrary;
+use crate::object_file::{ObjectFile, ObjectRole};
+use crate::object_reports::{NOWHERE, ObjectPlace, found_identity, report_alone};
+use crate::object_rows::{list_object, show_too_many, show_too_many_paths};
+use crate::open_objects::OpenObjects;
+use crate::search_dirs::SystemFiles;
+use crate::states::{FoundBy, ObjectRow, ObjectState};
+use crate::walk::{DependencyWalk, NeedsFault, OpenFiles};
+use elf_record::{Cause, Refusal};
+use elf_source::{Sink, Source};
+use memchr::memchr;
+use std::os::unix::fs::FileExt;
+use std::rt::Files;
+
+/// Whether a walk goes on.
+#[derive(Clone, Copy, PartialEq, Eq)]
+pub(crate) enum ControlFlow {
+    /// It does.
+    Yes,
+    /// There are more objects than are listed, or more paths to try than may be.
+    TooMany,
+}
+
+impl<W: Sink> DependencyWalk<'_, '_, W> {
+    /// Processes what an object needs.
+    pub(crate) fn needs_of<R: Files>(
+        &mut self,
+        system: &mut SystemFiles<'_, R, FileSource<R::File>>,
+        index: usize,
+        known: &KnownObject,
+        opened: &mut OpenFiles<R::File>,
+    ) -> Result<ControlFlow, NeedsFault>
+    where
+        R::File: FileExt,
+        ensures asks { AsksFiles opened.old.objects.items opened.new.objects.items 0
+            self.old.search.account self.new.search.account }
+    {
+        for place in known.needs..known.needs_end {
+            let Some(need) = self.objects.need(place) else {
+                return Ok(ControlFlow::Yes);
+            };
+            let objects = &self.objects;
+            if objects.has_name(objects.links.text(need.name)) {
+                continue;
+            }
+            if self.take(system, index, known, need, opened)? == ControlFlow::TooMany {
+                return Ok(ControlFlow::TooMany);
+            }
+        }
+        Ok(ControlFlow::Yes)
+    }
+
+    /// Searches for a library that an object needs, unless it is the interpreter, and takes what is
+    /// found.
+    fn take<R: Files>(
+        &mut self,
+        system: &mut SystemFiles<'_, R, FileSource<R::File>>,
+        index: usize,
+        needer: &KnownObject,
+        need: NeededLibrary,
+        opened: &mut OpenFiles<R::File>,
+    ) -> Result<ControlFlow, NeedsFault>
+    where
+        R::File: FileExt,
+        ensures asks { AsksFiles opened.old.objects.items opened.new.objects.items 0
+            self.old.search.account self.new.search.account }
+    {
+        let objects = &self.objects;
+        let name = objects.links.text(need.name);
+        let by = u16::try_from(index).ok();
+        if objects.is_interpreter_name(name) {
+            self.search.found_by = interpreter_found_by(name);
+            return self.take_interpreter(system.rt, by, need, opened);
+        }
+        match self.search.find(system, objects, needer, name) {
+            Ok(Some(file)) => self.take_file(system.rt, by, need, file, opened),
+            Ok(None) => self.take_none(by, need),
+            Err(SearchEnd::Refused(refusal)) => self.add_refused(by, need, refusal),
+            Err(SearchEnd::Unread(refusal)) => {
+                self.add_alone(by, need, ObjectState::Refused(refusal))
+            }
+            Err(SearchEnd::Failed(fault)) => Err(fault),
+        }
+    }
+
+    /// Adds a library that is not found, or ends the objects.
+    fn take_none(&mut self, by: Option<u16>, need: NeededLibrary) -> Result<ControlFlow, NeedsFault>
+        ensures account { self.new.search.account ≡ self.old.search.account }
+    {
+        if self.search.tries.is_over {
+            return self.end_tries(need.at);
+        }
+        self.add_alone(by, need, ObjectState::Missing)
+    }
+
+    /// Takes a file that is found: that of an object that is known or of the interpreter, of which
+    /// the name is one more, or the next object's.
+    fn take_file<R: Files>(
+        &mut self,
+        rt: &R,
+        by: Option<u16>,
+        need: NeededLibrary,
+        file: ObjectFile<FileSource<R::File>>,
+        opened: &mut OpenFiles<R::File>,
+    ) -> Result<ControlFlow, NeedsFault>
+    where
+        R::File: FileExt,
+        ensures asks { AsksFiles opened.old.objects.items opened.new.objects.items file.asked
+            self.old.search.account self.new.search.account }
+    {
+        let identity = file.attributes().identity;
+        if let Some(known) = self.objects.with_file(identity) {
+            let _ = file.close(&mut self.search.account);
+            return self.add_name(by, need, known);
+        }
+        if self.objects.is_interpreter_file(identity) {
+            let _ = file.close(&mut self.search.account);
+            return self.take_interpreter(rt, by, need, opened);
+        }
+        if self.objects.len() >= MOST_OBJECTS {
+            let _ = file.close(&mut self.search.account);
+            return self.end_objects(need.at);
+        }
+        self.add_found(by, need.name, file, opened)
+    }
+
+    /// Writes the line that ends the objects if more paths would be tried than may be.
+    fn end_tries(&mut self, at: u64) -> Result<ControlFlow, NeedsFault>
+        ensures account { self.new.search.account ≡ self.old.search.account }
+        ensures status { self.new.status ≡ 1 }
+    {
+        self.status = 1;
+        match show_too_many_paths(at, self.lines.format, &mut self.out) {
+            Ok(()) => Ok(ControlFlow::TooMany),
+            Err(fault) => Err(NeedsFault::Out(fault)),
+        }
+    }
+
+    /// Writes the line that ends the objects if there is one more than are listed.
+    pub(crate) fn end_objects(&mut self, at: u64) -> Result<ControlFlow, NeedsFault>
+        ensures account { self.new.search.account ≡ self.old.search.account }
+        ensures status { self.new.status ≡ 1 }
+    {
+        self.status = 1;
+        match show_too_many(at, self.lines.format, &mut self.out) {
+            Ok(()) => Ok(ControlFlow::TooMany),
+            Err(fault) => Err(NeedsFault::Out(fault)),
+        }
+    }
+
+    /// Adds one more name of an object that is known. If there is no room for it, the name is an
+    /// object of its own, which is refused.
+    pub(crate) fn add_name(
+        &mut self,
+        by: Option<u16>,
+        need: NeededLibrary,
+        known: u16,
+    ) -> Result<ControlFlow, NeedsFault>
+        ensures account { self.new.search.account ≡ self.old.search.account }
+    {
+        if self.objects.add_alias(need.name, known) {
+            return Ok(ControlFlow::Yes);
+        }
+        let refusal = Refusal {
+            at: need.at,
+            cause: Cause::TooLong,
+        };
+        self.add_alone(by, need, ObjectState::Refused(refusal))
+    }
+
+    /// Adds an object of which nothing but its state is known, and writes its line, with its name;
+    /// or ends the objects.
+    pub(crate) fn add_alone(
+        &mut self,
+        by: Option<u16>,
+        need: NeededLibrary,
+        state: ObjectState,
+    ) -> Result<ControlFlow, NeedsFault>
+        ensures account { self.new.search.account ≡ self.old.search.account }
+    {
+        if self.objects.len() >= MOST_OBJECTS {
+            return self.end_objects(need.at);
+        }
+        let index = self.add(by, Some(need.name), &NOWHERE, &report_alone(state));
+        let shown = self.objects.links.text(need.name);
+        let row = ObjectRow {
+            index,
+            needer: by,
+            state,
+            found_by: None,
+        };
+        match list_object(row, shown, self.lines, &mut self.out) {
+            Ok(()) => Ok(ControlFlow::Yes),
+            Err(fault) => Err(NeedsFault::Out(fault)),
+        }
+    }
+
+    /// Adds a library whose file at the path of the search is refused before it is read, and writes
+    /// its line; or ends the objects.
+    fn add_refused(
+        &mut self,
+        by: Option<u16>,
+        need: NeededLibrary,
+        refusal: Refusal,
+    ) -> Result<ControlFlow, NeedsFault>
+        ensures account { self.new.search.account ≡ self.old.search.account }
+    {
+        if self.objects.len() >= MOST_OBJECTS {
+            return self.end_objects(need.at);
+        }
+        let report = report_alone(ObjectState::Refused(refusal));
+        let place = ObjectPlace {
+            path: self.objects.keep_path(&self.search.path),
+            file: None,
+            found_by: Some(self.search.found_by),
+        };
+        let index = self.add(by, Some(need.name), &place, &report);
+        let path = &self.search.path;
+        let row = ObjectRow {
+            index,
+            needer: by,
+            state: report.state,
+            found_by: place.found_by,
+        };
+        match list_object(row, path, self.lines, &mut self.out) {
+            Ok(()) => Ok(ControlFlow::Yes),
+            Err(fault) => Err(NeedsFault::Out(fault)),
+        }
+    }
+
+    /// Reads a library that is found at the path of the search, adds it, and writes its line.
+    fn add_found<S: Source + Drop>(
+        &mut self,
+        by: Option<u16>,
+        name: u32,
+        file: ObjectFile<S>,
+        opened: &mut OpenObjects<CachedSource<S>>,
+    ) -> Result<ControlFlow, NeedsFault>
+        ensures asks { AsksFiles opened.old.objects.items opened.new.objects.items file.asked
+            self.old.search.account self.new.search.account }
+    {
+        let mut file = file;
+        let path = self.objects.keep_path(&self.search.path);
+        let report = self.read(&mut file, ObjectRole::Library, path);
+        let identity = file.attributes().identity;
+        let report = self.keep(file, report, opened)?;
+        let place = ObjectPlace {
+            path,
+            file: found_identity(report.state, identity),
+            found_by: Some(self.search.found_by),
+        };
+        let index = self.add(by, Some(name), &place, &report);
+        let path = &self.search.path;
+        let row = ObjectRow {
+            index,
+            needer: by,
+            state: report.state,
+            found_by: place.found_by,
+        };
+        match list_object(row, path, self.lines, &mut self.out) {
+            Ok(()) => Ok(ControlFlow::Yes),
+            Err(fault) => Err(NeedsFault::Out(fault)),
+        }
+    }
+}
+
+/// Returns how the interpreter is found by its name.
+fn interpreter_found_by(name: &[u8]) -> FoundBy {
+    match memchr(b'/', name) {
+        Some(_) => FoundBy::Path,
+        None => FoundBy::Listed,
+    }
+}
