@@ -55,7 +55,7 @@ front_four budget size = by (nat_lt size 4) _
     by false true = omega arith
     by false false = omega arith
 
--- an archive begins as one behind reads
+-- a file that begins as an archive still does after reads
 pub begins_kept : (a b : SourceState) → KeepsSource a b → BeginsArchive a → BeginsArchive b
 begins_kept a b keeps begins = record {
   size = let least = begins.size in omega (arith, keeps.same_size, least);

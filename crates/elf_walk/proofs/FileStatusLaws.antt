@@ -8,7 +8,7 @@ use Rattle.std.proofs.Common.{◌≡◌, ℕ, ◌+◌, ◌<◌, ◌≤◌, Bool,
 use Rattle.std.specs.Prelude.{Ok, Err, IfSome}
 use Rattle.std.proofs.lemmas.Bool.Decides.{nat_tests}
 use Rattle.elf_model.specs.declared.states.FileMagic.TheVariants as sort
-use Rattle.elf_model.specs.Checking.{listed_state, short_state}
+use Rattle.elf_model.specs.Checking.{listed_state, short_file_status}
 use Rattle.elf_model.specs.declared.causes.Cause.TheVariants.{Short}
 use Rattle.elf_model.specs.declared.states.FileStatus.TheVariants as state
 use Rattle.elf_model.proofs.ListingLemmas.{header_fault}
@@ -31,9 +31,9 @@ reported None file headers style parts refusal first = record { text_is = refl; 
 reported (Some bytes) file headers style parts refusal first = inl record { text_is = refl; fault_is = sym (header_fault file headers style parts refusal first).1 }
 
 -- the state of a short file
-short_file_status : (budget : Option ℕ) (file : List ℕ) (headers : ℕ) (style : ListingStyle) (parts : ℕ) (found : FileStatus) → length file < 64
+read_short_file_status : (budget : Option ℕ) (file : List ℕ) (headers : ℕ) (style : ListingStyle) (parts : ℕ) (found : FileStatus) → length file < 64
     → found ≡ state_of budget file (Some (short_refusal file)) → IsStateOf budget file headers style parts found
-short_file_status budget file headers style parts found short is = record {
+read_short_file_status budget file headers style parts found short is = record {
   text = report_of style.format (listing file headers style parts);
   fault = Some (short_refusal file);
   listed = reported budget file headers style parts (short_refusal file) (short_first file short);
@@ -43,11 +43,11 @@ short_file_status budget file headers style parts found short is = record {
 -- the state of a file that is too short is that of its listing
 pub short_found : (caps : Caps) (parts : ℕ) (file : List ℕ) (found : FileStatus) → length file < 64 → FindsShort caps.limits.budget file found
     → FindsState caps parts file found
-short_found caps parts file state.Ok short is = short_file_status caps.limits.budget file caps.limits.headers (style_of caps.style) parts _ short is
-short_found caps parts file (state.Refused refusal) short is = short_file_status caps.limits.budget file caps.limits.headers (style_of caps.style) parts _ short is
-short_found caps parts file state.NoElf short is = short_file_status caps.limits.budget file caps.limits.headers (style_of caps.style) parts _ short is
+short_found caps parts file state.Ok short is = read_short_file_status caps.limits.budget file caps.limits.headers (style_of caps.style) parts _ short is
+short_found caps parts file (state.Refused refusal) short is = read_short_file_status caps.limits.budget file caps.limits.headers (style_of caps.style) parts _ short is
+short_found caps parts file state.NoElf short is = read_short_file_status caps.limits.budget file caps.limits.headers (style_of caps.style) parts _ short is
 short_found caps parts file state.Unread short is = tt
-short_found caps parts file state.Memory short is = short_file_status caps.limits.budget file caps.limits.headers (style_of caps.style) parts _ short is
+short_found caps parts file state.Memory short is = read_short_file_status caps.limits.budget file caps.limits.headers (style_of caps.style) parts _ short is
 
 -- a listing that was read to its end
 pub ended : {X : Type 0} (file : List ℕ) (caps : Caps) (parts : ℕ) (old new : OutState) (x : X) → 64 ≤ length file → WroteReport file caps parts old new (Ok x)
@@ -101,7 +101,7 @@ asks_long caps old new long ceiling budget =
     record { ceiling = rw more ceiling; budget = budget }
 
 -- the state of an ELF file that is too short
-pub short_elf : (caps : Caps) (parts : ℕ) (file : List ℕ) (at : ℕ) (found : FileStatus) → length file ≡ at → at < 64 → found ≡ short_state at sort.Elf → FindsElf caps parts file found
+pub short_elf : (caps : Caps) (parts : ℕ) (file : List ℕ) (at : ℕ) (found : FileStatus) → length file ≡ at → at < 64 → found ≡ short_file_status at sort.Elf → FindsElf caps parts file found
 short_elf caps parts file at found sized short is = rw is (record {
   text = report_of (style_of caps.style).format (listing file caps.limits.headers (style_of caps.style) parts);
   fault = Some (short_refusal file);

@@ -1,13 +1,15 @@
 -- The names of a directory, entry by entry.
-use Rattle.std.proofs.Common.{◌≡◌, ◌≢◌, ℕ, suc, ◌+◌, ◌-◌, ◌^◌, ◌<◌, ◌≤◌, inl, inr, Bool, true, false, min, Result, Ok, OnOk, List, [], ◌∷◌, ◌++◌, length, take, drop, get_or, refl, ap, sym, ◌∙◌, arith, subst, append_assoc, append-nil, length-drop}
+use Rattle.std.proofs.Common.{◌≡◌, ◌≢◌, ℕ, suc, ◌+◌, ◌-◌, ◌^◌, ◌<◌, ◌≤◌, inl, inr, Bool, true, false, min, All, Option, None, Some, Result, Ok, OnOk, List, [], ◌∷◌, ◌++◌, length, take, drop, get_or, refl, ap, sym, ◌∙◌, arith, subst, append_assoc, append-nil, length-drop}
 use Rattle.std.proofs.lemmas.Bool.{cases_lt}
 use Rattle.std.proofs.lemmas.Grind.{flat_map-append}
 use Rattle.std.proofs.lemmas.List.{take_all, drop_all, drop-drop}
+use Rattle.std.proofs.lemmas.List.Elements.{All-head, All-tail}
+use Rattle.std.specs.Io.KnownBytes.{Consumes, IsAtEnd, Keeps}
 use Rattle.std.specs.List.{flat_map}
-use Rattle.elf_walk.specs.Prelude.{AreNamesOf, GathersNames, IsNameable, KeepsFirstNames, KeptNames, PutsNames, is_dot_entry, last_entry, list_entries, rest_from, saturated, unnamed_count, whole_entries}
+use Rattle.elf_walk.specs.Prelude.{AreNamesOf, EndsEntry, GathersNames, IsNameable, KeepsFirstNames, KeptNames, PutsNames, ReadsJoin, all_bytes, is_dot_entry, last_entry, list_entries, rest_from, saturated, unnamed_count, whole_entries}
 use Rattle.elf_walk.specs.declared.batch.Insertion.{Insertion}
 use Rattle.elf_walk.specs.declared.batch.Insertion.TheVariants.{Placed, Unnamed}
-use Rattle.elf_walk.proofs.EntryLaws.{all_left, first_ends, none_ends}
+use Rattle.elf_walk.proofs.EntryLaws.{all_left, entries_join, first_ends, none_ends, rest_join}
 
 -- entries, and then others
 pub sorted_join : (entries others : List (List ℕ)) (names more : List (List ℕ)) (n m : ℕ) → AreNamesOf entries names n → AreNamesOf others more m
@@ -171,25 +173,61 @@ put_whole bytes at unnamed old new so all =
     so.entries ∙ ap (λ d. so.done ++ list_entries d) behind ∙ ap (λ es. so.done ++ es) none_of_none ∙ append-nil so.done in
     record { names = so.names; others = so.others; sorted = subst (λ es. AreNamesOf es so.names so.others) (sym entries) so.sorted; counts = so.counts; keeps = so.keeps }
 
+-- bytes that are read, and then others
+pub consumed_more : (a b c : Option (List ℕ)) (xs ys : List ℕ) → Consumes a b xs → Consumes b c ys → Consumes a c (xs ++ ys)
+consumed_more None b c xs ys p q = tt
+consumed_more (Some x) None c xs ys p q = absurd p
+consumed_more (Some x) (Some y) None xs ys p q = absurd q
+consumed_more (Some x) (Some y) (Some z) xs ys p q = p ∙ ap (λ l. xs ++ l) q ∙ sym (append_assoc xs ys z)
+
+-- a read that gives nothing
+pub consumed_still : (a b c : Option (List ℕ)) (xs : List ℕ) → Consumes a b xs → Keeps b c → Consumes a c xs
+consumed_still None b c xs p q = tt
+consumed_still (Some x) None c xs p q = absurd p
+consumed_still (Some x) (Some y) None xs p q = absurd q
+consumed_still (Some x) (Some y) (Some z) xs p q = p ∙ ap (λ l. xs ++ l) (sym q)
+
+consumed_none : (a : Option (List ℕ)) → Consumes a a []
+consumed_none None = tt
+consumed_none (Some x) = refl
+
 -- what was gathered at some reads
-pub record GatheredSoFar (unnamed : ℕ) (old new : KeptNames) : Type 0 where
+pub record GatheredSoFar (had left : Option (List ℕ)) (unnamed : ℕ) (old new : KeptNames) : Type 0 where
   pub reads : List (List ℕ)
   pub names : List (List ℕ)
   pub others : ℕ
+  pub read : Consumes had left (all_bytes reads)
   pub sorted : AreNamesOf (flat_map list_entries reads) names others
   pub counts : unnamed ≡ saturated others
   pub keeps : KeepsFirstNames names new
   pub after : new.after ≡ old.after
 
-pub gathered_none : (old : KeptNames) → KeepsFirstNames [] old → GatheredSoFar 0 old old
-gathered_none old h = record { reads = []; names = []; others = 0; sorted = (refl, refl); counts = refl; keeps = h; after = refl }
+pub gathered_none : (had : Option (List ℕ)) (old : KeptNames) → KeepsFirstNames [] old → GatheredSoFar had had 0 old old
+gathered_none had old h = record { reads = []; names = []; others = 0; read = consumed_none had; sorted = (refl, refl); counts = refl; keeps = h; after = refl }
 
-pub gathered_more : (bytes : List ℕ) (unnamed more count : ℕ) (old mid new : KeptNames) → GatheredSoFar unnamed old mid → PutsNames bytes more mid new → new.after ≡ mid.after
-    → count ≡ min (unnamed + more) (2 ^ 64 - 1) → GatheredSoFar count old new
-gathered_more bytes unnamed more count old mid new so puts after counts = record {
+-- a read that gives nothing
+pub gathered_still : (had mid left : Option (List ℕ)) (unnamed : ℕ) (old new : KeptNames) → GatheredSoFar had mid unnamed old new → Keeps mid left → GatheredSoFar had left unnamed old new
+gathered_still had mid left unnamed old new so still = record {
+  reads = so.reads;
+  names = so.names;
+  others = so.others;
+  read = consumed_still had mid left (all_bytes so.reads) so.read still;
+  sorted = so.sorted;
+  counts = so.counts;
+  keeps = so.keeps;
+  after = so.after;
+}
+
+pub gathered_more : (had first left : Option (List ℕ)) (bytes : List ℕ) (unnamed more count : ℕ) (old mid new : KeptNames) → GatheredSoFar had first unnamed old mid
+    → Consumes first left bytes → PutsNames bytes more mid new → new.after ≡ mid.after → count ≡ min (unnamed + more) (2 ^ 64 - 1) → GatheredSoFar had left count old new
+gathered_more had first left bytes unnamed more count old mid new so reads puts after counts = record {
   reads = so.reads ++ bytes ∷ [];
   names = so.names ++ puts.names;
   others = so.others + puts.others;
+  read =
+      let joined : all_bytes (so.reads ++ bytes ∷ []) ≡ all_bytes so.reads ++ bytes =
+      flat_map-append (λ (read : List ℕ). read) so.reads (bytes ∷ []) ∙ ap (λ l. all_bytes so.reads ++ l) (append-nil bytes) in
+      subst (Consumes had left) (sym joined) (consumed_more had first left (all_bytes so.reads) bytes so.read reads);
   sorted =
       let one : AreNamesOf (list_entries bytes ++ []) puts.names puts.others = subst (λ es. AreNamesOf es puts.names puts.others) (sym (append-nil (list_entries bytes))) puts.sorted in
       subst (λ es. AreNamesOf es (so.names ++ puts.names) (so.others + puts.others)) (sym (flat_map-append list_entries so.reads (bytes ∷ [])))
@@ -199,15 +237,33 @@ gathered_more bytes unnamed more count old mid new so puts after counts = record
   after = after ∙ so.after;
 }
 
-pub gathers_all : (unnamed : ℕ) (old mid new : KeptNames) → GatheredSoFar unnamed old mid → new.held ≡ new.names → ((names : List (List ℕ)) → KeepsFirstNames names mid → KeepsFirstNames names new)
-    → new.after ≡ mid.after → GathersNames unnamed old new
-gathers_all unnamed old mid new so order keeps after = record {
+-- the last read gives no bytes
+pub gathers_all : (room : ℕ) (had mid left : Option (List ℕ)) (unnamed : ℕ) (old kept new : KeptNames) → GatheredSoFar had mid unnamed old kept → Consumes mid left [] → (0 < room → IsAtEnd left)
+    → new.held ≡ new.names → ((names : List (List ℕ)) → KeepsFirstNames names kept → KeepsFirstNames names new) → new.after ≡ kept.after → GathersNames room had left unnamed old new
+gathers_all room had mid left unnamed old kept new so read whole order keeps after = record {
   reads = so.reads;
   names = so.names;
   others = so.others;
+  read = subst (Consumes had left) (append-nil (all_bytes so.reads)) (consumed_more had mid left (all_bytes so.reads) [] so.read read);
+  whole = whole;
   sorted = so.sorted;
   counts = so.counts;
   keeps = keeps so.names so.keeps;
   order = order;
   after = after ∙ so.after;
 }
+
+-- entries of bytes, and of those after them, if no entry begins in the first and ends in the others
+entries_after : (a b : List ℕ) → EndsEntry a → list_entries a ++ list_entries b ≡ list_entries (a ++ b)
+entries_after a b ends =
+    let last : list_entries a ≡ whole_entries [] a = ap (λ r. whole_entries [] a ++ last_entry r) ends ∙ append-nil (whole_entries [] a) in
+    let joined : whole_entries [] (a ++ b) ≡ whole_entries [] a ++ whole_entries [] b =
+    entries_join [] a b ∙ ap (λ r. whole_entries [] a ++ whole_entries r b) ends in
+    let left : rest_from [] (a ++ b) ≡ rest_from [] b = rest_join [] a b ∙ ap (λ r. rest_from r b) ends in
+    ap (λ es. es ++ list_entries b) last ∙ sym (append_assoc (whole_entries [] a) (whole_entries [] b) (last_entry (rest_from [] b)))
+    ∙ sym (ap (λ es. es ++ last_entry (rest_from [] (a ++ b))) joined ∙ ap (λ r. (whole_entries [] a ++ whole_entries [] b) ++ last_entry r) left)
+
+pub reads_join : ReadsJoin
+reads_join [] all = sym none_of_none
+reads_join (read ∷ reads) all =
+    ap (λ es. list_entries read ++ es) (reads_join reads (All-tail EndsEntry read reads all)) ∙ entries_after read (all_bytes reads) (All-head EndsEntry read reads all)

@@ -3,7 +3,7 @@ use Rattle.std.proofs.Common.{◌≡◌, ℕ, ◌<◌, ◌≤◌, true, false, i
 use Rattle.std.proofs.lemmas.Bool.Decides.{nat_tests}
 use Rattle.elf_model.specs.Prelude.{is_not_elf, state_of}
 use Rattle.elf_model.specs.declared.states.FileMagic.TheVariants as sort
-use Rattle.elf_model.specs.Checking.{listed_state, short_state}
+use Rattle.elf_model.specs.Checking.{listed_state, short_file_status}
 use Rattle.elf_model.specs.FileLists.{file_magic}
 use Rattle.elf_model.specs.declared.states.FileMagic.{FileMagic}
 use Rattle.elf_model.specs.declared.states.FileStatus.{FileStatus}
@@ -14,10 +14,10 @@ use Rattle.elf_walk.specs.Checked.{FailsRead, FindsShort, short_refusal}
 
 -- the state of a file that is too short, by what it is
 pub short_is : (budget : Option ℕ) (file : List ℕ) (at : ℕ) (kind : FileMagic) (found : FileStatus) → length file ≡ at → at < 64 → kind ≡ file_magic false budget file
-    → found ≡ short_state at kind → FindsShort budget file found
+    → found ≡ short_file_status at kind → FindsShort budget file found
 short_is budget file at kind found sized short decides is = finds_short budget file found (
     let few : nat_lt (length file) 64 ≡ true = grind (arith, nat_tests) in
-    rw few (is ∙ (ap (λ n. short_state n kind) (sym sized) ∙ ap (short_state (length file)) decides))
+    rw few (is ∙ (ap (λ n. short_file_status n kind) (sym sized) ∙ ap (short_file_status (length file)) decides))
     )
   where
     finds_short : (budget : Option ℕ) (file : List ℕ) (found : FileStatus) → found ≡ state_of budget file (Some (short_refusal file)) → FindsShort budget file found
@@ -28,7 +28,7 @@ short_is budget file at kind found sized short decides is = finds_short budget f
     finds_short budget file state.Memory is = is
 
 -- such a state is not that of a file that was not read
-pub short_read : (a b : CountedState) (size : ℕ) (kind : FileMagic) (found : FileStatus) → found ≡ short_state size kind → FailsRead a b found
+pub short_read : (a b : CountedState) (size : ℕ) (kind : FileMagic) (found : FileStatus) → found ≡ short_file_status size kind → FailsRead a b found
 short_read a b size sort.Elf found is = rw is tt
 short_read a b size sort.Archive found is = rw is tt
 short_read a b size sort.Thin found is = rw is tt

@@ -19,3 +19,4 @@ pub mod ToldListings
 pub mod Found
 pub mod ToldTraits
 pub mod Prelude
+pub mod Headed

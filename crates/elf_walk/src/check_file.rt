@@ -3,7 +3,7 @@ ghost use Rattle.std.specs.Prelude.{◌≡◌, ◌≤◌, ◌^◌};
 ghost use Rattle.elf_walk.specs.CheckedFile.{ChecksFile, FindsElf, FindsState};
 ghost use Rattle.elf_walk.specs.CheckedFile.{check_ceiling, check_cost, elf_cost};
 
-use crate::short::{refused_state, short_file_status, short_state};
+use crate::short::{read_short_file_status, refused_state, short_file_status};
 use elf_listing::show;
 use elf_model::{FileMagic, FileStatus};
 use elf_record::Parts;
@@ -30,7 +30,7 @@ pub fn check<S: Source>(
         FindsState check_cost check_ceiling }
 {
     if src.length() < HEADER_BYTES {
-        return short_file_status(src, caps.limits.budget);
+        return read_short_file_status(src, caps.limits.budget);
     }
     let mut out = Out::new(NullSink);
     let listed = show(src, store, caps, parts, &mut out);
@@ -59,7 +59,7 @@ pub fn check_elf<S: Source>(
     let size = src.length();
     if size < HEADER_BYTES {
         src.limit(None);
-        return short_state(size, FileMagic::Elf);
+        return short_file_status(size, FileMagic::Elf);
     }
     check(src, store, caps, parts)
 }

@@ -1,5 +1,6 @@
 //! Laws of the definitions.
 ghost use Rattle.elf_walk.specs.Entries.{EntryIsFound, LastIsFound};
+ghost use Rattle.elf_walk.specs.Gathered.{ReadsJoin};
 ghost use Rattle.elf_walk.specs.Pass.{PassKeeps};
 ghost use Rattle.elf_walk.specs.Passes.{AllNames, OrderAscends};
 
@@ -30,4 +31,10 @@ pub fn entry_is_found()
 /// Proves that bytes without NUL are one entry, if there are any.
 pub fn last_is_found()
     ensures { LastIsFound }
+{}
+
+/// Proves that the entries of several reads are those of all their bytes, if no read ends within an
+/// entry.
+pub fn reads_join()
+    ensures { ReadsJoin }
 {}

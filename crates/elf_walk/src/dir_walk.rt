@@ -1,5 +1,6 @@
 //! The names in a directory, read in passes.
-ghost use Rattle.std.specs.Prelude.{◌≡◌, IfOk, List, ℕ, []};
+ghost use Rattle.std.specs.Prelude.{◌≡◌, ◌⊎◌, IfErr, IfOk, List, ℕ, [], length};
+ghost use Rattle.elf_model.specs.declared.states.FileStatus.TheVariants.{Memory, Unread};
 ghost use Rattle.elf_walk.specs.Gathered.{GathersNames, PutsNames, unnamed_count};
 ghost use Rattle.elf_walk.specs.Kept.{KeepsFirstNames};
 
@@ -14,10 +15,11 @@ use std::rt::Files;
 /// Reads the directory at a path once, and puts its names into a batch, which sorts them.
 ///
 /// `room` is the buffer they are read into. Returns how many names cannot be represented. The
-/// contract does not say which names the system returns, only what happens to them.
+/// contract does not say which names the system returns: only that all are gathered which the open
+/// directory returns, up to its end.
 ///
 /// # Errors
-/// The state of a directory that cannot be opened or read.
+/// The state of a directory that cannot be opened or read, or for whose names there is no memory.
 pub fn gather<R: Files>(
     rt: &R,
     path: &str,
@@ -25,7 +27,10 @@ pub fn gather<R: Files>(
     batch: &mut NameBatch,
 ) -> Result<u64, FileStatus>
     requires { KeepsFirstNames [] batch.old }
-    ensures gathers { IfOk result (λ unnamed. GathersNames unnamed batch.old batch.new) }
+    ensures gathers { IfOk result (λ unnamed. (folder left : R.Dir)
+        × GathersNames (length room.old) (R.Dir.remaining folder) (R.Dir.remaining left)
+        unnamed batch.old batch.new) }
+    ensures state { IfErr result (λ state. (state ≡ Unread) ⊎ (state ≡ Memory)) }
 {
     match rt.open_dir(path) {
         Ok(mut folder) => gather_from(&mut folder, room, batch),
@@ -33,17 +38,21 @@ pub fn gather<R: Files>(
     }
 }
 
-/// Puts the names of an open directory into a batch.
+/// Puts the names of an open directory into a batch, up to its end, which is a read of no bytes.
+/// A read that was interrupted is repeated.
 ///
 /// # Errors
-/// The state of a directory that cannot be read, or for whose names there is no memory.
+/// The state of a directory of which a read fails, or for whose names there is no memory.
 fn gather_from<D: Read>(
     folder: &mut D,
     room: &mut [u8],
     batch: &mut NameBatch,
 ) -> Result<u64, FileStatus>
     requires { KeepsFirstNames [] batch.old }
-    ensures gathers { IfOk result (λ unnamed. GathersNames unnamed batch.old batch.new) }
+    ensures gathers { IfOk result (λ unnamed.
+        GathersNames (length room.old) (D.remaining folder.old) (D.remaining folder.new)
+        unnamed batch.old batch.new) }
+    ensures state { IfErr result (λ state. (state ≡ Unread) ⊎ (state ≡ Memory)) }
 {
     let mut unnamed: u64 = 0;
     for _turn in 0..u64::MAX {
@@ -71,6 +80,7 @@ fn ended(batch: &mut NameBatch, unnamed: u64) -> Result<u64, FileStatus>
     ensures keeps { IfOk result (λ count. (names : List (List ℕ)) → KeepsFirstNames names batch.old
         → KeepsFirstNames names batch.new) }
     ensures after { batch.new.after ≡ batch.old.after }
+    ensures state { IfErr result (λ state. state ≡ Memory) }
 {
     match batch.end() {
         Ok(()) => Ok(unnamed),

@@ -5,7 +5,7 @@ ghost use Rattle.elf_walk.specs.Checked.{FailsRead};
 ghost use Rattle.elf_walk.specs.CheckedFile.{AsksNoMore};
 ghost use Rattle.elf_walk.specs.Found.{FindsWithin, file_traits_ceiling, file_traits_cost};
 
-use crate::short::{refused_state, short_file_status};
+use crate::short::{read_short_file_status, refused_state};
 use elf_loader::find_traits;
 use elf_model::{FileStatus, Hardening};
 use elf_source::{Counted, Source};
@@ -41,7 +41,7 @@ pub fn traits_within<S: Source>(
         src.old src.new }
 {
     if src.length() < HEADER_BYTES {
-        return Err(short_file_status(src, limits.budget));
+        return Err(read_short_file_status(src, limits.budget));
     }
     src.limit(limits.budget);
     let found = find_traits(src, store);

@@ -13,8 +13,8 @@ use elf_source::{Counted, RangeSource, Source};
 use elf_table::{Caps, HeaderStore, RunFault};
 
 /// Checks one archive whose magic string was read: reads its members, and the listing of each that
-/// is an ELF file, the parts that `parts` has, up to the first fault, and returns the state given by
-/// it, or that there is none.
+/// is an ELF file, the parts that `parts` has, up to the first fault, and returns the state given
+/// by it, or that there is none.
 ///
 /// The offset of a member's fault is from the archive's first byte, saturating at 64 bits. Nothing
 /// is written. The source is a range of all bytes of the archive, with nothing masked, and is one

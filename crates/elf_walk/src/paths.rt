@@ -12,8 +12,8 @@ use std::os::unix::fs::{FileExt, FileTypeExt};
 use std::rt::Files;
 
 /// Visits the file at a path, or all files in the directory there; for `-`, standard input. A link
-/// at the path is followed. Pipes and sockets are not opened, so that opening does not block, unless
-/// another process puts a pipe at the path after its type was read.
+/// at the path is followed. Pipes and sockets are not opened, so that opening does not block,
+/// unless another process puts a pipe at the path after its type was read.
 ///
 /// # Errors
 /// A fault of the output.

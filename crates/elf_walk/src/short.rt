@@ -3,7 +3,7 @@ ghost use Rattle.std.specs.Prelude.{◌≡◌, ◌+◌, ◌<◌, ◌≤◌, ◌^
 ghost use Rattle.elf_model.specs.Prelude.{is_not_elf};
 ghost use Rattle.elf_model.specs.declared.states.FileStatus.TheVariants.{NoElf, Refused};
 ghost use Rattle.elf_source.specs.Source.{KeepsSource};
-ghost use Rattle.elf_model.specs.Checking.{short_state};
+ghost use Rattle.elf_model.specs.Checking.{short_file_status};
 ghost use Rattle.elf_walk.specs.Checked.{FailsRead, FindsShort};
 
 use crate::line_prefixes::find_file_type;
@@ -18,7 +18,7 @@ pub const UNDECIDED: Refusal = Refusal {
 
 /// Returns the state of a file with fewer bytes than a file header, by its type, which is decided
 /// within the budget. On return no limit is set.
-pub fn short_file_status<S: Source>(src: &mut Counted<S>, budget: Option<u64>) -> FileStatus
+pub fn read_short_file_status<S: Source>(src: &mut Counted<S>, budget: Option<u64>) -> FileStatus
     requires short { src.old.seen.size < 64 }
     requires few { src.old.asked ≤ 2 ^ 127 }
     ensures keeps { KeepsSource src.old.seen src.new.seen }
@@ -31,14 +31,14 @@ pub fn short_file_status<S: Source>(src: &mut Counted<S>, budget: Option<u64>) -
 {
     let size = src.length();
     match find_file_type(src, false, budget) {
-        Ok(magic) => short_state(size, magic),
+        Ok(magic) => short_file_status(size, magic),
         Err(_) => FileStatus::Unread,
     }
 }
 
 /// Returns the state of a file of `size` bytes that is too short for a file header, by its type.
-pub fn short_state(size: u64, magic: FileMagic) -> FileStatus
-    ensures { result ≡ short_state size magic }
+pub fn short_file_status(size: u64, magic: FileMagic) -> FileStatus
+    ensures { result ≡ short_file_status size magic }
 {
     match magic {
         FileMagic::Elf => FileStatus::Refused(Refusal {

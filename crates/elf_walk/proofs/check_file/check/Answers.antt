@@ -8,7 +8,7 @@ use Rattle.elf_walk.proofs.check_file.check.Goals as goal
 
 pub returns-then-length-lt-HEADER_BYTES : goal.returns-then-length-lt-HEADER_BYTES
 returns-then-length-lt-HEADER_BYTES g c =
-    let did = c.short_file_status.ensures in
+    let did = c.read_short_file_status.ensures in
     let caps = c.args.caps in
     record {
       slots = refl;

@@ -16,9 +16,9 @@ returns-then-size-lt-HEADER_BYTES g c = record {
   };
   state = λ file held.
       let sized = c.args.src.now.seen.sized file held in
-      short_elf c.args.caps c.args.parts.0 file c.length-size.result c.short_state.result (omega (arith, sized, c.length-size.ensures.value)) (omega (arith, c.if-size-lt-HEADER_BYTES.true)) c.short_state.ensures;
+      short_elf c.args.caps c.args.parts.0 file c.length-size.result c.short_file_status.result (omega (arith, sized, c.length-size.ensures.value)) (omega (arith, c.if-size-lt-HEADER_BYTES.true)) c.short_file_status.ensures;
   cost = λ file held. omega (arith, c.limit.ensures.asked);
-  read = short_read c.args.src.now c.limit.new.self c.length-size.result sort.Elf c.short_state.result c.short_state.ensures;
+  read = short_read c.args.src.now c.limit.new.self c.length-size.result sort.Elf c.short_file_status.result c.short_file_status.ensures;
   asks = record { ceiling = omega (arith, c.limit.ensures.asked); budget = some_within c.args.caps.limits.budget _ _ c.limit.ensures.asked };
 }
 

@@ -8,8 +8,8 @@ use Rattle.elf_walk.proofs.file_traits.traits_within.Goals as goal
 pub returns-then-length-lt-HEADER_BYTES-clause-finds : goal.returns-then-length-lt-HEADER_BYTES-clause-finds
 returns-then-length-lt-HEADER_BYTES-clause-finds g c = λ file held.
     let sized = c.args.src.now.seen.sized file held in
-    short_within c.args.limits.budget c.args.limits.headers file c.short_file_status.result (omega (arith, sized, c.length.ensures.value, c.if-length-lt-HEADER_BYTES.true))
-    (c.short_file_status.ensures.state file held)
+    short_within c.args.limits.budget c.args.limits.headers file c.read_short_file_status.result (omega (arith, sized, c.length.ensures.value, c.if-length-lt-HEADER_BYTES.true))
+    (c.read_short_file_status.ensures.state file held)
 
 pub returns-in-Err-Refused-clause-finds : goal.returns-in-Err-Refused-clause-finds
 returns-in-Err-Refused-clause-finds g c = λ file held.

@@ -3,16 +3,16 @@ use Rattle.std.proofs.Common.{false, arith}
 use Rattle.elf_walk.proofs.FileMagicLaws.{front_four}
 use Rattle.elf_walk.proofs.ListingToldLaws.{fault_fails, front_within}
 use Rattle.elf_walk.proofs.StateLaws.{short_is, short_read}
-use Rattle.elf_walk.proofs.short.short_file_status.Goals as goal
+use Rattle.elf_walk.proofs.short.read_short_file_status.Goals as goal
 
 pub returns-in-Ok-clause-state : goal.returns-in-Ok-clause-state
 returns-in-Ok-clause-state g c = λ file held.
     let sized = c.args.src.now.seen.sized file held in
-    short_is c.args.budget file c.length-size.result c.in-Ok.magic c.short_state.result (omega (arith, sized, c.length-size.ensures.value)) (omega (arith, c.length-size.ensures.value, c.requires.short))
-    (c.in-Ok.ensures.finds file held) c.short_state.ensures
+    short_is c.args.budget file c.length-size.result c.in-Ok.magic c.short_file_status.result (omega (arith, sized, c.length-size.ensures.value)) (omega (arith, c.length-size.ensures.value, c.requires.short))
+    (c.in-Ok.ensures.finds file held) c.short_file_status.ensures
 
 pub returns-in-Ok-clause-read : goal.returns-in-Ok-clause-read
-returns-in-Ok-clause-read g c = short_read c.args.src.now c.find_file_type.new.src c.length-size.result c.in-Ok.magic c.short_state.result c.short_state.ensures
+returns-in-Ok-clause-read g c = short_read c.args.src.now c.find_file_type.new.src c.length-size.result c.in-Ok.magic c.short_file_status.result c.short_file_status.ensures
 
 pub returns-in-Ok-clause-asks : goal.returns-in-Ok-clause-asks
 returns-in-Ok-clause-asks g c = let few = front_four c.args.budget c.args.src.now.seen.size in omega (arith, few, c.in-Ok.ensures.asks)
