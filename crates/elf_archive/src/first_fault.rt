@@ -14,15 +14,16 @@ use elf_record::{Cause, Parts, Refusal};
 use elf_source::{Counted, NullSink, Out, RangeSource, Sink, Source};
 use elf_table::{Caps, HeaderStore, ListingStyle, NameBuf, RunFault};
 
-/// Goes over an archive whose magic string was read, and through the listing of each member that is an ELF
-/// file, as far as `parts` has it, up to the first fault. Nothing is written. The source is a range of all
-/// bytes of the archive, with nothing hidden, and is one again afterwards. The store has a slot for each
-/// header that the caps permit, and at most 2^127 bytes were asked of the source. If the caps have a budget
-/// it is what the magic string left of it, one over all members; afterwards no limit is set.
+/// Iterates over an archive whose magic string was read, and over the listing of each member that
+/// is an ELF file, those of its parts that `parts` has, up to the first fault. Nothing is written.
+/// The source is a range of all bytes of the archive, of which nothing is masked, and is one again
+/// on return. The store has a slot for each header that the caps permit, and at most 2^127 bytes
+/// were requested from the source. If the caps have a budget, it is what reading the magic string
+/// left of it, and one over all members; on return no limit is set.
 ///
 /// # Errors
-/// The first fault, with an offset of the archive: its own refusal, that of a member's listing, or of the
-/// place where no member is; or a refusal for want of budget. A fault of the source.
+/// The first fault, with an offset in the archive: its own refusal, that of a member's listing, or
+/// of the place where no member is; or a refusal for lack of budget. A fault of the source.
 pub fn find_fault<S: Source>(
     src: &mut Counted<RangeSource<S>>,
     store: &mut HeaderStore,
@@ -51,8 +52,8 @@ pub fn find_fault<S: Source>(
     found
 }
 
-/// Goes over an archive whose magic string was read, within the limit that is set on the source, up to its
-/// first fault.
+/// Iterates over an archive whose magic string was read, within the limit that is set on the
+/// source, up to its first fault.
 ///
 /// # Errors
 /// As [`find_fault`], or a fault of the output.

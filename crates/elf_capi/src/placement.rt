@@ -57,7 +57,7 @@ pub fn place_section(
 }
 
 /// Sets in `missing` what the layout lacks if a section was refused, for which `asked` bytes were
-/// requested, and returns how many more were. Nothing is set if the budget has no room to find out.
+/// requested, and returns how many more were. Nothing is set if the budget is too small for it.
 fn report_missing(
     file: &[u8],
     store: &mut HeaderStore,

@@ -129,12 +129,24 @@ abbrev pub traits_command : App
 traits_command =
     with_rule (with_rule (with_rule (with_rule (with_reading_options (new_app (codes "traits"))) (valued (codes "require"))) json_option) list_option) path_argument
 
--- directories, separated by colons; the root directory of another system's files; and whether the
--- file that each symbol is bound to is printed too
+-- how many paths may be tried
+abbrev max_tries_option : Rule
+max_tries_option = option (codes "max-tries") (Unsigned 0 9223372036854775807)
+
+-- a command with the options of where libraries are searched: how many paths may be tried;
+-- directories, separated by colons; the root directory of another system's files; and a loader's
+-- cache, or none
+abbrev with_search_options : App → App
+with_search_options command =
+    with_rule (with_rule (with_rule (with_rule (with_rule (with_rule command max_tries_option) (valued (codes "library-path"))) (valued (codes "default"))) (valued (codes "root")))
+    (valued (codes "cache"))) (flag (codes "no-cache"))
+
+-- whether the file that each symbol is bound to is printed too, which libraries are not used, and
+-- whether only lines that make the status 1 are printed
 abbrev pub needs_command : App
 needs_command =
-    with_rule (with_rule (with_rule (with_rule (with_rule (with_rule (with_reading_options (new_app (codes "needs"))) (valued (codes "library-path"))) (valued (codes "default")))
-    (valued (codes "root"))) (flag (codes "symbols"))) json_option) file_argument
+    with_rule (with_rule (with_rule (with_rule (with_rule (with_rule (with_search_options (with_reading_options (new_app (codes "needs")))) (flag (codes "symbols"))) (flag (codes "unused")))
+    (flag (codes "problems"))) json_option) list_option) path_argument
 
 abbrev pub archive_command : ArgWords → App
 archive_command parts = with_rule (with_chosen_rows parts (new_app (codes "archive"))) file_argument

@@ -5,19 +5,19 @@ use clap::builder::ValueParser;
 pub(crate) const HEADERS: ArgSpec = ArgSpec {
     name: "headers",
     kind: ArgKind::Count(ValueParser::Signed(1, 65279), "4096"),
-    help: "Permit N section headers, and as many program headers: 1 to 65279",
+    help: "Allow N section headers, and as many program headers: 1 to 65279",
 };
 
 pub(crate) const NAMES: ArgSpec = ArgSpec {
     name: "names",
     kind: ArgKind::Count(ValueParser::Signed(1, 4096), "256"),
-    help: "Show N bytes of a name: 1 to 4096",
+    help: "Show at most N bytes of a name: 1 to 4096",
 };
 
 pub(crate) const MAX_READ: ArgSpec = ArgSpec {
     name: "max-read",
     kind: ArgKind::Number(ValueParser::Unsigned(0, 9_223_372_036_854_775_807)),
-    help: "Read at most N bytes of the file: 0 to 9223372036854775807 [default: any]",
+    help: "Read at most N bytes of the file: 0 to 9223372036854775807 [default: no limit]",
 };
 
 pub(crate) const ONLY: ArgSpec = ArgSpec {
@@ -29,7 +29,7 @@ pub(crate) const ONLY: ArgSpec = ArgSpec {
 pub(crate) const GNU: ArgSpec = ArgSpec {
     name: "gnu",
     kind: ArgKind::Flag,
-    help: "Name the numbers of the GNU system too, and list symbol versions",
+    help: "Also name the numbers defined by GNU, and list symbol versions",
 };
 
 pub(crate) const BY_SEGMENTS: ArgSpec = ArgSpec {
@@ -41,20 +41,20 @@ pub(crate) const BY_SEGMENTS: ArgSpec = ArgSpec {
 pub(crate) const JSON: ArgSpec = ArgSpec {
     name: "json",
     kind: ArgKind::Flag,
-    help: "Write each line as a JSON object",
+    help: "Print each line as a JSON object",
 };
 
 pub(crate) const FILE: ArgSpec = ArgSpec {
     name: "FILE",
     kind: ArgKind::Needed,
-    help: "The file to read; - is standard input",
+    help: "The file to read; - is the one on standard input",
 };
 
 // Whether the name is looked up as glibc's dynamic loader does it.
 pub(crate) const AS_LOADER: ArgSpec = ArgSpec {
     name: "gnu",
     kind: ArgKind::Flag,
-    help: "Take the symbol that a loader of the GNU system takes, by its version too",
+    help: "Find the symbol that glibc's dynamic loader picks; NAME may have a version",
 };
 
 // Whether the tables are found as that loader finds them even if there are section headers.
@@ -73,13 +73,13 @@ pub(crate) const NAME: ArgSpec = ArgSpec {
 pub(crate) const LAYOUT: ArgSpec = ArgSpec {
     name: "layout",
     kind: ArgKind::Value("LIST"),
-    help: "Take the items in the file LIST too, one a line, as many as there are",
+    help: "Also take the items in the file LIST, one per line, any number of them",
 };
 
 pub(crate) const EXPLAIN: ArgSpec = ArgSpec {
     name: "explain",
     kind: ArgKind::Flag,
-    help: "Where an address is missing, tell the type, the symbol and the item that would help",
+    help: "If an address is missing, print the type, the symbol and the item that would help",
 };
 
 pub(crate) const SECTION: ArgSpec = ArgSpec {
@@ -91,71 +91,101 @@ pub(crate) const SECTION: ArgSpec = ArgSpec {
 pub(crate) const ITEM: ArgSpec = ArgSpec {
     name: "ITEM",
     kind: ArgKind::Any,
-    help: "An address: at:INDEX=ADDR, or NAME=ADDR behind def:, plt:, got: or tpgot:",
+    help: "An address: at:INDEX=ADDR, def:NAME=ADDR, plt:NAME=ADDR, got:NAME=ADDR or tpgot:NAME=ADDR",
 };
 
 pub(crate) const LIST: ArgSpec = ArgSpec {
     name: "files0-from",
     kind: ArgKind::Value("FILE"),
-    help: "Take the paths in FILE too, each ended by NUL; - is standard input",
+    help: "Also take the paths in FILE, each ended by a NUL byte; - is standard input",
 };
 
 pub(crate) const INSIDE: ArgSpec = ArgSpec {
     name: "members",
     kind: ArgKind::Flag,
-    help: "Go into archives too, which are passed over else",
+    help: "Also read the members of archives",
 };
 
 pub(crate) const PATH: ArgSpec = ArgSpec {
     name: "PATH",
     kind: ArgKind::Any,
-    help: "A file, or a folder of files",
+    help: "A file or a directory; - is the file on standard input",
 };
 
 pub(crate) const REQUIRE: ArgSpec = ArgSpec {
     name: "require",
     kind: ArgKind::Value("WORDS"),
-    help: "Tell of each program and library which of these words it lacks, as in stack=nx,relro=full",
+    help: "Print which of these words each program and library lacks, as in stack=nx,relro=full",
 };
 
 pub(crate) const WITH_VERSIONS: ArgSpec = ArgSpec {
     name: "versions",
     kind: ArgKind::Flag,
-    help: "With --gnu: show behind the name of a symbol its version too, as NAME@VERSION",
+    help: "With --gnu: append its version to the name of a symbol, as NAME@VERSION",
 };
 
 pub(crate) const ROW_NAME: ArgSpec = ArgSpec {
     name: "name",
     kind: ArgKind::Repeated("NAME"),
-    help: "Show the rows of this name alone; at most 64 times",
+    help: "Show only the rows with this name; at most 64 times",
 };
 
 pub(crate) const NAME_LIST: ArgSpec = ArgSpec {
     name: "name-list",
     kind: ArgKind::Value("LIST"),
-    help: "Show the rows of the names in the file LIST too, one a line",
+    help: "Also show the rows with the names in the file LIST, one per line",
 };
 
 pub(crate) const LIBRARY_PATH: ArgSpec = ArgSpec {
     name: "library-path",
     kind: ArgKind::Value("DIRS"),
-    help: "Look for libraries in these folders too, as a loader does by LD_LIBRARY_PATH",
+    help: "Also search these directories, like those of LD_LIBRARY_PATH for a loader",
 };
 
 pub(crate) const DEFAULT: ArgSpec = ArgSpec {
     name: "default",
     kind: ArgKind::Value("DIRS"),
-    help: "Look in these folders last, not in those of a system",
+    help: "Search these directories last, instead of those of a system",
 };
 
 pub(crate) const ROOT: ArgSpec = ArgSpec {
     name: "root",
     kind: ArgKind::Value("DIR"),
-    help: "Look below DIR for each path that begins with a slash",
+    help: "Take each path that begins with a slash relative to DIR",
+};
+
+pub(crate) const MAX_TRIES: ArgSpec = ArgSpec {
+    name: "max-tries",
+    kind: ArgKind::Number(ValueParser::Unsigned(0, 9_223_372_036_854_775_807)),
+    help: "Try at most N paths for a FILE: 0 to 9223372036854775807 [default: 100,000]",
+};
+
+pub(crate) const UNUSED: ArgSpec = ArgSpec {
+    name: "unused",
+    kind: ArgKind::Flag,
+    help: "Tell which libraries FILE names itself and uses nothing of, too",
+};
+
+pub(crate) const PROBLEMS: ArgSpec = ArgSpec {
+    name: "problems",
+    kind: ArgKind::Flag,
+    help: "Write of all lines only those that make the status 1",
+};
+
+pub(crate) const CACHE: ArgSpec = ArgSpec {
+    name: "cache",
+    kind: ArgKind::Value("FILE"),
+    help: "Search the loader's cache FILE, not /etc/ld.so.cache",
+};
+
+pub(crate) const NO_CACHE: ArgSpec = ArgSpec {
+    name: "no-cache",
+    kind: ArgKind::Flag,
+    help: "Search no loader's cache",
 };
 
 pub(crate) const BINDINGS: ArgSpec = ArgSpec {
     name: "symbols",
     kind: ArgKind::Flag,
-    help: "Tell from which object each symbol comes, too",
+    help: "Also print which object each symbol comes from",
 };

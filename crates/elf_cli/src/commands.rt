@@ -11,9 +11,9 @@ ghost use Rattle.elf_cli.specs.CommandLine.{needs_command, sample_command, show_
 ghost use Rattle.elf_cli.specs.CommandLine.{with_many_files, with_one_file, without_command};
 
 use crate::arguments::{
-    AS_LOADED, AS_LOADER, BINDINGS, BY_SEGMENTS, DEFAULT, EXPLAIN, FILE, GNU, HEADERS, INSIDE,
-    ITEM, JSON, LAYOUT, LIBRARY_PATH, LIST, MAX_READ, NAME, NAME_LIST, NAMES, ONLY, PATH, REQUIRE,
-    ROOT, ROW_NAME, SECTION, WITH_VERSIONS,
+    AS_LOADED, AS_LOADER, BINDINGS, BY_SEGMENTS, CACHE, DEFAULT, EXPLAIN, FILE, GNU, HEADERS,
+    INSIDE, ITEM, JSON, LAYOUT, LIBRARY_PATH, LIST, MAX_READ, MAX_TRIES, NAME, NAME_LIST, NAMES,
+    NO_CACHE, ONLY, PATH, PROBLEMS, REQUIRE, ROOT, ROW_NAME, SECTION, UNUSED, WITH_VERSIONS,
 };
 use crate::builder::{CommandSpec, add_subcommands, clap_command_of, new_command, with_command};
 use crate::texts::{ABOUT, CHECKED, FOUND, HARDENED, ITEMS, LISTED, MEMBERS, MORE, NEEDED, SHOWN};
@@ -23,7 +23,7 @@ use std::alloc::{AllocError, Global};
 
 const SHOW: CommandSpec = CommandSpec {
     name: "show",
-    about: "List a file, whole or one part of it",
+    about: "List a whole file or one part of it",
     more: SHOWN,
     words: &[
         HEADERS,
@@ -42,7 +42,7 @@ const SHOW: CommandSpec = CommandSpec {
 
 const SAMPLE: CommandSpec = CommandSpec {
     name: "sample",
-    about: "List a small file that the program carries",
+    about: "List a small file that is built into the program",
     more: "Example: elfsee sample --only header",
     words: &[
         HEADERS,
@@ -58,7 +58,7 @@ const SAMPLE: CommandSpec = CommandSpec {
 
 const FIND: CommandSpec = CommandSpec {
     name: "find",
-    about: "Look a name up by the file's own hash table",
+    about: "Look up a name in the file's own hash table",
     more: FOUND,
     words: &[HEADERS, MAX_READ, AS_LOADER, AS_LOADED, JSON, FILE, NAME],
 };
@@ -72,7 +72,7 @@ const APPLY: CommandSpec = CommandSpec {
 
 const CHECK: CommandSpec = CommandSpec {
     name: "check",
-    about: "Check many files: which are at fault, where and why",
+    about: "Check many files: which are malformed, where and why",
     more: CHECKED,
     words: &[
         HEADERS,
@@ -90,7 +90,7 @@ const CHECK: CommandSpec = CommandSpec {
 
 const LIST_FILES: CommandSpec = CommandSpec {
     name: "list",
-    about: "List many files, each whole or one part of it",
+    about: "List many files, whole or one part of each",
     more: LISTED,
     words: &[
         HEADERS,
@@ -111,30 +111,36 @@ const LIST_FILES: CommandSpec = CommandSpec {
 
 const TRAITS: CommandSpec = CommandSpec {
     name: "traits",
-    about: "Tell of many files how each is hardened",
+    about: "Print how each of many files is hardened",
     more: HARDENED,
     words: &[HEADERS, MAX_READ, REQUIRE, JSON, LIST, PATH],
 };
 
 const NEEDS: CommandSpec = CommandSpec {
     name: "needs",
-    about: "Tell which libraries a program needs, and where they are",
+    about: "Print which libraries programs need, and where they are",
     more: NEEDED,
     words: &[
         HEADERS,
         MAX_READ,
+        MAX_TRIES,
         LIBRARY_PATH,
         DEFAULT,
         ROOT,
+        CACHE,
+        NO_CACHE,
         BINDINGS,
+        UNUSED,
+        PROBLEMS,
         JSON,
-        FILE,
+        LIST,
+        PATH,
     ],
 };
 
 const ARCHIVE: CommandSpec = CommandSpec {
     name: "archive",
-    about: "List the members of an archive, such as a static library, and what is in each",
+    about: "List the members of an archive, such as a static library, and their contents",
     more: MEMBERS,
     words: &[
         HEADERS,
@@ -153,7 +159,7 @@ const ARCHIVE: CommandSpec = CommandSpec {
 
 const VERSION: CommandSpec = CommandSpec {
     name: "version",
-    about: "Tell the version of this program",
+    about: "Print the version of this program",
     more: "Example: elfsee version",
     words: &[],
 };

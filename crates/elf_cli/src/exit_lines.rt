@@ -26,7 +26,7 @@ pub const CANNOT_OPEN: ExitLine = (3, "elfsee: cannot open");
 pub const READ_FAULT: ExitLine = (3, "elfsee: read fault");
 
 /// The output cannot be written.
-pub(crate) const WRITE_FAULT: ExitLine = (3, "elfsee: write fault");
+pub const WRITE_FAULT: ExitLine = (3, "elfsee: write fault");
 
 /// The argument is not a name that can be looked up.
 const BAD_NAME: ExitLine = (2, "elfsee: bad name");

@@ -7,9 +7,9 @@ use std::fs;
 use std::os::unix::fs::{FileExt, FileTypeExt};
 use std::rt::Files;
 
-/// Opens a file that can be read at an offset; for `-` that on standard input. Directories, pipes and
-/// sockets are not opened, so that opening does not block, unless another process puts a pipe at the path
-/// after it was looked at: the standard library can't open without blocking.
+/// Opens a file that can be read at an offset; for `-` that on standard input. Directories, pipes
+/// and sockets are not opened, so that opening does not block, unless another process puts a pipe
+/// at the path after it was looked at: the standard library can't open without blocking.
 ///
 /// # Errors
 /// How the program ends where there is no such file, or where its size can't be found.

@@ -26,15 +26,17 @@ pub use commands::{
     archive_command, check_command, command_line, find_command, list_command, needs_command,
     sample_command, show_command, traits_command,
 };
-pub use exit_lines::{CANNOT_OPEN, ExitLine, OUT_OF_MEMORY, READ_FAULT, exit, outcome};
+pub use exit_lines::{
+    CANNOT_OPEN, ExitLine, OUT_OF_MEMORY, READ_FAULT, WRITE_FAULT, exit, outcome,
+};
 pub use faults::RequestFault;
 pub use files::open;
 pub use line_sink::LineSink;
 pub use listings::{ListingRequest, ShowRequest, listing_of, parse_show};
 pub use no_request::unasked;
 pub use option_values::{
-    find_without_gnu, format_of, has_gnu_option, has_versions_option, is_set, limits_of, parts_of,
-    style_of, text_of, u16_option_of, whole,
+    find_without_gnu, format_of, has_gnu_option, has_versions_option, is_set, limits_of, number_of,
+    parts_of, style_of, text_of, u16_option_of, whole,
 };
 pub use outputs::{
     ERROR_LINE_BYTES, OUTPUT_BYTES, PIPE_BYTES, RunEnd, end_answer, end_lines, end_run, write_rest,

@@ -5,8 +5,8 @@ ghost use Rattle.clap.specs.declared.error.kind.ErrorKind.TheVariants.{Format};
 ghost use Rattle.elf_cli.specs.Faults.{IsUnasked};
 
 use crate::commands::{
-    archive_command, check_command, find_command, list_command, sample_command, show_command,
-    traits_command,
+    archive_command, check_command, find_command, list_command, needs_command, sample_command,
+    show_command, traits_command,
 };
 use crate::faults::RequestFault;
 use crate::option_values::{find_without_gnu, has_gnu_option, text_of, versions_without_gnu};
@@ -26,7 +26,7 @@ const NO_GNU: &str = "the following required arguments were not provided:\n  --g
 
 /// The message for other commands of a program that only lists one file.
 const NO_LISTING: &str =
-    "of this program there are as yet only the commands show, sample and version, without '--name'";
+    "this program has only the commands show, sample and version, without '--name'";
 
 /// The message for a command that selects rows by name and limits the shown bytes of a name.
 const NO_WIDTH: &str = "the argument '--names <N>' cannot be used with '--name <NAME>'";
@@ -66,6 +66,7 @@ fn lacking<'m>(matches: &'m ArgMatches<'_>) -> (&'m str, &'static str) {
         Some(("check", _)) => ("check", NO_PATH),
         Some(("list", _)) => ("list", NO_PATH),
         Some(("traits", _)) => ("traits", NO_PATH),
+        Some(("needs", _)) => ("needs", NO_PATH),
         _ => ("show", NO_LISTING),
     }
 }
@@ -99,6 +100,7 @@ fn named<'a>(alloc: Global, command: &str) -> Result<Command<'a>, AllocError> {
         "check" => check_command(alloc, parts)?.bin_name("elfsee check"),
         "list" => list_command(alloc, parts)?.bin_name("elfsee list"),
         "traits" => traits_command(alloc)?.bin_name("elfsee traits"),
+        "needs" => needs_command(alloc)?.bin_name("elfsee needs"),
         "archive" => archive_command(alloc, MEMBER_PARTS.as_slice())?.bin_name("elfsee archive"),
         _ => show_command(alloc, parts)?.bin_name("elfsee show"),
     }

@@ -142,7 +142,7 @@ pub fn u16_option_of(options: &ArgMatches<'_>, option: &str) -> Option<u16>
 }
 
 /// Returns the number that an option has, if it has one; `None` if its value is not a number.
-fn number_of(options: &ArgMatches<'_>, option: &str) -> Option<Option<u64>>
+pub fn number_of(options: &ArgMatches<'_>, option: &str) -> Option<Option<u64>>
     ensures some { IfSome result
         (HasNumber (one_of option.now (rows_of (found_of options.now)))) }
     ensures none { result ≡ None → (value : Option ℕ)

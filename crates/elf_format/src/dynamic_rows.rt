@@ -82,7 +82,7 @@ const STANDARD_TAGS: [(u64, &str); 31] = [
     (DT_FLAGS, "FLAGS"),
 ];
 
-/// The tags that came to the standard later, and GNU tags.
+/// The tags that later versions of the standard added, and GNU tags.
 const GNU_TAGS: [(u64, &str); 40] = [
     (DT_PREINIT_ARRAY, "PREINIT_ARRAY"),
     (DT_PREINIT_ARRAYSZ, "PREINIT_ARRAYSZ"),

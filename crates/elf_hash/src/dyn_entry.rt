@@ -2,7 +2,7 @@
 
 /// A dynamic entry (gABI 5, Dynamic Section).
 #[derive(Clone, Copy)]
-pub(crate) struct DynEntry {
+pub struct DynEntry {
     /// Its file offset.
     pub at: u64,
     /// Its value: an address, or a size.
@@ -11,7 +11,7 @@ pub(crate) struct DynEntry {
 
 /// The first entry with each of the tags that locate a lookup's tables, if there is one.
 #[derive(Clone, Copy)]
-pub(crate) struct DynamicTags {
+pub struct DynamicTags {
     /// DT_HASH: the SysV hash table.
     pub hash: Option<DynEntry>,
     /// DT_GNU_HASH: the GNU hash table.

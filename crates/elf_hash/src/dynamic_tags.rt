@@ -18,10 +18,7 @@ use elf_table::{Fault, Table};
 ///
 /// # Errors
 /// Returns a fault of a read, or the refusal `Budget`, at an entry's offset.
-pub(crate) fn first_entries<S: Source>(
-    src: &mut Counted<S>,
-    table: Table,
-) -> Result<DynamicTags, Fault>
+pub fn first_entries<S: Source>(src: &mut Counted<S>, table: Table) -> Result<DynamicTags, Fault>
     requires rows { table.entry ≡ 16 }
     requires within { TableInBounds src.old.seen.size table }
     ensures did { CallDid src.old src.new (fault_of_result result) (size_of table)

@@ -77,15 +77,16 @@ impl GnuHashTable {
         index >= first && index < self.place.symbols && self.has_words(index - first)
     }
 
-    /// Returns `true` if the chain word at the index `behind` after the first lies within the
+    /// Returns `true` if the chain word at the index `distance` after the first lies within the
     /// table.
-    fn has_words(&self, behind: u64) -> bool
+    fn has_words(&self, distance: u64) -> bool
         ensures is { result ≡ not (nat_lt self.now.place.size
-            (16 + 8 * self.now.nbloom + 4 * self.now.nbucket + 4 * behind + 4)) }
+            (16 + 8 * self.now.nbloom + 4 * self.now.nbucket + 4 * distance + 4)) }
         ensures lies { IsTrue result →
-            16 + 8 * self.now.nbloom + 4 * self.now.nbucket + 4 * behind + 4 ≤ self.now.place.size }
+            16 + 8 * self.now.nbloom + 4 * self.now.nbucket + 4 * distance + 4
+            ≤ self.now.place.size }
     {
-        behind < (self.place.size - self.before_chains()) / 4
+        distance < (self.place.size - self.before_chains()) / 4
     }
 
     /// Returns the file offset of the chain word of a symbol.

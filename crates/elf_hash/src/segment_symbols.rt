@@ -135,7 +135,7 @@ fn words_entry(found: &DynamicTags) -> Option<DynEntry>
 ///
 /// # Errors
 /// Those of [`ExecutionView::rest`].
-fn segment_records(
+pub fn segment_records(
     view: &ExecutionView<'_>,
     entry: Option<DynEntry>,
     kind: VersionKind,

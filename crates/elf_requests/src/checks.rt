@@ -21,7 +21,7 @@ pub enum ParsedCommand<'a> {
     List(ListRequest<'a>),
     /// Print how each of many files is hardened.
     Traits(TraitsRequest<'a>),
-    /// Print the libraries that a program needs.
+    /// Print the libraries that programs need.
     Needs(NeedsRequest<'a>),
     /// List the members of an archive.
     Archive(ArchiveRequest<'a>),
@@ -131,23 +131,40 @@ pub struct ArchiveRequest<'a> {
     pub names: Option<NameArgs<'a>>,
 }
 
-/// What a program needs: which program, where its libraries are searched, how much of each file may
-/// be read, and how a line is written. Directories are separated by colons.
+/// Which loader's cache is searched, before the directories that are searched last.
 #[derive(Clone, Copy, Drop)]
+pub struct CacheArgs<'a> {
+    /// The path of its file, if one is given; otherwise it is the system's.
+    pub file: Option<&'a str>,
+    /// Whether none is searched: it is left out, or those directories are given.
+    pub none: bool,
+}
+
+/// What programs need: which files, where their libraries are searched, how much may be read for
+/// each, and how a line is written. Directories are separated by colons.
+#[derive(Drop)]
 pub struct NeedsRequest<'a> {
-    /// The path of the program.
-    pub file: &'a str,
+    /// The files.
+    pub files: PathArgs<'a>,
     /// The directories that are searched before those of DT_RUNPATH; empty if none are given.
     pub library_path: &'a str,
-    /// The directories that are searched last.
-    pub default: &'a str,
+    /// The directories that are searched last, if they are given.
+    pub default: Option<&'a str>,
     /// The root directory for paths that begin with a slash; empty if none is given.
     pub root: &'a str,
-    /// How many headers of each file are allowed, and how many bytes of all files together may be
-    /// read.
+    /// The loader's cache in which libraries are searched.
+    pub cache: CacheArgs<'a>,
+    /// How many headers of each file are allowed, and how many bytes of a program and all its
+    /// libraries together may be read.
     pub limits: Limits,
+    /// How many paths may be tried for a program, if the arguments say so.
+    pub tries: Option<u64>,
     /// How a line is written.
     pub format: Format,
     /// Whether the file that each symbol is bound to is printed too.
     pub symbols: bool,
+    /// Whether the libraries are printed too that a program needs itself and does not use.
+    pub unused: bool,
+    /// Whether only lines are written that make the status 1.
+    pub problems: bool,
 }

@@ -1,4 +1,4 @@
-//! What can be asked for on a command line: [`request`] parses arguments to a [`ParsedCommand`],
+//! What can be requested on a command line: [`request`] parses arguments to a [`ParsedCommand`],
 //! and [`run`] carries out the [`Request`] for one file: a listing, a lookup of a name, a lookup as
 //! a loader does it, or a section with its relocations applied.
 #![tactic(auto)]
@@ -24,8 +24,8 @@ mod words;
 
 pub use archive_request::archive_status;
 pub use checks::{
-    ApplyWithLayout, ArchiveRequest, CheckRequest, FilteredRequest, ListRequest, NameArgs,
-    NeedsRequest, ParsedCommand, PathArgs, TraitsRequest,
+    ApplyWithLayout, ArchiveRequest, CacheArgs, CheckRequest, FilteredRequest, ListRequest,
+    NameArgs, NeedsRequest, ParsedCommand, PathArgs, TraitsRequest,
 };
 pub use elf_cli::{RequestFault, outcome};
 pub use elf_table::RunFault;

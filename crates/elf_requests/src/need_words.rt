@@ -1,46 +1,80 @@
-//! The arguments that request what a program needs.
+//! The arguments that request what programs need.
 ghost use Rattle.std.specs.Prelude.{◌≡◌, IfSome, None, Ok, Some, codes, unwrap_or};
 ghost use Rattle.clap.specs.Walk.{first_of, rows_of};
 ghost use Rattle.clap.specs.Words.{found_of};
 ghost use Rattle.elf_cli.specs.Listings.{NoneAsked};
-ghost use Rattle.elf_requests.specs.AskedNeeds.{IsNeedsAsked};
+ghost use Rattle.elf_requests.specs.AskedNeeds.{IsCacheAsked, IsNeedsAsked};
 ghost use Rattle.elf_requests.specs.Checks.{ParsesTo};
+ghost use Rattle.elf_requests.specs.Files.{AreFiles};
 
-use crate::checks::{NeedsRequest, ParsedCommand};
+use crate::checks::{CacheArgs, NeedsRequest, ParsedCommand, PathArgs};
+use crate::file_words::files_of;
 use clap::ArgMatches;
-use elf_cli::{format_of, is_set, limits_of, text_of};
+use elf_cli::{RequestFault, format_of, is_set, limits_of, number_of, text_of};
+use std::alloc::{AllocError, Global};
 
-/// The directories in which libraries are searched last, if no others are given.
-const DEFAULT_FOLDERS: &str =
-    "/lib/x86_64-linux-gnu:/usr/lib/x86_64-linux-gnu:/lib64:/usr/lib64:/lib:/usr/lib";
+/// Returns what `needs` with these arguments requests, or `None` if there is neither a path nor a
+/// list of paths.
+///
+/// # Errors
+/// Out of memory for the list of paths.
+pub(crate) fn needs_asked<'a>(
+    alloc: Global,
+    options: &ArgMatches<'a>,
+) -> Result<Option<ParsedCommand<'a>>, RequestFault>
+    ensures { ParsesTo (Some (codes "needs", rows_of (found_of options.now))) result }
+{
+    match files_of(alloc, options) {
+        Ok(Some(files)) => Ok(needs_of(options, files)),
+        Ok(None) => Ok(None),
+        Err(AllocError) => Err(RequestFault::Memory),
+    }
+}
 
-/// Returns what `needs` with these arguments requests, or `None` if they request nothing.
-pub(crate) fn needs_asked<'a>(options: &ArgMatches<'a>) -> Option<ParsedCommand<'a>>
+/// Returns what `needs` of these files requests.
+fn needs_of<'a>(options: &ArgMatches<'a>, files: PathArgs<'a>) -> Option<ParsedCommand<'a>>
+    requires { AreFiles (rows_of (found_of options.now)) files }
     ensures { ParsesTo (Some (codes "needs", rows_of (found_of options.now))) (Ok result) }
 {
-    match needs_of(options) {
+    match needing_of(options, files) {
         Some(asked) => Some(ParsedCommand::Needs(asked)),
         None => None,
     }
 }
 
-/// Returns the program whose path is among the arguments, and where its libraries are searched.
-fn needs_of<'a>(options: &ArgMatches<'a>) -> Option<NeedsRequest<'a>>
+/// Returns the needs of these files, and where their libraries are searched.
+fn needing_of<'a>(options: &ArgMatches<'a>, files: PathArgs<'a>) -> Option<NeedsRequest<'a>>
+    requires { AreFiles (rows_of (found_of options.now)) files }
     ensures none { result ≡ None →
         NoneAsked IsNeedsAsked (Some (codes "needs", rows_of (found_of options.now))) }
     ensures some { IfSome result (IsNeedsAsked (codes "needs") (rows_of (found_of options.now))) }
 {
-    let file = text_of(options, "FILE")?;
     let limits = limits_of(options)?;
+    let tries = number_of(options, "max-tries")?;
     Some(NeedsRequest {
-        file,
+        files,
         library_path: text_or(options, "library-path", ""),
-        default: text_or(options, "default", DEFAULT_FOLDERS),
+        default: text_of(options, "default"),
         root: text_or(options, "root", ""),
+        cache: cache_of(options),
         limits,
+        tries,
         format: format_of(options),
         symbols: is_set(options, "symbols"),
+        unused: is_set(options, "unused"),
+        problems: is_set(options, "problems"),
     })
+}
+
+/// Returns the loader's cache in which libraries are searched.
+fn cache_of<'a>(options: &ArgMatches<'a>) -> CacheArgs<'a>
+    ensures { IsCacheAsked (rows_of (found_of options.now)) result }
+{
+    let default = text_of(options, "default");
+    CacheArgs {
+        file: text_of(options, "cache"),
+        none: is_set(options, "no-cache") || default.is_some(),
+    }
 }
 
 /// Returns the value of an argument, or another text if it has none.

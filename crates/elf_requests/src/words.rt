@@ -97,7 +97,7 @@ fn asked_by<'a>(
         "check" => parse_check(alloc, options),
         "list" => list_asked(alloc, options),
         "traits" => traits_asked(alloc, options),
-        "needs" => Ok(needs_asked(options)),
+        "needs" => needs_asked(alloc, options),
         "archive" => archive_asked(alloc, options),
         "apply" => parse_apply(options, layout),
         "version" => Ok(Some(ParsedCommand::Version)),

@@ -1,7 +1,8 @@
 -- How the program ends, by what it did.
-use Rattle.std.specs.Prelude.{ℕ, ◌≡◌, ◌⊎◌, ◌≤◌, ◌+◌, ⊤, Bool, true, false, List, codes, Option, None, Some, Result, Ok, Err, IfErr, IfOk}
+use Rattle.std.specs.Prelude.{ℕ, ◌≡◌, ◌⊎◌, ◌≤◌, ◌+◌, ⊤, Bool, true, false, List, [], codes, Option, None, Some, Result, Ok, Err, IfErr, IfOk}
 use Rattle.std.specs.Io.Buffered.{writer_buffer, writer_contents, writer_inner}
 use Rattle.std.specs.declared.io.buffered.BufWriter.{BufWriter}
+use Rattle.elf_model.specs.Fixtures.{one_symbol_table}
 use Rattle.elf_model.specs.Prelude.{archive_cost}
 use Rattle.elf_model.specs.declared.causes.Refusal.{Refusal}
 use Rattle.elf_source.specs.Prelude.{CountedState, OutGrows, OutState, SourceState, Writing}
@@ -14,9 +15,9 @@ use Rattle.elf_archive.specs.Listed.{ArchiveSays, AsksInArchive, ReportsArchive}
 use Rattle.elf_walk.specs.declared.lists.ListFault.{ListFault}
 use Rattle.elf_walk.specs.declared.lists.ListFault.TheVariants as list
 use Rattle.elf_cli.specs.Prelude.{ProgramEnds, PutsRest, wants_rest}
-use Rattle.elf_cli.specs.declared.outputs.RunEnd.{RunEnd}
-use Rattle.elf_cli.specs.declared.outputs.RunEnd.TheVariants.{Status, Told, Unwritten}
 use Rattle.elf_requests.specs.ArchiveAnswers.{refused_by}
+use Rattle.elfsee.specs.declared.many.FilesEnd.{FilesEnd}
+use Rattle.elfsee.specs.declared.many.FilesEnd.TheVariants as visit
 
 -- out of memory
 abbrev pub EndsWithoutMemory : ℕ → List ℕ → Type 0
@@ -46,6 +47,13 @@ pub record EndsRunOver {W A : Type 0} (contents : W → Option (List ℕ)) (does
   pub ends : ProgramEnds answer sink.failed status line
   pub rest : PutsRest (wants_rest answer) sink.failed (writer_buffer last) (contents (writer_inner last)) (contents sink.writer)
 
+-- A RUN OVER THE FILE AT A PATH ENDS THE PROGRAM, or over the sample if there is no path
+pub record AnswersFile {P W A : Type 0} (contents : W → Option (List ℕ)) (does : CountedState → CountedState → OutState → OutState → Result ℕ RunFault → Type 0) (path : Option P)
+    (output : BufWriter W A) (status : ℕ) (line : List ℕ) (sink : Writing W) : Type 0 where
+  pub seen : SourceState
+  pub sample : path ≡ None → seen.file ≡ Some one_symbol_table
+  pub ends : EndsRunOver contents does seen output status line sink
+
 -- the refusal whose line was written
 abbrev pub told_refusal : Result ℕ RunFault → Bool → Option Refusal
 told_refusal (Err (Refused refusal)) false = Some refusal
@@ -62,15 +70,32 @@ pub record RunsArchive (caps : Caps) (parts : ℕ) (old new : CountedState) (bef
   pub asks : AsksInArchive caps old new (refused_by answer)
   pub status : IfOk answer (λ status. status ≤ 1)
 
--- how a run ended whose list was read to its end, or not
-abbrev pub EndsList : Result (Unit {0}) ListFault → Result (Unit {0}) RunEnd → Type 0
-EndsList (Ok x) result = result ≡ Ok x
-EndsList (Err list.Read) (Err (Told ending)) = (ending.0 ≡ 3) × (ending.1.now ≡ codes "elfsee: read fault")
-EndsList (Err list.Read) result = ⊥
-EndsList (Err (list.Out fault)) result = result ≡ Err Unwritten
+-- how a visit ended early whose list was not read to its end
+abbrev pub list_end : Result (Unit {0}) ListFault → Result (Unit {0}) FilesEnd
+list_end (Ok x) = Ok x
+list_end (Err list.Read) = Err visit.Unread
+list_end (Err (list.Out fault)) = Err visit.Unwritten
 
--- a run stopped before its end: a list cannot be opened or read, or the output failed
-abbrev pub StopsCheck : RunEnd → Type 0
-StopsCheck (Status status) = ⊥
-StopsCheck (Told ending) = EndsWithoutFile ending.0 ending.1.now
-StopsCheck Unwritten = ⊤
+-- a visit stopped before its end: a list cannot be opened or read, or the output failed
+abbrev pub StopsFiles : FilesEnd → Type 0
+StopsFiles (visit.Status status) = ⊥
+StopsFiles visit.NoMemory = ⊥
+StopsFiles ended = ⊤
+
+-- how a visit ended, by its status, or how it stopped
+abbrev pub visit_end : Result ℕ FilesEnd → FilesEnd
+visit_end (Ok status) = visit.Status status
+visit_end (Err ended) = ended
+
+-- how a visit ended, by whether the output failed that was written after it
+abbrev pub end_after : Bool → FilesEnd → FilesEnd
+end_after true (visit.Status status) = visit.Unwritten
+end_after failed ended = ended
+
+-- A VISIT OF FILES ENDS THE PROGRAM, with an exit status and a line on standard error
+abbrev pub EndsFiles : FilesEnd → ℕ → List ℕ → Type 0
+EndsFiles (visit.Status found) status line = (status ≡ found) × (line ≡ [])
+EndsFiles visit.NoMemory status line = EndsWithoutMemory status line
+EndsFiles visit.NotOpened status line = (status ≡ 3) × (line ≡ codes "elfsee: cannot open")
+EndsFiles visit.Unread status line = (status ≡ 3) × (line ≡ codes "elfsee: read fault")
+EndsFiles visit.Unwritten status line = (status ≡ 3) × (line ≡ codes "elfsee: write fault")

@@ -4,7 +4,7 @@ ghost use Rattle.elf_options.specs.Prelude.{NeverDescend, named_style, style_of,
 ghost use Rattle.elfsee.specs.Ends.{EndsWithoutMemory};
 ghost use Rattle.elfsee.specs.Naming.{EndsWithoutNames};
 
-use crate::many::visit_files;
+use crate::many::{ending_line, visit_files};
 use crate::names::{read_list, sorted_names};
 use elf_cli::{ExitLine, OUT_OF_MEMORY};
 use elf_options::style_with_names;
@@ -104,5 +104,6 @@ where
         return Err(OUT_OF_MEMORY);
     };
     let lists = ListFiles::new(room.store(), *rule);
-    visit_files(rt, files, lists, held, rule.caps.style.format, terminal)
+    let ended = visit_files(rt, files, lists, held, rule.caps.style.format, terminal);
+    ending_line(ended)
 }

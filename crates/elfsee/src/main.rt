@@ -8,12 +8,14 @@ mod many;
 mod missing_reason;
 mod names;
 mod needs;
+mod needs_of_files;
+mod needs_report;
 
 ghost use Rattle.std.specs.Prelude.{◌≡◌, ◌⊎◌, IfErr, IfOk, map, string_bytes};
 ghost use Rattle.elf_requests.specs.Prelude.{RunsTask, WordsAsk};
 ghost use Rattle.elf_cli.specs.Prelude.{EndsWords};
 ghost use Rattle.elf_cli.specs.declared.faults.RequestFault.{RequestFault};
-ghost use Rattle.elfsee.specs.Ends.{EndsRunOver, EndsWithoutFile, EndsWithoutMemory, told_refusal};
+ghost use Rattle.elfsee.specs.Ends.{AnswersFile, EndsRunOver, EndsWithoutFile, EndsWithoutMemory, told_refusal};
 
 use archives::list_archive;
 use elf_cli::{
@@ -88,7 +90,7 @@ where
         ParsedCommand::Check(checking) => check_many(rt, checking, terminal),
         ParsedCommand::List(asked) => list_files(rt, asked, terminal),
         ParsedCommand::Traits(traits) => report_traits(rt, traits, terminal),
-        ParsedCommand::Needs(asked) => report_needs(rt, asked),
+        ParsedCommand::Needs(asked) => report_needs(rt, asked, terminal),
         ParsedCommand::Archive(archiving) => list_archive(rt, archiving),
         ParsedCommand::Version => report_version(rt),
     }
@@ -121,34 +123,42 @@ where
     let Ok(output) = BufWriter::with_capacity(rt.alloc(), OUTPUT_BYTES, io::writer(rt)) else {
         return Err(OUT_OF_MEMORY);
     };
-    answer_into(rt, request, room.store(), output, errors)
+    match answer_into(rt, request, room.store(), output, errors) {
+        Ok((ending, _output)) => Ok(ending),
+        Err(ending) => Err(ending),
+    }
 }
 
-/// Opens the file, and carries out the request.
+/// Opens the file, and carries out the request. Returns how the program ends, and the sink.
+///
+/// # Errors
+/// The file cannot be opened.
 fn answer_into<R: Files + AllocGlobal, W: Write + Drop>(
     rt: &R,
     request: &Request<'_>,
     store: HeaderStore<'_>,
     output: BufWriter<W>,
     errors: Stderr,
-) -> Result<ExitLine, ExitLine>
+) -> Result<(ExitLine, WriteSink<W>), ExitLine>
 where
     R::File: FileExt,
     requires { store.slots ≡ request.now.limits.headers }
-    ensures { IfErr result (λ ending. EndsWithoutFile ending.0 ending.1.now) }
+    ensures ran { IfOk result (λ ended. AnswersFile W.contents
+        (RunsTask request.now.limits request.now.task) request.now.file output
+        ended.0.0 ended.0.1.now ended.1) }
+    ensures unopened { IfErr result (λ ending. EndsWithoutFile ending.0 ending.1.now) }
 {
     let alloc = rt.alloc();
-    let (ending, _output) = match request.file {
+    match request.file {
         Some(path) => match open(rt, path) {
-            Ok(source) => write_answer(alloc, request, source, store, output, errors),
-            Err(ending) => return Err(ending),
+            Ok(source) => Ok(write_answer(alloc, request, source, store, output, errors)),
+            Err(ending) => Err(ending),
         },
         None => {
             let source = MemorySource::new(sample());
-            write_answer(alloc, request, source, store, output, errors)
+            Ok(write_answer(alloc, request, source, store, output, errors))
         }
-    };
-    Ok(ending)
+    }
 }
 
 /// Parses the request, and reports wrong arguments.

@@ -1,10 +1,10 @@
 //! Commands over many files: `check` and `traits`.
-ghost use Rattle.std.specs.Prelude.{◌≡◌, ◌<◌, IfErr};
-ghost use Rattle.elfsee.specs.Ends.{EndsList, EndsWithoutMemory, StopsCheck};
+ghost use Rattle.std.specs.Prelude.{◌≡◌, ◌<◌, IfErr, IfOk};
+ghost use Rattle.elfsee.specs.Ends.{EndsFiles, EndsWithoutMemory, StopsFiles, end_after, visit_end, list_end};
 
 use elf_cli::{
     CANNOT_OPEN, ExitLine, LineSink, OUT_OF_MEMORY, OUTPUT_BYTES, PIPE_BYTES, READ_FAULT, RunEnd,
-    end_lines,
+    WRITE_FAULT, end_lines,
 };
 use elf_model::Format;
 use elf_requests::{CheckRequest, PathArgs, TraitsRequest};
@@ -42,7 +42,8 @@ where
     };
     let checks = new_checks(asked, room.store());
     let held = Vec::new(rt.alloc());
-    visit_files(rt, &asked.files, checks, held, asked.style.format, terminal)
+    let format = asked.style.format;
+    ending_line(visit_files(rt, &asked.files, checks, held, format, terminal))
 }
 
 /// Prints how all requested files are hardened. Progress is shown on a terminal, if there is one.
@@ -64,7 +65,8 @@ where
     };
     let lines = new_trait_lines(asked, room.store());
     let held = Vec::new(rt.alloc());
-    visit_files(rt, &asked.files, lines, held, asked.format, terminal)
+    let ended = visit_files(rt, &asked.files, lines, held, asked.format, terminal);
+    ending_line(ended)
 }
 
 /// Creates a check for a request.
@@ -100,11 +102,23 @@ fn new_trait_lines<'a>(asked: &'a TraitsRequest<'a>, store: HeaderStore<'a>) -> 
     TraitReport::new(store, rule)
 }
 
+/// How a visit of many files ended.
+#[derive(Clone, Copy)]
+pub enum FilesEnd {
+    /// All files were visited: the exit status.
+    Status(u8),
+    /// There is not enough memory.
+    NoMemory,
+    /// The list of paths cannot be opened.
+    NotOpened,
+    /// The list of paths cannot be read.
+    Unread,
+    /// The output failed.
+    Unwritten,
+}
+
 /// Allocates the buffers, except those for headers, and visits all requested files. `held` is where
 /// bytes of the output may be deferred.
-///
-/// # Errors
-/// Out of memory.
 pub fn visit_files<R: Files + Print + Input + AllocGlobal, A: FileVisitor + Drop>(
     rt: &R,
     files: &PathArgs<'_>,
@@ -112,19 +126,18 @@ pub fn visit_files<R: Files + Print + Input + AllocGlobal, A: FileVisitor + Drop
     held: Vec<u8>,
     format: Format,
     terminal: Option<Stderr>,
-) -> Result<ExitLine, ExitLine>
+) -> FilesEnd
 where
     R::File: FileExt,
-    ensures { IfErr result (λ ending. EndsWithoutMemory ending.0 ending.1.now) }
 {
     let Ok(mut walk) = DirWalk::new(rt.alloc()) else {
-        return Err(OUT_OF_MEMORY);
+        return FilesEnd::NoMemory;
     };
     let Ok(mut entries) = vec![in rt.alloc(); 0u8; LIST_BYTES] else {
-        return Err(OUT_OF_MEMORY);
+        return FilesEnd::NoMemory;
     };
     let Ok(kept) = vec![in rt.alloc(); 0u8; kept_bytes(rt)] else {
-        return Err(OUT_OF_MEMORY);
+        return FilesEnd::NoMemory;
     };
     let output = LineSink::new(WriteSink::new(io::writer(rt)), kept);
     let mut many = FileRun::new(
@@ -134,7 +147,25 @@ where
         terminal,
     );
     let ended = visit_all(rt, files, &mut many, &mut walk, &mut entries);
-    Ok(end_many(ended, many))
+    let (ended, _output) = end_many(ended, many);
+    ended
+}
+
+/// Returns the exit status and the line on standard error, by how a visit ended.
+///
+/// # Errors
+/// Out of memory.
+pub fn ending_line(ended: FilesEnd) -> Result<ExitLine, ExitLine>
+    ensures ends { IfOk result (λ ending. EndsFiles ended ending.0 ending.1.now) }
+    ensures memory { IfErr result (λ ending. EndsWithoutMemory ending.0 ending.1.now) }
+{
+    match ended {
+        FilesEnd::Status(status) => Ok((status, "")),
+        FilesEnd::NoMemory => Err(OUT_OF_MEMORY),
+        FilesEnd::NotOpened => Ok(CANNOT_OPEN),
+        FilesEnd::Unread => Ok(READ_FAULT),
+        FilesEnd::Unwritten => Ok(WRITE_FAULT),
+    }
 }
 
 /// Returns how many bytes of output are buffered before whole lines of them are written: if
@@ -149,44 +180,76 @@ fn kept_bytes<R: Files>(rt: &R) -> usize
     }
 }
 
-/// Writes the rest of the output, and returns how the program ends.
+/// Writes the rest of the output, unless it failed. Returns how the visit ended, and the sink below
+/// the output.
 fn end_many<W: Sink + Drop, A: FileVisitor + Drop>(
-    ended: Result<u8, RunEnd>,
+    ended: Result<u8, FilesEnd>,
     many: FileRun<LineSink<W>, Stderr, A>,
-) -> ExitLine {
-    let ended = match ended {
-        Ok(status) => RunEnd::Status(status),
-        Err(ended) => ended,
-    };
+) -> (FilesEnd, W)
+    ensures { result.0 ≡ end_after (W.failed result.1) (visit_end ended) }
+{
+    let ended = visit_end(ended);
     let output = many.into_out().into_inner().into_inner();
-    let (ending, _output) = end_lines(ended, output);
-    ending
+    let (_, sink) = end_lines(run_end(ended), output);
+    (end_after(ended, sink.failed()), sink)
+}
+
+/// Returns how a visit ended, by its status, or how it stopped.
+fn visit_end(ended: Result<u8, FilesEnd>) -> FilesEnd
+    ensures { result ≡ visit_end ended }
+{
+    match ended {
+        Ok(status) => FilesEnd::Status(status),
+        Err(ended) => ended,
+    }
+}
+
+/// Returns how a visit ended, by whether the output failed that was written after it.
+fn end_after(ended: FilesEnd, failed: bool) -> FilesEnd
+    ensures { result ≡ end_after failed ended }
+{
+    match ended {
+        FilesEnd::Status(_) if failed => FilesEnd::Unwritten,
+        ended => ended,
+    }
+}
+
+/// Returns how a run ended before the rest of its output is written, which is not written if the
+/// output failed.
+fn run_end(ended: FilesEnd) -> RunEnd {
+    match ended {
+        FilesEnd::Status(status) => RunEnd::Status(status),
+        FilesEnd::NoMemory => RunEnd::Told(OUT_OF_MEMORY),
+        FilesEnd::NotOpened => RunEnd::Told(CANNOT_OPEN),
+        FilesEnd::Unread => RunEnd::Told(READ_FAULT),
+        FilesEnd::Unwritten => RunEnd::Unwritten,
+    }
 }
 
 /// Visits the requested paths, then those of the list, and returns the exit status.
 ///
 /// # Errors
-/// How the run ended if the list or the output failed.
+/// How the visit ended if the list or the output failed.
 fn visit_all<R: Files + Input, W: Sink, A: FileVisitor + Drop>(
     rt: &R,
     files: &PathArgs<'_>,
     many: &mut FileRun<W, Stderr, A>,
     walk: &mut DirWalk,
     entries: &mut [u8],
-) -> Result<u8, RunEnd>
+) -> Result<u8, FilesEnd>
 where
     R::File: FileExt,
-    ensures { IfErr result StopsCheck }
+    ensures { IfErr result StopsFiles }
 {
     if let Err(OutFault { .. }) = visit_paths(rt, many, walk, &files.paths) {
-        return Err(RunEnd::Unwritten);
+        return Err(FilesEnd::Unwritten);
     }
     if let Some(list) = files.list {
         visit_listed(rt, many, walk, list, entries)?;
     }
     match many.end() {
         Ok(status) => Ok(status),
-        Err(OutFault { .. }) => Err(RunEnd::Unwritten),
+        Err(OutFault { .. }) => Err(FilesEnd::Unwritten),
     }
 }
 
@@ -212,35 +275,34 @@ where
 /// Visits the paths of a list; `-` is standard input.
 ///
 /// # Errors
-/// How the run ended if the list or the output failed.
+/// How the visit ended if the list or the output failed.
 fn visit_listed<R: Files + Input, W: Sink, A: FileVisitor + Drop>(
     rt: &R,
     many: &mut FileRun<W, Stderr, A>,
     walk: &mut DirWalk,
     list: &str,
     entries: &mut [u8],
-) -> Result<(), RunEnd>
+) -> Result<(), FilesEnd>
 where
     R::File: FileExt,
-    ensures { IfErr result StopsCheck }
+    ensures { IfErr result StopsFiles }
 {
     if list == "-" {
         return listed(visit_list(rt, many, walk, &mut rt.reader(), entries));
     }
     match fs::open(rt, list) {
         Ok(mut file) => listed(visit_list(rt, many, walk, &mut file, entries)),
-        Err(_) => Err(RunEnd::Told(CANNOT_OPEN)),
+        Err(_) => Err(FilesEnd::NotOpened),
     }
 }
 
-/// Returns the result of reading a list, or how the run ended if it was not read to its end.
-fn listed(answer: Result<(), ListFault>) -> Result<(), RunEnd>
-    ensures ends { EndsList answer result }
-    ensures stops { IfErr result StopsCheck }
+/// Returns the result of reading a list, or how the visit ended if it was not read to its end.
+fn listed(answer: Result<(), ListFault>) -> Result<(), FilesEnd>
+    ensures { result ≡ list_end answer }
 {
     match answer {
         Ok(()) => Ok(()),
-        Err(ListFault::Read) => Err(RunEnd::Told(READ_FAULT)),
-        Err(ListFault::Out(_)) => Err(RunEnd::Unwritten),
+        Err(ListFault::Read) => Err(FilesEnd::Unread),
+        Err(ListFault::Out(_)) => Err(FilesEnd::Unwritten),
     }
 }

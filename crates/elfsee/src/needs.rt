@@ -1,33 +1,71 @@
 //! What a program needs.
-ghost use Rattle.std.specs.Prelude.{◌≡◌};
+ghost use Rattle.std.specs.Prelude.{◌≡◌, ◌||◌, if◌then◌else◌, unwrap_or};
 ghost use Rattle.elfsee.specs.Needs.{EndsNeeds};
 
+use crate::needs_of_files::list_needs_of_files;
 use elf_cli::{
     CANNOT_OPEN, ExitLine, OUT_OF_MEMORY, OUTPUT_BYTES, READ_FAULT, RunEnd, end_run, open,
 };
 use elf_needs::{
-    DependencyWalk, MOST_OBJECTS, NeedsBuffers, NeedsFault, NeedsOptions, OpenFiles, OpenObjects,
-    SearchDirs,
+    DependencyWalk, LibraryCache, LineOptions, Listed, MOST_OBJECTS, NeedsBuffers, NeedsFault,
+    NeedsOptions, OpenFiles, OpenObjects, RootedFiles, SearchDirs, SystemFiles, default_dirs,
+    system_cache,
 };
-use elf_requests::NeedsRequest;
-use elf_source::{Out, OutFault, WriteSink, opened_path};
+use elf_requests::{NeedsRequest, PathArgs};
+use elf_source::{FileReader, Out, OutFault, Sink, Source, StreamSource, WriteSink, opened_path};
 use elf_table::{HeaderBuffer, HeaderStore};
-use std::io::{self, BufWriter, ErrorKind, Write};
+use std::fs;
+use std::io::{self, BufWriter, ErrorKind, Input, Stderr, Write};
 use std::os::unix::fs::FileExt;
 use std::rt::Files;
 
-/// How many paths may be tried.
+/// How many paths may be tried, unless the arguments say so.
 const MOST_TRIES: u64 = 100_000;
 
-/// Lists the objects that a program needs and, if requested, which object each of their symbols is
-/// bound to.
+/// Lists the objects that programs need and, if requested, which object each of their symbols is
+/// bound to: of one file, or of each of many.
+///
+/// # Errors
+/// Out of memory, or the only program cannot be opened.
+#[inline(never)]
+pub fn report_needs<R: Files + Print + Input + AllocGlobal>(
+    rt: &R,
+    asked: &NeedsRequest<'_>,
+    terminal: Option<Stderr>,
+) -> Result<ExitLine, ExitLine>
+where
+    R::File: FileExt,
+{
+    let files = RootedFiles::new(rt, asked.root, rt.alloc());
+    match only_file(&files, &asked.files) {
+        Some(file) => list_needs(&files, asked, file),
+        None => list_needs_of_files(&files, asked, terminal),
+    }
+}
+
+/// Returns the path of the file whose needs alone are requested; `None` if there is a list of paths
+/// or another path, or a directory at it. It is not inlined: the stack of its caller would hold the
+/// buffers of paths while files are read.
+#[inline(never)]
+fn only_file<'a, R: Files>(rt: &R, files: &PathArgs<'a>) -> Option<&'a str> {
+    if files.list.is_some() || files.paths.len() != 1 {
+        return None;
+    }
+    let file = *files.paths.first()?;
+    match fs::metadata(rt, opened_path(file)) {
+        Ok(found) if found.is_dir() => None,
+        _ => Some(file),
+    }
+}
+
+/// Allocates the buffers, and lists what one program needs.
 ///
 /// # Errors
 /// Out of memory, or the program cannot be opened.
-#[inline(never)]
-pub fn report_needs<R: Files + Print + AllocGlobal>(
+fn list_needs<R: Files + Print + AllocGlobal>(
     rt: &R,
     asked: &NeedsRequest<'_>,
+    file: &str,
 ) -> Result<ExitLine, ExitLine>
 where
     R::File: FileExt,
@@ -38,14 +76,14 @@ where
     let Ok(room) = NeedsBuffers::new(rt.alloc()) else {
         return Err(OUT_OF_MEMORY);
     };
-    let most = if asked.symbols { MOST_OBJECTS } else { 0 };
-    let Ok(opened) = OpenObjects::new(rt.alloc(), most) else {
+    let Ok(opened) = OpenObjects::new(rt.alloc(), MOST_OBJECTS, asked.symbols || asked.unused)
+    else {
         return Err(OUT_OF_MEMORY);
     };
     let Ok(output) = BufWriter::with_capacity(rt.alloc(), OUTPUT_BYTES, io::writer(rt)) else {
         return Err(OUT_OF_MEMORY);
     };
-    needs_into(rt, asked, headers.store(), (room, opened), output)
+    needs_into(rt, asked, file, headers.store(), (room, opened), output)
 }
 
 /// Opens the program, and lists the objects that it needs to an output. The directory of the
@@ -57,6 +95,7 @@ where
 fn needs_into<R: Files + AllocGlobal, W: Write + Drop>(
     rt: &R,
     asked: &NeedsRequest<'_>,
+    file: &str,
     store: HeaderStore<'_>,
     rooms: (NeedsBuffers, OpenFiles<R::File>),
     output: BufWriter<W>,
@@ -66,50 +105,137 @@ where
 {
     let (room, opened) = rooms;
     let mut opened = opened;
-    let real = match rt.canonicalize(rt.alloc(), opened_path(asked.file)) {
+    let real = match rt.canonicalize(rt.alloc(), opened_path(file)) {
         Ok(real) => real,
         Err(error) if error.kind() == ErrorKind::OutOfMemory => return Err(OUT_OF_MEMORY),
         Err(_) => return Err(CANNOT_OPEN),
     };
-    let source = match open(rt, asked.file) {
+    let source = match open_program(rt, file) {
         Ok(source) => source,
         Err(ending) => return Err(ending),
     };
+    let cache = match loader_cache(rt, asked) {
+        Ok(cache) => cache,
+        Err(ending) => return Err(ending),
+    };
+    let mut system = SystemFiles { rt, cache };
     let out = Out::new(WriteSink::new(output));
-    let mut walk = DependencyWalk::new(&settings(asked), store, room, out);
+    let default = last_dirs(rt, asked);
+    let mut walk = DependencyWalk::new(&settings(asked, default), store, room, out);
     let listed = walk.list(
-        rt,
+        &mut system,
         source,
-        asked.file.as_bytes(),
+        file.as_bytes(),
         real.as_str().as_bytes(),
         &mut opened,
     );
-    let listed = match listed {
-        Ok(all) if asked.symbols && all.whole => walk.bind(&mut opened),
-        Ok(some) => Ok(some.status),
-        Err(fault) => Err(fault),
-    };
+    let listed = list_after(&mut walk, listed, asked.symbols, asked.unused, &mut opened);
     let (ending, _output) = end_run(ended(listed), walk.into_out().into_inner().into_inner());
     Ok(ending)
 }
 
-/// Returns the settings of a walk.
-fn settings<'a>(asked: &NeedsRequest<'a>) -> NeedsOptions<'a>
+/// Opens the file at a path. It is not inlined: the stack of its caller would hold the buffer of the
+/// path while files are read.
+///
+/// # Errors
+/// The file cannot be opened.
+#[inline(never)]
+pub fn open_program<R: Files>(
+    rt: &R,
+    path: &str,
+) -> Result<StreamSource<FileReader<R::File>>, ExitLine>
+where
+    R::File: FileExt,
+{
+    open(rt, path)
+}
+
+/// Writes what follows the lines of the objects, if all are listed: the versions that they need and
+/// that are not there and, if requested, which object each symbol is bound to, and which libraries
+/// the program does not use. Returns the exit status.
+///
+/// # Errors
+/// Those of listing the objects; a read or the output failed.
+pub fn list_after<S: Source + Drop, W: Sink>(
+    walk: &mut DependencyWalk<'_, '_, W>,
+    listed: Result<Listed, NeedsFault>,
+    symbols: bool,
+    unused: bool,
+    opened: &mut OpenObjects<S>,
+) -> Result<u8, NeedsFault> {
+    let Listed { status, whole } = listed?;
+    if !whole {
+        return Ok(status);
+    }
+    let Listed { status, whole } = walk.check_versions(opened)?;
+    let status = if symbols && whole {
+        walk.bind(opened)?
+    } else {
+        status
+    };
+    if unused && whole {
+        return walk.list_unused(opened);
+    }
+    Ok(status)
+}
+
+/// Opens the loader's cache that is searched, if there is one.
+///
+/// # Errors
+/// A cache that is given cannot be opened, or the system's for a fault of the system.
+pub fn loader_cache<R: Files>(
+    rt: &R,
+    asked: &NeedsRequest<'_>,
+) -> Result<Option<LibraryCache<StreamSource<FileReader<R::File>>>>, ExitLine>
+where
+    R::File: FileExt,
+{
+    if asked.cache.none {
+        return Ok(None);
+    }
+    if let Some(path) = asked.cache.file {
+        return match open(rt, path) {
+            Ok(source) => Ok(Some(LibraryCache::new(source))),
+            Err(ending) => Err(ending),
+        };
+    }
+    match system_cache(rt, asked.root.as_bytes()) {
+        Ok(cache) => Ok(cache),
+        Err(NeedsFault::Read) => Err(READ_FAULT),
+        Err(NeedsFault::Open | NeedsFault::Out(_)) => Err(CANNOT_OPEN),
+    }
+}
+
+/// Returns the directories that are searched last: those that are given, or those of the system.
+pub fn last_dirs<'a, R: Files>(rt: &R, asked: &NeedsRequest<'a>) -> &'a [u8] {
+    match asked.default {
+        Some(text) => text.as_bytes(),
+        None => default_dirs(rt, asked.root.as_bytes()),
+    }
+}
+
+/// Returns the settings of a walk, with the directories that are searched last.
+pub fn settings<'a>(asked: &NeedsRequest<'a>, default: &'a [u8]) -> NeedsOptions<'a>
     ensures library { result.folders.library.now ≡ asked.now.library_path.now }
-    ensures default { result.folders.default.now ≡ asked.now.default.now }
+    ensures default { result.folders.default.now ≡ default.now }
     ensures root { result.folders.root.now ≡ asked.now.root.now }
     ensures budget { result.budget ≡ asked.now.limits.budget }
-    ensures format { result.format ≡ asked.now.format }
+    ensures tries { result.tries ≡ unwrap_or asked.now.tries 100000 }
+    ensures format { result.lines.format ≡ asked.now.format }
+    ensures problems { result.lines.problems ≡ asked.now.problems }
 {
     NeedsOptions {
         folders: SearchDirs {
             library: asked.library_path.as_bytes(),
-            default: asked.default.as_bytes(),
+            default,
             root: asked.root.as_bytes(),
         },
         budget: asked.limits.budget,
-        tries: MOST_TRIES,
-        format: asked.format,
+        tries: asked.tries.unwrap_or(MOST_TRIES),
+        lines: LineOptions {
+            format: asked.format,
+            problems: asked.problems,
+        },
     }
 }
 

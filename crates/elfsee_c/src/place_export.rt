@@ -18,7 +18,7 @@ use elf_table::HeaderStore;
 /// lack of an address, `missing` says which items would help, and the name of the symbol; otherwise
 /// it is all 0 (psABI 4.4, Relocation). To find that out, at most the headers, the relocation
 /// entry, its symbol and the symbol's name are read, which count, and nothing is reported if the
-/// budget has no room for them.
+/// budget is too small for them.
 ///
 /// Returns 0 if it was written, 1 if it is refused or the budget is exhausted, 3 if the section has
 /// more bytes than `out`, 4 if the limits or the room are out of range, an index or a name of the

@@ -1,4 +1,4 @@
--- The members are gone over behind the magic string, which was read.
+-- The members after the magic string, which was read, are iterated over.
 use Rattle.std.proofs.Common.{◌-◌, ◌≡◌, ◌≤◌, ℕ, ◌^◌, length, refl, ap, ◌∙◌, arith, Err}
 use Rattle.elf_model.specs.Prelude.{allowance, before_members, members_cost}
 use Rattle.elf_model.proofs.AllowanceLaws.{allowance_within}

@@ -1,0 +1,70 @@
+//! What each of many programs needs.
+ghost use Rattle.std.specs.Prelude.{◌≡◌};
+
+use crate::many::{ending_line, visit_files};
+use crate::needs::{last_dirs, loader_cache, settings};
+use crate::needs_report::{NeedsReport, NeedsRule};
+use elf_cli::{ExitLine, OUT_OF_MEMORY};
+use elf_needs::{MOST_OBJECTS, NeedsBuffers, OpenObjects, SystemFiles};
+use elf_requests::NeedsRequest;
+use elf_table::HeaderBuffer;
+use std::io::{Input, Stderr};
+use std::os::unix::fs::FileExt;
+use std::rt::Files;
+
+/// Lists the objects that each of many programs needs, in memory that is allocated once. Progress
+/// is shown on a terminal, if there is one.
+///
+/// # Errors
+/// Out of memory.
+#[inline(never)]
+pub fn list_needs_of_files<R: Files + Print + Input + AllocGlobal>(
+    rt: &R,
+    asked: &NeedsRequest<'_>,
+    terminal: Option<Stderr>,
+) -> Result<ExitLine, ExitLine>
+where
+    R::File: FileExt,
+{
+    let Ok(headers) = HeaderBuffer::new(rt.alloc(), asked.limits.headers) else {
+        return Err(OUT_OF_MEMORY);
+    };
+    let Ok(room) = NeedsBuffers::new(rt.alloc()) else {
+        return Err(OUT_OF_MEMORY);
+    };
+    let Ok(opened) = OpenObjects::new(rt.alloc(), MOST_OBJECTS, asked.symbols || asked.unused)
+    else {
+        return Err(OUT_OF_MEMORY);
+    };
+    let cache = match loader_cache(rt, asked) {
+        Ok(cache) => cache,
+        Err(ending) => return Err(ending),
+    };
+    let system = SystemFiles { rt, cache };
+    let report = NeedsReport::new(
+        system,
+        rule_of(asked, last_dirs(rt, asked)),
+        headers,
+        (room, opened),
+    );
+    let held = Vec::new(rt.alloc());
+    let ended = visit_files(rt, &asked.files, report, held, asked.format, terminal);
+    ending_line(ended)
+}
+
+/// Returns the rule by which a request lists the needs of each file, with the directories that are
+/// searched last.
+fn rule_of<'a>(asked: &NeedsRequest<'a>, default: &'a [u8]) -> NeedsRule<'a>
+    ensures limits { result.limits ≡ asked.now.limits }
+    ensures format { result.options.lines.format ≡ asked.now.format }
+    ensures problems { result.options.lines.problems ≡ asked.now.problems }
+    ensures symbols { result.symbols ≡ asked.now.symbols }
+    ensures unused { result.unused ≡ asked.now.unused }
+{
+    NeedsRule {
+        limits: asked.limits,
+        options: settings(asked, default),
+        symbols: asked.symbols,
+        unused: asked.unused,
+    }
+}
