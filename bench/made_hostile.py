@@ -175,7 +175,7 @@ def numbers():
                 + SEGMENT.pack(PT_DYNAMIC, 6, FIRST + 112, 0, 0, 64, 64, 8))
     yield Hostile(
         "strings_near_2_to_64",
-        "dynamic entries whose strings stand at 2^64 - 16, without section headers", [],
+        "dynamic entries whose strings are at 2^64 - 16, without section headers", [],
         {0: header(kind=DYN, phoff=FIRST, phnum=2) + segments + entries}, 0)
 
 

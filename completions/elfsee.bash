@@ -1,6 +1,6 @@
 # Completion of elfsee for bash.
 
-# The options that stand behind COMMAND and are not among the words yet.
+# Prints the options of COMMAND that are not given yet.
 _elfsee_options() {
     local option given
     case $1 in
@@ -10,7 +10,7 @@ _elfsee_options() {
     list) set -- --headers --names --max-read --only --gnu --by-segments --json --versions --name --name-list --members --files0-from ;;
     find) set -- --headers --max-read --gnu --by-segments --json ;;
     apply) set -- --headers --max-read --layout --explain ;;
-    needs) set -- --headers --max-read --library-path --default --root --symbols --json ;;
+    needs) set -- --headers --max-read --max-tries --library-path --default --root --cache --no-cache --symbols --unused --problems --json --files0-from ;;
     traits) set -- --headers --max-read --require --json --files0-from ;;
     *) set -- ;;
     esac
@@ -22,7 +22,7 @@ _elfsee_options() {
     done
 }
 
-# The words of a command line up to the cursor, where no equals sign and no colon parts a word.
+# Sets the words of a command line up to the cursor, none of which is split at an equals sign or a colon.
 _elfsee_words() {
     words=("${COMP_WORDS[0]}") cword=0
     local word joins=
@@ -37,14 +37,14 @@ _elfsee_words() {
     done
 }
 
-# Completes the last word as an item of `apply`, whose colon parts words for the line's editor.
+# Completes the last word as an item of `apply`, which readline splits at its colon.
 _elfsee_items() {
     [[ $current == *:* ]] && return
     mapfile -t COMPREPLY < <(compgen -W 'at: def: plt: got: tpgot:' -- "$current")
     compopt -o nospace
 }
 
-# Leaves the last word to the completion of files that bash has itself.
+# Leaves the last word to bash's own completion of files.
 _elfsee_files() {
     compopt -o default -o bashdefault
 }
@@ -63,7 +63,7 @@ _elfsee() {
         else
             case $word in
             --) ended=1 before= ;;
-            --headers | --names | --max-read | --only | --name | --name-list | --layout | --require | --library-path | --default | --root | --files0-from) skip=1 ;;
+            --headers | --names | --max-read | --max-tries | --only | --name | --name-list | --layout | --require | --library-path | --default | --root | --cache | --files0-from) skip=1 ;;
             -*) ;;
             *) if [[ $command ]]; then files=$((files + 1)); else command=$word; fi ;;
             esac
@@ -76,8 +76,8 @@ _elfsee() {
             mapfile -t COMPREPLY < <(compgen -W "$parts" -- "$current")
             return
             ;;
-        --headers | --names | --max-read | --name | --require | --library-path | --default) return ;;
-        --name-list | --layout | --root | --files0-from)
+        --headers | --names | --max-read | --max-tries | --name | --require | --library-path | --default) return ;;
+        --name-list | --layout | --root | --cache | --files0-from)
             _elfsee_files
             return
             ;;
@@ -97,8 +97,8 @@ _elfsee() {
     case $command in
     '') mapfile -t COMPREPLY < <(compgen -W 'show sample find apply check list traits needs archive version help' -- "$current") ;;
     help) [[ $files != 0 ]] || mapfile -t COMPREPLY < <(compgen -W 'show sample find apply check list traits needs archive version' -- "$current") ;;
-    show | find | needs | archive) [[ $files != 0 ]] || _elfsee_files ;;
-    check | list | traits) _elfsee_files ;;
+    show | find | archive) [[ $files != 0 ]] || _elfsee_files ;;
+    check | list | traits | needs) _elfsee_files ;;
     apply)
         case $files in
         0) _elfsee_files ;;

@@ -467,7 +467,7 @@ def is_offered(info, other, place, value):
 
 def answer(content, text, most=4096, scope=None):
     """The status and the bytes for a file and a text NAME, NAME@VERSION or NAME@@VERSION, and how many bytes of the
-    file may be asked for. Many lookups in one file may share its scope."""
+    file may be requested. Many lookups in one file may share its scope."""
     lookup = Lookup(scope or Scope(content, most), *parted(text))
     try:
         status, lines = lookup.lines()

@@ -43,7 +43,7 @@ def odd_archives():
         "bytes of any kind": MAGIC + member(b"\0\\\xff\n", b""), "slash and no number": MAGIC + member(b"/x", b""),
         "number and no table": MAGIC + member(b"/0", b""), "number and letters": MAGIC + table + member(b"/1x", b""),
         "largest number": MAGIC + table + member(b"/999999999999999", b""), "two tables": MAGIC + table
-        + member(b"//", b"other/\n") + member(b"/0", b""), "table behind": MAGIC + member(b"/0", b"") + table,
+        + member(b"//", b"other/\n") + member(b"/0", b""), "table after": MAGIC + member(b"/0", b"") + table,
         "empty table": MAGIC + member(b"//", b"") + member(b"/0", b""), "archive in one": MAGIC + member(b"a.a/", whole),
         "symbols of 64 bits": MAGIC + member(b"/SYM64/", bytes(8)) + member(b"a/", b""),
         "refused, and the next": MAGIC + member(b"a/", small_elf()[:63]) + member(b"b/", small_elf()),
