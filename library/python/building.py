@@ -60,7 +60,7 @@ def get_requires_for_build_wheel(config_settings=None):
 
 
 def build_wheel(wheel_directory, config_settings=None, metadata_directory=None):
-    """Makes the wheel in a folder, and gives its name."""
+    """Makes the wheel in a directory, and returns its name."""
     project = _project()
     front = "%s-%s" % (project["name"], project["version"])
     name, folder, record = "%s-%s.whl" % (front, TAG), front + ".dist-info", []

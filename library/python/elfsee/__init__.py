@@ -348,7 +348,7 @@ class Missing(NamedTuple):
 
 class Unapplied(Refused):
     """A section is refused, as for `Refused`; `missing` is what its layout lacks, or None if no address would
-    help, or the budget has no room to find that out."""
+    help, or the budget is too small to find that out."""
 
     def __init__(self, cause: int, offset: int, missing: Optional[Missing] = None) -> None:
         super().__init__(cause, offset)
@@ -998,7 +998,7 @@ class File:
     # Tables.
 
     def _tables(self, section: Optional[int], kinds: Sequence[int], asked: _Asked) -> Sequence[int]:
-        """Returns the section that is asked for, or all sections of some types."""
+        """Returns the requested section, or all sections of some types."""
         if section is not None:
             return [_within("section", section, 0, 65535)]
         return [index for index, row in enumerate(self._section_rows(asked)) if row[1] in kinds]

@@ -165,7 +165,7 @@ impl fmt::Debug for Missing {
 pub struct Unapplied {
     /// Why.
     pub error: Error,
-    /// What is missing; `None` if no address would help, or the budget has no room to find that out.
+    /// What is missing; `None` if no address would help, or the budget is too small to find that out.
     pub missing: Option<Missing>,
 }
 

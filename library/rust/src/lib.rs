@@ -622,7 +622,7 @@ impl<'a> File<'a> {
     /// let layout = Layout { sections: &sections, definitions: &names, ..Layout::default() };
     /// match file.apply_lent(1, &layout, &mut vec![0; file.room()], &mut [0; 64]) {
     ///     Ok(section) => println!("{section:x?}"),
-    ///     Err(unapplied) => println!("{unapplied}, for want of {:?}", unapplied.missing),
+    ///     Err(unapplied) => println!("{unapplied}, missing: {:?}", unapplied.missing),
     /// }
     /// # Ok(())
     /// # }
