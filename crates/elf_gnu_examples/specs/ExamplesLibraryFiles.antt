@@ -59,5 +59,6 @@ ProgramsAreNoLibraries =
     × IsNoLibrary (with_flags 0x8000800)
     × IsNoLibrary one_load
 
+-- the flags of dynamic entries
 abbrev pub FlagsAreRead : Type 0
 FlagsAreRead = (flags_1_by_segments library ≡ 0) × (flags_1_by_segments (with_flags 0x8000800) ≡ 0x8000800)
