@@ -9,6 +9,7 @@ BareHeaderLists =
     report_of Columns (file_header_items Columns bare_header HEADER)
     ≡ codes "H REL     62 0000000000000000 0000000000000000 0000000000000000 00000000     0     0     0\n"
 
+-- the header of a file with one symbol table
 abbrev pub OneSymbolTableHeaderLists : Type 0
 OneSymbolTableHeaderLists =
     report_of Columns (file_header_items Columns one_symbol_table HEADER)

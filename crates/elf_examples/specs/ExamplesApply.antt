@@ -32,6 +32,7 @@ OverflowRefusesAll =
 abbrev pub FourEntries : List ℕ
 FourEntries = (2 ∷ 1 ∷ []) ++ zeros 60 ++ (4 ∷ 6 ∷ 5 ∷ []) ++ zeros 61 ++ (8 ∷ 7 ∷ [])
 
+-- entries in either order
 abbrev pub EitherOrderIsApplied : Type 0
 EitherOrderIsApplied =
     WritesSection rising_relocations empty_layout FourEntries × WritesSection falling_relocations empty_layout FourEntries

@@ -1,5 +1,5 @@
 -- Worked examples of what a layout lacks if the entry of a call, at 0x48, is refused.
-use Rattle.std.specs.Prelude.{◌≡◌, ◌+◌, ℕ, List, [], ◌∷◌, ◌++◌, Option, None, Some, Ok, codes, replicate}
+use Rattle.std.specs.Prelude.{◌≡◌, ℕ, List, [], ◌∷◌, ◌++◌, Option, None, Some, Ok, codes, replicate}
 use Rattle.elf_model.specs.Prelude.{Cut, Layout, empty_layout, explained, explanation, little, missing, missing_line, one_call, placed_layout, refused_in, resolved_symbol_name, two_relocation_sections, with_bytes, with_symbol}
 use Rattle.elf_model.specs.declared.causes.Cause.{Cause}
 use Rattle.elf_model.specs.declared.missing.LayoutAddress.{LayoutAddress}

@@ -98,7 +98,7 @@ HashSectionInOrder =
     × RefusesLookup (with_hash_header 40 (little 4 4)) (codes "a") 0xe8 BadLink
     × RefusesLookup (with_hash_header 40 (little 4 3)) (codes "a") 0xe8 BadLink
 
--- then the symbol table, then its strings, then the counts
+-- what the lookup is refused for after that: the symbol table, its strings, the counts
 abbrev pub HashLinksInOrder : Type 0
 HashLinksInOrder =
     RefusesLookup (with_bytes 0x150 (little 4 0) (with_symbols_header 56 (little 8 25))) (codes "a") 0x128 EntrySize

@@ -18,6 +18,7 @@ WeakAloneIsZero =
 abbrev pub last_layout : Layout
 last_layout = record { lookup = Compared; sections = (1, 0x1000) ∷ (0xfeff, 0x1000) ∷ (0xff00, 0x1000) ∷ []; definitions = []; linkage = []; table = []; thread = [] }
 
+-- the indices of sections, and those that are reserved
 abbrev pub ReservedIndicesAreUnplaced : Type 0
 ReservedIndicesAreUnplaced =
     WritesSection (with_symbol 6 (little 2 0xfeff ++ little 8 0x2000)) last_layout (0xe8 ∷ 0xfb ∷ 0x1f ∷ 0 ∷ 0 ∷ [])

@@ -1,6 +1,6 @@
 -- Worked examples of entries that take a symbol's entry in the global offset table.
 use Rattle.std.specs.Prelude.{◌≡◌, ℕ, ◌^◌, ◌-◌, ◌+◌, ◌*◌, pos, negsuc, List, [], ◌∷◌, ◌++◌, codes, Ok, Err}
-use Rattle.elf_model.specs.Prelude.{Compared, Layout, applied, apply_cost, empty_layout, full_layout, layout_names_cost, little, one_call, placed_layout, table_layout, value, with_bytes, with_entries_header, with_symbol, zeros}
+use Rattle.elf_model.specs.Prelude.{Compared, Layout, apply_cost, full_layout, layout_names_cost, little, one_call, table_layout, value, with_bytes, with_entries_header, with_symbol}
 use Rattle.elf_model.specs.declared.causes.Cause.TheVariants.{BadLink, NameOutside, Overflow, PlaceOutside, SymbolIndex, Undefined, Unplaced, Unsupported}
 use Rattle.elf_examples.specs.ExamplesApply.{WritesSection, RefusesToApply}
 

@@ -38,7 +38,7 @@ abbrev pub ThreeBytesAreNoElf : Type 0
 ThreeBytesAreNoElf =
     archive (archive_of (member (codes "a.o/") (127 ∷ 69 ∷ 76 ∷ []))) 3 63 ALL ≡ codes "A     0 0000000000000044 0000000000000003 a.o\n"
 
--- what is not an archive
+-- what is not an archive; and an archive without members
 abbrev pub WhatIsNoArchiveIsRefused : Type 0
 WhatIsNoArchiveIsRefused =
     (archive (codes "!<arch>") 3 63 0 ≡ codes "! 0000000000000000 short\n")
@@ -46,7 +46,7 @@ WhatIsNoArchiveIsRefused =
     × (archive (codes "!<arch>\r") 3 63 0 ≡ codes "! 0000000000000000 not-archive\n")
     × (archive (codes "!<arch>\n") 3 63 0 ≡ [])
 
--- where there is no member
+-- where there is no member: a cut header, sizes past the end, sizes that are not numbers
 abbrev pub CutMembersAreRefused : Type 0
 CutMembersAreRefused =
     (archive (codes "!<arch>\nx") 3 63 0 ≡ codes "! 0000000000000008 member-cut\n")

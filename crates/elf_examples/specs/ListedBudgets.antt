@@ -18,7 +18,8 @@ EndsAfter file headers cap parts budget count at text =
     × (fault_of (take count (items file headers cap parts)) ≡ None)
     × (text ≡ lines_of (take count (items file headers cap parts)) ++ refusal_line Columns (spent_at at))
 
--- such a text is what a budget allows
+-- the lines of a listing that costs more than a budget, and the line of a read that exceeds it, are
+-- what the budget allows
 abbrev pub BudgetMayEndAListing : Type 0
 BudgetMayEndAListing =
     (file : List ℕ) (headers cap parts budget count at : ℕ) (text : List ℕ)

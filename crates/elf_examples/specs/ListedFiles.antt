@@ -23,7 +23,7 @@ HeadedListings =
     (headed EveryRow (codes "@ a\n") (codes "H\n") ≡ codes "@ a\nH\n") × (headed EveryRow (codes "@ a\n") [] ≡ codes "@ a\n")
     × (headed (RowsOf []) (codes "@ a\n") (codes "Y\n") ≡ codes "@ a\nY\n") × (headed (RowsOf []) (codes "@ a\n") [] ≡ [])
 
--- no refusal, that of a member, and one of its own
+-- the exit status of a listing: no refusal, that of a member, and one of its own
 abbrev pub ListStatuses : Type 0
 ListStatuses =
     (list_status None false ≡ 0) × (list_status None true ≡ 1) × (list_status (Some (record { at = 0; cause = Short })) false ≡ 1)
@@ -45,7 +45,7 @@ FileSorts =
     × (file_magic true (Some 8) (codes "!<thin>\n") ≡ ThinArchive) × (file_magic true (Some 7) (codes "!<thin>\n") ≡ Undecided)
     × (file_magic false None (codes "!<thin>\n") ≡ Foreign)
 
--- what is left of a budget after them
+-- what is left of a budget after the bytes that decide what a file is
 abbrev pub BudgetsAfter : Type 0
 BudgetsAfter =
     (budget_after None 4 ≡ None) × (budget_after (Some 100) 4 ≡ Some 96) × (budget_after (Some 4) 4 ≡ Some 0)

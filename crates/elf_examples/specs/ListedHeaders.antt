@@ -12,7 +12,7 @@ BareHeaderListsAlone =
     × (report bare_header 1 63 ALL
     ≡ codes "H REL     62 0000000000000000 0000000000000000 0000000000000000 00000000     0     0     0\n")
 
--- a file with fewer than 64 bytes
+-- a file with fewer than 64 bytes is refused at its length
 abbrev pub ShortFilesAreRefused : Type 0
 ShortFilesAreRefused =
     (report [] 1 63 ALL
@@ -66,7 +66,7 @@ IdentChecksInOrder =
     × (report (with_bytes 0x9 (replicate 7 0x3) (with_bytes 0x14 (little 4 0x3) (with_bytes 0x34 (little 2 0x3) bare_header))) 1 63 ALL
     ≡ codes "H REL     62 0000000000000000 0000000000000000 0000000000000000 00000000     0     0     0\n")
 
--- counts and indices that are stored in section 0
+-- counts and indices that are stored in section 0 are refused after the line of the file header
 abbrev pub ExtendedNumberingIsRefused : Type 0
 ExtendedNumberingIsRefused =
     (report (with_bytes 0x38 (little 2 0xffff) bare_header) 1 63 ALL

@@ -120,7 +120,7 @@ abbrev pub BudgetsThatEndArchives : Type 0
 BudgetsThatEndArchives =
     (budget at : ℕ) → budget < 68 → at < 68 → Allows (Some budget) (refusal_line Columns (spent_at at)) (Some (spent_at at))
 
--- and nothing else ends it
+-- nothing but a budget ends the listing of an archive that has no fault
 abbrev pub CutsOfArchivesAreForBudget : Type 0
 CutsOfArchivesAreForBudget =
     (text : List ℕ) (refusal : Refusal) → Allows (Some 40) text (Some refusal) → IsBudgetRefusal refusal × (refusal.at < 68)

@@ -337,6 +337,7 @@ hidden = with_bytes 0x28 (little 8 0x1000) (with_bytes 0x3c (little 2 3 ++ littl
 abbrev by_segments : ListingStyle
 by_segments = record { cap = 63; gnu = false; by_segments = true; format = Columns; choice = EveryRow; versions = false }
 
+-- a file whose header locates section headers that are none, by its program headers
 abbrev pub SegmentsDespiteSections : Type 0
 SegmentsDespiteSections =
     (report_of Columns (listing hidden 2 by_segments ALL)

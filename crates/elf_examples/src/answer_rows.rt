@@ -1,27 +1,11 @@
 //! Worked results of lookups, each a theorem about the definitions that the prover computes.
-ghost use Rattle.elf_examples.specs.ExamplesAnswers.{FoundIsWritten, AbsentIsWritten, AnswersAreObjects};
-ghost use Rattle.elf_examples.specs.ExamplesAnswers.{RefusalIsWritten};
+ghost use Rattle.elf_examples.specs.ExamplesAnswers.{FoundIsWritten, AbsentIsWritten, RefusalIsWritten, AnswersAreObjects};
 
-/// Names that are found.
+/// Works out the text and the status of a lookup: found, absent, refused, and as an object.
 #[tactic(auto, unfolding(elf_model::proofs::OnLiterals::on_literals, crate::proofs::OnTableExamples::on_examples))]
-pub fn found_is_written()
-    ensures { FoundIsWritten }
-{}
-
-/// A name that is not there.
-#[tactic(auto, unfolding(elf_model::proofs::OnLiterals::on_literals, crate::proofs::OnTableExamples::on_examples))]
-pub fn absent_is_written()
-    ensures { AbsentIsWritten }
-{}
-
-/// What is refused.
-#[tactic(auto, unfolding(elf_model::proofs::OnLiterals::on_literals, crate::proofs::OnTableExamples::on_examples))]
-pub fn refusal_is_written()
-    ensures { RefusalIsWritten }
-{}
-
-/// The same as objects.
-#[tactic(auto, unfolding(elf_model::proofs::OnLiterals::on_literals, crate::proofs::OnTableExamples::on_examples))]
-pub fn answers_are_objects()
-    ensures { AnswersAreObjects }
+pub fn lookup_texts()
+    ensures found_is_written { FoundIsWritten }
+    ensures absent_is_written { AbsentIsWritten }
+    ensures refusal_is_written { RefusalIsWritten }
+    ensures answers_are_objects { AnswersAreObjects }
 {}

@@ -1,7 +1,8 @@
 //! Worked examples of the definitions: whole listings, their order, costs and budgets; the contents
 //! of tables, that is fields, names, notes, dynamic entries and hash tables; the results of
 //! lookups; the traits of a file; and relocation entries, the values that they store, and applied
-//! sections. Each is the contract of a function with an empty body, and the prover computes it.
+//! sections. Each is a clause of a function with an empty body, and the prover computes it. The
+//! name of the clause says what is worked out, and the comment of its definition for which files.
 #![tactic(auto)]
 
 mod allowed_rows;

@@ -1,38 +1,12 @@
 //! Files among many, each with its state and its line.
-ghost use Rattle.elf_examples.specs.ListedChecks.{
-  LinesOfStates,
-  LinesOfTheUnnamed,
-  StatesOfFiles,
-  StatesOfFronts,
-  StatesWithinBudgets,
-};
+ghost use Rattle.elf_examples.specs.ListedChecks.{StatesOfFiles, StatesOfFronts, StatesWithinBudgets, LinesOfStates, LinesOfTheUnnamed};
 
-/// Files without a fault, with one, and of another type.
-#[tactic(auto, unfolding(elf_model::proofs::OnLiterals::on_literals))]
-pub fn states_of_files()
-    ensures { StatesOfFiles }
-{}
-
-/// Prefixes of a file header, and other files that are as short.
-#[tactic(auto, unfolding(elf_model::proofs::OnLiterals::on_literals))]
-pub fn states_of_fronts()
-    ensures { StatesOfFronts }
-{}
-
-/// Budgets below and above the magic number's size.
-#[tactic(auto, unfolding(elf_model::proofs::OnLiterals::on_literals))]
-pub fn states_within_budgets()
-    ensures { StatesWithinBudgets }
-{}
-
-/// The line of each state.
+/// Works out the state of a file among many, within budgets too, and its line.
 #[tactic(auto, unfolding(elf_model::proofs::OnLiterals::on_literals, crate::proofs::OnExamples::on_examples))]
-pub fn lines_of_states()
-    ensures { LinesOfStates }
-{}
-
-/// The last line.
-#[tactic(auto, unfolding(elf_model::proofs::OnLiterals::on_literals, crate::proofs::OnExamples::on_examples))]
-pub fn lines_of_the_unnamed()
-    ensures { LinesOfTheUnnamed }
+pub fn file_states()
+    ensures states_of_files { StatesOfFiles }
+    ensures states_of_fronts { StatesOfFronts }
+    ensures states_within_budgets { StatesWithinBudgets }
+    ensures lines_of_states { LinesOfStates }
+    ensures lines_of_the_unnamed { LinesOfTheUnnamed }
 {}

@@ -1,31 +1,11 @@
 //! Lines as JSON objects.
-ghost use Rattle.elf_examples.specs.ListedObjects.{
-  ObjectsOfAFile,
-  ObjectsOfFaults,
-  ObjectsOfLines,
-  ObjectsOfNames,
-};
+ghost use Rattle.elf_examples.specs.ListedObjects.{ObjectsOfAFile, ObjectsOfFaults, ObjectsOfNames, ObjectsOfLines};
 
-/// A whole listing.
-#[tactic(auto, unfolding(elf_model::proofs::OnLiterals::on_literals))]
-pub fn objects_of_a_file()
-    ensures { ObjectsOfAFile }
-{}
-
-/// A name that is cut, and refusals.
-#[tactic(auto, unfolding(elf_model::proofs::OnLiterals::on_literals))]
-pub fn objects_of_faults()
-    ensures { ObjectsOfFaults }
-{}
-
-/// Lines of files among many, and a path of other bytes.
+/// Works out lines as JSON objects.
 #[tactic(auto, unfolding(elf_model::proofs::OnLiterals::on_literals, crate::proofs::OnExamples::on_examples))]
-pub fn objects_of_names()
-    ensures { ObjectsOfNames }
-{}
-
-/// The other kinds of lines.
-#[tactic(auto, unfolding(elf_model::proofs::OnLiterals::on_literals))]
-pub fn objects_of_lines()
-    ensures { ObjectsOfLines }
+pub fn object_lines()
+    ensures objects_of_a_file { ObjectsOfAFile }
+    ensures objects_of_faults { ObjectsOfFaults }
+    ensures objects_of_names { ObjectsOfNames }
+    ensures objects_of_lines { ObjectsOfLines }
 {}

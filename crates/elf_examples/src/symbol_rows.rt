@@ -1,44 +1,14 @@
 //! Worked examples of what dynamic symbols show, each computed by the prover.
-ghost use Rattle.elf_examples.specs.ExamplesSymbols.{CanaryRows, CountRows, EmptyTableRows, FirstSymbolIsNone, FortifyRows, LongNamesMarkNothing, NameFaults};
+ghost use Rattle.elf_examples.specs.ExamplesSymbols.{CanaryRows, FortifyRows, CountRows, EmptyTableRows, NameFaults, FirstSymbolIsNone, LongNamesMarkNothing};
 
-/// Symbols of stack protectors, and others.
+/// Works out the traits that dynamic symbols show, and how many symbols there are.
 #[tactic(auto, unfolding(elf_model::proofs::OnLiterals::on_literals, elf_model::proofs::OnLoader::on_loader, crate::proofs::OnTraits::on_traits))]
-pub fn canary_rows()
-    ensures { CanaryRows }
-{}
-
-/// Fortify calls, and others.
-#[tactic(auto, unfolding(elf_model::proofs::OnLiterals::on_literals, elf_model::proofs::OnLoader::on_loader, crate::proofs::OnTraits::on_traits))]
-pub fn fortify_rows()
-    ensures { FortifyRows }
-{}
-
-/// How many symbols a hash table has.
-#[tactic(auto, unfolding(elf_model::proofs::OnLiterals::on_literals, elf_model::proofs::OnLoader::on_loader, crate::proofs::OnTraits::on_traits))]
-pub fn count_rows()
-    ensures { CountRows }
-{}
-
-/// How many symbols there are if a hash table does not say so.
-#[tactic(auto, unfolding(elf_model::proofs::OnLiterals::on_literals, elf_model::proofs::OnLoader::on_loader, crate::proofs::OnTraits::on_traits))]
-pub fn empty_table_rows()
-    ensures { EmptyTableRows }
-{}
-
-/// Faults of names are at the symbol.
-#[tactic(auto, unfolding(elf_model::proofs::OnLiterals::on_literals, elf_model::proofs::OnLoader::on_loader, crate::proofs::OnTraits::on_traits))]
-pub fn name_faults()
-    ensures { NameFaults }
-{}
-
-/// A symbol 0 with a name.
-#[tactic(auto, unfolding(elf_model::proofs::OnLiterals::on_literals, elf_model::proofs::OnLoader::on_loader, crate::proofs::OnTraits::on_traits))]
-pub fn first_symbol_is_none()
-    ensures { FirstSymbolIsNone }
-{}
-
-/// Names of as many bytes as are compared, and of one more.
-#[tactic(auto, unfolding(elf_model::proofs::OnLiterals::on_literals, elf_model::proofs::OnLoader::on_loader, crate::proofs::OnTraits::on_traits))]
-pub fn long_names_mark_nothing()
-    ensures { LongNamesMarkNothing }
+pub fn dynamic_symbol_traits()
+    ensures canary_rows { CanaryRows }
+    ensures fortify_rows { FortifyRows }
+    ensures count_rows { CountRows }
+    ensures empty_table_rows { EmptyTableRows }
+    ensures name_faults { NameFaults }
+    ensures first_symbol_is_none { FirstSymbolIsNone }
+    ensures long_names_mark_nothing { LongNamesMarkNothing }
 {}

@@ -110,7 +110,8 @@ SymbolsAreRefusedInOrder =
     SeeksAt (with_bytes 0xf8 (little 4 0x30) (with_bytes 0x1a2 (little 2 9) library)) 1 (Err (record { at = 0xf8; cause = NameOutside }))
     × SeeksAt (with_bytes 0x228 (little 4 0x30) library) 1 (Err (record { at = 0x220; cause = NameOutside }))
 
--- its refusals: of its name, of an index that no record has, and of the records before
+-- the refusals of a symbol that is a reference: of its name, of an index that no record has, and of
+-- the records before
 abbrev pub SymbolsAreRefused : Type 0
 SymbolsAreRefused =
     SeeksAt (with_bytes 0xf8 (little 4 0x30) library) 1 (Err (record { at = 0xf8; cause = NameOutside }))
@@ -120,6 +121,7 @@ SymbolsAreRefused =
 abbrev CountIs : List ℕ → Result ℕ Refusal → Type 0
 CountIs file count = elim (lookup_tables_of file 8) [ Ok scope ↦ symbols_hashed file scope ≡ count | Err refusal ↦ ⊥ ]
 
+-- how many symbols a file has
 abbrev pub SymbolsAreCounted : Type 0
 SymbolsAreCounted = CountIs library (Ok 6)
 

@@ -1,6 +1,6 @@
 -- Worked examples of files that a search for a library opens, and of programs that are no
 -- libraries.
-use Rattle.std.specs.Prelude.{ℕ, ◌≡◌, List, [], ◌∷◌, codes, take, Result, Err, IfOk, IsOk}
+use Rattle.std.specs.Prelude.{ℕ, ◌≡◌, List, [], take, Err, IsOk}
 use Rattle.elf_model.specs.Prelude.{Accepted, LibraryFile, RefusedAt, Skipped, flags_1_by_segments, library_file, library_links, little, one_load, versioned_without_sections, with_bytes}
 use Rattle.elf_model.specs.declared.causes.Cause.{Cause}
 use Rattle.elf_model.specs.declared.causes.Cause.TheVariants.{BadData, BadVersion, NotElf, Short, Unsupported}
@@ -59,5 +59,6 @@ ProgramsAreNoLibraries =
     × IsNoLibrary (with_flags 0x8000800)
     × IsNoLibrary one_load
 
+-- the flags of dynamic entries
 abbrev pub FlagsAreRead : Type 0
 FlagsAreRead = (flags_1_by_segments library ≡ 0) × (flags_1_by_segments (with_flags 0x8000800) ≡ 0x8000800)

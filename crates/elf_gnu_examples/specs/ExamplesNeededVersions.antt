@@ -1,6 +1,6 @@
 -- Worked examples of the versions that objects need and don't find, and of the lines for them.
-use Rattle.std.specs.Prelude.{ℕ, ◌≡◌, true, false, Bool, List, [], ◌∷◌, ◌++◌, codes, Option, None, Some}
-use Rattle.elf_model.specs.Prelude.{RecordsRefused, InterpreterAlone, VersionAbsent, NeedRefused, NeededVersion, NeededVersionRead, Needs, NoProvider, ProvidedBy, Provider, VersionItem, VersionedObjects, any_lacking, little, state_by_segments, version_items, version_items_text, versioned_library, versioned_without_sections, versions_needed, with_bytes}
+use Rattle.std.specs.Prelude.{ℕ, ◌≡◌, true, false, Bool, List, [], ◌∷◌, codes, Option, None, Some}
+use Rattle.elf_model.specs.Prelude.{RecordsRefused, InterpreterAlone, VersionAbsent, NeedRefused, NeededVersion, Needs, NoProvider, ProvidedBy, Provider, VersionItem, VersionedObjects, any_lacking, little, state_by_segments, version_items, version_items_text, versioned_library, versioned_without_sections, versions_needed, with_bytes}
 use Rattle.elf_model.specs.declared.causes.Cause.TheVariants.{BadVersion, NameOutside, Unmapped}
 use Rattle.elf_model.specs.declared.formats.Format.TheVariants.{Columns, Object}
 use Rattle.elf_model.specs.declared.states.VersionState.{VersionState}

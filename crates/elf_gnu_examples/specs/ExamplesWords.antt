@@ -25,8 +25,8 @@ WordsWithoutRecords =
     × LoaderFinds without_records (codes "f@@V9") (first_f ++ found_1)
     × LoaderCosts without_records (codes "f@@V9") 698
 
--- nor are the entries checked: another link, another size of their entries, past the end of the
--- file
+-- nor are the versym entries checked: another link, another size of their entries, past the end of
+-- the file
 abbrev pub UnreadWordsAreUnchecked : Type 0
 UnreadWordsAreUnchecked =
     LoaderFinds (with_bytes 0x418 (little 4 3) without_records) (codes "f") (first_f ++ found_1)

@@ -97,6 +97,7 @@ relocated_library symbol =
     (with_bytes 0x4d0 (little 8 24) (with_bytes 0x4d8 (little 4 2) (with_bytes 0x4e8 (little 8 24)
     (with_bytes 0x230 (little 8 0x2a0 ++ little 4 6 ++ little 4 symbol ++ little 8 0) versioned_library))))
 
+-- relocation entries whose symbols have a version
 abbrev pub EntriesHaveVersions : Type 0
 EntriesHaveVersions =
     (report_of Columns (suffixed_relocation_rows (relocated_library 1) (with_versions 63 Columns EveryRow) 7 (section_at (relocated_library 1) 7))

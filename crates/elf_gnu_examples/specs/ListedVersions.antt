@@ -134,6 +134,7 @@ version_lines =
     ++ codes "X     4          4     3 - V2\n"
     ++ codes "X     4          5     3 - V2\n"
 
+-- a library that defines two versions of a symbol and needs one
 abbrev pub VersionedLibraryLists : Type 0
 VersionedLibraryLists = versions_listed versioned_library ≡ version_lines
 

@@ -1,26 +1,11 @@
 //! Worked examples of the interpreter that a file names, each computed by the prover.
-ghost use Rattle.elf_gnu_examples.specs.ExamplesInterpreters.{InterpreterIsItsPath, InterpreterLineIsShown, InterpretersAreOfTheirMachine, InterpretersAreRefusedInOrder};
+ghost use Rattle.elf_gnu_examples.specs.ExamplesInterpreters.{InterpreterIsItsPath, InterpretersAreRefusedInOrder, InterpretersAreOfTheirMachine, InterpreterLineIsShown};
 
-/// The path of the first header.
+/// Works out the interpreter that a file names, its refusals in order, and its line.
 #[tactic(auto, unfolding(elf_model::proofs::OnLiterals::on_literals, elf_model::proofs::OnLoader::on_loader, crate::proofs::OnExamples::on_examples))]
-pub fn interpreter_is_its_path()
-    ensures { InterpreterIsItsPath }
-{}
-
-/// Malformed files.
-#[tactic(auto, unfolding(elf_model::proofs::OnLiterals::on_literals, elf_model::proofs::OnLoader::on_loader, crate::proofs::OnExamples::on_examples))]
-pub fn interpreters_are_refused_in_order()
-    ensures { InterpretersAreRefusedInOrder }
-{}
-
-/// Files that can be an interpreter, and others.
-#[tactic(auto, unfolding(elf_model::proofs::OnLiterals::on_literals, elf_model::proofs::OnLoader::on_loader, crate::proofs::OnExamples::on_examples))]
-pub fn interpreters_are_of_their_machine()
-    ensures { InterpretersAreOfTheirMachine }
-{}
-
-/// The line.
-#[tactic(auto, unfolding(elf_model::proofs::OnLiterals::on_literals, elf_model::proofs::OnLoader::on_loader, crate::proofs::OnExamples::on_examples))]
-pub fn interpreter_line_is_shown()
-    ensures { InterpreterLineIsShown }
+pub fn interpreters()
+    ensures interpreter_is_its_path { InterpreterIsItsPath }
+    ensures interpreters_are_refused_in_order { InterpretersAreRefusedInOrder }
+    ensures interpreters_are_of_their_machine { InterpretersAreOfTheirMachine }
+    ensures interpreter_line_is_shown { InterpreterLineIsShown }
 {}

@@ -1,6 +1,6 @@
 //! Worked examples of the GNU extensions: the GNU hash table, the rows of symbol versions, and a
-//! loader's lookup by the exported symbols and their versions. Each is the contract of a function
-//! with an empty body, and the prover computes it.
+//! loader's lookup by the exported symbols and their versions. Each is a clause of a function with
+//! an empty body, and the prover computes it.
 #![tactic(auto)]
 
 mod before_rows;

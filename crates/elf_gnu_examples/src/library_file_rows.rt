@@ -1,32 +1,12 @@
 //! Worked examples of files that a search for a library opens, each computed by the prover.
-ghost use Rattle.elf_gnu_examples.specs.ExamplesLibraryFiles.{FlagsAreRead, LibrariesAreAccepted, OtherFilesAreRefused, OtherMachinesAreSkipped, ProgramsAreNoLibraries};
+ghost use Rattle.elf_gnu_examples.specs.ExamplesLibraryFiles.{LibrariesAreAccepted, OtherMachinesAreSkipped, OtherFilesAreRefused, ProgramsAreNoLibraries, FlagsAreRead};
 
-/// Files that are the object.
+/// Works out which files a search for a library accepts, skips and refuses.
 #[tactic(auto, unfolding(elf_model::proofs::OnLiterals::on_literals, elf_model::proofs::OnLoader::on_loader, crate::proofs::OnExamples::on_examples))]
-pub fn libraries_are_accepted()
-    ensures { LibrariesAreAccepted }
-{}
-
-/// Files that are skipped.
-#[tactic(auto, unfolding(elf_model::proofs::OnLiterals::on_literals, elf_model::proofs::OnLoader::on_loader, crate::proofs::OnExamples::on_examples))]
-pub fn other_machines_are_skipped()
-    ensures { OtherMachinesAreSkipped }
-{}
-
-/// Files that end a search.
-#[tactic(auto, unfolding(elf_model::proofs::OnLiterals::on_literals, elf_model::proofs::OnLoader::on_loader, crate::proofs::OnExamples::on_examples))]
-pub fn other_files_are_refused()
-    ensures { OtherFilesAreRefused }
-{}
-
-/// Programs.
-#[tactic(auto, unfolding(elf_model::proofs::OnLiterals::on_literals, elf_model::proofs::OnLoader::on_loader, crate::proofs::OnExamples::on_examples))]
-pub fn programs_are_no_libraries()
-    ensures { ProgramsAreNoLibraries }
-{}
-
-/// The flags of dynamic entries.
-#[tactic(auto, unfolding(elf_model::proofs::OnLiterals::on_literals, elf_model::proofs::OnLoader::on_loader, crate::proofs::OnExamples::on_examples))]
-pub fn flags_are_read()
-    ensures { FlagsAreRead }
+pub fn library_files()
+    ensures libraries_are_accepted { LibrariesAreAccepted }
+    ensures other_machines_are_skipped { OtherMachinesAreSkipped }
+    ensures other_files_are_refused { OtherFilesAreRefused }
+    ensures programs_are_no_libraries { ProgramsAreNoLibraries }
+    ensures flags_are_read { FlagsAreRead }
 {}

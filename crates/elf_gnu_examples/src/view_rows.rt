@@ -2,20 +2,10 @@
 //! computed by the prover.
 ghost use Rattle.elf_gnu_examples.specs.ExamplesViews.{SectionsAreNotLookedAt, SegmentsAreChecked, WideWordsOfViewsAreRefused};
 
-/// For any section headers, the library answers as it does without them.
+/// Works out lookups by the program headers in files that have sections, and of Alpha.
 #[tactic(auto, unfolding(elf_model::proofs::OnLiterals::on_literals, elf_model::proofs::OnLoader::on_loader))]
-pub fn sections_are_not_looked_at()
-    ensures { SectionsAreNotLookedAt }
-{}
-
-/// What is refused is what would be refused without section headers.
-#[tactic(auto, unfolding(elf_model::proofs::OnLiterals::on_literals, elf_model::proofs::OnLoader::on_loader))]
-pub fn segments_are_checked()
-    ensures { SegmentsAreChecked }
-{}
-
-/// gABI hash tables with words of 8 bytes are refused in files of Alpha.
-#[tactic(auto, unfolding(elf_model::proofs::OnLiterals::on_literals, elf_model::proofs::OnLoader::on_loader))]
-pub fn wide_words_are_refused()
-    ensures { WideWordsOfViewsAreRefused }
+pub fn segment_views()
+    ensures sections_are_not_looked_at { SectionsAreNotLookedAt }
+    ensures segments_are_checked { SegmentsAreChecked }
+    ensures wide_words_are_refused { WideWordsOfViewsAreRefused }
 {}
