@@ -107,10 +107,10 @@ fn list_with_versions<S: Source, W: Sink>(
     requires { AreEntriesOf listing.old.file table rows.now }
     ensures { ListsHeader (relocations_part true) listing.old listing.new result rows.now.section }
 {
+    let link = listing.file.section(rows.section).sh_link;
     if table.is_empty() {
         return Ok(());
     }
-    let link = listing.file.section(rows.section).sh_link;
     let found = listing.linked_suffixes(link, &rows.linked)?;
     match &found {
         None => list_rows(listing, table, rows, &mut NoVersions),
@@ -156,8 +156,8 @@ impl<S: Source, W: Sink> Listing<'_, '_, '_, '_, S, W> {
     }
 
     /// Reads the name of the symbol at an index, which is empty for symbol 0 (gABI 4, Symbol
-    /// Table), and returns whether the symbol is defined. If there is no such symbol, the refusal is
-    /// at `at`; if the name is refused, it is at the symbol.
+    /// Table), and returns whether the symbol is defined. If there is no such symbol, the refusal
+    /// is at `at`; if the name is refused, it is at the symbol.
     fn read_linked(
         &mut self,
         linked: Option<(Table, Names)>,
