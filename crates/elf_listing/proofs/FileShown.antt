@@ -10,9 +10,7 @@ use Rattle.elf_model.proofs.ListingLemmas.{guarded-passes, guarded-fault, load_s
 use Rattle.elf_table.specs.Prelude.{HeaderRead, HoldsSectionHeaders, LoadedAs, LoadedFile, StoreState}
 use Rattle.elf_table.specs.declared.fault.Fault.{Fault as TableFault}
 use Rattle.elf_table.specs.declared.fault.Fault.TheVariants.{Refused}
-use Rattle.elf_listing.specs.Prelude.{ChecksView, listed_by, part_items, relocations_part, symbols_part, viewed_headers}
-use Rattle.elf_listing.specs.declared.parts.Part.TheVariants.{Definitions, Headers, Needs, SectionDynamic, SectionNotes, SegmentDynamic, SegmentNotes, SymbolVersions}
-use Rattle.elf_listing.specs.declared.parts.Part.{Part}
+use Rattle.elf_listing.specs.Prelude.{ChecksView, PartListed, of_sections, of_segments, part_items, relocations_part, section_headers_part, symbols_part, viewed_headers}
 
 -- the file header's part
 abbrev pub header_part : Format → List ℕ → ℕ → List ListingItem
@@ -64,8 +62,8 @@ load_passed file headers slots style parts passed same tables checked =
     ∙ guarded-passes (view_checks file style parts) (table_items file style parts) checked
 
 -- a part of n headers
-abbrev pub of_headers : List ℕ → ListingStyle → ℕ → Part → ℕ → List ListingItem
-of_headers file style parts part count = where_asked parts (listed_by part).bit (part_items part style count file)
+abbrev pub of_headers : List ℕ → ListingStyle → ℕ → PartListed → ℕ → List ListingItem
+of_headers file style parts part count = where_asked parts part.bit (part_items part style count file)
 
 abbrev pub segment_part : List ℕ → ListingStyle → ℕ → List ListingItem
 segment_part file style parts = where_asked parts SEGMENTS (each (segment_row file style) 0 (e_phnum file))
@@ -74,9 +72,9 @@ nothing_asked : (parts part : ℕ) → where_asked parts part [] ≡ []
 nothing_asked parts part = elim (cases_Bool (has parts part)) [ inl asked ↦ rw (asked, where_asked) refl | inr other ↦ rw (other, where_asked) refl ]
 
 -- a part of no header
-none_of : (file : List ℕ) (style : ListingStyle) (parts : ℕ) (part : Part) (count : ℕ) → count ≡ 0 → of_headers file style parts part count ≡ []
+none_of : (file : List ℕ) (style : ListingStyle) (parts : ℕ) (part : PartListed) (count : ℕ) → count ≡ 0 → of_headers file style parts part count ≡ []
 unfolding each
-none_of file style parts part count none = rw none (nothing_asked parts (listed_by part).bit)
+none_of file style parts part count none = rw none (nothing_asked parts part.bit)
 
 -- a part whose number of headers matters only if it is listed
 asked_same : (parts part : ℕ) (items : ℕ → List ListingItem) (n m : ℕ) → (has parts part ≡ true → n ≡ m) → where_asked parts part (items n) ≡ where_asked parts part (items m)
@@ -87,15 +85,15 @@ asked_same parts part items n m same = elim (cases_Bool (has parts part)) [
 
 kinds_of_sections : (versions : Bool) (file : List ℕ) (style : ListingStyle) (parts : ℕ) → kinds_rows (section_kinds versions) (file_sections file) file style parts
     ≡ of_headers file style parts (symbols_part versions) (e_shnum file) ++ (of_headers file style parts (relocations_part versions) (e_shnum file)
-    ++ (of_headers file style parts SectionNotes (e_shnum file) ++ (of_headers file style parts SectionDynamic (e_shnum file)
-    ++ (of_headers file style parts Definitions (e_shnum file) ++ (of_headers file style parts Needs (e_shnum file)
-    ++ (of_headers file style parts SymbolVersions (e_shnum file) ++ []))))))
+    ++ (of_headers file style parts (of_sections section_notes) (e_shnum file) ++ (of_headers file style parts (of_sections section_dynamic) (e_shnum file)
+    ++ (of_headers file style parts (of_sections version_definitions) (e_shnum file) ++ (of_headers file style parts (of_sections version_needs) (e_shnum file)
+    ++ (of_headers file style parts (of_sections symbol_versions) (e_shnum file) ++ []))))))
 unfolding kinds_rows symbols relocations suffixed_symbols relocations_with_versions section_notes section_dynamic version_definitions version_needs symbol_versions
 kinds_of_sections true file style parts = refl
 kinds_of_sections false file style parts = refl
 
 kinds_of_segments : (file : List ℕ) (style : ListingStyle) (parts : ℕ) → kinds_rows segment_kinds (file_segments file) file style parts
-    ≡ of_headers file style parts SegmentNotes (e_phnum file) ++ (of_headers file style parts SegmentDynamic (e_phnum file) ++ [])
+    ≡ of_headers file style parts (of_segments segment_notes) (e_phnum file) ++ (of_headers file style parts (of_segments segment_dynamic) (e_phnum file) ++ [])
 unfolding kinds_rows segment_notes segment_dynamic
 kinds_of_segments file style parts = refl
 
@@ -121,10 +119,10 @@ viewed_segments parts loaded none asked = rw (none, asked) refl
 abbrev of_kinds : List ℕ → ListingStyle → ℕ → (sections segments : ℕ) → List ListingItem
 of_kinds file style parts sections segments =
     ((((of_headers file style parts (symbols_part style.versions) sections ++ of_headers file style parts (relocations_part style.versions) sections)
-    ++ (of_headers file style parts SectionNotes sections ++ of_headers file style parts SegmentNotes segments))
-    ++ (of_headers file style parts SectionDynamic sections ++ of_headers file style parts SegmentDynamic segments))
-    ++ (of_headers file style parts Definitions sections ++ of_headers file style parts Needs sections))
-    ++ of_headers file style parts SymbolVersions sections
+    ++ (of_headers file style parts (of_sections section_notes) sections ++ of_headers file style parts (of_segments segment_notes) segments))
+    ++ (of_headers file style parts (of_sections section_dynamic) sections ++ of_headers file style parts (of_segments segment_dynamic) segments))
+    ++ (of_headers file style parts (of_sections version_definitions) sections ++ of_headers file style parts (of_sections version_needs) sections))
+    ++ of_headers file style parts (of_sections symbol_versions) sections
 
 -- the tables of all kinds are those of the headers in the store
 kinds_are : (file : List ℕ) (style : ListingStyle) (parts : ℕ) (loaded : LoadedFile) (store : StoreState) → HoldsSectionHeaders file loaded store → store.segments ≡ viewed_headers parts loaded
@@ -136,76 +134,56 @@ kinds_are file style parts loaded store belongs view =
       | inl none ↦
           let zero : store.loaded ≡ 0 = count ∙ eqb-true (e_shnum file) 0 none in
           let all = viewed_where parts loaded (ap (λ n. n == 0) belongs.header.e_shnum ∙ none) in
-          let notes = asked_same parts NOTES (λ n. part_items SegmentNotes style n file) (e_phnum file) store.segments
+          let notes = asked_same parts NOTES (λ n. part_items (of_segments segment_notes) style n file) (e_phnum file) store.segments
           (λ asked. sym (view ∙ (all (or_right _ _ (or_left _ _ asked)) ∙ belongs.header.e_phnum))) in
-          let dynamic = asked_same parts DYNAMIC (λ n. part_items SegmentDynamic style n file) (e_phnum file) store.segments
+          let dynamic = asked_same parts DYNAMIC (λ n. part_items (of_segments segment_dynamic) style n file) (e_phnum file) store.segments
           (λ asked. sym (view ∙ (all (or_right _ _ (or_right _ _ asked)) ∙ belongs.header.e_phnum))) in
-          let none_by = λ (part : Part). none_of file style parts part store.loaded zero in
+          let none_by = λ (part : PartListed). none_of file style parts part store.loaded zero in
           ap (λ (tables : TableHeaders). kinds_rows tables.kinds tables.headers file style parts) (headers_none style.versions file none)
           ∙ (kinds_of_segments file style parts
-          ∙ rw (notes, dynamic, none_by (symbols_part style.versions), none_by (relocations_part style.versions), none_by SectionNotes, none_by SectionDynamic, none_by Definitions, none_by Needs, none_by SymbolVersions)
-          (segments_alone (of_headers file style parts SegmentNotes store.segments) (of_headers file style parts SegmentDynamic store.segments)))
+          ∙ rw (notes, dynamic, none_by (symbols_part style.versions), none_by (relocations_part style.versions), none_by (of_sections section_notes), none_by (of_sections section_dynamic), none_by (of_sections version_definitions), none_by (of_sections version_needs), none_by (of_sections symbol_versions))
+          (segments_alone (of_headers file style parts (of_segments segment_notes) store.segments) (of_headers file style parts (of_segments segment_dynamic) store.segments)))
       | inr some ↦
           let zero : store.segments ≡ 0 = view ∙ viewed_none parts loaded (ap (λ n. n == 0) belongs.header.e_shnum ∙ some) in
-          let rows = λ (part : Part). of_headers file style parts part (e_shnum file) in
+          let rows = λ (part : PartListed). of_headers file style parts part (e_shnum file) in
           ap (λ (tables : TableHeaders). kinds_rows tables.kinds tables.headers file style parts) (headers_some style.versions file some)
           ∙ (kinds_of_sections style.versions file style parts
-          ∙ rw (count, none_of file style parts SegmentNotes store.segments zero, none_of file style parts SegmentDynamic store.segments zero)
-          (sections_alone (rows (symbols_part style.versions)) (rows (relocations_part style.versions)) (rows SectionNotes) (rows SectionDynamic) (rows Definitions) (rows Needs) (rows SymbolVersions)))
+          ∙ rw (count, none_of file style parts (of_segments segment_notes) store.segments zero, none_of file style parts (of_segments segment_dynamic) store.segments zero)
+          (sections_alone (rows (symbols_part style.versions)) (rows (relocations_part style.versions)) (rows (of_sections section_notes)) (rows (of_sections section_dynamic)) (rows (of_sections version_definitions)) (rows (of_sections version_needs)) (rows (of_sections symbol_versions))))
     ]
 
 behind : (a b c d e f : List ListingItem) → a ++ ((((b ++ c) ++ d) ++ e) ++ f) ≡ ((((a ++ b) ++ c) ++ d) ++ e) ++ f
 behind a b c d e f = simp append_assoc
 
--- how many headers the symbols and the relocation entries iterate over
-symbols_counted : (versions : Bool) (store : StoreState) → (listed_by (symbols_part versions)).count store ≡ store.loaded
-symbols_counted true store = refl
-symbols_counted false store = refl
+-- the tables of the headers in the store
+abbrev pub by_store : List ℕ → ListingStyle → ℕ → StoreState → List ListingItem
+by_store file style parts store =
+    (((((of_headers file style parts section_headers_part store.loaded ++ segment_part file style parts)
+    ++ (of_headers file style parts (symbols_part style.versions) store.loaded ++ of_headers file style parts (relocations_part style.versions) store.loaded))
+    ++ (of_headers file style parts (of_sections section_notes) store.loaded ++ of_headers file style parts (of_segments segment_notes) store.segments))
+    ++ (of_headers file style parts (of_sections section_dynamic) store.loaded ++ of_headers file style parts (of_segments segment_dynamic) store.segments))
+    ++ (of_headers file style parts (of_sections version_definitions) store.loaded ++ of_headers file style parts (of_sections version_needs) store.loaded))
+    ++ of_headers file style parts (of_sections symbol_versions) store.loaded
 
-relocations_counted : (versions : Bool) (store : StoreState) → (listed_by (relocations_part versions)).count store ≡ store.loaded
-relocations_counted true store = refl
-relocations_counted false store = refl
-
--- the tables of the headers in the store, given numbers of which have symbols, and relocation
--- entries
-abbrev pub by_counts : List ℕ → ListingStyle → ℕ → StoreState → (symbols entries : ℕ) → List ListingItem
-by_counts file style parts store n m =
-    (((((of_headers file style parts Headers store.loaded ++ segment_part file style parts)
-    ++ (of_headers file style parts (symbols_part style.versions) n ++ of_headers file style parts (relocations_part style.versions) m))
-    ++ (of_headers file style parts SectionNotes store.loaded ++ of_headers file style parts SegmentNotes store.segments))
-    ++ (of_headers file style parts SectionDynamic store.loaded ++ of_headers file style parts SegmentDynamic store.segments))
-    ++ (of_headers file style parts Definitions store.loaded ++ of_headers file style parts Needs store.loaded))
-    ++ of_headers file style parts SymbolVersions store.loaded
-
-tables_loaded : (file : List ℕ) (style : ListingStyle) (parts : ℕ) (loaded : LoadedFile) (store : StoreState) → HoldsSectionHeaders file loaded store → store.segments ≡ viewed_headers parts loaded
-    → table_items file style parts ≡ by_counts file style parts store store.loaded store.loaded
-unfolding table_items
-tables_loaded file style parts loaded store belongs view =
-    let count : e_shnum file ≡ store.loaded = sym (belongs.count ∙ belongs.header.e_shnum) in
-    let first : List ListingItem = of_headers file style parts Headers store.loaded ++ segment_part file style parts in
-    ap (λ n. (of_headers file style parts Headers n ++ segment_part file style parts) ++ kinds_rows (table_headers style.versions file).kinds (table_headers style.versions file).headers file style parts) count
-    ∙ (ap (λ rest. first ++ rest) (kinds_are file style parts loaded store belongs view) ∙ behind first _ _ _ _ _)
-
--- the tables of a loaded file, by the headers in the store
+-- the tables of a loaded file
 pub tables_are : (file : List ℕ) (style : ListingStyle) (parts : ℕ) (loaded : LoadedFile) (store : StoreState) → HoldsSectionHeaders file loaded store → store.segments ≡ viewed_headers parts loaded
-    → table_items file style parts
-    ≡ by_counts file style parts store ((listed_by (symbols_part style.versions)).count store) ((listed_by (relocations_part style.versions)).count store)
+    → table_items file style parts ≡ by_store file style parts store
+unfolding table_items
 tables_are file style parts loaded store belongs view =
-    let n = symbols_counted style.versions store in
-    let m = relocations_counted style.versions store in
-    tables_loaded file style parts loaded store belongs view
-    ∙ (ap (λ (k : ℕ). by_counts file style parts store k store.loaded) (sym n)
-    ∙ ap (by_counts file style parts store ((listed_by (symbols_part style.versions)).count store)) (sym m))
+    let count : e_shnum file ≡ store.loaded = sym (belongs.count ∙ belongs.header.e_shnum) in
+    let first : List ListingItem = of_headers file style parts section_headers_part store.loaded ++ segment_part file style parts in
+    ap (λ n. (of_headers file style parts section_headers_part n ++ segment_part file style parts) ++ kinds_rows (table_headers style.versions file).kinds (table_headers style.versions file).headers file style parts) count
+    ∙ (ap (λ rest. first ++ rest) (kinds_are file style parts loaded store belongs view) ∙ behind first _ _ _ _ _)
 
 -- if the rows of definitions and needs are listed and have no fault, they have none at all
 pub versions_none : (file : List ℕ) (style : ListingStyle) (parts : ℕ) (loaded : LoadedFile) (store : StoreState) → HoldsSectionHeaders file loaded store
     → has parts VERSIONS ≡ true
-    → fault_of (of_headers file style parts Definitions store.loaded ++ of_headers file style parts Needs store.loaded) ≡ None
+    → fault_of (of_headers file style parts (of_sections version_definitions) store.loaded ++ of_headers file style parts (of_sections version_needs) store.loaded) ≡ None
     → fault_of (records_rows file style) ≡ None
 unfolding version_definitions version_needs
 versions_none file style parts loaded store belongs asked none =
     let count : store.loaded ≡ e_shnum file = belongs.count ∙ belongs.header.e_shnum in
     let both = rw (asked, count, where_asked) at none in
-    let first : List ListingItem = each ((listed_by Definitions).items file style) 0 (e_shnum file) in
-    let second : List ListingItem = each ((listed_by Needs).items file style) 0 (e_shnum file) in
+    let first : List ListingItem = each ((of_sections version_definitions).items file style) 0 (e_shnum file) in
+    let second : List ListingItem = each ((of_sections version_needs).items file style) 0 (e_shnum file) in
     records-none file style (front-none first second both) (back-none first second both)

@@ -10,9 +10,9 @@ use Rattle.elf_table.specs.declared.row.Row.{Row}
 use Rattle.elf_table.specs.declared.run_fault.RunFault.{RunFault}
 use Rattle.elf_options.specs.Prelude.{style_of}
 use Rattle.elf_options.specs.declared.caps.ListingStyle.{ListingStyle as Shape}
-use Rattle.elf_listing.specs.Prelude.{AdvancesRows, EndsListed, GivesListed, IsRowOf, KindOf, SpentCredit, WroteItems, WroteUntilStop, own_cost, reading, row_items, row_size, rows_cost, rows_listed, rows_to_give}
+use Rattle.elf_listing.specs.Prelude.{AdvancesRows, EndsListed, GivesListed, IsRowOf, RowLayout, SpentCredit, WroteItems, WroteUntilStop, reading, rows_cost, rows_to_give}
 use Rattle.elf_listing.specs.declared.row_cursor.RowCursor.{RowCursor}
-use Rattle.elf_listing.specs.declared.rows.RowLayout.{RowLayout}
+use Rattle.elf_listing.specs.declared.suffixes.VersionLookup.{VersionLookup}
 use Rattle.elf_listing.proofs.EachLaws.{each-none, each-more, each-front}
 use Rattle.elf_listing.proofs.ShowLaws.{SpentCredit-fault, StopSays-then, Whole-none, Whole-then, WroteUntilStop-then, WroteUntilStop-more, WroteUntilStop-unread}
 
@@ -37,9 +37,9 @@ rows_stopped row i count a b c stop below before this =
     rw more.1 (WroteUntilStop-more a c stop (each row 0 (i + 1)) more.0 shown)
 
 -- what a new cursor may read is its table
-pub account_begins : (c : CursorState) (table : TableRange) (kind : RowLayout) (cap : ℕ) → table.entry ≡ row_size kind → c.failed ≡ None → c.unread ≡ size_of table → c.left ≡ table.count
-    → unread_bytes c + c.left * own_cost kind cap ≡ rows_cost kind table cap
-account_begins c table kind cap entry none unread left = rw (none, unread, left, entry) (omega arith)
+pub account_begins : (c : CursorState) (table : TableRange) (layout : RowLayout) (versions : Option VersionLookup) (cap : ℕ) → table.entry ≡ layout.size → c.failed ≡ None → c.unread ≡ size_of table → c.left ≡ table.count
+    → unread_bytes c + c.left * layout.own_cost versions cap ≡ rows_cost layout versions table cap
+account_begins c table layout versions cap entry none unread left = rw (none, unread, left, entry) (omega arith)
 
 -- the account of a loop: what was read, what is unread, and what the remaining rows read stay
 -- within a bound
@@ -97,18 +97,18 @@ pub given_index : {holds : Option (List ℕ)} {old new : CursorState} {row : Row
 given_index gives lends = omega (arith, lends.its_index, gives.next_index)
 
 -- the row that a step gave
-pub given_row : {holds : Option (List ℕ)} {old new : CursorState} {row : Row} (file : List ℕ) (kind : RowLayout) (table : TableRange)
-    → GivesRow holds old new → ShowsRow new row → holds ≡ Some file → HoldsRows file old → old.table ≡ table → table.entry ≡ row_size kind
-    → IsRowOf file table.at kind row
-given_row {old = old} {new = new} {row = row} file kind table gives lends held agrees same entry =
+pub given_row : {holds : Option (List ℕ)} {old new : CursorState} {row : Row} (file : List ℕ) (layout : RowLayout) (table : TableRange)
+    → GivesRow holds old new → ShowsRow new row → holds ≡ Some file → HoldsRows file old → old.table ≡ table → table.entry ≡ layout.size
+    → IsRowOf file table.at layout row
+given_row {old = old} {new = new} {row = row} file layout table gives lends held agrees same entry =
     let index : row.index ≡ old.index = omega (arith, lends.its_index, gives.next_index) in
     let moved : row.at ≡ next_row old =
     lends.its_offset ∙ ap (λ (t : TableRange). t.at + row.index * t.entry) gives.same_table ∙ ap (λ (i : ℕ). old.table.at + i * old.table.entry) index in
-    let whole : old.table.entry ≡ row_size kind = ap (λ (t : TableRange). t.entry) same ∙ entry in
+    let whole : old.table.entry ≡ layout.size = ap (λ (t : TableRange). t.entry) same ∙ entry in
     let from_ : old.table.at ≡ table.at = ap (λ (t : TableRange). t.at) same in
     record {
       bytes = lends.its_bytes ∙ (gives.exact file held agrees ∙ (ap (λ (p : ℕ). slice file p old.table.entry) (sym moved) ∙ ap (λ (n : ℕ). slice file row.at n) whole));
-      here = moved ∙ (ap (λ (n : ℕ). old.table.at + old.index * n) whole ∙ (ap (λ (p : ℕ). p + old.index * row_size kind) from_ ∙ ap (λ (i : ℕ). table.at + i * row_size kind) (sym index)));
+      here = moved ∙ (ap (λ (n : ℕ). old.table.at + old.index * n) whole ∙ (ap (λ (p : ℕ). p + old.index * layout.size) from_ ∙ ap (λ (i : ℕ). table.at + i * layout.size) (sym index)));
     }
 
 -- a step that returned that there is a row
@@ -120,24 +120,24 @@ pub step_ends : (holds : Option (List ℕ)) {old new : RowCursor} (answer : Bool
 step_ends holds answer is steps = rw is at steps
 
 -- a step gave the next row of a table of a file, and those before it were shown
-pub record Turn (file : List ℕ) (style : Shape) (kind : RowLayout) (table : TableRange) (old new : RowCursor) (row : Row) (a b : OutState) : Type 0 where
-  pub of_kind : KindOf file table.at kind
-  pub is_row : IsRowOf file table.at kind row
+pub record Turn (file : List ℕ) (style : Shape) (layout : RowLayout) (versions : Option VersionLookup) (table : TableRange) (old new : RowCursor) (row : Row) (a b : OutState) : Type 0 where
+  pub of_kind : layout.here versions file table.at
+  pub is_row : IsRowOf file table.at layout row
   pub index : row.index ≡ (reading old).index
   pub next : (reading new).index ≡ (reading old).index + 1
-  pub below : (reading old).index < rows_listed kind file table
-  pub before : WroteItems a b (each (row_items kind file (style_of style) table.at) 0 (reading old).index)
+  pub below : (reading old).index < layout.listed file table
+  pub before : WroteItems a b (each (layout.items versions file (style_of style) table.at) 0 (reading old).index)
 
-pub turn : {holds : Option (List ℕ)} (file : List ℕ) (style : Shape) (kind : RowLayout) (table : TableRange) (old new : RowCursor) (row : Row) (a b : OutState)
-    → GivesListed holds old new → ShowsRow (reading new) row → holds ≡ Some file → HoldsRows file (reading old) → (reading old).table ≡ table → table.entry ≡ row_size kind
-    → (reading old).index + (reading old).left ≡ table.count → (reading old).index + rows_to_give file old ≡ rows_listed kind file table → (0 < table.count → KindOf file table.at kind)
-    → WroteItems a b (each (row_items kind file (style_of style) table.at) 0 (reading old).index) → Turn file style kind table old new row a b
-turn file style kind table old new row a b step lends held agrees same entry counted listed kind_of before =
+pub turn : {holds : Option (List ℕ)} (file : List ℕ) (style : Shape) (layout : RowLayout) (versions : Option VersionLookup) (table : TableRange) (old new : RowCursor) (row : Row) (a b : OutState)
+    → GivesListed holds old new → ShowsRow (reading new) row → holds ≡ Some file → HoldsRows file (reading old) → (reading old).table ≡ table → table.entry ≡ layout.size
+    → (reading old).index + (reading old).left ≡ table.count → (reading old).index + rows_to_give file old ≡ layout.listed file table → (0 < table.count → layout.here versions file table.at)
+    → WroteItems a b (each (layout.items versions file (style_of style) table.at) 0 (reading old).index) → Turn file style layout versions table old new row a b
+turn file style layout versions table old new row a b step lends held agrees same entry counted listed kind_of before =
     let gives = step.gives in
     let less = step.one_less file held agrees in
     record {
       of_kind = kind_of (omega (arith, counted, gives.one_less));
-      is_row = given_row file kind table gives lends held agrees same entry;
+      is_row = given_row file layout table gives lends held agrees same entry;
       index = given_index gives lends;
       next = gives.next_index;
       below = omega (arith, listed, less);
@@ -145,16 +145,16 @@ turn file style kind table old new row a b step lends held agrees same entry cou
     }
 
 -- its row was shown
-pub turn_more : (file : List ℕ) (style now : Shape) (kind : RowLayout) (table : TableRange) (old new : RowCursor) (row : Row) (a b c : OutState) → now ≡ style → Turn file style kind table old new row a b
-    → (KindOf file table.at kind → IsRowOf file table.at kind row → WroteItems b c (row_items kind file (style_of now) table.at row.index))
-    → WroteItems a c (each (row_items kind file (style_of style) table.at) 0 (reading new).index)
-turn_more file style now kind table old new row a b c same this shown =
-    rows_more (row_items kind file (style_of style) table.at) (reading old).index _ this.next this.before (rw (this.index, same) at (shown this.of_kind this.is_row))
+pub turn_more : (file : List ℕ) (style now : Shape) (layout : RowLayout) (versions : Option VersionLookup) (table : TableRange) (old new : RowCursor) (row : Row) (a b c : OutState) → now ≡ style → Turn file style layout versions table old new row a b
+    → (layout.here versions file table.at → IsRowOf file table.at layout row → WroteItems b c (layout.items versions file (style_of now) table.at row.index))
+    → WroteItems a c (each (layout.items versions file (style_of style) table.at) 0 (reading new).index)
+turn_more file style now layout versions table old new row a b c same this shown =
+    rows_more (layout.items versions file (style_of style) table.at) (reading old).index _ this.next this.before (rw (this.index, same) at (shown this.of_kind this.is_row))
 
 -- or failed
-pub turn_stopped : (file : List ℕ) (style now : Shape) (kind : RowLayout) (table : TableRange) (old new : RowCursor) (row : Row) (a b c : OutState) (stop : RunFault) → now ≡ style
-    → Turn file style kind table old new row a b
-    → (KindOf file table.at kind → IsRowOf file table.at kind row → WroteUntilStop b c stop (row_items kind file (style_of now) table.at row.index))
-    → WroteUntilStop a c stop (each (row_items kind file (style_of style) table.at) 0 (rows_listed kind file table))
-turn_stopped file style now kind table old new row a b c stop same this shown =
-    rows_stopped (row_items kind file (style_of style) table.at) (reading old).index _ a b c stop this.below this.before (rw (this.index, same) at (shown this.of_kind this.is_row))
+pub turn_stopped : (file : List ℕ) (style now : Shape) (layout : RowLayout) (versions : Option VersionLookup) (table : TableRange) (old new : RowCursor) (row : Row) (a b c : OutState) (stop : RunFault) → now ≡ style
+    → Turn file style layout versions table old new row a b
+    → (layout.here versions file table.at → IsRowOf file table.at layout row → WroteUntilStop b c stop (layout.items versions file (style_of now) table.at row.index))
+    → WroteUntilStop a c stop (each (layout.items versions file (style_of style) table.at) 0 (layout.listed file table))
+turn_stopped file style now layout versions table old new row a b c stop same this shown =
+    rows_stopped (layout.items versions file (style_of style) table.at) (reading old).index _ a b c stop this.below this.before (rw (this.index, same) at (shown this.of_kind this.is_row))

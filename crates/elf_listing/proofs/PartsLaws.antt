@@ -1,8 +1,8 @@
 -- What successive calls of a listing did.
 use Rattle.elf_options.specs.Prelude.{style_of}
 use Rattle.elf_options.specs.declared.caps.ListingStyle.{ListingStyle}
-use Rattle.std.proofs.Common.{◌≡◌, ℕ, ◌+◌, ◌-◌, ◌<◌, Bool, List, ◌++◌, Some, Result, Ok, Err, sym, ap, ◌∙◌, subst, arith, zero-add}
-use Rattle.elf_model.specs.Prelude.{ListingItem, each, sum_over, symbol_versions}
+use Rattle.std.proofs.Common.{◌≡◌, ℕ, ◌+◌, ◌-◌, ◌<◌, Bool, true, false, List, ◌++◌, Some, Result, Ok, Err, refl, sym, ap, ◌∙◌, arith, zero-add}
+use Rattle.elf_model.specs.Prelude.{ListingItem, RELOCS, SYMBOLS, each, has, relocations, relocations_with_versions, suffixed_symbols, sum_over, symbol_versions, symbols, version_definitions, version_needs}
 use Rattle.elf_model.proofs.SumLemmas.{last_cost, sums_split}
 use Rattle.elf_model.proofs.ListingLemmas.{rows_split}
 use Rattle.elf_source.specs.declared.source.Source.{Ghosts as Sources}
@@ -10,10 +10,8 @@ use Rattle.elf_source.specs.declared.sink.Sink.{Ghosts as Sinks}
 use Rattle.elf_source.proofs.GrowthLaws.{grows_then}
 use Rattle.elf_table.specs.declared.run_fault.RunFault.{RunFault}
 use Rattle.elf_table.specs.declared.file.SectionView.{SectionView}
-use Rattle.elf_listing.specs.Prelude.{AwaitsAsked, ListingCalls, ListingWrote, ListsPair, asked_cost, asked_items, relocations_part, symbols_part}
-use Rattle.elf_listing.specs.declared.parts.Part.TheVariants.{Definitions, Needs, SymbolVersions}
+use Rattle.elf_listing.specs.Prelude.{AreRecordsListed, ListingCalls, ListingWrote, PartListed, asked_cost, asked_items, of_sections, relocations_part, symbols_part}
 use Rattle.elf_listing.specs.declared.listing.Listing.{Listing}
-use Rattle.elf_listing.specs.declared.parts.Part.{Part}
 use Rattle.elf_listing.proofs.FileShown.{versions_none}
 use Rattle.elf_listing.proofs.EachLaws.{each-more}
 use Rattle.elf_listing.proofs.ListsLaws.{ListingCalls-within, SameFile-then}
@@ -21,11 +19,22 @@ use Rattle.elf_listing.proofs.RowLaws.{WroteSome-as}
 use Rattle.elf_listing.proofs.ShowLaws.{SpentCredit-then, WroteUntilStop-more, WroteSome-then}
 
 -- what a part reads, and its items, if it is one of the given parts
-abbrev pub cost_asked : ℕ → Part → SectionView → ListingStyle → ℕ
+abbrev pub cost_asked : ℕ → PartListed → SectionView → ListingStyle → ℕ
 cost_asked parts part f style = asked_cost parts part f.loaded f.store.now style.cap.bytes
 
-abbrev pub items_asked : ℕ → Part → SectionView → ListingStyle → List ℕ → List ListingItem
+abbrev pub items_asked : ℕ → PartListed → SectionView → ListingStyle → List ℕ → List ListingItem
 items_asked parts part f style file = asked_items parts part f.store.now (style_of style) file
+
+-- the bits of the symbols and of the relocation entries
+pub symbols_bit : (versions : Bool) → (symbols_part versions).bit ≡ SYMBOLS
+unfolding symbols suffixed_symbols
+symbols_bit true = refl
+symbols_bit false = refl
+
+pub relocations_bit : (versions : Bool) → (relocations_part versions).bit ≡ RELOCS
+unfolding relocations relocations_with_versions
+relocations_bit true = refl
+relocations_bit false = refl
 
 module _ {S W X : Type 0} {s : Sources S} {w : Sinks W} where
   -- the same items
@@ -69,19 +78,12 @@ module _ {S W X : Type 0} {s : Sources S} {w : Sinks W} where
       let all : count ≡ i + 1 + (count - (i + 1)) = omega arith in
       rw (all, sums_split amount 0 (i + 1) (count - (i + 1))) (Parts-as (λ file held. rows_split (row file) 0 (i + 1) (count - (i + 1))) (Parts-more _ _ _ p))
 
-  -- two parts that the style selects
-  pub Pair-as : {a b : Listing S W s w} {result : Result X RunFault} (parts : ℕ) (versions : Bool) → a.style.versions ≡ versions
-      → ListsPair parts (symbols_part versions) (relocations_part versions) a b result
-      → ListsPair parts (symbols_part a.style.versions) (relocations_part a.style.versions) a b result
-  Pair-as {a = a} {b = b} {result = result} parts versions is pair =
-      subst (λ (v : Bool). ListsPair parts (symbols_part v) (relocations_part v) a b result) (sym is) pair
-
   -- the rows of definitions and needs were shown, and then the versions of symbols may be
-  pub versions_await : {a b : Listing S W s w} {x : X} {n : ℕ} (parts : ℕ)
-      → ListingCalls a b (Ok x) n (ListingWrote a b (Ok x) (λ file. items_asked parts Definitions a.file a.style file ++ items_asked parts Needs a.file a.style file))
-      → AwaitsAsked parts SymbolVersions b.src.now.seen.file (style_of b.style)
+  pub records_listed : {a b : Listing S W s w} {x : X} {n : ℕ} (parts : ℕ)
+      → ListingCalls a b (Ok x) n (ListingWrote a b (Ok x) (λ file. items_asked parts (of_sections version_definitions) a.file a.style file ++ items_asked parts (of_sections version_needs) a.file a.style file))
+      → has parts (of_sections symbol_versions).bit ≡ true → AreRecordsListed b.src.now.seen.file (style_of b.style)
   unfolding symbol_versions
-  versions_await {a = a} parts p = λ asked file held.
+  records_listed {a = a} parts p = λ asked file held.
       let before = sym p.spent.0.reads.keeps.same_file ∙ held in
       rw (p.keeps.same_style)
       (versions_none file (style_of a.style) parts a.file.loaded a.file.store.now (a.loaded.belongs file before) asked (p.shows file before).no_fault)

@@ -13,8 +13,7 @@ use Rattle.elf_record.specs.declared.ehdr.Ehdr.{Ehdr}
 use Rattle.elf_table.specs.Prelude.{HoldsSectionHeaders, HoldsSegments, IsOpened, LoadedFile, StoreState, StringTableRange, TableRange, byte_rows, checked, dynamic_of, early_of, load_cost, row, rows, segment_bytes, table_of}
 use Rattle.elf_table.specs.declared.fault.Fault.{Fault}
 use Rattle.elf_table.proofs.RelocationLaws.{passed_first}
-use Rattle.elf_listing.specs.Prelude.{asked_cost, name_cost, needs_segment_view, segments_listed, store_sections, store_segments, tables_listed, view_cost, viewed_headers}
-use Rattle.elf_listing.specs.declared.parts.Part.TheVariants.{Headers, SectionDynamic, SectionNotes, SegmentDynamic, SegmentNotes}
+use Rattle.elf_listing.specs.Prelude.{asked_cost, name_cost, needs_segment_view, of_sections, of_segments, section_headers_part, segments_listed, store_sections, store_segments, tables_listed, view_cost, viewed_headers}
 use Rattle.elf_listing.proofs.FileShown.{viewed_none}
 use Rattle.elf_table.proofs.LoadLaws.{early_is}
 

@@ -79,3 +79,14 @@ module _ (headers : HeaderTable) (table size cap own name names count k : ℕ) (
 
 pub no_fewer : (n : ℕ) → n ≤ n
 no_fewer n = omega arith
+
+-- rows without versions, counted as rows whose versions cost nothing
+pub rows_plain : (a count own name k : ℕ) → a + count * (own + name) ≤ k → a + count * (own + (name + 0)) ≤ k
+rows_plain a count own name k within =
+    let same : name + 0 ≡ name = omega arith in
+    rw same within
+
+pub table_plain : (count own name k : ℕ) → count * (own + name) ≤ k → count * (own + (name + 0)) ≤ k
+table_plain count own name k within =
+    let same : name + 0 ≡ name = omega arith in
+    rw same within

@@ -1,10 +1,10 @@
 -- Rows that end in a name with its version, by what was read of both.
 use Rattle.std.proofs.Common.{◌≡◌, ℕ, ◌+◌, ◌*◌, ◌≤◌, ◌==◌, ◌&&◌, not, if◌then◌else◌, Bool, true, false, List, [], ◌∷◌, ◌++◌, Option, None, Some, Result, Ok, Err, IfErr, refl, sym, ap, ◌∙◌, subst, arith, map}
 use Rattle.std.specs.List.{list_any}
-use Rattle.elf_model.specs.Prelude.{DisplayedName, EveryRow, Fault as FaultItem, IsBudgetRefusal, Line, LinePrefix, ListingItem, ListingStyle, NoSuffix, RowFilter, RowsOf, Suffix, Suffixed, chooses, e_machine, entry_at, is_named, linked_at, named_row, r_sym, relocation_prefix, relocation_row_with_version, section_at, sh_link, sh_offset, shown, st_name, strings_of, suffixed_row, symbol_named, symbol_prefix, symbol_row_with_version, symbol_suffix, wanted_text}
+use Rattle.elf_model.specs.Prelude.{DisplayedName, EveryRow, Fault as FaultItem, IsBudgetRefusal, Line, LinePrefix, ListingItem, ListingStyle, NoSuffix, RowFilter, RowsOf, Suffix, Suffixed, chooses, e_machine, entry_at, is_named, linked_at, named_row, r_sym, relocation_prefix, relocation_row, relocation_row_with_version, section_at, sh_link, sh_offset, shown, st_name, strings_of, suffixed_row, symbol_named, symbol_prefix, symbol_row, symbol_row_with_version, symbol_suffix, wanted_text}
 use Rattle.elf_model.specs.declared.causes.Cause.{Cause}
 use Rattle.elf_model.specs.declared.causes.Refusal.{Refusal}
-use Rattle.elf_model.proofs.SuffixLaws.{unsuffixed_line}
+use Rattle.elf_model.proofs.SuffixLaws.{unsuffixed_line, unsuffixed_row}
 use Rattle.elf_table.specs.Prelude.{NameRead, shown_by, stop_of}
 use Rattle.elf_table.specs.declared.names.NameEnd.TheVariants.{Cut as NameCut, Whole as NameWhole}
 use Rattle.elf_table.specs.declared.fault.Fault.{Fault}
@@ -16,11 +16,12 @@ use Rattle.elf_source.specs.declared.source.Source.{Ghosts as Sources}
 use Rattle.elf_source.specs.declared.sink.Sink.{Ghosts as Sinks}
 use Rattle.elf_options.specs.Prelude.{choice_of, texts_of}
 use Rattle.elf_options.specs.declared.row_filter.RowFilter.{RowFilter as Choice}
-use Rattle.elf_listing.specs.Prelude.{ListingReads, SuffixRead, WroteUntilStop, suffix_read}
+use Rattle.elf_listing.specs.Prelude.{ListingReads, SuffixRead, WroteUntilStop, row_by, suffix_by, suffix_read}
 use Rattle.elf_listing.specs.declared.listing.Listing.{Listing}
 use Rattle.elf_listing.specs.declared.read_suffix.VersionSuffixEnd.{VersionSuffixEnd}
+use Rattle.elf_listing.specs.declared.suffixes.VersionLookup.{VersionLookup}
 use Rattle.elf_listing.proofs.ListsLaws.{SameFile-then}
-use Rattle.elf_listing.proofs.RowLaws.{Ends-first, WrotePrefix-none}
+use Rattle.elf_listing.proofs.RowLaws.{Ends-first, WrotePrefix-none, relocation_is, symbol_is}
 use Rattle.elf_listing.proofs.SymbolNamed.{says_behind}
 
 -- a call that reads after another, in a bound on both
@@ -85,7 +86,7 @@ suffixed-hidden choice front at end name version answer suffix behind read next 
     rw (named, told) (rw is refl)
 
 -- a symbol's row at its place
-pub suffixed_symbol_is : (file : List ℕ) (style : ListingStyle) (section index at : ℕ) (front : LinePrefix) (table : List ℕ) (off : ℕ)
+suffixed_symbol_is : (file : List ℕ) (style : ListingStyle) (section index at : ℕ) (front : LinePrefix) (table : List ℕ) (off : ℕ)
     → front ≡ symbol_prefix style.format style.gnu (e_machine file) file at section index
     → table ≡ strings_of file (section_at file section) → off ≡ st_name file at → at ≡ sh_offset file (section_at file section) + index * 24
     → symbol_row_with_version file style section (section_at file section) index
@@ -101,12 +102,12 @@ every-row front at (Ok name) = ap (λ (line : List ℕ). Line line ∷ []) (unsu
 every-row front at (Err cause) = refl
 
 -- a relocation entry's row at its place
-abbrev pub entry_suffix : List ℕ → (cap at symbol : ℕ) → Result Suffix Refusal
+abbrev entry_suffix : List ℕ → (cap at symbol : ℕ) → Result Suffix Refusal
 entry_suffix file cap at symbol =
     if symbol == 0 then Ok NoSuffix
     else symbol_suffix file cap (sh_link file at) (entry_at file (linked_at file at) 24 symbol) symbol
 
-pub suffixed_relocation_is : (file : List ℕ) (front : LinePrefix) (style : ListingStyle) (section at entry symbol index : ℕ) → entry ≡ sh_offset file at + index * 24
+suffixed_relocation_is : (file : List ℕ) (front : LinePrefix) (style : ListingStyle) (section at entry symbol index : ℕ) → entry ≡ sh_offset file at + index * 24
     → front ≡ relocation_prefix style.format style.gnu (e_machine file) file entry section → symbol ≡ r_sym file entry
     → relocation_row_with_version file style section at index
     ≡ suffixed_row style.choice front (symbol_named file style.cap at entry symbol).0 (symbol_named file style.cap at entry symbol).1 (entry_suffix file style.cap at symbol)
@@ -117,3 +118,34 @@ suffixed_relocation_is file front style section at entry symbol index here same 
     suffixed_row style.choice text (symbol_named file style.cap at e k).0 (symbol_named file style.cap at e k).1 (entry_suffix file style.cap at k) in
     sym (ap (λ text. row text entry symbol) same ∙ (ap (λ k. row (relocation_prefix style.format style.gnu (e_machine file) file entry section) entry k) names
     ∙ ap (λ e. row (relocation_prefix style.format style.gnu (e_machine file) file e section) e (r_sym file e)) place))
+
+-- a symbol's row at its place, without a version or with it
+pub symbol_row_is : (versions : Option VersionLookup) (file : List ℕ) (style : ListingStyle) (section index at : ℕ) (front : LinePrefix) (table : List ℕ) (off : ℕ)
+    → front ≡ symbol_prefix style.format style.gnu (e_machine file) file at section index
+    → table ≡ strings_of file (section_at file section) → off ≡ st_name file at → at ≡ sh_offset file (section_at file section) + index * 24
+    → row_by versions (symbol_row file style section (section_at file section)) (symbol_row_with_version file style section (section_at file section)) index
+    ≡ suffixed_row style.choice front at (shown table off style.cap) (suffix_by versions file style.cap section at index)
+symbol_row_is None file style section index at front table off same_front same_table same_name here =
+    symbol_is file style section index at front table off same_front same_table same_name here ∙ sym (unsuffixed_row style.choice front at (shown table off style.cap))
+symbol_row_is (Some suffixes) file style section index at front table off same_front same_table same_name here =
+    suffixed_symbol_is file style section index at front table off same_front same_table same_name here
+
+-- and a relocation entry's
+abbrev pub entry_suffix_by : Option VersionLookup → List ℕ → (cap at symbol : ℕ) → Result Suffix Refusal
+entry_suffix_by versions file cap at symbol =
+    if symbol == 0 then Ok NoSuffix else suffix_by versions file cap (sh_link file at) (entry_at file (linked_at file at) 24 symbol) symbol
+
+either : (zero : Bool) (none : Result Suffix Refusal) → none ≡ (if zero then none else none)
+either true none = refl
+either false none = refl
+
+pub relocation_row_is : (versions : Option VersionLookup) (file : List ℕ) (front : LinePrefix) (style : ListingStyle) (section at entry symbol index : ℕ) → entry ≡ sh_offset file at + index * 24
+    → front ≡ relocation_prefix style.format style.gnu (e_machine file) file entry section → symbol ≡ r_sym file entry
+    → row_by versions (relocation_row file style section at) (relocation_row_with_version file style section at) index
+    ≡ suffixed_row style.choice front (symbol_named file style.cap at entry symbol).0 (symbol_named file style.cap at entry symbol).1 (entry_suffix_by versions file style.cap at symbol)
+relocation_row_is None file front style section at entry symbol index here same names =
+    let named = symbol_named file style.cap at entry symbol in
+    relocation_is file front style section at entry symbol index here same names
+    ∙ (sym (unsuffixed_row style.choice front named.0 named.1) ∙ ap (suffixed_row style.choice front named.0 named.1) (either (symbol == 0) (Ok NoSuffix)))
+relocation_row_is (Some suffixes) file front style section at entry symbol index here same names =
+    suffixed_relocation_is file front style section at entry symbol index here same names

@@ -11,22 +11,14 @@ use Rattle.elf_table.specs.declared.names.NameEnd.{NameEnd}
 use Rattle.elf_listing.specs.Parts.{name_cost, shown_in}
 use Rattle.elf_listing.specs.Shows.{ListingReads}
 use Rattle.elf_listing.specs.Strings.{AreOf, ToldRead, strings_reported, string_told}
-use Rattle.elf_listing.specs.declared.dynamic_row.DynamicStringTable.{DynamicStringTable}
+use Rattle.elf_listing.specs.declared.dynamic_string_table.DynamicStringTable.{DynamicStringTable}
 use Rattle.elf_listing.specs.declared.listing.Listing.{Listing}
-use Rattle.elf_listing.specs.declared.suffixed_entries.RelocationName.{RelocationName}
+use Rattle.elf_listing.specs.declared.relocations.RelocationName.{RelocationName}
 
 -- the name at an index of a string table, for the entry at an offset; it is empty without a table
 pub record FetchesName {S W : Type 0} {s : Sources S} {w : Sinks W} (old new : Listing S W s w) (result : Result NameEnd Fault) (names : Option StringTableRange) (off at : ℕ) : Type 0 where
   pub fetches : ListingReads old new result (name_cost names old.style.cap.bytes)
   pub read : (file : List ℕ) → old.src.now.seen.file ≡ Some file → NameRead at result new.name (shown_in file names off old.style.cap.bytes)
-
--- the name of the symbol at an index, for the entry at an offset; symbol 0 has none, and nothing is
--- read for it
-pub record FetchesSymbol {S W : Type 0} {s : Sources S} {w : Sinks W} (old new : Listing S W s w) (result : Result NameEnd Fault) (linked : Option (TableRange × StringTableRange)) (symbol at : ℕ) : Type 0 where
-  pub fetches : ListingReads old new result (SYMBOL_SIZE + name_bytes old.style.cap.bytes)
-  pub unnamed : symbol ≡ 0 → new.src.now ≡ old.src.now
-  pub read : (file : List ℕ) (header : ℕ) → old.src.now.seen.file ≡ Some file → RefersTo file header linked
-      → NameRead (symbol_named file old.style.cap.bytes header at symbol).0 result new.name (symbol_named file old.style.cap.bytes header at symbol).1
 
 -- how a name ends that was read along with whether its symbol is defined
 abbrev pub end_read : Result RelocationName Fault → Result NameEnd Fault

@@ -6,35 +6,33 @@ use Rattle.elf_table.specs.Prelude.{StoreState}
 use Rattle.elf_table.specs.declared.run_fault.RunFault.{RunFault}
 use Rattle.elf_source.specs.declared.source.Source.{Ghosts as Sources}
 use Rattle.elf_source.specs.declared.sink.Sink.{Ghosts as Sinks}
-use Rattle.elf_listing.specs.Parts.{asked_cost, listed_by, part_cost, part_items, segments_listed, tables_listed}
+use Rattle.elf_listing.specs.Parts.{PartListed, asked_cost, part_cost, part_items, segments_listed, tables_listed}
 use Rattle.elf_listing.specs.Shows.{ListingCalls, ListingWrote}
 use Rattle.elf_listing.specs.declared.listing.Listing.{Listing}
-use Rattle.elf_listing.specs.declared.parts.Part.{Part}
 
 -- one part of the header at an index
-abbrev pub ListsHeader : {S W X : Type 0} {s : Sources S} {w : Sinks W} → Part → Listing S W s w → Listing S W s w → Result X RunFault → ℕ → Type 0
+abbrev pub ListsHeader : {S W X : Type 0} {s : Sources S} {w : Sinks W} → PartListed → Listing S W s w → Listing S W s w → Result X RunFault → ℕ → Type 0
 ListsHeader part old new result i =
-    let listed = listed_by part in
-    ListingCalls old new result (listed.cost old.file.loaded old.file.store.now old.style.cap.bytes i) (ListingWrote old new result (λ file. listed.items file (style_of old.style) i))
+    ListingCalls old new result (part.cost old.file.loaded old.file.store.now old.style.cap.bytes i) (ListingWrote old new result (λ file. part.items file (style_of old.style) i))
 
 -- one part of each header
-abbrev pub ListsPart : {S W X : Type 0} {s : Sources S} {w : Sinks W} → Part → Listing S W s w → Listing S W s w → Result X RunFault → Type 0
+abbrev pub ListsPart : {S W X : Type 0} {s : Sources S} {w : Sinks W} → PartListed → Listing S W s w → Listing S W s w → Result X RunFault → Type 0
 ListsPart part old new result =
     ListingCalls old new result (part_cost part old.file.loaded old.file.store.now old.style.cap.bytes)
-    (ListingWrote old new result (part_items part (style_of old.style) ((listed_by part).count old.file.store.now)))
+    (ListingWrote old new result (part_items part (style_of old.style) (part.count old.file.store.now)))
 
 -- the items of a part, if it is one of the given parts
-abbrev pub asked_items : ℕ → Part → StoreState → ListingStyle → List ℕ → List ListingItem
-asked_items parts part store style file = where_asked parts (listed_by part).bit (part_items part style ((listed_by part).count store) file)
+abbrev pub asked_items : ℕ → PartListed → StoreState → ListingStyle → List ℕ → List ListingItem
+asked_items parts part store style file = where_asked parts part.bit (part_items part style (part.count store) file)
 
 -- a part, if it is one of the given parts
-abbrev pub ListsAsked : {S W X : Type 0} {s : Sources S} {w : Sinks W} → ℕ → Part → Listing S W s w → Listing S W s w → Result X RunFault → Type 0
+abbrev pub ListsAsked : {S W X : Type 0} {s : Sources S} {w : Sinks W} → ℕ → PartListed → Listing S W s w → Listing S W s w → Result X RunFault → Type 0
 ListsAsked parts part old new result =
     ListingCalls old new result (asked_cost parts part old.file.loaded old.file.store.now old.style.cap.bytes)
     (ListingWrote old new result (asked_items parts part old.file.store.now (style_of old.style)))
 
 -- two parts, one after the other
-abbrev pub ListsPair : {S W X : Type 0} {s : Sources S} {w : Sinks W} → ℕ → Part → Part → Listing S W s w → Listing S W s w → Result X RunFault → Type 0
+abbrev pub ListsPair : {S W X : Type 0} {s : Sources S} {w : Sinks W} → ℕ → PartListed → PartListed → Listing S W s w → Listing S W s w → Result X RunFault → Type 0
 ListsPair parts first second old new result =
     let loaded = old.file.loaded in
     let store = old.file.store.now in

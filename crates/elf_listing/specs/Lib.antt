@@ -1,12 +1,12 @@
 pub mod Choosing
 pub mod Fetched
 pub mod HeadersListed
-pub mod Kinds
 pub mod Notes
 pub mod Numbered
 pub mod Parts
 pub mod Reports
 pub mod RowCursors
+pub mod RowLayouts
 pub mod Shows
 pub mod Strings
 pub mod Suffixed
@@ -14,5 +14,7 @@ pub mod SuffixNames
 pub mod SuffixTexts
 pub mod SymbolVersions
 pub mod Versions
+pub mod TableRows
+pub mod TablesFound
 pub mod Viewed
 pub mod Prelude

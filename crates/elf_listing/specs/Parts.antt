@@ -4,8 +4,6 @@ use Rattle.std.specs.Prelude.{ℕ, ◌+◌, ◌*◌, ◌==◌, ◌&&◌, ◌≡�
 use Rattle.elf_model.specs.Prelude.{DYNAMIC, DisplayedName, HeaderTable, ListingItem, ListingStyle, NOTES, RELOCS, SECTIONS, SEGMENTS, SYMBOLS, TableKind, cost_where, each, fault_of, has, held_headers, name_bytes, no_name, records_rows, relocations, relocations_with_versions, section_at, section_dynamic, section_notes, section_row, segment_at, segment_dynamic, segment_notes, segment_row, shown, suffixed_symbols, sum_over, symbol_versions, symbols, table_cost, table_rows, version_definitions, version_needs}
 use Rattle.elf_model.specs.declared.causes.Cause.{Cause}
 use Rattle.elf_table.specs.Prelude.{LoadedFile, StoreState, StringTableRange, row, segment_bytes, strings_in}
-use Rattle.elf_listing.specs.declared.parts.Part.{Part}
-use Rattle.elf_listing.specs.declared.parts.Part.TheVariants.{Headers, Segments, Symbols, Relocations, SectionNotes, SegmentNotes, SectionDynamic, SegmentDynamic, Definitions, Needs, SymbolVersions, SuffixedSymbols, SuffixedRelocations}
 
 -- WHAT A PART LISTS: its bit among the parts of a listing; how many headers it iterates over, those
 -- in the store; the items of the header at an index, in a file; and how many bytes it reads at most
@@ -41,59 +39,44 @@ of_segments kind = record {
 }
 
 -- the section headers, each with its name; and the program headers, which read nothing more
-abbrev pub part_of_section_headers : PartListed
-part_of_section_headers = record {
+abbrev pub section_headers_part : PartListed
+section_headers_part = record {
   bit = SECTIONS;
   count = λ store. store.loaded;
   items = λ file style i. section_row file style i;
   cost = λ loaded store cap i. cost_where (not (loaded.header.e_shstrndx == 0)) (name_bytes cap);
 }
 
-abbrev pub part_of_program_headers : PartListed
-part_of_program_headers = record {
+abbrev pub program_headers_part : PartListed
+program_headers_part = record {
   bit = SEGMENTS;
   count = λ store. store.segments;
   items = λ file style i. segment_row file style i;
   cost = λ loaded store cap i. 0;
 }
 
--- what each part lists
-abbrev pub listed_by : Part → PartListed
-listed_by Headers = part_of_section_headers
-listed_by Segments = part_of_program_headers
-listed_by Symbols = of_sections symbols
-listed_by Relocations = of_sections relocations
-listed_by SectionNotes = of_sections section_notes
-listed_by SegmentNotes = of_segments segment_notes
-listed_by SectionDynamic = of_sections section_dynamic
-listed_by SegmentDynamic = of_segments segment_dynamic
-listed_by Definitions = of_sections version_definitions
-listed_by Needs = of_sections version_needs
-listed_by SymbolVersions = of_sections symbol_versions
-listed_by SuffixedSymbols = of_sections suffixed_symbols
-listed_by SuffixedRelocations = of_sections relocations_with_versions
-
 -- the symbols of sections and their relocation entries, with or without versions after the names of
 -- symbols
-abbrev pub symbols_part : Bool → Part
-symbols_part versions = elim versions [ true ↦ SuffixedSymbols | false ↦ Symbols ]
+abbrev pub symbols_kind : Bool → TableKind
+symbols_kind versions = elim versions [ true ↦ suffixed_symbols | false ↦ symbols ]
 
-abbrev pub relocations_part : Bool → Part
-relocations_part versions = elim versions [ true ↦ SuffixedRelocations | false ↦ Relocations ]
+abbrev pub relocations_kind : Bool → TableKind
+relocations_kind versions = elim versions [ true ↦ relocations_with_versions | false ↦ relocations ]
 
--- what holds before a part of a known file is listed, in a style: the versions of symbols are named
--- by definitions and needs whose own rows had no fault
-abbrev pub Awaits : Part → Option (List ℕ) → ListingStyle → Type 0
-Awaits SymbolVersions seen style = (file : List ℕ) → seen ≡ Some file → fault_of (records_rows file style) ≡ None
-Awaits part seen style = Unit {0}
+abbrev pub symbols_part : Bool → PartListed
+symbols_part versions = of_sections (symbols_kind versions)
 
--- the same, if the part is one of the given parts
-abbrev pub AwaitsAsked : ℕ → Part → Option (List ℕ) → ListingStyle → Type 0
-AwaitsAsked parts part seen style = has parts (listed_by part).bit ≡ true → Awaits part seen style
+abbrev pub relocations_part : Bool → PartListed
+relocations_part versions = of_sections (relocations_kind versions)
+
+-- what holds before the versions of symbols are listed of a file that is known, in a style: they are
+-- named by definitions and needs whose own rows had no fault
+abbrev pub AreRecordsListed : Option (List ℕ) → ListingStyle → Type 0
+AreRecordsListed seen style = (file : List ℕ) → seen ≡ Some file → fault_of (records_rows file style) ≡ None
 
 -- the items of n headers
-abbrev pub part_items : Part → ListingStyle → ℕ → List ℕ → List ListingItem
-part_items part style count file = each ((listed_by part).items file style) 0 count
+abbrev pub part_items : PartListed → ListingStyle → ℕ → List ℕ → List ListingItem
+part_items part style count file = each (part.items file style) 0 count
 
 -- the name at an index in a string table of the file, as shown; empty without a string table
 abbrev pub shown_in : List ℕ → Option StringTableRange → ℕ → ℕ → Result DisplayedName Cause
@@ -106,12 +89,12 @@ name_cost None cap = 0
 name_cost (Some names) cap = name_bytes cap
 
 -- how many bytes all headers of a part read at most
-abbrev pub part_cost : Part → LoadedFile → StoreState → ℕ → ℕ
-part_cost part loaded store cap = sum_over ((listed_by part).cost loaded store cap) 0 ((listed_by part).count store)
+abbrev pub part_cost : PartListed → LoadedFile → StoreState → ℕ → ℕ
+part_cost part loaded store cap = sum_over (part.cost loaded store cap) 0 (part.count store)
 
 -- how many bytes a part reads at most, if it is one of the given parts
-abbrev pub asked_cost : ℕ → Part → LoadedFile → StoreState → ℕ → ℕ
-asked_cost parts part loaded store cap = cost_where (has parts (listed_by part).bit) (part_cost part loaded store cap)
+abbrev pub asked_cost : ℕ → PartListed → LoadedFile → StoreState → ℕ → ℕ
+asked_cost parts part loaded store cap = cost_where (has parts part.bit) (part_cost part loaded store cap)
 
 -- how many bytes the program headers read if they are listed: none if they are in the store
 abbrev pub segments_listed : ℕ → LoadedFile → ℕ
@@ -121,10 +104,10 @@ segments_listed parts loaded = cost_where (has parts SEGMENTS && not (loaded.hea
 -- versions after the names of symbols
 abbrev pub tables_listed : ℕ → LoadedFile → StoreState → (cap : ℕ) → (versions : Bool) → ℕ
 tables_listed parts loaded store cap versions =
-    asked_cost parts Headers loaded store cap
+    asked_cost parts section_headers_part loaded store cap
     + segments_listed parts loaded
     + (asked_cost parts (symbols_part versions) loaded store cap + asked_cost parts (relocations_part versions) loaded store cap)
-    + (asked_cost parts SectionNotes loaded store cap + asked_cost parts SegmentNotes loaded store cap)
-    + (asked_cost parts SectionDynamic loaded store cap + asked_cost parts SegmentDynamic loaded store cap)
-    + (asked_cost parts Definitions loaded store cap + asked_cost parts Needs loaded store cap)
-    + asked_cost parts SymbolVersions loaded store cap
+    + (asked_cost parts (of_sections section_notes) loaded store cap + asked_cost parts (of_segments segment_notes) loaded store cap)
+    + (asked_cost parts (of_sections section_dynamic) loaded store cap + asked_cost parts (of_segments segment_dynamic) loaded store cap)
+    + (asked_cost parts (of_sections version_definitions) loaded store cap + asked_cost parts (of_sections version_needs) loaded store cap)
+    + asked_cost parts (of_sections symbol_versions) loaded store cap

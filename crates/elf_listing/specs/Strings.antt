@@ -7,8 +7,8 @@ use Rattle.elf_table.specs.Prelude.{HoldsProgramHeaders, IsOfCheck, NameRead, St
 use Rattle.elf_table.specs.declared.fault.Fault.{Fault as Failure}
 use Rattle.elf_table.specs.declared.names.NameEnd.{NameEnd}
 use Rattle.elf_table.specs.declared.fault.Fault.TheVariants.{Refused}
-use Rattle.elf_listing.specs.declared.dynamic_row.DynamicStringTable.{DynamicStringTable}
-use Rattle.elf_listing.specs.declared.dynamic_row.DynamicStringTable.TheVariants.{LinkedSymbolTable, Mapped}
+use Rattle.elf_listing.specs.declared.dynamic_string_table.DynamicStringTable.{DynamicStringTable}
+use Rattle.elf_listing.specs.declared.dynamic_string_table.DynamicStringTable.TheVariants.{LinkedSymbolTable, Mapped}
 
 -- the string table of the entry at an offset of a file, or the refusal if there is none
 abbrev pub strings_reported : DynamicStringTable → List ℕ → ℕ → Result (List ℕ) Refusal

@@ -1,7 +1,7 @@
 -- The versions after the names of symbols: how they are found, and the effect of a call that reads
 -- one.
 use Rattle.std.specs.Prelude.{ℕ, ◌≡◌, ◌+◌, ◌==◌, not, if◌then◌else◌, Bool, false, List, Option, None, Some, Result, Ok, Err, IfOk, IfSome, length, ◌⊎◌}
-use Rattle.elf_model.specs.Prelude.{DisplayedName, EveryRow, HeaderTable, IsBudgetRefusal, LinePrefix, NoSuffix, SHN_UNDEF, SYMBOL_SIZE, Suffix, Suffixed, VERSION_NUMBERS, VERSYM_SIZE, entry_count, first_numbers, name_bytes, section_at, sh_offset, st_shndx, suffixed_row, suffixes_refusal, symbol_suffix, version_numbers_of, walks_cost}
+use Rattle.elf_model.specs.Prelude.{DisplayedName, EveryRow, HeaderTable, IsBudgetRefusal, LinePrefix, ListingItem, NoSuffix, SHN_UNDEF, SYMBOL_SIZE, Suffix, Suffixed, VERSION_NUMBERS, VERSYM_SIZE, entry_count, first_numbers, name_bytes, section_at, sh_offset, st_shndx, suffixed_row, suffixes_refusal, symbol_suffix, version_numbers_of, walks_cost}
 use Rattle.elf_model.specs.declared.causes.Cause.{Cause}
 use Rattle.elf_model.specs.declared.causes.Refusal.{Refusal}
 use Rattle.elf_table.specs.Prelude.{NameRead, StringTableRange, TableInBounds, TableRange, shown_by}
@@ -92,14 +92,35 @@ ListsSuffixed old new result front end suffix =
     ((at : ℕ) (answer : Result DisplayedName Cause) → NameRead at (Ok end) old.name answer
     → WroteSome old.out.now new.out.now result (suffixed_row EveryRow front at answer (Ok suffix)))
 
+-- what the version after a name reads, and what it is, if there is a lookup
+abbrev pub suffix_cost : Option VersionLookup → ℕ → ℕ
+suffix_cost None cap = 0
+suffix_cost (Some suffixes) cap = VERSYM_SIZE + name_bytes cap
+
+abbrev pub suffix_by : Option VersionLookup → List ℕ → (cap table symbol_at index : ℕ) → Result Suffix Refusal
+suffix_by None file cap table symbol_at index = Ok NoSuffix
+suffix_by (Some suffixes) file cap table symbol_at index = symbol_suffix file cap table symbol_at index
+
+-- a row without versions or with them
+abbrev pub row_by : Option VersionLookup → (plain versioned : ℕ → List ListingItem) → ℕ → List ListingItem
+row_by None plain versioned = plain
+row_by (Some suffixes) plain versioned = versioned
+
+-- the effect of a call that reads the version of the symbol at an index, if there is a lookup
+pub record FetchesVersionBy {S W : Type 0} {s : Sources S} {w : Sinks W} (old new : Listing S W s w) (version : List ℕ) (result : Result (Option VersionSuffixEnd) Fault) (versions : Option VersionLookup) (index : ℕ) (is_defined : Bool) : Type 0 where
+  pub fetches : ListingReads old new result (suffix_cost versions old.style.cap.bytes)
+  pub kept : new.name ≡ old.name
+  pub read : (file : List ℕ) → old.src.now.seen.file ≡ Some file → (table symbol_at : ℕ) → IfSome versions (AreSuffixes file table)
+      → is_defined ≡ not (st_shndx file symbol_at == SHN_UNDEF) → SuffixRead result version (suffix_by versions file old.style.cap.bytes table symbol_at index)
+
 -- the effect of a call that reads the version of the symbol that a relocation entry names; symbol 0
 -- has none
-pub record FetchesOfEntry {S W : Type 0} {s : Sources S} {w : Sinks W} (old new : Listing S W s w) (version : List ℕ) (result : Result (Option VersionSuffixEnd) Fault) (suffixes : VersionLookup) (symbol : ℕ) (is_defined : Bool) : Type 0 where
-  pub fetches : ListingReads old new result (VERSYM_SIZE + name_bytes old.style.cap.bytes)
+pub record FetchesOfEntry {S W : Type 0} {s : Sources S} {w : Sinks W} (old new : Listing S W s w) (version : List ℕ) (result : Result (Option VersionSuffixEnd) Fault) (versions : Option VersionLookup) (symbol : ℕ) (is_defined : Bool) : Type 0 where
+  pub fetches : ListingReads old new result (suffix_cost versions old.style.cap.bytes)
   pub kept : new.name ≡ old.name
-  pub read : (file : List ℕ) → old.src.now.seen.file ≡ Some file → (table symbol_at : ℕ) → AreSuffixes file table suffixes
+  pub read : (file : List ℕ) → old.src.now.seen.file ≡ Some file → (table symbol_at : ℕ) → IfSome versions (AreSuffixes file table)
       → ((symbol == 0) ≡ false → is_defined ≡ not (st_shndx file symbol_at == SHN_UNDEF))
-      → SuffixRead result version (if symbol == 0 then Ok NoSuffix else symbol_suffix file old.style.cap.bytes table symbol_at symbol)
+      → SuffixRead result version (if symbol == 0 then Ok NoSuffix else suffix_by versions file old.style.cap.bytes table symbol_at symbol)
 
 -- the effect of a call that looks for the version lookup of the symbols that relocation entries
 -- refer to, if they refer to any

@@ -2,31 +2,30 @@
 #![tactic(auto)]
 
 mod buffers;
-mod dynamic_row;
+mod dynamic;
+mod dynamic_string_table;
 mod fault_line;
-mod headers;
+mod listed_kind;
 mod listing;
+mod name_lines;
+mod name_versions;
 mod names;
 mod notes;
 mod numbered;
-mod parts;
+mod program_headers;
 mod read_suffix;
-mod relocation_row;
-mod row;
+mod relocations;
 mod row_cursor;
 mod row_selection;
-mod rows;
-mod sections;
-mod segments;
+mod section_headers;
 mod show_file;
-mod suffixed_entries;
-mod suffixed_line;
-mod suffixed_rows;
-mod suffixed_tables;
 mod suffixes;
 mod symbol_versions;
+mod symbols;
+mod table_rows;
 mod table_view;
-mod versions;
+mod tables;
+mod version_records;
 
 pub use buffers::{FIXED_BYTES, SUFFIX_BYTES, VERSION_BYTES};
 pub use elf_format::{cause_word, show_refusal, show_steps, show_symbol};

@@ -1,21 +1,74 @@
-//! The listing of the notes of a table.
+//! The notes of sections and of segments.
 ghost use Rattle.std.specs.Prelude.{◌≡◌, ◌≤◌, length};
+ghost use Rattle.elf_model.specs.TableKinds.{section_notes, segment_notes};
 ghost use Rattle.elf_table.specs.Tables.{TableInBounds};
 ghost use Rattle.elf_listing.specs.Notes.{ListsNote, ListsNotes};
+ghost use Rattle.elf_listing.specs.Parts.{of_sections, of_segments};
 
+use crate::listed_kind::ListedKind;
 use crate::listing::Listing;
-use crate::row::is_cut;
+use crate::name_lines::is_cut;
 use elf_format::{Columns, Json, LinePrefix, Render, note_prefix, show_note};
 use elf_model::Format;
 use elf_note::{NoteCursor, NoteRow};
+use elf_record::numbers::{PT_NOTE, SHT_NOTE};
 use elf_source::{Sink, Source};
 use elf_table::{RunFault, Table};
+
+/// The notes of sections, an `N` line each (gABI 5, Note Section).
+pub struct SectionNotes;
+
+/// The notes of segments, like those of sections (gABI 5, Note Section).
+pub struct SegmentNotes;
+
+impl ListedKind for SectionNotes {
+    ghost listed = { λ versions. of_sections section_notes };
+
+    fn count<S: Source, W: Sink>(listing: &Listing<'_, '_, '_, '_, S, W>) -> u16 {
+        listing.file.sections()
+    }
+
+    fn header<S: Source, W: Sink>(
+        listing: &mut Listing<'_, '_, '_, '_, S, W>,
+        index: u16,
+    ) -> Result<(), RunFault> {
+        let header = listing.file.section(index);
+        if header.sh_type != SHT_NOTE {
+            return Ok(());
+        }
+        let at = listing.file.place(index);
+        let table = listing.file.bytes(header.sh_offset, header.sh_size, at)?;
+        listing.notes(table, header.sh_addralign, index)
+    }
+}
+
+impl ListedKind for SegmentNotes {
+    ghost listed = { λ versions. of_segments segment_notes };
+
+    fn count<S: Source, W: Sink>(listing: &Listing<'_, '_, '_, '_, S, W>) -> u16 {
+        listing.file.store.segments()
+    }
+
+    fn header<S: Source, W: Sink>(
+        listing: &mut Listing<'_, '_, '_, '_, S, W>,
+        index: u16,
+    ) -> Result<(), RunFault> {
+        let header = listing.view().segment(index);
+        if header.p_type != PT_NOTE {
+            return Ok(());
+        }
+        let place = listing.view().place(index);
+        let table = listing.file.bytes(header.p_offset, header.p_filesz, place)?;
+        listing.notes(table, header.p_align, index)
+    }
+}
 
 impl<S: Source, W: Sink> Listing<'_, '_, '_, '_, S, W> {
     /// Shows the notes of a table of single bytes, an `N` line each, up to the first offset that
     /// holds no valid note. `align` is the alignment in the table's header, and `index` is that
     /// header's index (gABI 5, Note Section).
-    pub(crate) fn notes(&mut self, table: Table, align: u64, index: u16) -> Result<(), RunFault>
+    #[inline(never)]
+    fn notes(&mut self, table: Table, align: u64, index: u16) -> Result<(), RunFault>
         requires bytes { table.entry ≡ 1 }
         requires within { TableInBounds self.old.src.now.seen.size table }
         ensures { ListsNotes self.old self.new result table align index }

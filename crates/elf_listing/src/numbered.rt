@@ -1,17 +1,18 @@
 //! The line of the version of a symbol, by its version index.
 ghost use Rattle.std.specs.Prelude.{◌≡◌};
-ghost use Rattle.elf_listing.specs.Choosing.{ShowsRows};
-ghost use Rattle.elf_listing.specs.Kinds.{ListsRow, RowFits};
 ghost use Rattle.elf_listing.specs.Numbered.{FetchesVersion, NumberedWithin};
-ghost use Rattle.elf_listing.specs.declared.rows.RowLayout.TheVariants.{Versions};
+ghost use Rattle.elf_listing.specs.RowLayouts.{version_layout};
 
 use crate::listing::Listing;
+use crate::name_versions::NameVersions;
+use crate::row_cursor::RowCursor;
 use crate::row_selection::RowSelection;
+use crate::table_rows::TableRows;
 use elf_format::{LinePrefix, Render, symbol_version_prefix};
 use elf_note::{NameIndex, VersionNameRef, VersionNames};
 use elf_record::{Cause, u16_at, version_number};
 use elf_source::{Sink, Source};
-use elf_table::{Fault, NameEnd, Names, Row, RunFault, refused};
+use elf_table::{Cursor, Fault, NameEnd, Names, Row, RunFault, Table, refused};
 
 /// Where the names of version indices are.
 #[derive(Drop)]
@@ -24,32 +25,41 @@ pub struct VersionStrings {
     pub needed: Names,
 }
 
-impl<S: Source, W: Sink> Listing<'_, '_, '_, '_, S, W> {
-    /// Shows the row of the version of a symbol: its `X` line with the name of its version index,
-    /// if the row is selected, or, at the entry, the refusal of an index that has no name (Linux
-    /// Standard Base Core, Symbol Versioning).
-    pub(crate) fn version_number<R: Render, C: RowSelection>(
-        &mut self,
-        front: &mut LinePrefix,
-        row: &Row<'_>,
-        section: u16,
-        numbered: &VersionStrings,
-    ) -> Result<(), RunFault>
-        requires format { R.FORMAT ≡ self.old.style.format }
-        requires rows { ShowsRows C.BY_NAME self.old.style }
-        requires row { RowFits self.old.src.now.seen.size (Versions section numbered) row.now }
-        ensures { ListsRow self.old self.new result (Versions section numbered.entry) row.now }
-    {
-        let word = u16_at(row.bytes, 0);
-        let number = version_number(word);
-        let end = self.read_version(numbered, number, row.at)?;
-        if !self.is_shown::<C>(end) {
-            return Ok(());
-        }
-        symbol_version_prefix::<R>(front, section, row.index, word);
-        self.named_line(front, end)
+/// The version indices of the symbols of a section.
+#[derive(Clone, Copy)]
+pub struct VersionIndices<'v> {
+    /// The index of the section.
+    pub section: u16,
+    /// Where the names of their version indices are.
+    pub numbered: &'v VersionStrings,
+}
+
+impl<'v> TableRows for VersionIndices<'v> {
+    ghost layout = { version_layout };
+
+    fn cursor(&self, table: Table) -> RowCursor {
+        RowCursor::All(Cursor::new(table))
     }
 
+    fn row<R: Render, C: RowSelection, V: NameVersions, S: Source, W: Sink>(
+        &self,
+        listing: &mut Listing<'_, '_, '_, '_, S, W>,
+        front: &mut LinePrefix,
+        _versions: &mut V,
+        row: &Row<'_>,
+    ) -> Result<(), RunFault> {
+        let word = u16_at(row.bytes, 0);
+        let number = version_number(word);
+        let end = listing.read_version(self.numbered, number, row.at)?;
+        if !listing.is_shown::<C>(end) {
+            return Ok(());
+        }
+        symbol_version_prefix::<R>(front, self.section, row.index, word);
+        listing.named_line(front, end)
+    }
+}
+
+impl<S: Source, W: Sink> Listing<'_, '_, '_, '_, S, W> {
     /// Reads the name of a version index, which is empty for 0 and 1. A refusal is reported at the
     /// offset `at`.
     #[tactic(auto, unfolding(crate::specs::Numbered::version_told))]

@@ -2,13 +2,11 @@
 ghost use Rattle.std.specs.Prelude.{◌≡◌, ◌+◌, ◌<◌, ◌≤◌, None, IfErr};
 ghost use Rattle.elf_source.specs.Source.{ReadsUpTo};
 ghost use Rattle.elf_table.specs.Prelude.{IsReadFault, ShowsRow, TableInBounds, unread_bytes};
-ghost use Rattle.elf_listing.specs.Kinds.{row_size};
-ghost use Rattle.elf_listing.specs.RowCursors.{AdvancesRows, BeginsTable, reading};
+ghost use Rattle.elf_listing.specs.RowCursors.{AdvancesRows, reading};
 
-use crate::rows::RowLayout;
-use elf_note::{DynCursor, dynamic_rows};
+use elf_note::DynCursor;
 use elf_source::{Counted, Source};
-use elf_table::{Cursor, Fault, Row, Table};
+use elf_table::{Cursor, Fault, Row};
 
 /// A cursor over the rows of a table that are listed.
 #[derive(Drop)]
@@ -20,17 +18,6 @@ pub enum RowCursor {
 }
 
 impl RowCursor {
-    /// Creates a cursor before the first row of a table of the given kind.
-    pub(crate) fn new(table: Table, kind: &RowLayout<'_>) -> RowCursor
-        requires { table.entry ≡ row_size kind.now }
-        ensures { BeginsTable kind.now table result }
-    {
-        match kind {
-            RowLayout::Dynamic { .. } => RowCursor::Entries(dynamic_rows(table)),
-            _ => RowCursor::All(Cursor::new(table)),
-        }
-    }
-
     /// Advances to the next row, and returns whether there is one.
     ///
     /// # Errors

@@ -7,11 +7,11 @@ ghost use Rattle.elf_listing.specs.Choosing.{ShowsRows};
 ghost use Rattle.elf_listing.specs.Suffixed.{suffix_read};
 
 use crate::listing::Listing;
+use crate::name_lines::is_cut;
 use crate::read_suffix::VersionSuffixEnd;
-use crate::row::is_cut;
 use elf_options::VersionSuffix;
 use elf_source::{Sink, Source};
-use elf_table::{NameBuf, NameEnd};
+use elf_table::NameEnd;
 
 /// Whether rows are selected by name, known at compile time: if every row is shown, no name is
 /// looked up.
@@ -57,7 +57,7 @@ impl<S: Source, W: Sink> Listing<'_, '_, '_, '_, S, W> {
         &self,
         end: NameEnd,
         suffix: Option<VersionSuffixEnd>,
-        version: &NameBuf,
+        version: &[u8],
     ) -> bool
         requires { ShowsRows C.BY_NAME self.now.style }
         ensures { result ≡ chooses (choice_of self.now.style.choice)
@@ -69,12 +69,12 @@ impl<S: Source, W: Sink> Listing<'_, '_, '_, '_, S, W> {
         if !C::BY_NAME {
             return true;
         }
-        let behind = VersionSuffix {
-            name: version.bytes(),
+        let suffix = VersionSuffix {
+            name: version,
             is_cut: is_cut(read.end),
             is_default: read.is_default,
         };
         let name = self.name.bytes();
-        self.style.choice.shows_version(name, is_cut(end), &behind)
+        self.style.choice.shows_version(name, is_cut(end), &suffix)
     }
 }

@@ -1,18 +1,18 @@
-//! The listing of the versions of symbols.
+//! The versions of the symbols of sections.
 ghost use Rattle.std.specs.Prelude.{◌≡◌, ◌<◌, length, min};
-ghost use Rattle.elf_options.specs.Permitted.{style_of};
+ghost use Rattle.elf_model.specs.VersionRows.{symbol_versions};
 ghost use Rattle.elf_model.specs.declared.versions.VersionKind.TheVariants.{Need};
 ghost use Rattle.elf_table.specs.Tables.{TableInBounds};
-ghost use Rattle.elf_listing.specs.HeadersListed.{ListsHeader};
 ghost use Rattle.elf_listing.specs.Numbered.{NumberedWithin};
-ghost use Rattle.elf_listing.specs.Parts.{Awaits};
+ghost use Rattle.elf_listing.specs.Parts.{AreRecordsListed, of_sections};
 ghost use Rattle.elf_listing.specs.SymbolVersions.{FetchesNumbers, ListsVersioned, NumbersTaken, TakesRecords};
-ghost use Rattle.elf_listing.specs.declared.parts.Part.TheVariants.{SymbolVersions};
 
+use crate::listed_kind::ListedKind;
 use crate::listing::Listing;
-use crate::numbered::VersionStrings;
-use crate::rows::RowLayout;
-use crate::versions::section_type;
+use crate::name_versions::NoVersions;
+use crate::numbered::{VersionIndices, VersionStrings};
+use crate::table_rows::list_rows;
+use crate::version_records::section_type;
 use elf_note::{VersionCursor, VersionNames};
 use elf_record::gnu_numbers::SHT_GNU_VERSYM;
 use elf_record::sizes::SYMBOL_VERSION_BYTES;
@@ -20,32 +20,40 @@ use elf_record::{Cause, Refusal, VersionKind};
 use elf_source::{Sink, Source};
 use elf_table::{Fault, Names, RunFault, Table};
 
-impl<S: Source, W: Sink> Listing<'_, '_, '_, '_, S, W> {
-    /// Shows the versions of the symbols of a section, if it holds them: an `X` line each, or the
-    /// first refusal of its table, of the symbols that it links to or of a version index; finally
-    /// the section's refusal if a symbol has no entry (Linux Standard Base Core, Symbol
-    /// Versioning). The rows of all definitions and needs were shown without a fault.
-    #[inline(never)]
-    pub(crate) fn symbol_versions(&mut self, section: u16) -> Result<(), RunFault>
-        requires awaits { Awaits SymbolVersions self.old.src.now.seen.file
-            (style_of self.old.style) }
-        requires below { section < self.old.file.store.now.loaded }
-        ensures { ListsHeader SymbolVersions self.old self.new result section }
-    {
-        let header = self.file.section(section);
+/// The versions of the symbols of sections, an `X` line each; finally the section's refusal if a
+/// symbol has no entry (Linux Standard Base Core, Symbol Versioning). The rows of all definitions
+/// and needs were shown without a fault.
+pub struct SymbolVersions;
+
+impl ListedKind for SymbolVersions {
+    ghost listed = { λ versions. of_sections symbol_versions };
+
+    ghost ready = { AreRecordsListed };
+
+    fn count<S: Source, W: Sink>(listing: &Listing<'_, '_, '_, '_, S, W>) -> u16 {
+        listing.file.sections()
+    }
+
+    fn header<S: Source, W: Sink>(
+        listing: &mut Listing<'_, '_, '_, '_, S, W>,
+        index: u16,
+    ) -> Result<(), RunFault> {
+        let header = listing.file.section(index);
         if header.sh_type != SHT_GNU_VERSYM {
             return Ok(());
         }
         if header.sh_size == 0 {
             return Ok(());
         }
-        let found = self.file.symbol_versions(section)?;
+        let found = listing.file.symbol_versions(index)?;
         let (table, symbols) = found;
         let mut none = [];
-        let numbered = self.numbered(&mut none)?;
-        self.versioned(section, table, symbols, &numbered)
+        let numbered = listing.numbered(&mut none)?;
+        listing.versioned(index, table, symbols, &numbered)
     }
+}
 
+impl<S: Source, W: Sink> Listing<'_, '_, '_, '_, S, W> {
     /// Shows the versions of the given number of symbols, and after them the section's refusal if a
     /// symbol has no entry.
     fn versioned(
@@ -63,7 +71,8 @@ impl<S: Source, W: Sink> Listing<'_, '_, '_, '_, S, W> {
     {
         let at = self.file.place(section);
         let rows = first_entries(&table, symbols);
-        self.rows(rows, &RowLayout::Versions { section, numbered })?;
+        let indices = VersionIndices { section, numbered };
+        list_rows(self, rows, &indices, &mut NoVersions)?;
         if table.len() < symbols {
             return Err(RunFault::Refused(Refusal {
                 at,

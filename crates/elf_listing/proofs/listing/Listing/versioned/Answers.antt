@@ -12,20 +12,20 @@ use Rattle.elf_listing.proofs.VersionedShown.{Ends-behind}
 use Rattle.elf_listing.proofs.VersionSections.{same_le}
 use Rattle.elf_listing.proofs.listing.Listing.versioned.Goals as goal
 
-pub returns-in_err-rows : goal.returns-in_err-rows
+pub returns-in_err-list_rows : goal.returns-in_err-list_rows
 unfolding versioned_items
-returns-in_err-rows g c =
+returns-in_err-list_rows g c =
     let p = err_from_is_err_and c.from_residual.result c.from_residual.ensures.1 in
     let shape = c.first_entries-rows.ensures in
     let cost = ap (λ (t : TableRange). t.count * (VERSYM_SIZE + name_bytes c.args.self.now.style.cap.bytes)) shape in
     rw (p.1, p.2)
-    (ListingCalls-within _ _ _ _ _ _ _ (omega (arith, cost)) c.in_err-rows.ensures (λ file held. WroteUntilStop-more _ _ _ _ _ (rw shape at (c.in_err-rows.ensures.shows file held (λ some. tt)))))
+    (ListingCalls-within _ _ _ _ _ _ _ (omega (arith, cost)) c.in_err-list_rows.ensures (λ file held. WroteUntilStop-more _ _ _ _ _ (rw shape at (c.in_err-list_rows.ensures.shows file held (λ some. tt)))))
 
 pub returns-then-len-symbols : goal.returns-then-len-symbols
 unfolding versioned_items
 returns-then-len-symbols g c =
     let shape = c.first_entries-rows.ensures in
-    let done = c.in_ok-rows.ensures in
+    let done = c.in_ok-list_rows.ensures in
     let fewer : nat_lt c.args.table.count c.args.symbols ≡ true = grind (arith, nat_tests, c.len.ensures, c.if-len-symbols.true) in
     let cost = ap (λ (t : TableRange). t.count * (VERSYM_SIZE + name_bytes c.args.self.now.style.cap.bytes)) shape in
     let account = done.spent.0.account in
@@ -40,7 +40,7 @@ pub returns : goal.returns
 unfolding versioned_items
 returns g c =
     let shape = c.first_entries-rows.ensures in
-    let done = c.in_ok-rows.ensures in
+    let done = c.in_ok-list_rows.ensures in
     let whole : nat_lt c.args.table.count c.args.symbols ≡ false = grind (arith, nat_tests, c.len.ensures, c.if-len-symbols.false) in
     let cost = ap (λ (t : TableRange). t.count * (VERSYM_SIZE + name_bytes c.args.self.now.style.cap.bytes)) shape in
     let account = done.spent.0.account in

@@ -9,7 +9,7 @@ use Rattle.elf_listing.proofs.listing.Listing.versioned_line.Goals as goal
 
 pub returns : goal.returns
 returns g c =
-    let puts = rw (c.before_version.ensures.text, c.after_version.ensures.text, c.is_cut.ensures, c.is_cut-2.ensures, c.bytes.ensures.value, c.bytes-2.ensures.value) at c.in_ok-shown.ensures.puts in
+    let puts = rw (c.before_version.ensures.text, c.after_version.ensures.text, c.is_cut.ensures, c.is_cut-2.ensures, c.bytes.ensures.value) at c.in_ok-shown.ensures.puts in
     record {
       grows = grows_put _ _ c.show_joined-shown.ensures.puts;
       keeps = record { same_src = refl; same_out = refl; same_file = refl; same_style = refl };
@@ -20,7 +20,7 @@ returns g c =
 pub returns-in_err-shown : goal.returns-in_err-shown
 returns-in_err-shown g c =
     let p = err_from_is_err_and c.from_residual.result c.from_residual.ensures.1 in
-    let puts = rw (c.before_version.ensures.text, c.after_version.ensures.text, c.is_cut.ensures, c.is_cut-2.ensures, c.bytes.ensures.value, c.bytes-2.ensures.value) at c.in_err-shown.ensures.puts in
+    let puts = rw (c.before_version.ensures.text, c.after_version.ensures.text, c.is_cut.ensures, c.is_cut-2.ensures, c.bytes.ensures.value) at c.in_err-shown.ensures.puts in
     rw (p.1, p.2)
     (record {
       grows = grows_put _ _ c.show_joined-shown.ensures.puts;

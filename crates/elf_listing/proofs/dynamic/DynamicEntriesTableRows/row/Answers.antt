@@ -1,0 +1,30 @@
+-- The row of an entry, by its string.
+use Rattle.elf_options.specs.Permitted.{style_of}
+use Rattle.std.proofs.Common.{◌≡◌, refl, ap, ◌∙◌, arith}
+use Rattle.std.proofs.lemmas.Result.{err_from_is_err_and}
+use Rattle.elf_model.specs.Prelude.{dynamic_at, dynamic_prefix}
+use Rattle.elf_format.specs.Fronts.{front_of}
+use Rattle.elf_listing.specs.Strings.{strings_reported, string_told}
+use Rattle.elf_listing.proofs.RowLaws.{WroteSome-as}
+use Rattle.elf_listing.proofs.StringsTold.{entry_is, reported_row, told_shown, WroteUntilStop-told}
+use Rattle.elf_listing.proofs.ListsLaws.{ListingCalls-named, ListingCalls-unread}
+use Rattle.elf_listing.proofs.dynamic.DynamicEntriesTableRows.row.Goals as goal
+
+pub returns-in_err-end-clause-lists : goal.returns-in_err-end-clause-lists
+returns-in_err-end-clause-lists g c =
+    let p = err_from_is_err_and c.from_residual.result c.from_residual.ensures.1 in
+    rw (p.1, p.2) (ListingCalls-unread _ _ _ _ _ _ (omega arith) c.in_err-end.ensures.fetches (λ file held at of_kind row.
+    let decoded = c.decode-entry.ensures.stands file c.args.row.now.at (c.whole.ensures ∙ row.bytes) in
+    let here : c.args.row.now.at ≡ dynamic_at at c.args.row.now.index = omega (arith, row.here) in
+    rw (entry_is file (dynamic_prefix c.args.listing.now.style.format c.args.listing.now.style.gnu file c.args.row.now.at c.args.row.now.index) (style_of c.args.listing.now.style) c.args.row.now.at c.args.row.now.index (dynamic_at at c.args.row.now.index) (strings_reported c.args.self.now.strings file) refl here, c.in_err-end.ensures.fetches.1)
+    (WroteUntilStop-told _ _ c.args.row.now.at _ c.read_string.new.self.name _ (c.in_err-end.ensures.read file held of_kind decoded))))
+
+pub returns-clause-lists : goal.returns-clause-lists
+returns-clause-lists g c = ListingCalls-named _ _ _ _ _ _ _ _ (omega arith) c.in_ok-end.ensures.fetches c.named_line.ensures (λ file held at of_kind row.
+    let decoded = c.decode-entry.ensures.stands file c.args.row.now.at (c.whole.ensures ∙ row.bytes) in
+    let here : c.args.row.now.at ≡ dynamic_at at c.args.row.now.index = omega (arith, row.here) in
+    let read = told_shown c.args.row.now.at _ _ (string_told (strings_reported c.args.self.now.strings file) file c.args.listing.now.style.cap.bytes c.args.row.now.at) (c.in_ok-end.ensures.read file held of_kind decoded) in
+    let front = rw c.requires.format at (c.dynamic_prefix.ensures.front file c.args.row.now.at decoded) in
+    rw (← c.in_ok-end.ensures.fetches.1)
+    (WroteSome-as _ _ _ (entry_is file _ (style_of c.args.listing.now.style) c.args.row.now.at c.args.row.now.index (dynamic_at at c.args.row.now.index) (strings_reported c.args.self.now.strings file) front here ∙ ap (reported_row (front_of c.dynamic_prefix.new.front) c.args.row.now.at) read.1)
+    (c.named_line.ensures.shows _ _ read.2)))

@@ -1,0 +1,35 @@
+use Rattle.std.proofs.Common.{refl, ◌≡◌, ◌+◌, ◌*◌, ◌∙◌, arith}
+use Rattle.std.proofs.lemmas.Result.{err_from_is_err_and}
+use Rattle.elf_options.specs.Permitted.{style_of}
+use Rattle.elf_model.specs.Records.{e_phoff}
+use Rattle.elf_listing.proofs.RowLaws.{segment_is, Whole-line, WroteUntilStop-line}
+use Rattle.elf_note.proofs.SpendsLaws.{SpendsAtMost-none}
+use Rattle.elf_source.proofs.GrowthLaws.{grows_front}
+use Rattle.elf_listing.proofs.program_headers.ProgramHeadersTableRows.row.Goals as goal
+
+pub returns-in_err-put-clause-lists : goal.returns-in_err-put-clause-lists
+returns-in_err-put-clause-lists g c = record {
+  grows = grows_front c.in_err-put.ensures.puts.0;
+  keeps = record { same_src = refl; same_out = refl; same_file = refl; same_style = refl };
+  spent =
+      let p = err_from_is_err_and c.from_residual.result c.from_residual.ensures.1 in
+      rw (p.1, p.2) (SpendsAtMost-none _ _ _ _ (omega arith), c.in_err-put.ensures.puts.1);
+  shows = λ file held at of_kind row.
+      let p = err_from_is_err_and c.from_residual.result c.from_residual.ensures.1 in
+      let decoded = c.decode-header.ensures.stands file c.args.row.now.at (c.whole.ensures ∙ row.bytes) in
+      let here : c.args.row.now.at ≡ e_phoff file + c.args.row.now.index * 56 = omega (arith, of_kind, row.here) in
+      let line = c.deref.ensures.0 ∙ (rw c.requires.format at (c.segment_row.ensures file c.args.row.now.at decoded)) in
+      rw (p.1, p.2, segment_is file _ (style_of c.args.listing.now.style) c.args.row.now.at c.args.row.now.index line here) (WroteUntilStop-line _ c.in_err-put.ensures.puts.0);
+}
+
+pub returns-clause-lists : goal.returns-clause-lists
+returns-clause-lists g c = record {
+  grows = record { bytes = _; takes = c.in_ok-put.ensures.puts.0 };
+  keeps = record { same_src = refl; same_out = refl; same_file = refl; same_style = refl };
+  spent = (SpendsAtMost-none _ _ _ _ (omega arith), tt);
+  shows = λ file held at of_kind row.
+      let decoded = c.decode-header.ensures.stands file c.args.row.now.at (c.whole.ensures ∙ row.bytes) in
+      let here : c.args.row.now.at ≡ e_phoff file + c.args.row.now.index * 56 = omega (arith, of_kind, row.here) in
+      let line = c.deref.ensures.0 ∙ (rw c.requires.format at (c.segment_row.ensures file c.args.row.now.at decoded)) in
+      rw (segment_is file _ (style_of c.args.listing.now.style) c.args.row.now.at c.args.row.now.index line here) (Whole-line _ c.in_ok-put.ensures.puts.0);
+}

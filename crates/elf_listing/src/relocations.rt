@@ -1,0 +1,194 @@
+//! The relocation entries of sections.
+ghost use Rattle.std.specs.Prelude.{◌≡◌, true, IfSome};
+ghost use Rattle.elf_table.specs.Tables.{SymbolTableInBounds};
+ghost use Rattle.elf_listing.specs.Fetched.{FetchesLinked};
+ghost use Rattle.elf_listing.specs.HeadersListed.{ListsHeader};
+ghost use Rattle.elf_listing.specs.Parts.{relocations_part};
+ghost use Rattle.elf_listing.specs.RowLayouts.{relocation_layout};
+ghost use Rattle.elf_listing.specs.Suffixed.{FetchesOfEntry, FetchesOfLinked, SuffixesWithin};
+ghost use Rattle.elf_listing.specs.TablesFound.{AreEntriesOf};
+
+use crate::listed_kind::ListedKind;
+use crate::listing::Listing;
+use crate::name_versions::{FoundVersions, NameVersions, NoVersions};
+use crate::read_suffix::VersionSuffixEnd;
+use crate::row_cursor::RowCursor;
+use crate::row_selection::RowSelection;
+use crate::suffixes::VersionLookup;
+use crate::table_rows::{TableRows, list_rows};
+use elf_format::{LinePrefix, Render, relocation_prefix};
+use elf_note::NameIndex;
+use elf_record::numbers::SHT_RELA;
+use elf_record::{Cause, Rela};
+use elf_source::{Sink, Source};
+use elf_table::{Cursor, Fault, NameBuf, NameEnd, Names, Row, RunFault, Table, refused};
+
+/// The relocation entries of a section, an `R` line each (gABI 4, Relocation).
+#[derive(Clone, Copy)]
+pub struct Relocations {
+    /// The index of the section.
+    pub section: u16,
+    /// The symbols that they refer to, with their names.
+    pub linked: Option<(Table, Names)>,
+}
+
+/// The name of an entry's symbol, as read, and whether the symbol is defined.
+#[derive(Clone, Copy)]
+pub struct RelocationName {
+    /// How the name ends.
+    pub end: NameEnd,
+    /// Whether the symbol is defined.
+    pub is_defined: bool,
+}
+
+impl TableRows for Relocations {
+    ghost layout = { relocation_layout };
+
+    fn cursor(&self, table: Table) -> RowCursor {
+        RowCursor::All(Cursor::new(table))
+    }
+
+    fn row<R: Render, C: RowSelection, V: NameVersions, S: Source, W: Sink>(
+        &self,
+        listing: &mut Listing<'_, '_, '_, '_, S, W>,
+        front: &mut LinePrefix,
+        versions: &mut V,
+        row: &Row<'_>,
+    ) -> Result<(), RunFault> {
+        let naming = listing.naming();
+        let entry = Rela::decode(row.whole());
+        let symbol = entry.symbol();
+        let read = listing.read_linked(self.linked, symbol, row.at)?;
+        let suffix = read_version(listing, versions, symbol, read.is_defined)?;
+        if !listing.is_versioned_row_shown::<C>(read.end, suffix, versions.bytes()) {
+            return Ok(());
+        }
+        relocation_prefix::<R>(front, self.section, &entry, naming);
+        listing.suffixed_line(front, read.end, suffix, versions.bytes())
+    }
+}
+
+impl ListedKind for Relocations {
+    ghost listed = { relocations_part };
+
+    fn count<S: Source, W: Sink>(listing: &Listing<'_, '_, '_, '_, S, W>) -> u16 {
+        listing.file.sections()
+    }
+
+    fn header<S: Source, W: Sink>(
+        listing: &mut Listing<'_, '_, '_, '_, S, W>,
+        index: u16,
+    ) -> Result<(), RunFault> {
+        if listing.file.section(index).sh_type != SHT_RELA {
+            return Ok(());
+        }
+        let found = listing.file.relocations(index)?;
+        let (table, linked) = found;
+        let rows = Relocations {
+            section: index,
+            linked,
+        };
+        if listing.style.versions {
+            return list_with_versions(listing, table, &rows);
+        }
+        list_rows(listing, table, &rows, &mut NoVersions)
+    }
+}
+
+/// Shows the relocation entries of a section with the versions of their symbols, or the refusal of
+/// the version lookup. The lookup is on the stack only for sections that hold entries, and only if
+/// versions are shown.
+#[inline(never)]
+fn list_with_versions<S: Source, W: Sink>(
+    listing: &mut Listing<'_, '_, '_, '_, S, W>,
+    table: Table,
+    rows: &Relocations,
+) -> Result<(), RunFault>
+    requires { AreEntriesOf listing.old.file table rows.now }
+    ensures { ListsHeader (relocations_part true) listing.old listing.new result rows.now.section }
+{
+    let link = listing.file.section(rows.section).sh_link;
+    if table.is_empty() {
+        return Ok(());
+    }
+    let found = listing.linked_suffixes(link, &rows.linked)?;
+    match &found {
+        None => list_rows(listing, table, rows, &mut NoVersions),
+        Some(lookup) => {
+            let name = NameBuf::new();
+            let mut versions = FoundVersions { lookup, name };
+            list_rows(listing, table, rows, &mut versions)
+        }
+    }
+}
+
+/// Reads the version of the symbol at an index; returns `None` for symbol 0.
+fn read_version<V: NameVersions, S: Source, W: Sink>(
+    listing: &mut Listing<'_, '_, '_, '_, S, W>,
+    versions: &mut V,
+    symbol: u32,
+    is_defined: bool,
+) -> Result<Option<VersionSuffixEnd>, Fault>
+    requires { IfSome (V.lookup versions.old) (SuffixesWithin listing.old.src.now.seen.size) }
+    ensures keeps { V.lookup versions.new ≡ V.lookup versions.old }
+    ensures reads { let version = V.name versions.new in FetchesOfEntry listing.old listing.new
+        version result (V.lookup versions.old) symbol is_defined }
+{
+    if symbol == 0 {
+        return Ok(None);
+    }
+    versions.read(listing, u64::from(symbol), is_defined)
+}
+
+impl<S: Source, W: Sink> Listing<'_, '_, '_, '_, S, W> {
+    /// Finds the versions of the symbols that entries refer to, if there are any.
+    fn linked_suffixes(
+        &mut self,
+        table: u32,
+        linked: &Option<(Table, Names)>,
+    ) -> Result<Option<VersionLookup>, Fault>
+        ensures { FetchesOfLinked self.old self.new result table linked.now }
+    {
+        match linked {
+            None => Ok(None),
+            Some((symbols, _)) => self.suffixes(table, symbols.len()),
+        }
+    }
+
+    /// Reads the name of the symbol at an index, which is empty for symbol 0 (gABI 4, Symbol
+    /// Table), and returns whether the symbol is defined. If there is no such symbol, the refusal
+    /// is at `at`; if the name is refused, it is at the symbol.
+    fn read_linked(
+        &mut self,
+        linked: Option<(Table, Names)>,
+        symbol: u32,
+        at: u64,
+    ) -> Result<RelocationName, Fault>
+        requires { IfSome linked (SymbolTableInBounds self.old.src.now.seen.size) }
+        ensures { FetchesLinked self.old self.new result linked symbol at }
+    {
+        if symbol == 0 {
+            self.name.clear();
+            return Ok(RelocationName {
+                end: NameEnd::Whole,
+                is_defined: false,
+            });
+        }
+        let Some(found) = linked else {
+            return refused(at, Cause::BadLink);
+        };
+        let (symbols, names) = found;
+        let index = u64::from(symbol);
+        if index >= symbols.len() {
+            return refused(at, Cause::SymbolIndex);
+        }
+        let entry = self.ahead.symbol(self.src, &symbols, index)?;
+        let end = self.read_name(NameIndex {
+            names,
+            off: u64::from(entry.st_name),
+            at: symbols.place(index),
+        })?;
+        let is_defined = entry.st_shndx != 0;
+        Ok(RelocationName { end, is_defined })
+    }
+}
