@@ -66,12 +66,3 @@ word_fault before text rest piece more fault so parts (inr bad) =
     let here : map parsed_trait_word (pieces text) ≡ before ++ None ∷ map parsed_trait_word more =
     sym so ∙ ap (λ p. before ++ map parsed_trait_word p) parts ∙ ap (λ w. before ++ w ∷ map parsed_trait_word more) bad.1 in
     inr (bad.0, ap (list_any no_word) here ∙ any_at before (map parsed_trait_word more))
-
-all_some : (words : List Required) → list_any no_word (map Some words) ≡ false
-all_some [] = refl
-all_some (word ∷ words) = all_some words
-
--- if each piece names a trait none is missing
-pub none_lacking : (text : Option Text) (words : List RequiredTrait) → AreRequired text words → LacksWord text → ⊥
-none_lacking text words are lacks =
-    let e : true ≡ false = sym lacks ∙ ap (list_any no_word) are ∙ all_some (required_words words) in cc

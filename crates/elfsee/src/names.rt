@@ -1,13 +1,14 @@
 //! The names whose rows are shown, and the listing of a file by them.
 ghost use Rattle.std.specs.Prelude.{◌≡◌, ◌++◌, [], IfErr, IfOk};
 ghost use Rattle.std.specs.List.Sorted.{IsPermutation};
-ghost use Rattle.elf_options.specs.Prelude.{NeverDescend, listed_names, texts_of};
+ghost use Rattle.elf_options.specs.Prelude.{NeverDescend, listed_names, named_style, style_of, texts_of};
 ghost use Rattle.elfsee.specs.Naming.{EndsNames, EndsWithoutNames, ShowsRowsOf};
 
 use crate::answer_request;
-use elf_cli::{ExitLine, ListingRequest, OUT_OF_MEMORY};
+use elf_cli::{CommandArgs, ExitLine, OUT_OF_MEMORY};
 use elf_options::{NamesFault, gather_names, read_names, style_with_names};
-use elf_requests::{FilteredRequest, NameArgs, Request, Task};
+use elf_requests::{Request, Task};
+use elf_table::Caps;
 use std::alloc::Global;
 use std::fs;
 use std::io::{ErrorKind, Stderr};
@@ -23,18 +24,18 @@ use std::rt::Files;
 #[inline(never)]
 pub fn show_chosen<R: Files + Print + AllocGlobal>(
     rt: &R,
-    asked: &FilteredRequest<'_>,
+    asked: &CommandArgs<'_>,
     errors: Stderr,
 ) -> Result<ExitLine, ExitLine>
 where
     R::File: FileExt,
 {
     let mut list = Vec::new(rt.alloc());
-    if let Err(ending) = read_list(rt, &asked.names, &mut list) {
+    if let Err(ending) = read_list(rt, asked, &mut list) {
         return Err(ending);
     }
-    match sorted_names(rt.alloc(), &asked.names, &list) {
-        Ok(names) => answer_request(rt, &request_by_names(&asked.listing, &names), errors),
+    match sorted_names(rt.alloc(), asked, &list) {
+        Ok(names) => answer_request(rt, &request_by_names(asked, &names), errors),
         Err(ending) => Err(ending),
     }
 }
@@ -43,11 +44,15 @@ where
 ///
 /// # Errors
 /// The list cannot be read, is too large, or out of memory for it.
-pub fn read_list<R: Files>(rt: &R, asked: &NameArgs<'_>, text: &mut Vec<u8>) -> Result<(), ExitLine>
+pub fn read_list<R: Files>(
+    rt: &R,
+    asked: &CommandArgs<'_>,
+    text: &mut Vec<u8>,
+) -> Result<(), ExitLine>
     requires { text.old.items ≡ [] }
     ensures { IfErr result (λ ending. EndsWithoutNames ending.0 ending.1.now) }
 {
-    let Some(path) = asked.list else {
+    let Some(path) = asked.name_list else {
         return Ok(());
     };
     let mut file = match fs::open(rt, path) {
@@ -68,7 +73,7 @@ pub fn read_list<R: Files>(rt: &R, asked: &NameArgs<'_>, text: &mut Vec<u8>) -> 
 /// A line of the list cannot be looked up, or out of memory for the names.
 pub fn sorted_names<'a>(
     alloc: Global,
-    asked: &NameArgs<'a>,
+    asked: &CommandArgs<'a>,
     text: &'a [u8],
 ) -> Result<Vec<&'a [u8]>, ExitLine>
     ensures names { IfOk result (λ names.
@@ -77,27 +82,41 @@ pub fn sorted_names<'a>(
     ensures sorted { IfOk result (λ names. NeverDescend names.items) }
     ensures refused { IfErr result (λ ending. EndsWithoutNames ending.0 ending.1.now) }
 {
-    match gather_names(alloc, &asked.names, text, asked.versions) {
+    match gather_names(alloc, &asked.names, text, asked.caps.style.versions) {
         Ok(names) => Ok(names),
         Err(fault) => Err(lacking(fault)),
     }
 }
 
-/// Returns a request for those rows of a listing that have one of these names, which are sorted by
-/// their bytes.
-fn request_by_names<'a>(listing: &ListingRequest<'a>, names: &'a [&'a [u8]]) -> Request<'a>
+/// Returns these caps, with the rows of these names alone, which are sorted by their bytes.
+pub fn caps_by_names<'n>(caps: &Caps<'_>, names: &'n [&'n [u8]]) -> Caps<'n>
     requires { NeverDescend names.now }
-    ensures file { result.file ≡ listing.now.file }
-    ensures limits { result.limits ≡ listing.now.limits }
-    ensures task { ShowsRowsOf (texts_of names.now) listing.now.parts
-        listing.now.style result.task }
+    ensures limits { result.limits ≡ caps.now.limits }
+    ensures style { style_of result.style
+        ≡ named_style (texts_of names.now) (style_of caps.now.style) }
 {
+    Caps {
+        limits: caps.limits,
+        style: style_with_names(caps.style, names),
+    }
+}
+
+/// Returns the request for those rows of the listing that have one of these names, which are sorted
+/// by their bytes.
+fn request_by_names<'a>(asked: &CommandArgs<'a>, names: &'a [&'a [u8]]) -> Request<'a>
+    requires { NeverDescend names.now }
+    ensures file { result.file ≡ asked.now.file }
+    ensures limits { result.limits ≡ asked.now.caps.limits }
+    ensures task { ShowsRowsOf (texts_of names.now) asked.now.parts
+        asked.now.caps.style result.task }
+{
+    let Caps { limits, style } = caps_by_names(&asked.caps, names);
     Request {
-        file: listing.file,
-        limits: listing.limits,
+        file: asked.file,
+        limits,
         task: Task::Show {
-            parts: listing.parts,
-            style: style_with_names(listing.style, names),
+            parts: asked.parts,
+            style,
         },
     }
 }
