@@ -5,9 +5,8 @@ use Rattle.std.specs.List.{list_any}
 use Rattle.std.proofs.lemmas.Bool.Decides.{nat_tests}
 use Rattle.clap.specs.Walk.{Text}
 use Rattle.elf_model.specs.TraitWords.{Required}
-use Rattle.elf_options.specs.Prelude.{parsed_trait_word, required_words}
-use Rattle.elf_options.specs.declared.required.RequiredTrait.{RequiredTrait}
-use Rattle.elf_requests.specs.AskedTraits.{AreRequired, IsWordFault, LacksWord, onto_first, pieces}
+use Rattle.elf_options.specs.Prelude.{parsed_trait_word}
+use Rattle.elf_requests.specs.AskedTraits.{IsWordFault, onto_first, pieces}
 use Rattle.elf_cli.specs.declared.faults.RequestFault.TheVariants.{BadTrait, Memory}
 use Rattle.elf_cli.specs.declared.faults.RequestFault.{RequestFault}
 

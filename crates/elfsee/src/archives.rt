@@ -36,10 +36,10 @@ where
         return list_with(rt, file, asked.parts, &asked.caps);
     }
     let mut list = Vec::new(rt.alloc());
-    if let Err(ending) = read_list(rt, asked, &mut list) {
+    if let Err(ending) = read_list(rt, asked.name_list, &mut list) {
         return Err(ending);
     }
-    match sorted_names(rt.alloc(), asked, &list) {
+    match sorted_names(rt.alloc(), &asked.names, asked.caps.style.versions, &list) {
         Ok(texts) => list_with(rt, file, asked.parts, &caps_by_names(&asked.caps, &texts)),
         Err(ending) => Err(ending),
     }

@@ -34,10 +34,10 @@ where
         return list_with(rt, asked, &rule_of(asked), terminal);
     }
     let mut list = Vec::new(rt.alloc());
-    if let Err(ending) = read_list(rt, asked, &mut list) {
+    if let Err(ending) = read_list(rt, asked.name_list, &mut list) {
         return Err(ending);
     }
-    match sorted_names(rt.alloc(), asked, &list) {
+    match sorted_names(rt.alloc(), &asked.names, asked.caps.style.versions, &list) {
         Ok(texts) => list_with(rt, asked, &rule_by_names(asked, &texts), terminal),
         Err(ending) => Err(ending),
     }

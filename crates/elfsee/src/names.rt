@@ -31,11 +31,11 @@ where
     R::File: FileExt,
 {
     let mut list = Vec::new(rt.alloc());
-    if let Err(ending) = read_list(rt, asked, &mut list) {
+    if let Err(ending) = read_list(rt, asked.name_list, &mut list) {
         return Err(ending);
     }
-    match sorted_names(rt.alloc(), asked, &list) {
-        Ok(names) => answer_request(rt, &request_by_names(asked, &names), errors),
+    match sorted_names(rt.alloc(), &asked.names, asked.caps.style.versions, &list) {
+        Ok(names) => answer_request(rt, &request_by_names(asked.file, asked, &names), errors),
         Err(ending) => Err(ending),
     }
 }
@@ -44,15 +44,11 @@ where
 ///
 /// # Errors
 /// The list cannot be read, is too large, or out of memory for it.
-pub fn read_list<R: Files>(
-    rt: &R,
-    asked: &CommandArgs<'_>,
-    text: &mut Vec<u8>,
-) -> Result<(), ExitLine>
+pub fn read_list<R: Files>(rt: &R, list: Option<&str>, text: &mut Vec<u8>) -> Result<(), ExitLine>
     requires { text.old.items ≡ [] }
     ensures { IfErr result (λ ending. EndsWithoutNames ending.0 ending.1.now) }
 {
-    let Some(path) = asked.name_list else {
+    let Some(path) = list else {
         return Ok(());
     };
     let mut file = match fs::open(rt, path) {
@@ -66,23 +62,23 @@ pub fn read_list<R: Files>(
     }
 }
 
-/// Returns the requested names, those of the list's text after those of the arguments, sorted by
-/// their bytes.
+/// Returns the names of the arguments, which may have a version or not, and those of the list's text,
+/// sorted by their bytes.
 ///
 /// # Errors
 /// A line of the list cannot be looked up, or out of memory for the names.
 pub fn sorted_names<'a>(
     alloc: Global,
-    asked: &CommandArgs<'a>,
+    names: &[&'a str],
+    versions: bool,
     text: &'a [u8],
 ) -> Result<Vec<&'a [u8]>, ExitLine>
-    ensures names { IfOk result (λ names.
-        IsPermutation (texts_of asked.now.names.items ++ listed_names text.now)
-        (texts_of names.items)) }
+    ensures names { IfOk result (λ sorted.
+        IsPermutation (texts_of names.now ++ listed_names text.now) (texts_of sorted.items)) }
     ensures sorted { IfOk result (λ names. NeverDescend names.items) }
     ensures refused { IfErr result (λ ending. EndsWithoutNames ending.0 ending.1.now) }
 {
-    match gather_names(alloc, &asked.names, text, asked.caps.style.versions) {
+    match gather_names(alloc, names, text, versions) {
         Ok(names) => Ok(names),
         Err(fault) => Err(lacking(fault)),
     }
@@ -101,18 +97,22 @@ pub fn caps_by_names<'n>(caps: &Caps<'_>, names: &'n [&'n [u8]]) -> Caps<'n>
     }
 }
 
-/// Returns the request for those rows of the listing that have one of these names, which are sorted
-/// by their bytes.
-fn request_by_names<'a>(asked: &CommandArgs<'a>, names: &'a [&'a [u8]]) -> Request<'a>
+/// Returns the request for those rows of the file's listing that have one of these names, which are
+/// sorted by their bytes.
+fn request_by_names<'a>(
+    file: Option<&'a str>,
+    asked: &CommandArgs<'_>,
+    names: &'a [&'a [u8]],
+) -> Request<'a>
     requires { NeverDescend names.now }
-    ensures file { result.file ≡ asked.now.file }
+    ensures file { result.file ≡ file.entry }
     ensures limits { result.limits ≡ asked.now.caps.limits }
     ensures task { ShowsRowsOf (texts_of names.now) asked.now.parts
         asked.now.caps.style result.task }
 {
     let Caps { limits, style } = caps_by_names(&asked.caps, names);
     Request {
-        file: asked.file,
+        file,
         limits,
         task: Task::Show {
             parts: asked.parts,
