@@ -224,8 +224,8 @@ fn program<'a>(alloc: Global) -> Result<Command<'a>, AllocError>
     program.bin_name("elfsee")
 }
 
-/// Returns a command whose errors end in its usage, given the names of the parts of a listing and of
-/// those of an archive's listing.
+/// Returns a command whose errors end in its usage, given the names of the parts of a listing and
+/// of those of an archive's listing.
 ///
 /// # Errors
 /// Out of memory; nothing of it is kept then.

@@ -62,8 +62,8 @@ pub fn read_list<R: Files>(rt: &R, list: Option<&str>, text: &mut Vec<u8>) -> Re
     }
 }
 
-/// Returns the names of the arguments, which may have a version or not, and those of the list's text,
-/// sorted by their bytes.
+/// Returns the names of the arguments and those of the list's text, sorted by their bytes; each may
+/// have a version, or none may.
 ///
 /// # Errors
 /// A line of the list cannot be looked up, or out of memory for the names.
