@@ -1,7 +1,6 @@
 pub mod BuildingLaws
 pub mod FaultLaws
-pub mod ReadLaws
-pub mod RowNameLaws
+pub mod OptionLaws
 pub mod LineLaws
 pub mod MarkedText
 pub mod OutputLaws

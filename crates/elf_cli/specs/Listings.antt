@@ -1,59 +1,45 @@
 -- The listings of one file that arguments request, and the version of the program.
-use Rattle.std.specs.Prelude.{◌≡◌, false, ◌⊎◌, List, codes, Option, None, Some}
-use Rattle.std.specs.Borrow.{Bor}
-use Rattle.clap.specs.Walk.{Row, Text, first_of}
+use Rattle.std.specs.Prelude.{◌≡◌, Bool, true, false, not, ◌&&◌, ◌⊎◌, List, Option, None}
+use Rattle.clap.specs.Walk.{Row, Text}
+use Rattle.elf_cli.specs.Args.{AreArgs, IsUnread}
 use Rattle.elf_cli.specs.Faults.{IsUnasked}
-use Rattle.elf_cli.specs.Options.{AreLimitOptions, AreParts, IsStyle}
-use Rattle.elf_cli.specs.RowNames.{has_name_option}
+use Rattle.elf_cli.specs.UsageFaults.{HasUsageFault, usage_fault, selects_rows}
 use Rattle.elf_cli.specs.Reading.{AreRead, AreRefused}
+use Rattle.elf_cli.specs.declared.command_args.CommandArgs.{CommandArgs}
+use Rattle.elf_cli.specs.declared.command_args.CommandName.{CommandName}
+use Rattle.elf_cli.specs.declared.command_args.CommandName.TheVariants.{Show, Sample, Version}
 use Rattle.elf_cli.specs.declared.faults.RequestFault.{RequestFault}
-use Rattle.elf_cli.specs.declared.listings.ListingRequest.{ListingRequest}
-use Rattle.elf_cli.specs.declared.listings.ShowRequest.{ShowRequest}
-use Rattle.elf_cli.specs.declared.listings.ShowRequest.TheVariants.{Listed, Version}
 
--- the file whose path is among the values, or for `sample` none
-abbrev pub IsOfFile : Text → List Row → Option (Bor Text) → Type 0
-IsOfFile command rows (Some path) = (command ≡ codes "show") × (first_of (codes "FILE") rows ≡ Some path.now)
-IsOfFile command rows None = command ≡ codes "sample"
+abbrev lists_one : CommandName → Bool
+lists_one Show = true
+lists_one Sample = true
+lists_one Version = true
+lists_one command = false
 
--- a command with the values of its arguments requests just this listing, of every row
-pub record IsListing (command : Text) (rows : List Row) (asked : ListingRequest) : Type 0 where
-  pub of_file : IsOfFile command rows asked.file
-  pub limits : AreLimitOptions rows asked.limits
-  pub style : IsStyle rows asked.style
-  pub parts : AreParts rows asked.parts
-  pub every : has_name_option rows ≡ false
+-- whether arguments request a listing of one file, of all its rows, or the version
+abbrev pub is_listing : CommandArgs → Bool
+is_listing args = lists_one args.command && not (selects_rows args)
 
--- a command with the values of its arguments requests this, by what such values request
-abbrev pub AskedBy : {A : Type 0} → (Text → List Row → A → Type 0) → Option (Text × List Row) → A → Type 0
-AskedBy asks None asked = ⊥
-AskedBy asks (Some (command, rows)) asked = asks command rows asked
+-- a command with the values of its arguments is such a request, without a fault
+pub record ListsBy (matches : Option (Text × List Row)) (args : CommandArgs) : Type 0 where
+  pub read : AreArgs matches args
+  pub listed : is_listing args ≡ true
+  pub whole : usage_fault args ≡ None
 
--- nothing of the kind is requested
-abbrev pub NoneAsked : {A : Type 0} → (Text → List Row → A → Type 0) → Option (Text × List Row) → Type 0
-NoneAsked {A} asks matches = (asked : A) → AskedBy asks matches asked → ⊥
+-- why a request is refused: it is no such, or has the fault that is reported
+abbrev pub IsNoListing : CommandArgs → RequestFault → Type 0
+IsNoListing args reported = ((is_listing args ≡ false) × IsUnasked reported) ⊎ HasUsageFault args reported
 
--- the version of the program is requested
-abbrev pub AsksVersion : Option (Text × List Row) → Type 0
-AsksVersion None = ⊥
-AsksVersion (Some (command, rows)) = command ≡ codes "version"
+-- the arguments are not read, or the request that they are is refused
+abbrev pub ListsNothing : Option (Text × List Row) → RequestFault → Type 0
+ListsNothing matches reported = IsUnread matches reported ⊎ ((args : CommandArgs) × AreArgs matches args × IsNoListing args reported)
 
--- a command with the values of its arguments requests just this
-abbrev pub ShowsBy : Option (Text × List Row) → ShowRequest → Type 0
-ShowsBy matches (Listed listing) = AskedBy IsListing matches listing
-ShowsBy matches Version = AsksVersion matches
+-- WHAT IS TO BE SHOWN: the command line accepts the arguments, and the command that it parses is
+-- such a request
+abbrev pub WordsShow : List Text → CommandArgs → Type 0
+WordsShow words args = (matches : Option (Text × List Row)) × AreRead words matches × ListsBy matches args
 
--- neither a listing of one file is requested nor the version
-abbrev pub NothingShown : Option (Text × List Row) → Type 0
-NothingShown matches = (asked : ShowRequest) → ShowsBy matches asked → ⊥
-
--- WHAT IS TO BE SHOWN: the command line accepts the arguments, and the command that it parses
--- requests this listing, or the version
-abbrev pub WordsShow : List Text → ShowRequest → Type 0
-WordsShow words asked = (matches : Option (Text × List Row)) × AreRead words matches × ShowsBy matches asked
-
--- WHY NOTHING IS: the command line rejects the arguments, or parses a command that requests neither
--- a listing of one file nor the version
+-- WHY NOTHING IS: the command line rejects the arguments, or parses a command that is refused
 abbrev pub ShowsNothing : List Text → RequestFault → Type 0
-ShowsNothing words fault =
-    AreRefused words fault ⊎ ((matches : Option (Text × List Row)) × AreRead words matches × NothingShown matches × IsUnasked fault)
+ShowsNothing words reported =
+    AreRefused words reported ⊎ ((matches : Option (Text × List Row)) × AreRead words matches × ListsNothing matches reported)

@@ -1,30 +1,12 @@
--- The values of options, and the parts of a listing.
-use Rattle.std.specs.Prelude.{Bool, false, if◌then◌else◌, bytes_eq, ◌&&◌, not, ℕ, ◌≡◌, ◌<◌, ◌^◌, List, [], ◌∷◌, codes, Option, None, Some}
-use Rattle.std.specs.List.{list_any}
+-- The values of a command's arguments, each alone.
+use Rattle.std.specs.Prelude.{Bool, true, false, ◌||◌, if◌then◌else◌, bytes_eq, find, is_some, ℕ, ◌≡◌, ◌<◌, ◌≤◌, ◌^◌, List, [], ◌∷◌, codes, Option, None, Some, option_and_then, unwrap_or}
 use Rattle.std.specs.Str.Parse.{IsNumeral, digits_value, without_leading_plus}
-use Rattle.clap.specs.Walk.{Row, Text, first_of, one_of}
-use Rattle.elf_model.specs.Prelude.{DYNAMIC, EveryRow, HEADER, NOTES, RELOCS, SECTIONS, SEGMENTS, SYMBOLS, VERSIONS, all_parts, name_of as name_in_table}
+use Rattle.clap.specs.Walk.{Row, Text, all_of, first_of}
+use Rattle.clap.specs.declared.parser.matches.ValueSource.{ValueSource}
+use Rattle.clap.specs.declared.parser.matches.ValueSource.TheVariants.{CommandLine, DefaultValue}
+use Rattle.elf_model.specs.Prelude.{DYNAMIC, HEADER, NOTES, RELOCS, SECTIONS, SEGMENTS, SYMBOLS, VERSIONS, all_parts}
 use Rattle.elf_model.specs.declared.formats.Format.TheVariants.{Columns, Object}
 use Rattle.elf_model.specs.declared.formats.Format.{Format}
-use Rattle.elf_record.specs.declared.parts.Parts.{Parts}
-use Rattle.elf_options.specs.Prelude.{choice_of}
-use Rattle.elf_options.specs.declared.caps.Limits.{Limits}
-use Rattle.elf_options.specs.declared.caps.ListingStyle.{ListingStyle}
-
--- the parts that can be selected, by their names: symbol versions in GNU listings alone
-abbrev pub part_names : Bool → List (ℕ × List ℕ)
-part_names gnu =
-    (HEADER, codes "header") ∷ (SECTIONS, codes "sections") ∷ (SEGMENTS, codes "segments") ∷ (SYMBOLS, codes "symbols")
-    ∷ (RELOCS, codes "relocs") ∷ (NOTES, codes "notes") ∷ (DYNAMIC, codes "dynamic")
-    ∷ (if gnu then (VERSIONS, codes "versions") ∷ [] else [])
-
--- the parts of an archive that can be selected: its members alone, or a part of their listings
-abbrev pub member_part_names : Bool → List (ℕ × List ℕ)
-member_part_names gnu = (0, codes "members") ∷ part_names gnu
-
--- whether a text is the name of a part
-abbrev pub is_part : Bool → Text → Bool
-is_part gnu name = list_any (λ part. bytes_eq name part.1) (part_names gnu)
 
 -- the value of decimal digits, with an optional plus before them
 abbrev decimal_value : Text → ℕ
@@ -34,57 +16,68 @@ decimal_value text = digits_value 10 (without_leading_plus text)
 abbrev SpellsNumber : Text → Type 0
 SpellsNumber text = IsNumeral 10 (without_leading_plus text) × (decimal_value text < 2 ^ 64)
 
--- the number that is the value of an option, if there is one
+-- the number that is the value of an argument, if there is one
 abbrev pub HasNumber : Option Text → Option ℕ → Type 0
 HasNumber None value = value ≡ None
 HasNumber (Some text) value = SpellsNumber text × (value ≡ Some (decimal_value text))
 
--- how many headers are allowed and how many bytes may be read, by the values of the options
-pub record AreLimitOptions (rows : List Row) (limits : Limits) : Type 0 where
-  pub headers : HasNumber (one_of (codes "headers") rows) (Some limits.headers)
-  pub budget : HasNumber (one_of (codes "max-read") rows) limits.budget
+-- a number within a range: the one that is the value of an argument, if that is within the range
+pub record IsCount (least most : ℕ) (text : Option Text) (number : ℕ) : Type 0 where
+  pub low : least ≤ number
+  pub high : number ≤ most
+  pub spelled : (value : ℕ) → HasNumber text (Some value) → least ≤ value → value ≤ most → number ≡ value
 
 -- whether an option without a value is set, by its text among the rows
 abbrev pub is_option_set : Option Text → Bool
 is_option_set None = false
 is_option_set (Some text) = bytes_eq text (codes "true")
 
--- whether GNU listings are requested
-abbrev pub has_gnu_option : List Row → Bool
-has_gnu_option rows = is_option_set (first_of (codes "gnu") rows)
+-- a value comes from the command line, and is not a default
+abbrev pub is_of_words : Option ValueSource → Bool
+is_of_words None = false
+is_of_words (Some CommandLine) = true
+is_of_words (Some DefaultValue) = false
 
--- whether the program headers alone are to be used, while only a loader's lookup does that and none
--- is requested
-abbrev pub gnu_option_is_missing : List Row → Bool
-gnu_option_is_missing rows = is_option_set (first_of (codes "by-segments") rows) && not (has_gnu_option rows)
+-- an option is given on the command line
+abbrev pub is_given : Text → List Row → Bool
+is_given id rows = is_of_words (option_and_then (λ row. row.source) (find (λ row. bytes_eq row.id id) rows))
 
--- whether the version of a symbol is to follow its name
-abbrev pub has_versions_option : List Row → Bool
-has_versions_option rows = is_option_set (first_of (codes "versions") rows)
-
--- whether it is, in a listing that is not GNU
-abbrev pub versions_without_gnu : List Row → Bool
-versions_without_gnu rows = has_versions_option rows && not (has_gnu_option rows)
+-- the values of an argument
+abbrev pub values_of : Text → List Row → List Text
+values_of id rows = unwrap_or (all_of id rows) []
 
 -- how a line is written, by whether JSON objects are requested
 abbrev pub asked_format : List Row → Format
 asked_format rows = if is_option_set (first_of (codes "json") rows) then Object else Columns
 
--- how rows are shown, by the values of the options
-pub record IsStyle (rows : List Row) (style : ListingStyle) : Type 0 where
-  pub cap : HasNumber (one_of (codes "names") rows) (Some style.cap.bytes)
-  pub gnu : style.gnu ≡ has_gnu_option rows
-  pub by_segments : style.by_segments ≡ is_option_set (first_of (codes "by-segments") rows)
-  pub format : style.format ≡ asked_format rows
-  pub choice : choice_of style.choice ≡ EveryRow
-  pub versions : style.versions ≡ has_versions_option rows
-  pub allowed : versions_without_gnu rows ≡ false
+-- the parts of a listing, by their names
+abbrev pub part_names : List (ℕ × List ℕ)
+part_names =
+    (HEADER, codes "header") ∷ (SECTIONS, codes "sections") ∷ (SEGMENTS, codes "segments") ∷ (SYMBOLS, codes "symbols")
+    ∷ (RELOCS, codes "relocs") ∷ (NOTES, codes "notes") ∷ (DYNAMIC, codes "dynamic") ∷ (VERSIONS, codes "versions") ∷ []
 
--- the part with this name, or without a name all, of GNU listings or of the standards' alone
-abbrev pub ArePartsOf : Bool → Option Text → Parts → Type 0
-ArePartsOf gnu None parts = parts.0 ≡ all_parts gnu
-ArePartsOf gnu (Some name) parts = name_in_table (part_names gnu) parts.0 ≡ Some name
+-- those of an archive: its members alone, or a part of their listings
+abbrev pub member_part_names : List (ℕ × List ℕ)
+member_part_names = (0, codes "members") ∷ part_names
 
--- which parts are listed, by the values of the options
-abbrev pub AreParts : List Row → Parts → Type 0
-AreParts rows = ArePartsOf (has_gnu_option rows) (first_of (codes "only") rows)
+-- the number with this name in a table; the command line accepts no names but those of the parts
+abbrev number_named : List (ℕ × List ℕ) → Text → ℕ
+number_named [] name = VERSIONS
+number_named (part ∷ []) name = part.0
+number_named (part ∷ (other ∷ rest)) name = if bytes_eq name part.1 then part.0 else number_named (other ∷ rest) name
+
+abbrev pub part_number : Text → ℕ
+part_number name = number_named member_part_names name
+
+-- whether only the rows of some names are requested: there is a name, or a file of names
+abbrev pub has_name_option : List Row → Bool
+has_name_option rows = is_some (first_of (codes "name") rows) || is_some (first_of (codes "name-list") rows)
+
+abbrev parts_by : (named gnu : Bool) → Option Text → ℕ
+parts_by named gnu (Some name) = part_number name
+parts_by named gnu None = if named then SYMBOLS else all_parts gnu
+
+-- the part that is named; without a name the symbols if rows are selected by name, otherwise all
+-- parts, of GNU listings or of the standards' alone
+abbrev pub asked_parts : List Row → ℕ
+asked_parts rows = parts_by (has_name_option rows) (is_option_set (first_of (codes "gnu") rows)) (first_of (codes "only") rows)

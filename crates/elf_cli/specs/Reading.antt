@@ -1,5 +1,5 @@
 -- How the command line parses arguments.
-use Rattle.std.specs.Prelude.{◌≡◌, true, List, [], map, Option}
+use Rattle.std.specs.Prelude.{◌≡◌, List, [], map, Option}
 use Rattle.clap.specs.Walk.{Row, Text, texts}
 use Rattle.clap.specs.Simple.{subcommand_of}
 use Rattle.clap.specs.Faults.{fault_of}
@@ -10,8 +10,8 @@ use Rattle.elf_cli.specs.declared.faults.RequestFault.{RequestFault}
 
 -- the names of the parts, as the parser of the arguments has them
 pub record ArePartNames (parts : PartWords) : Type 0 where
-  pub listed : texts parts.listed.now ≡ map (λ part. part.1) (part_names true)
-  pub archived : texts parts.archived.now ≡ map (λ part. part.1) (member_part_names true)
+  pub listed : texts parts.listed.now ≡ map (λ part. part.1) part_names
+  pub archived : texts parts.archived.now ≡ map (λ part. part.1) member_part_names
 
 -- WHAT ARGUMENTS ARE READ AS: the command line accepts them, and parses them to this command with
 -- the values of its arguments

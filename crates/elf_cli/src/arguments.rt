@@ -157,19 +157,19 @@ pub(crate) const ROOT: ArgSpec = ArgSpec {
 pub(crate) const MAX_TRIES: ArgSpec = ArgSpec {
     name: "max-tries",
     kind: ArgKind::Number(ValueParser::Unsigned(0, 9_223_372_036_854_775_807)),
-    help: "Try at most N paths for a FILE: 0 to 9223372036854775807 [default: 100,000]",
+    help: "Try at most N paths for a FILE: 0 to 9223372036854775807 [default: 100000]",
 };
 
 pub(crate) const UNUSED: ArgSpec = ArgSpec {
     name: "unused",
     kind: ArgKind::Flag,
-    help: "Tell which libraries FILE names itself and uses nothing of, too",
+    help: "Also print which libraries FILE names itself and uses nothing of",
 };
 
 pub(crate) const PROBLEMS: ArgSpec = ArgSpec {
     name: "problems",
     kind: ArgKind::Flag,
-    help: "Write of all lines only those that make the status 1",
+    help: "Print only the lines that make the status 1",
 };
 
 pub(crate) const CACHE: ArgSpec = ArgSpec {

@@ -13,6 +13,8 @@ use std::alloc::{AllocError, Global};
 /// The description of a command.
 pub(crate) struct CommandSpec {
     pub(crate) name: &'static str,
+    /// The program's name and that of the command, as an error's usage has them.
+    pub(crate) usage: &'static str,
     /// What help prints before the arguments, and after them.
     pub(crate) about: &'static str,
     pub(crate) more: &'static str,

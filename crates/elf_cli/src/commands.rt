@@ -3,12 +3,9 @@ ghost use Rattle.std.specs.Prelude.{◌≡◌, IfOk};
 ghost use Rattle.clap.specs.Simple.{App};
 ghost use Rattle.clap.specs.Words.{app_of};
 ghost use Rattle.clap.specs.declared.builder.value_parser.ValueParser.TheVariants.{Names};
-ghost use Rattle.elf_cli.specs.Building.{IsBuilt};
 ghost use Rattle.elf_cli.specs.CommandLine.{ArgWords};
 ghost use Rattle.elf_cli.specs.Described.{add_subcommands};
-ghost use Rattle.elf_cli.specs.CommandLine.{archive_command, check_command, find_command, list_command, program};
-ghost use Rattle.elf_cli.specs.CommandLine.{needs_command, sample_command, show_command, traits_command};
-ghost use Rattle.elf_cli.specs.CommandLine.{with_many_files, with_one_file, without_command};
+ghost use Rattle.elf_cli.specs.CommandLine.{program, with_many_files, with_one_file, without_command};
 
 use crate::arguments::{
     AS_LOADED, AS_LOADER, BINDINGS, BY_SEGMENTS, CACHE, DEFAULT, EXPLAIN, FILE, GNU, HEADERS,
@@ -16,6 +13,7 @@ use crate::arguments::{
     NO_CACHE, ONLY, PATH, PROBLEMS, REQUIRE, ROOT, ROW_NAME, SECTION, UNUSED, WITH_VERSIONS,
 };
 use crate::builder::{CommandSpec, add_subcommands, clap_command_of, new_command, with_command};
+use crate::command_args::CommandName;
 use crate::texts::{ABOUT, CHECKED, FOUND, HARDENED, ITEMS, LISTED, MEMBERS, MORE, NEEDED, SHOWN};
 use clap::Command;
 use clap::builder::ValueParser;
@@ -23,6 +21,7 @@ use std::alloc::{AllocError, Global};
 
 const SHOW: CommandSpec = CommandSpec {
     name: "show",
+    usage: "elfsee show",
     about: "List a whole file or one part of it",
     more: SHOWN,
     words: &[
@@ -42,6 +41,7 @@ const SHOW: CommandSpec = CommandSpec {
 
 const SAMPLE: CommandSpec = CommandSpec {
     name: "sample",
+    usage: "elfsee sample",
     about: "List a small file that is built into the program",
     more: "Example: elfsee sample --only header",
     words: &[
@@ -58,6 +58,7 @@ const SAMPLE: CommandSpec = CommandSpec {
 
 const FIND: CommandSpec = CommandSpec {
     name: "find",
+    usage: "elfsee find",
     about: "Look up a name in the file's own hash table",
     more: FOUND,
     words: &[HEADERS, MAX_READ, AS_LOADER, AS_LOADED, JSON, FILE, NAME],
@@ -65,6 +66,7 @@ const FIND: CommandSpec = CommandSpec {
 
 const APPLY: CommandSpec = CommandSpec {
     name: "apply",
+    usage: "elfsee apply",
     about: "Write a section's bytes with its relocations applied",
     more: ITEMS,
     words: &[HEADERS, MAX_READ, LAYOUT, EXPLAIN, FILE, SECTION, ITEM],
@@ -72,6 +74,7 @@ const APPLY: CommandSpec = CommandSpec {
 
 const CHECK: CommandSpec = CommandSpec {
     name: "check",
+    usage: "elfsee check",
     about: "Check many files: which are malformed, where and why",
     more: CHECKED,
     words: &[
@@ -90,6 +93,7 @@ const CHECK: CommandSpec = CommandSpec {
 
 const LIST_FILES: CommandSpec = CommandSpec {
     name: "list",
+    usage: "elfsee list",
     about: "List many files, whole or one part of each",
     more: LISTED,
     words: &[
@@ -111,6 +115,7 @@ const LIST_FILES: CommandSpec = CommandSpec {
 
 const TRAITS: CommandSpec = CommandSpec {
     name: "traits",
+    usage: "elfsee traits",
     about: "Print how each of many files is hardened",
     more: HARDENED,
     words: &[HEADERS, MAX_READ, REQUIRE, JSON, LIST, PATH],
@@ -118,6 +123,7 @@ const TRAITS: CommandSpec = CommandSpec {
 
 const NEEDS: CommandSpec = CommandSpec {
     name: "needs",
+    usage: "elfsee needs",
     about: "Print which libraries programs need, and where they are",
     more: NEEDED,
     words: &[
@@ -140,6 +146,7 @@ const NEEDS: CommandSpec = CommandSpec {
 
 const ARCHIVE: CommandSpec = CommandSpec {
     name: "archive",
+    usage: "elfsee archive",
     about: "List the members of an archive, such as a static library, and their contents",
     more: MEMBERS,
     words: &[
@@ -159,6 +166,7 @@ const ARCHIVE: CommandSpec = CommandSpec {
 
 const VERSION: CommandSpec = CommandSpec {
     name: "version",
+    usage: "elfsee version",
     about: "Print the version of this program",
     more: "Example: elfsee version",
     words: &[],
@@ -216,83 +224,38 @@ fn program<'a>(alloc: Global) -> Result<Command<'a>, AllocError>
     program.bin_name("elfsee")
 }
 
-/// Returns the command that lists a file, given the names of the parts that it can list alone.
+/// Returns a command whose errors end in its usage, given the names of the parts of a listing and
+/// of those of an archive's listing.
 ///
 /// # Errors
 /// Out of memory; nothing of it is kept then.
-pub fn show_command<'a>(alloc: Global, parts: &'a [&'a str]) -> Result<Command<'a>, AllocError>
-    ensures { IfOk result (IsBuilt (show_command parts.entry)) }
-{
-    clap_command_of(alloc, &SHOW, ValueParser::Names(parts))
+pub(crate) fn command_with_usage<'a>(
+    alloc: Global,
+    command: CommandName,
+    parts: &'a [&'a str],
+    member_parts: &'a [&'a str],
+) -> Result<Command<'a>, AllocError> {
+    match command {
+        CommandName::Show => named_command(alloc, &SHOW, parts),
+        CommandName::Sample => named_command(alloc, &SAMPLE, parts),
+        CommandName::Find => named_command(alloc, &FIND, parts),
+        CommandName::Apply => named_command(alloc, &APPLY, parts),
+        CommandName::Check => named_command(alloc, &CHECK, parts),
+        CommandName::List => named_command(alloc, &LIST_FILES, parts),
+        CommandName::Traits => named_command(alloc, &TRAITS, parts),
+        CommandName::Needs => named_command(alloc, &NEEDS, parts),
+        CommandName::Archive => named_command(alloc, &ARCHIVE, member_parts),
+        CommandName::Version => named_command(alloc, &VERSION, parts),
+    }
 }
 
-/// Returns the command that lists the sample, given the names of the parts that it can list alone.
-///
-/// # Errors
-/// Out of memory; nothing of it is kept then.
-pub fn sample_command<'a>(alloc: Global, parts: &'a [&'a str]) -> Result<Command<'a>, AllocError>
-    ensures { IfOk result (IsBuilt (sample_command parts.entry)) }
-{
-    clap_command_of(alloc, &SAMPLE, ValueParser::Names(parts))
-}
-
-/// Returns the command that looks up a name.
-///
-/// # Errors
-/// Out of memory; nothing of it is kept then.
-pub fn find_command<'a>(alloc: Global) -> Result<Command<'a>, AllocError>
-    ensures { IfOk result (IsBuilt find_command) }
-{
-    clap_command_of(alloc, &FIND, ValueParser::Names(&[]))
-}
-
-/// Returns the command that checks many files, given the names of the parts that it can check.
-///
-/// # Errors
-/// Out of memory; nothing of it is kept then.
-pub fn check_command<'a>(alloc: Global, parts: &'a [&'a str]) -> Result<Command<'a>, AllocError>
-    ensures { IfOk result (IsBuilt (check_command parts.entry)) }
-{
-    clap_command_of(alloc, &CHECK, ValueParser::Names(parts))
-}
-
-/// Returns the command that lists many files, given the names of the parts that it can list alone.
-///
-/// # Errors
-/// Out of memory; nothing of it is kept then.
-pub fn list_command<'a>(alloc: Global, parts: &'a [&'a str]) -> Result<Command<'a>, AllocError>
-    ensures { IfOk result (IsBuilt (list_command parts.entry)) }
-{
-    clap_command_of(alloc, &LIST_FILES, ValueParser::Names(parts))
-}
-
-/// Returns the command that lists how files are hardened.
-///
-/// # Errors
-/// Out of memory; nothing of it is kept then.
-pub fn traits_command<'a>(alloc: Global) -> Result<Command<'a>, AllocError>
-    ensures { IfOk result (IsBuilt traits_command) }
-{
-    clap_command_of(alloc, &TRAITS, ValueParser::Names(&[]))
-}
-
-/// Returns the command that lists which libraries a program needs.
-///
-/// # Errors
-/// Out of memory; nothing of it is kept then.
-pub fn needs_command<'a>(alloc: Global) -> Result<Command<'a>, AllocError>
-    ensures { IfOk result (IsBuilt needs_command) }
-{
-    clap_command_of(alloc, &NEEDS, ValueParser::Names(&[]))
-}
-
-/// Returns the command that lists an archive, given the names of its parts: the members, and those
-/// of a listing.
-///
-/// # Errors
-/// Out of memory; nothing of it is kept then.
-pub fn archive_command<'a>(alloc: Global, parts: &'a [&'a str]) -> Result<Command<'a>, AllocError>
-    ensures { IfOk result (IsBuilt (archive_command parts.entry)) }
-{
-    clap_command_of(alloc, &ARCHIVE, ValueParser::Names(parts))
+/// Returns the command for a description, with the name that its usage has, given the names of its
+/// parts.
+fn named_command<'a>(
+    alloc: Global,
+    command: &CommandSpec,
+    parts: &'a [&'a str],
+) -> Result<Command<'a>, AllocError> {
+    let usage = command.usage;
+    clap_command_of(alloc, command, ValueParser::Names(parts))?.bin_name(usage)
 }

@@ -57,7 +57,7 @@ Options, before or after FILE; 'elfsee help COMMAND' prints those of one command
   --cache FILE  for needs: search the loader's cache FILE instead of /etc/ld.so.cache
   --no-cache    for needs: do not search a loader's cache
   --max-tries N for needs: try at most N paths for a FILE: 0 to 9223372036854775807
-                [default: 100,000]
+                [default: 100000]
   --symbols     for needs: also print which object each symbol comes from
   --unused      for needs: also print which libraries FILE names itself and uses nothing of
   --problems    for needs: print only the lines that make the status 1
@@ -73,8 +73,8 @@ Exit status:
   1  refused, or more to read than allowed: the last line is '!', an offset and the cause;
      or there is no such name: the line 'F absent' with the number of names compared;
      check and list: some files are refused; archive: the archive or a member is refused;
-     traits: some files are refused, or lack a required word; needs: a library is missing or
-     refused, or a symbol is unbound, nover or refused
+     traits: some files are refused, or lack a required word; needs: a library, the interpreter
+     or a version is missing, an object is refused, or a symbol is unbound, nover or refused
   2  the arguments are invalid, or help was requested, and no file is opened: standard error
      says which argument is invalid and why, or has the help, or one of these lines:
        elfsee: words are not UTF-8

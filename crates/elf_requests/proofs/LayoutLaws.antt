@@ -1,5 +1,5 @@
 -- The layouts that arguments give, one by one.
-use Rattle.std.proofs.Common.{◌≡◌, ℕ, zero, suc, ◌+◌, ◌<◌, List, [], ◌∷◌, length, drop, slice_index_or, Result, Err, refl, sym, subst, inl, inr, arith}
+use Rattle.std.proofs.Common.{◌≡◌, ℕ, zero, suc, ◌+◌, ◌<◌, List, [], ◌∷◌, length, drop, slice_index_or, Result, Err, subst, inl, inr, arith}
 use Rattle.std.specs.Borrow.{Bor}
 use Rattle.clap.specs.Walk.{Text, texts}
 use Rattle.elf_model.specs.Placing.{Layout}
@@ -25,14 +25,3 @@ pub put_at : (words : List (Bor Text)) (i : ℕ) (d : Bor Text) (old new : Layou
 put_at words i d old new result within puts lays =
     let one : i + 1 ≡ suc i = omega arith in
     put_before words i d old new result within puts (subst (λ n. LaysWords new (texts (drop n words)) result) one lays)
-
-error_same : (result : Result Layout RequestFault) (x y : RequestFault) → result ≡ Err x → result ≡ Err y → x ≡ y
-error_same result x y one other = cc
-
--- no arguments have a fault that no argument can have
-pub never_refused : (fault : RequestFault) → ((word : Text) (old : Layout) → RefusesItem word old fault → ⊥) → (words : List Text) (old : Layout)
-    → LaysWords old words (Err fault) → ⊥
-never_refused fault never [] old lays = cc
-never_refused fault never (word ∷ words) old (inl (new, puts, lays)) = never_refused fault never words new lays
-never_refused fault never (word ∷ words) old (inr (told, same, refuses)) =
-    never word old (subst (RefusesItem word old) (sym (error_same (Err fault) fault told refl same)) refuses)

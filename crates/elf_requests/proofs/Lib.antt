@@ -1,12 +1,5 @@
-pub mod CheckLaws
-pub mod ApplyLaws
-pub mod ArchiveLaws
-pub mod FaultLaws
 pub mod LayoutLaws
-pub mod ListingLaws
-pub mod OnceLaws
 pub mod PieceLaws
-pub mod RowLaws
 pub mod AnswerLaws
 pub mod TaskLaws
 pub mod LookupLaws

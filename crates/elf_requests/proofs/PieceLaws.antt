@@ -5,9 +5,8 @@ use Rattle.std.specs.List.{list_any}
 use Rattle.std.proofs.lemmas.Bool.Decides.{nat_tests}
 use Rattle.clap.specs.Walk.{Text}
 use Rattle.elf_model.specs.TraitWords.{Required}
-use Rattle.elf_options.specs.Prelude.{parsed_trait_word, required_words}
-use Rattle.elf_options.specs.declared.required.RequiredTrait.{RequiredTrait}
-use Rattle.elf_requests.specs.AskedTraits.{AreRequired, IsWordFault, LacksWord, onto_first, pieces}
+use Rattle.elf_options.specs.Prelude.{parsed_trait_word}
+use Rattle.elf_requests.specs.AskedTraits.{IsWordFault, onto_first, pieces}
 use Rattle.elf_cli.specs.declared.faults.RequestFault.TheVariants.{BadTrait, Memory}
 use Rattle.elf_cli.specs.declared.faults.RequestFault.{RequestFault}
 
@@ -66,12 +65,3 @@ word_fault before text rest piece more fault so parts (inr bad) =
     let here : map parsed_trait_word (pieces text) ≡ before ++ None ∷ map parsed_trait_word more =
     sym so ∙ ap (λ p. before ++ map parsed_trait_word p) parts ∙ ap (λ w. before ++ w ∷ map parsed_trait_word more) bad.1 in
     inr (bad.0, ap (list_any no_word) here ∙ any_at before (map parsed_trait_word more))
-
-all_some : (words : List Required) → list_any no_word (map Some words) ≡ false
-all_some [] = refl
-all_some (word ∷ words) = all_some words
-
--- if each piece names a trait none is missing
-pub none_lacking : (text : Option Text) (words : List RequiredTrait) → AreRequired text words → LacksWord text → ⊥
-none_lacking text words are lacks =
-    let e : true ≡ false = sym lacks ∙ ap (list_any no_word) are ∙ all_some (required_words words) in cc

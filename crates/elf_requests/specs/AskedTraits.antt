@@ -1,15 +1,12 @@
--- What the arguments of a command line request about how many files are hardened.
-use Rattle.std.specs.Prelude.{ℕ, ◌==◌, ◌≡◌, ◌⊎◌, true, false, not, is_some, List, [], ◌∷◌, codes, map, Option, None, Some}
+-- The required traits of an argument.
+use Rattle.std.specs.Prelude.{ℕ, ◌==◌, ◌≡◌, ◌⊎◌, true, false, not, is_some, List, [], ◌∷◌, map, Option, None, Some}
 use Rattle.std.specs.List.{list_any}
-use Rattle.clap.specs.Walk.{Row, Text, first_of}
-use Rattle.elf_cli.specs.Prelude.{AreLimitOptions, asked_format}
+use Rattle.clap.specs.Walk.{Text}
 use Rattle.elf_cli.specs.declared.faults.RequestFault.TheVariants.{BadTrait, Memory}
 use Rattle.elf_cli.specs.declared.faults.RequestFault.{RequestFault}
 use Rattle.elf_model.specs.TraitWords.{Required}
 use Rattle.elf_options.specs.Prelude.{parsed_trait_word, required_words}
 use Rattle.elf_options.specs.declared.required.RequiredTrait.{RequiredTrait}
-use Rattle.elf_requests.specs.Files.{AreFiles}
-use Rattle.elf_requests.specs.declared.checks.TraitsRequest.{TraitsRequest}
 
 -- one more byte at the start of the first of some pieces
 abbrev pub onto_first : ℕ → List Text → List Text
@@ -37,16 +34,3 @@ AreRequired text words = parsed_in text ≡ map Some (required_words words)
 -- why there are none: no memory, or a piece that names no trait
 abbrev pub IsWordFault : Option Text → RequestFault → Type 0
 IsWordFault text fault = (fault ≡ Memory) ⊎ ((fault ≡ BadTrait) × LacksWord text)
-
--- the traits of the files among the values, with the traits that are required there
-pub record IsTraitsAsked (command : Text) (rows : List Row) (asked : TraitsRequest) : Type 0 where
-  pub traits : command ≡ codes "traits"
-  pub files : AreFiles rows asked.files
-  pub limits : AreLimitOptions rows asked.limits
-  pub format : asked.format ≡ asked_format rows
-  pub required : AreRequired (first_of (codes "require") rows) asked.required.items
-
--- traits are requested, and one of the required traits is invalid
-abbrev pub RequiresBadly : Option (Text × List Row) → Type 0
-RequiresBadly None = ⊥
-RequiresBadly (Some (command, rows)) = (command ≡ codes "traits") × LacksWord (first_of (codes "require") rows)

@@ -1,13 +1,7 @@
 pub mod Asked
-pub mod AskedNames
-pub mod AskedNeeds
 pub mod AskedTraits
 pub mod Answered
-pub mod Archives
-pub mod Checks
-pub mod Files
 pub mod Layouts
-pub mod Lists
 pub mod Answers
 pub mod Lookups
 pub mod Requests

@@ -5,31 +5,21 @@
 
 mod apply_request;
 mod archive_request;
-mod archive_words;
-mod check_words;
-mod checks;
-mod file_words;
 mod find_request;
 mod items;
-mod list_words;
-mod name_words;
 mod names;
-mod need_words;
+mod parsed_command;
 mod requests;
 mod resolve_request;
 mod run_request;
-mod show_words;
 mod trait_words;
 mod words;
 
 pub use archive_request::archive_status;
-pub use checks::{
-    ApplyWithLayout, ArchiveRequest, CacheArgs, CheckRequest, FilteredRequest, ListRequest,
-    NameArgs, NeedsRequest, ParsedCommand, PathArgs, TraitsRequest,
-};
 pub use elf_cli::{RequestFault, outcome};
 pub use elf_table::RunFault;
 pub use names::{checked_name, checked_symbol};
+pub use parsed_command::{ApplyWithLayout, ParsedCommand, TraitsRequest};
 pub use requests::{LookupName, LookupSymbol, Request, Task};
 pub use run_request::run;
 pub use words::request;

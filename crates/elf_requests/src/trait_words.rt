@@ -1,91 +1,28 @@
-//! The arguments that request how many files are hardened.
-ghost use Rattle.std.specs.Prelude.{◌≡◌, ◌⊎◌, ◌++◌, ◌∷◌, [], IfErr, IfOk, IfSome, Ok, Some, None};
-ghost use Rattle.std.specs.Prelude.{codes, map};
-ghost use Rattle.clap.specs.Walk.{first_of, rows_of};
-ghost use Rattle.clap.specs.Words.{found_of};
+//! The required traits of an argument.
+ghost use Rattle.std.specs.Prelude.{◌≡◌, ◌⊎◌, ◌++◌, ◌∷◌, [], IfErr, IfOk, Some, None};
+ghost use Rattle.std.specs.Prelude.{map, option_map};
 ghost use Rattle.elf_options.specs.Prelude.{parsed_trait_word, required_words};
 ghost use Rattle.elf_requests.specs.AskedTraits.{AreRequired, IsWordFault};
-ghost use Rattle.elf_requests.specs.Checks.{ParsesTo};
-ghost use Rattle.elf_requests.specs.Files.{AreFiles};
 ghost use Rattle.elf_cli.specs.declared.faults.RequestFault.TheVariants.{BadTrait, Memory};
 
-use crate::checks::{ParsedCommand, PathArgs, TraitsRequest};
-use crate::file_words::files_of;
-use clap::ArgMatches;
-use elf_cli::{RequestFault, format_of, limits_of, text_of};
+use elf_cli::RequestFault;
 use elf_options::{RequiredTrait, parsed_trait_word};
-use std::alloc::{AllocError, Global};
+use std::alloc::Global;
 
-/// Returns what `traits` with these arguments requests, or `None` if there is neither a path nor a
-/// list of paths.
-///
-/// # Errors
-/// `BadTrait` if one of the required traits is invalid; out of memory for the traits or the list of
-/// paths.
-pub(crate) fn traits_asked<'a>(
-    alloc: Global,
-    options: &ArgMatches<'a>,
-) -> Result<Option<ParsedCommand<'a>>, RequestFault>
-    ensures { ParsesTo (Some (codes "traits", rows_of (found_of options.now))) result }
-{
-    let required = required_of(alloc, options)?;
-    traits_with(alloc, options, required)
-}
-
-/// Returns what `traits` requests, with these required traits.
-fn traits_with<'a>(
-    alloc: Global,
-    options: &ArgMatches<'a>,
-    required: Vec<RequiredTrait<'a>>,
-) -> Result<Option<ParsedCommand<'a>>, RequestFault>
-    requires { AreRequired (first_of (codes "require") (rows_of (found_of options.now)))
-        required.items }
-    ensures { ParsesTo (Some (codes "traits", rows_of (found_of options.now))) result }
-{
-    match files_of(alloc, options) {
-        Ok(Some(files)) => Ok(traits_of(options, files, required)),
-        Ok(None) => Ok(None),
-        Err(AllocError) => Err(RequestFault::Memory),
-    }
-}
-
-/// Returns what `traits` of these files requests, with these required traits.
-fn traits_of<'a>(
-    options: &ArgMatches<'a>,
-    files: PathArgs<'a>,
-    required: Vec<RequiredTrait<'a>>,
-) -> Option<ParsedCommand<'a>>
-    requires files { AreFiles (rows_of (found_of options.now)) files }
-    requires required { AreRequired (first_of (codes "require") (rows_of (found_of options.now)))
-        required.items }
-    ensures { ParsesTo (Some (codes "traits", rows_of (found_of options.now))) (Ok result) }
-{
-    match limits_of(options) {
-        Some(limits) => Some(ParsedCommand::Traits(TraitsRequest {
-            files,
-            limits,
-            format: format_of(options),
-            required,
-        })),
-        None => None,
-    }
-}
-
-/// Returns the required traits.
+/// Returns the required traits that an argument names; none if there is no argument.
 ///
 /// # Errors
 /// `BadTrait` if a piece of the option's value is not a word of any column; `Memory` if out of
 /// memory for them.
-fn required_of<'a>(
+pub(crate) fn required_of<'a>(
     alloc: Global,
-    options: &ArgMatches<'a>,
+    require: Option<&'a str>,
 ) -> Result<Vec<RequiredTrait<'a>>, RequestFault>
     ensures words { IfOk result (λ words.
-        AreRequired (first_of (codes "require") (rows_of (found_of options.now))) words.items) }
-    ensures refused { IfErr result
-        (IsWordFault (first_of (codes "require") (rows_of (found_of options.now)))) }
+        AreRequired (option_map (λ text. text.now) require.entry) words.items) }
+    ensures refused { IfErr result (IsWordFault (option_map (λ text. text.now) require.entry)) }
 {
-    match text_of(options, "require") {
+    match require {
         Some(text) => required_in(alloc, text),
         None => Ok(Vec::new(alloc)),
     }

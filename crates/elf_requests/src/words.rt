@@ -1,34 +1,27 @@
 //! The arguments of a command line.
-ghost use Rattle.std.specs.Prelude.{◌≡◌, ◌≢◌, IfErr, IfOk, IfSome, None, Ok, Err};
-ghost use Rattle.std.specs.Prelude.{Option, Some, codes, map};
-ghost use Rattle.std.specs.Borrow.{Bor};
-ghost use Rattle.clap.specs.Walk.{Text, rows_of};
-ghost use Rattle.clap.specs.Words.{found_of, subcommand_rows_of};
-ghost use Rattle.elf_cli.specs.Options.{AreLimitOptions};
-ghost use Rattle.elf_requests.specs.Asked.{AsksBy, ResolvesTo, IsFileNamed, IsText, IsLookupTask, item_words};
-ghost use Rattle.elf_requests.specs.Answered.{IsRefusal, WordsAsk, WordsRefused};
-ghost use Rattle.elf_requests.specs.Checks.{ParsesTo, IsAsked};
+ghost use Rattle.std.specs.Prelude.{◌≡◌, IfErr, IfOk, IfSome, None, Ok, Err, map, option_map};
+ghost use Rattle.clap.specs.Walk.{texts};
+ghost use Rattle.clap.specs.Words.{subcommand_rows_of};
+ghost use Rattle.elf_cli.specs.UsageFaults.{usage_fault};
+ghost use Rattle.elf_cli.specs.declared.command_args.CommandName.TheVariants.{Apply, Find};
 ghost use Rattle.elf_model.specs.Placing.{no_items};
+ghost use Rattle.elf_requests.specs.Answered.{HasFault, IsAsked, IsRefusal, WordsAsk, WordsRefused};
+ghost use Rattle.elf_requests.specs.Asked.{IsTask, IsText, Makes};
+ghost use Rattle.elf_requests.specs.AskedTraits.{AreRequired};
 ghost use Rattle.elf_requests.specs.Layouts.{LaysWords};
-ghost use Rattle.elf_options.specs.declared.caps.Limits.{Limits};
+ghost use Rattle.elf_requests.specs.declared.requests.Task.TheVariants.{Show};
 
-use crate::archive_words::archive_asked;
-use crate::check_words::parse_check;
-use crate::checks::{ApplyWithLayout, ParsedCommand};
 use crate::items::lay;
-use crate::list_words::list_asked;
 use crate::names::{checked_name, checked_symbol};
-use crate::need_words::needs_asked;
+use crate::parsed_command::{ApplyWithLayout, ParsedCommand, TraitsRequest};
 use crate::requests::{Request, Task};
-use crate::show_words::show_asked;
-use crate::trait_words::traits_asked;
+use crate::trait_words::required_of;
 use clap::ArgMatches;
 use elf_cli::{
-    RequestFault, find_without_gnu, format_of, has_gnu_option, is_set, limits_of, listing_of,
-    parse_arguments, text_of, u16_option_of, unasked,
+    CommandArgs, CommandName, RequestFault, parse_arguments, read_args, request_fault, usage_fault,
 };
 use elf_layout::Layout;
-use elf_model::Format;
+use elf_options::RequiredTrait;
 use std::alloc::Global;
 use std::convert::AsStr;
 
@@ -63,225 +56,147 @@ fn answered<'a>(
     ensures asked { IfOk result (IsAsked (subcommand_rows_of matches.now)) }
     ensures refused { IfErr result (IsRefusal (subcommand_rows_of matches.now)) }
 {
-    match asked(alloc, matches, layout)? {
-        Some(asked) => Ok(asked),
-        None => Err(unasked(alloc, matches)),
-    }
+    let args = read_args(alloc, matches)?;
+    checked(alloc, args, layout)
 }
 
-/// Returns what arguments request that the command line accepts, or `None` if they request nothing.
-fn asked<'a>(
+/// Returns what the arguments of a command request, or why they are refused.
+fn checked<'a>(
     alloc: Global,
-    matches: &ArgMatches<'a>,
+    args: CommandArgs<'a>,
     layout: &'a mut Layout,
-) -> Result<Option<ParsedCommand<'a>>, RequestFault>
-    ensures { ParsesTo (subcommand_rows_of matches.now) result }
+) -> Result<ParsedCommand<'a>, RequestFault>
+    ensures asked { IfOk result (λ asked.
+        (usage_fault args.entry ≡ None) × Makes args.entry asked) }
+    ensures refused { IfErr result (HasFault args.entry) }
 {
-    match matches.subcommand() {
-        Some((command, options)) => asked_by(alloc, command, options, layout),
-        None => Ok(None),
+    let required = required_of(alloc, args.require)?;
+    match usage_fault(&args) {
+        Some(fault) => Err(request_fault(alloc, args.command, fault)),
+        None => made_of(args, required, layout),
     }
 }
 
-/// Returns what a command with these arguments requests.
-fn asked_by<'a>(
-    alloc: Global,
-    command: &str,
-    options: &ArgMatches<'a>,
+/// Returns what the arguments of a command request, with these required traits.
+fn made_of<'a>(
+    args: CommandArgs<'a>,
+    required: Vec<RequiredTrait<'a>>,
     layout: &'a mut Layout,
-) -> Result<Option<ParsedCommand<'a>>, RequestFault>
-    ensures { ParsesTo (Some (command.now, rows_of (found_of options.now))) result }
+) -> Result<ParsedCommand<'a>, RequestFault>
+    requires { AreRequired (option_map (λ text. text.now) args.require) required.items }
+    ensures asked { IfOk result (Makes args.entry) }
+    ensures refused { IfErr result (HasFault args.entry) }
 {
-    match command {
-        "show" => show_asked(alloc, options),
-        "check" => parse_check(alloc, options),
-        "list" => list_asked(alloc, options),
-        "traits" => traits_asked(alloc, options),
-        "needs" => needs_asked(alloc, options),
-        "archive" => archive_asked(alloc, options),
-        "apply" => parse_apply(options, layout),
-        "version" => Ok(Some(ParsedCommand::Version)),
-        _ => parse_file_args(command, options),
+    match args.command {
+        CommandName::Show | CommandName::Sample if args.selects_rows() => {
+            Ok(ParsedCommand::Chosen(args))
+        }
+        CommandName::Show | CommandName::Sample => Ok(ParsedCommand::File(listing_of(&args))),
+        CommandName::Find => lookup_command(&args),
+        CommandName::Apply => section_of(&args, layout),
+        CommandName::Check => Ok(ParsedCommand::Check(args)),
+        CommandName::List => Ok(ParsedCommand::List(args)),
+        CommandName::Traits => Ok(ParsedCommand::Traits(TraitsRequest { args, required })),
+        CommandName::Needs => Ok(ParsedCommand::Needs(args)),
+        CommandName::Archive => Ok(ParsedCommand::Archive(args)),
+        CommandName::Version => Ok(ParsedCommand::Version),
     }
 }
 
-/// Returns what `apply` with these arguments requests: with the items of a file too, if one is
-/// named.
-fn parse_apply<'a>(
-    options: &ArgMatches<'a>,
-    layout: &'a mut Layout,
-) -> Result<Option<ParsedCommand<'a>>, RequestFault>
-    ensures { ParsesTo (Some (codes "apply", rows_of (found_of options.now))) result }
+/// Returns the request for a listing of all rows.
+fn listing_of<'a>(args: &CommandArgs<'a>) -> Request<'a>
+    ensures file { result.file ≡ args.now.file }
+    ensures limits { result.limits ≡ args.now.caps.limits }
+    ensures task { result.task ≡ Show args.now.parts args.now.caps.style }
 {
-    match applying(options, layout)? {
-        Some(request) => Ok(Some(with_list(options, request))),
-        None => Ok(None),
+    Request {
+        file: args.file,
+        limits: args.caps.limits,
+        task: Task::Show {
+            parts: args.parts,
+            style: args.caps.style,
+        },
     }
 }
 
-/// Returns a request to apply a section, with the named file of items, if any.
-fn with_list<'a>(options: &ArgMatches<'a>, request: Request<'a>) -> ParsedCommand<'a>
-    requires { AsksBy (Some (codes "apply", rows_of (found_of options.now))) request }
-    ensures { IsAsked (Some (codes "apply", rows_of (found_of options.now))) result }
+/// Returns the request for a lookup, as glibc's dynamic loader does it if that is requested.
+///
+/// # Errors
+/// `BadName` if the text cannot be looked up so.
+fn lookup_command<'a>(args: &CommandArgs<'a>) -> Result<ParsedCommand<'a>, RequestFault>
+    requires { args.now.command ≡ Find }
+    ensures asked { IfOk result (Makes args.now) }
+    ensures refused { IfErr result (HasFault args.now) }
 {
-    match text_of(options, "layout") {
-        Some(list) => ParsedCommand::Laid(ApplyWithLayout { request, list }),
-        None => ParsedCommand::File(request),
-    }
-}
-
-/// Returns what another command with these arguments requests: not one for many files, for an
-/// archive or for the version, and not `apply`.
-fn parse_file_args<'a>(
-    command: &str,
-    options: &ArgMatches<'a>,
-) -> Result<Option<ParsedCommand<'a>>, RequestFault>
-    requires { (command.now ≢ codes "show") × (command.now ≢ codes "check")
-        × (command.now ≢ codes "list") × (command.now ≢ codes "traits")
-        × (command.now ≢ codes "needs") × (command.now ≢ codes "archive")
-        × (command.now ≢ codes "version") × (command.now ≢ codes "apply") }
-    ensures { ParsesTo (Some (command.now, rows_of (found_of options.now))) result }
-{
-    match of_file(command, options)? {
-        Some(request) => Ok(Some(ParsedCommand::File(request))),
-        None => Ok(None),
-    }
-}
-
-/// Returns what another command with these arguments requests, for one file.
-fn of_file<'a>(command: &str, options: &ArgMatches<'a>) -> Result<Option<Request<'a>>, RequestFault>
-    requires { command.now ≢ codes "apply" }
-    ensures { ResolvesTo (Some (command.now, rows_of (found_of options.now))) result }
-{
-    match command {
-        "find" => lookup(options),
-        _ => Ok(parse_listing(command, options)),
-    }
-}
-
-/// Returns a listing, as parsed by the programs that list.
-pub(crate) fn parse_listing<'a>(command: &str, options: &ArgMatches<'a>) -> Option<Request<'a>>
-    requires { (command.now ≢ codes "apply") × (command.now ≢ codes "find") }
-    ensures { ResolvesTo (Some (command.now, rows_of (found_of options.now))) (Ok result) }
-{
-    match listing_of(command, options) {
-        Some(listing) => Some(Request {
-            file: listing.file,
-            limits: listing.limits,
-            task: Task::Show {
-                parts: listing.parts,
-                style: listing.style,
-            },
-        }),
-        None => None,
-    }
-}
-
-/// Returns a lookup in a file, within the given limits, as glibc's dynamic loader does it if that
-/// is requested. Returns `None` if the options require such a lookup, but it is not requested.
-fn lookup<'a>(options: &ArgMatches<'a>) -> Result<Option<Request<'a>>, RequestFault>
-    ensures { ResolvesTo (Some (codes "find", rows_of (found_of options.now))) result }
-{
-    if find_without_gnu(options) {
-        return Ok(None);
-    }
-    let Some(word) = text_of(options, "NAME") else {
-        return Ok(None);
-    };
-    let by_segments = is_set(options, "by-segments");
-    let Some(task) = parse_lookup(
-        word,
-        has_gnu_option(options),
-        by_segments,
-        format_of(options),
-    ) else {
+    let Some(task) = parse_lookup(args) else {
         return Err(RequestFault::BadName);
     };
-    Ok(in_file(options, task))
+    Ok(ParsedCommand::File(Request {
+        file: args.file,
+        limits: args.caps.limits,
+        task,
+    }))
 }
 
-/// Returns the lookup of a text, as glibc's dynamic loader does it if `gnu` is set, by the program
-/// headers alone or not, or otherwise by the file's SysV hash table, with its result written in
-/// this format. Returns `None` if the text cannot be looked up so.
-fn parse_lookup(text: &str, gnu: bool, by_segments: bool, format: Format) -> Option<Task<'_>>
-    ensures some { IfSome result (IsLookupTask gnu by_segments format text.now) }
-    ensures none { result ≡ None → IsText gnu text.now → ⊥ }
+/// Returns the lookup of a text, as glibc's dynamic loader does it if that is requested, by the
+/// program headers alone or not, or otherwise by the file's SysV hash table. Returns `None` if the
+/// text cannot be looked up so.
+fn parse_lookup<'a>(args: &CommandArgs<'a>) -> Option<Task<'a>>
+    requires { args.now.command ≡ Find }
+    ensures some { IfSome result (IsTask args.now) }
+    ensures none { result ≡ None → IsText args.now.caps.style.gnu args.now.name.now → ⊥ }
 {
-    if gnu {
+    let style = args.caps.style;
+    let text = args.name;
+    if style.gnu {
         let wanted = checked_symbol(text)?;
         return Some(Task::Resolve {
             wanted,
-            by_segments,
-            format,
+            by_segments: style.by_segments,
+            format: style.format,
         });
     }
     let wanted = checked_name(text)?;
-    Some(Task::Find { wanted, format })
+    Some(Task::Find {
+        wanted,
+        format: style.format,
+    })
 }
 
-/// Returns a section to apply, within the given limits and in the given layout.
-fn applying<'a>(
-    options: &ArgMatches<'a>,
+/// Returns the request for a section with its relocations applied, with the named file of items, if
+/// any.
+///
+/// # Errors
+/// The fault of the first item that is refused.
+fn section_of<'a>(
+    args: &CommandArgs<'a>,
     layout: &'a mut Layout,
-) -> Result<Option<Request<'a>>, RequestFault>
-    ensures { ResolvesTo (Some (codes "apply", rows_of (found_of options.now))) result }
+) -> Result<ParsedCommand<'a>, RequestFault>
+    requires { args.now.command ≡ Apply }
+    ensures asked { IfOk result (Makes args.now) }
+    ensures refused { IfErr result (HasFault args.now) }
 {
-    let layout = layout_asked(options, layout)?;
-    let Some(section) = u16_option_of(options, "SECTION") else {
-        return Ok(None);
+    let layout = laid(&args.items, layout)?;
+    let request = Request {
+        file: args.file,
+        limits: args.caps.limits,
+        task: Task::Apply {
+            section: args.section,
+            layout,
+            explain: args.explain,
+        },
     };
-    let explain = is_set(options, "explain");
-    let task = Task::Apply {
-        section,
-        layout,
-        explain,
-    };
-    Ok(in_file(options, task))
-}
-
-/// Returns the requested layout, which is empty if no argument gives an item.
-fn layout_asked<'a>(
-    options: &ArgMatches<'_>,
-    layout: &'a mut Layout,
-) -> Result<&'a Layout, RequestFault>
-    ensures laid { IfOk result (λ layout.
-        LaysWords no_items (item_words (rows_of (found_of options.now))) (Ok layout.now)) }
-    ensures refused { IfErr result (λ fault.
-        LaysWords no_items (item_words (rows_of (found_of options.now))) (Err fault)) }
-{
-    layout_requested(options, layout)?;
-    Ok(layout)
-}
-
-/// Adds the requested items to a layout, and no other items.
-fn layout_requested(options: &ArgMatches<'_>, layout: &mut Layout) -> Result<(), RequestFault>
-    ensures laid { IfOk result (λ _.
-        LaysWords no_items (item_words (rows_of (found_of options.now))) (Ok layout.new)) }
-    ensures refused { IfErr result (λ fault.
-        LaysWords no_items (item_words (rows_of (found_of options.now))) (Err fault)) }
-{
-    match options.get_strs("ITEM") {
-        Some(words) => lay(layout, words),
-        None => lay(layout, &[]),
+    match args.layout {
+        Some(list) => Ok(ParsedCommand::Laid(ApplyWithLayout { request, list })),
+        None => Ok(ParsedCommand::File(request)),
     }
 }
 
-/// Returns the task for the requested file, within the given limits.
-fn in_file<'a>(options: &ArgMatches<'a>, task: Task<'a>) -> Option<Request<'a>>
-    ensures task { IfSome result (λ request. request.task ≡ task.entry) }
-    ensures file { IfSome result (λ request.
-        IsFileNamed (rows_of (found_of options.now)) request.file) }
-    ensures limits { IfSome result (λ request.
-        AreLimitOptions (rows_of (found_of options.now)) request.limits) }
-    ensures none { result ≡ None → (file : Option (Bor Text)) (limits : Limits)
-        → IsFileNamed (rows_of (found_of options.now)) file
-        → AreLimitOptions (rows_of (found_of options.now)) limits → ⊥ }
+/// Returns the layout that these arguments give, which is empty if there are none.
+fn laid<'a>(words: &[&str], layout: &'a mut Layout) -> Result<&'a Layout, RequestFault>
+    ensures laid { IfOk result (λ layout. LaysWords no_items (texts words.now) (Ok layout.now)) }
+    ensures refused { IfErr result (λ fault. LaysWords no_items (texts words.now) (Err fault)) }
 {
-    let path = text_of(options, "FILE")?;
-    let limits = limits_of(options)?;
-    Some(Request {
-        file: Some(path),
-        limits,
-        task,
-    })
+    lay(layout, words)?;
+    Ok(layout)
 }

@@ -1,17 +1,15 @@
 //! The listing of an archive.
 ghost use Rattle.std.specs.Prelude.{◌≡◌, ◌⊎◌, IfErr, length};
 ghost use Rattle.elfsee.specs.Ends.{EndsRunOver, EndsWithoutFile, EndsWithoutMemory, RunsArchive};
-ghost use Rattle.elf_options.specs.Prelude.{NeverDescend, named_style, style_of, texts_of};
 ghost use Rattle.elfsee.specs.Naming.{EndsWithoutNames};
 
-use crate::names::{read_list, sorted_names};
+use crate::names::{caps_by_names, read_list, sorted_names};
 use elf_archive::show_archive;
-use elf_cli::{ExitLine, OUT_OF_MEMORY, OUTPUT_BYTES, end_answer, open};
-use elf_options::style_with_names;
+use elf_cli::{CANNOT_OPEN, CommandArgs, ExitLine, OUT_OF_MEMORY, OUTPUT_BYTES, end_answer, open};
 use elf_record::Parts;
-use elf_requests::{ArchiveRequest, archive_status};
+use elf_requests::archive_status;
 use elf_source::{Counted, DeferredSink, Out, RangeSource, Source, WriteSink};
-use elf_table::{Caps, HeaderBuffer, HeaderStore, Limits, ListingStyle};
+use elf_table::{Caps, HeaderBuffer, HeaderStore};
 use std::io::{self, BufWriter, Write};
 use std::os::unix::fs::FileExt;
 use std::rt::Files;
@@ -24,54 +22,26 @@ use std::rt::Files;
 #[inline(never)]
 pub fn list_archive<R: Files + Print + AllocGlobal>(
     rt: &R,
-    asked: &ArchiveRequest<'_>,
+    asked: &CommandArgs<'_>,
 ) -> Result<ExitLine, ExitLine>
 where
     R::File: FileExt,
     ensures { IfErr result (λ ending. EndsWithoutNames ending.0 ending.1.now
         ⊎ (EndsWithoutMemory ending.0 ending.1.now ⊎ EndsWithoutFile ending.0 ending.1.now)) }
 {
-    let Some(names) = &asked.names else {
-        return list_with(
-            rt,
-            asked.file,
-            asked.parts,
-            &caps_of(asked.limits, asked.style),
-        );
+    let Some(file) = asked.file else {
+        return Err(CANNOT_OPEN);
     };
+    if !asked.selects_rows() {
+        return list_with(rt, file, asked.parts, &asked.caps);
+    }
     let mut list = Vec::new(rt.alloc());
-    if let Err(ending) = read_list(rt, names, &mut list) {
+    if let Err(ending) = read_list(rt, asked.name_list, &mut list) {
         return Err(ending);
     }
-    match sorted_names(rt.alloc(), names, &list) {
-        Ok(texts) => list_with(
-            rt,
-            asked.file,
-            asked.parts,
-            &caps_by_names(asked.limits, asked.style, &texts),
-        ),
+    match sorted_names(rt.alloc(), &asked.names, asked.caps.style.versions, &list) {
+        Ok(texts) => list_with(rt, file, asked.parts, &caps_by_names(&asked.caps, &texts)),
         Err(ending) => Err(ending),
-    }
-}
-
-/// Returns the caps for these limits and this style.
-fn caps_of<'a>(limits: Limits, style: ListingStyle<'a>) -> Caps<'a>
-    ensures { result ≡ record { limits = limits; style = style.entry } }
-{
-    Caps { limits, style }
-}
-
-/// Returns the caps for these limits, with the rows of these names, which are sorted by their
-/// bytes, and otherwise of this style.
-fn caps_by_names<'n>(limits: Limits, style: ListingStyle<'_>, names: &'n [&'n [u8]]) -> Caps<'n>
-    requires { NeverDescend names.now }
-    ensures limits { result.limits ≡ limits }
-    ensures style { style_of result.style
-        ≡ named_style (texts_of names.now) (style_of style.entry) }
-{
-    Caps {
-        limits,
-        style: style_with_names(style, names),
     }
 }
 

@@ -5,11 +5,9 @@ ghost use Rattle.elfsee.specs.Ends.{EndsWithoutMemory};
 ghost use Rattle.elfsee.specs.Naming.{EndsWithoutNames};
 
 use crate::many::{ending_line, visit_files};
-use crate::names::{read_list, sorted_names};
-use elf_cli::{ExitLine, OUT_OF_MEMORY};
-use elf_options::style_with_names;
-use elf_requests::{ListRequest, PathArgs};
-use elf_table::{Caps, HeaderBuffer};
+use crate::names::{caps_by_names, read_list, sorted_names};
+use elf_cli::{CommandArgs, ExitLine, OUT_OF_MEMORY};
+use elf_table::HeaderBuffer;
 use elf_walk::{HELD_BYTES, ListFiles, ListOptions};
 use std::io::{Input, Stderr};
 use std::os::unix::fs::FileExt;
@@ -24,7 +22,7 @@ use std::rt::Files;
 #[inline(never)]
 pub fn list_files<R: Files + Print + Input + AllocGlobal>(
     rt: &R,
-    asked: &ListRequest<'_>,
+    asked: &CommandArgs<'_>,
     terminal: Option<Stderr>,
 ) -> Result<ExitLine, ExitLine>
 where
@@ -32,31 +30,27 @@ where
     ensures { IfErr result (λ ending. EndsWithoutNames ending.0 ending.1.now
         ⊎ EndsWithoutMemory ending.0 ending.1.now) }
 {
-    let Some(names) = &asked.names else {
-        return list_with(rt, &asked.files, &rule_of(asked), terminal);
-    };
+    if !asked.selects_rows() {
+        return list_with(rt, asked, &rule_of(asked), terminal);
+    }
     let mut list = Vec::new(rt.alloc());
-    if let Err(ending) = read_list(rt, names, &mut list) {
+    if let Err(ending) = read_list(rt, asked.name_list, &mut list) {
         return Err(ending);
     }
-    match sorted_names(rt.alloc(), names, &list) {
-        Ok(texts) => list_with(rt, &asked.files, &rule_by_names(asked, &texts), terminal),
+    match sorted_names(rt.alloc(), &asked.names, asked.caps.style.versions, &list) {
+        Ok(texts) => list_with(rt, asked, &rule_by_names(asked, &texts), terminal),
         Err(ending) => Err(ending),
     }
 }
 
 /// Returns the list rule of a request.
-fn rule_of<'a>(asked: &ListRequest<'a>) -> ListOptions<'a>
-    ensures caps { result.caps ≡ record { limits = asked.now.limits; style = asked.now.style } }
+fn rule_of(asked: &CommandArgs<'_>) -> ListOptions<'static>
+    ensures caps { result.caps ≡ asked.now.caps }
     ensures parts { result.parts ≡ asked.now.parts }
     ensures members { result.members ≡ asked.now.members }
 {
-    let caps = Caps {
-        limits: asked.limits,
-        style: asked.style,
-    };
     ListOptions {
-        caps,
+        caps: asked.caps,
         parts: asked.parts,
         members: asked.members,
     }
@@ -64,20 +58,16 @@ fn rule_of<'a>(asked: &ListRequest<'a>) -> ListOptions<'a>
 
 /// Returns the list rule of a request, for the rows of these names, which are sorted by their
 /// bytes.
-fn rule_by_names<'n>(asked: &ListRequest<'_>, names: &'n [&'n [u8]]) -> ListOptions<'n>
+fn rule_by_names<'n>(asked: &CommandArgs<'_>, names: &'n [&'n [u8]]) -> ListOptions<'n>
     requires { NeverDescend names.now }
-    ensures limits { result.caps.limits ≡ asked.now.limits }
+    ensures limits { result.caps.limits ≡ asked.now.caps.limits }
     ensures style { style_of result.caps.style
-        ≡ named_style (texts_of names.now) (style_of asked.now.style) }
+        ≡ named_style (texts_of names.now) (style_of asked.now.caps.style) }
     ensures parts { result.parts ≡ asked.now.parts }
     ensures members { result.members ≡ asked.now.members }
 {
-    let caps = Caps {
-        limits: asked.limits,
-        style: style_with_names(asked.style, names),
-    };
     ListOptions {
-        caps,
+        caps: caps_by_names(&asked.caps, names),
         parts: asked.parts,
         members: asked.members,
     }
@@ -89,7 +79,7 @@ fn rule_by_names<'n>(asked: &ListRequest<'_>, names: &'n [&'n [u8]]) -> ListOpti
 /// Out of memory.
 fn list_with<R: Files + Print + Input + AllocGlobal>(
     rt: &R,
-    files: &PathArgs<'_>,
+    files: &CommandArgs<'_>,
     rule: &ListOptions<'_>,
     terminal: Option<Stderr>,
 ) -> Result<ExitLine, ExitLine>

@@ -3,13 +3,13 @@ ghost use Rattle.std.specs.Prelude.{◌≡◌, ◌<◌, IfErr, IfOk};
 ghost use Rattle.elfsee.specs.Ends.{EndsFiles, EndsWithoutMemory, StopsFiles, end_after, visit_end, list_end};
 
 use elf_cli::{
-    CANNOT_OPEN, ExitLine, LineSink, OUT_OF_MEMORY, OUTPUT_BYTES, PIPE_BYTES, READ_FAULT, RunEnd,
-    WRITE_FAULT, end_lines,
+    CANNOT_OPEN, CommandArgs, ExitLine, LineSink, OUT_OF_MEMORY, OUTPUT_BYTES, PIPE_BYTES,
+    READ_FAULT, RunEnd, WRITE_FAULT, end_lines,
 };
 use elf_model::Format;
-use elf_requests::{CheckRequest, PathArgs, TraitsRequest};
+use elf_requests::TraitsRequest;
 use elf_source::{DeferredSink, Out, OutFault, Sink, WriteSink};
-use elf_table::{Caps, HeaderBuffer, HeaderStore};
+use elf_table::{HeaderBuffer, HeaderStore};
 use elf_walk::{
     CheckFiles, CheckOptions, DirWalk, FileRun, FileVisitor, ListFault, TraitOptions, TraitReport,
     visit_list, visit_path,
@@ -30,20 +30,20 @@ const LIST_BYTES: usize = 65_536;
 #[inline(never)]
 pub fn check_many<R: Files + Print + Input + AllocGlobal>(
     rt: &R,
-    asked: &CheckRequest<'_>,
+    asked: &CommandArgs<'_>,
     terminal: Option<Stderr>,
 ) -> Result<ExitLine, ExitLine>
 where
     R::File: FileExt,
     ensures { IfErr result (λ ending. EndsWithoutMemory ending.0 ending.1.now) }
 {
-    let Ok(mut room) = HeaderBuffer::new(rt.alloc(), asked.limits.headers) else {
+    let Ok(mut room) = HeaderBuffer::new(rt.alloc(), asked.caps.limits.headers) else {
         return Err(OUT_OF_MEMORY);
     };
     let checks = new_checks(asked, room.store());
     let held = Vec::new(rt.alloc());
-    let format = asked.style.format;
-    ending_line(visit_files(rt, &asked.files, checks, held, format, terminal))
+    let format = asked.caps.style.format;
+    ending_line(visit_files(rt, asked, checks, held, format, terminal))
 }
 
 /// Prints how all requested files are hardened. Progress is shown on a terminal, if there is one.
@@ -60,27 +60,25 @@ where
     R::File: FileExt,
     ensures { IfErr result (λ ending. EndsWithoutMemory ending.0 ending.1.now) }
 {
-    let Ok(mut room) = HeaderBuffer::new(rt.alloc(), asked.limits.headers) else {
+    let Ok(mut room) = HeaderBuffer::new(rt.alloc(), asked.args.caps.limits.headers) else {
         return Err(OUT_OF_MEMORY);
     };
     let lines = new_trait_lines(asked, room.store());
     let held = Vec::new(rt.alloc());
-    let ended = visit_files(rt, &asked.files, lines, held, asked.format, terminal);
+    let format = asked.args.caps.style.format;
+    let ended = visit_files(rt, &asked.args, lines, held, format, terminal);
     ending_line(ended)
 }
 
 /// Creates a check for a request.
-fn new_checks<'a>(asked: &CheckRequest<'_>, store: HeaderStore<'a>) -> CheckFiles<'a>
-    requires { store.slots ≡ asked.now.limits.headers }
-    ensures caps { result.caps ≡ record { limits = asked.now.limits; style = asked.now.style } }
+fn new_checks<'a>(asked: &CommandArgs<'_>, store: HeaderStore<'a>) -> CheckFiles<'a>
+    requires { store.slots ≡ asked.now.caps.limits.headers }
+    ensures caps { result.caps ≡ asked.now.caps }
     ensures parts { result.parts ≡ asked.now.parts }
     ensures members { result.members ≡ asked.now.members }
 {
     let rule = CheckOptions {
-        caps: Caps {
-            limits: asked.limits,
-            style: asked.style,
-        },
+        caps: asked.caps,
         parts: asked.parts,
         members: asked.members,
     };
@@ -89,14 +87,14 @@ fn new_checks<'a>(asked: &CheckRequest<'_>, store: HeaderStore<'a>) -> CheckFile
 
 /// Creates the trait lines for a request.
 fn new_trait_lines<'a>(asked: &'a TraitsRequest<'a>, store: HeaderStore<'a>) -> TraitReport<'a>
-    requires { store.slots ≡ asked.now.limits.headers }
-    ensures limits { result.limits ≡ asked.now.limits }
-    ensures format { result.format ≡ asked.now.format }
+    requires { store.slots ≡ asked.now.args.caps.limits.headers }
+    ensures limits { result.limits ≡ asked.now.args.caps.limits }
+    ensures format { result.format ≡ asked.now.args.caps.style.format }
     ensures required { result.required.now ≡ asked.now.required.items }
 {
     let rule = TraitOptions {
-        limits: asked.limits,
-        format: asked.format,
+        limits: asked.args.caps.limits,
+        format: asked.args.caps.style.format,
         required: &asked.required,
     };
     TraitReport::new(store, rule)
@@ -121,7 +119,7 @@ pub enum FilesEnd {
 /// bytes of the output may be deferred.
 pub fn visit_files<R: Files + Print + Input + AllocGlobal, A: FileVisitor + Drop>(
     rt: &R,
-    files: &PathArgs<'_>,
+    files: &CommandArgs<'_>,
     each: A,
     held: Vec<u8>,
     format: Format,
@@ -232,7 +230,7 @@ fn run_end(ended: FilesEnd) -> RunEnd {
 /// How the visit ended if the list or the output failed.
 fn visit_all<R: Files + Input, W: Sink, A: FileVisitor + Drop>(
     rt: &R,
-    files: &PathArgs<'_>,
+    files: &CommandArgs<'_>,
     many: &mut FileRun<W, Stderr, A>,
     walk: &mut DirWalk,
     entries: &mut [u8],

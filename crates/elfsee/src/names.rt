@@ -1,13 +1,14 @@
 //! The names whose rows are shown, and the listing of a file by them.
 ghost use Rattle.std.specs.Prelude.{◌≡◌, ◌++◌, [], IfErr, IfOk};
 ghost use Rattle.std.specs.List.Sorted.{IsPermutation};
-ghost use Rattle.elf_options.specs.Prelude.{NeverDescend, listed_names, texts_of};
+ghost use Rattle.elf_options.specs.Prelude.{NeverDescend, listed_names, named_style, style_of, texts_of};
 ghost use Rattle.elfsee.specs.Naming.{EndsNames, EndsWithoutNames, ShowsRowsOf};
 
 use crate::answer_request;
-use elf_cli::{ExitLine, ListingRequest, OUT_OF_MEMORY};
+use elf_cli::{CommandArgs, ExitLine, OUT_OF_MEMORY};
 use elf_options::{NamesFault, gather_names, read_names, style_with_names};
-use elf_requests::{FilteredRequest, NameArgs, Request, Task};
+use elf_requests::{Request, Task};
+use elf_table::Caps;
 use std::alloc::Global;
 use std::fs;
 use std::io::{ErrorKind, Stderr};
@@ -23,18 +24,18 @@ use std::rt::Files;
 #[inline(never)]
 pub fn show_chosen<R: Files + Print + AllocGlobal>(
     rt: &R,
-    asked: &FilteredRequest<'_>,
+    asked: &CommandArgs<'_>,
     errors: Stderr,
 ) -> Result<ExitLine, ExitLine>
 where
     R::File: FileExt,
 {
     let mut list = Vec::new(rt.alloc());
-    if let Err(ending) = read_list(rt, &asked.names, &mut list) {
+    if let Err(ending) = read_list(rt, asked.name_list, &mut list) {
         return Err(ending);
     }
-    match sorted_names(rt.alloc(), &asked.names, &list) {
-        Ok(names) => answer_request(rt, &request_by_names(&asked.listing, &names), errors),
+    match sorted_names(rt.alloc(), &asked.names, asked.caps.style.versions, &list) {
+        Ok(names) => answer_request(rt, &request_by_names(asked.file, asked, &names), errors),
         Err(ending) => Err(ending),
     }
 }
@@ -43,11 +44,11 @@ where
 ///
 /// # Errors
 /// The list cannot be read, is too large, or out of memory for it.
-pub fn read_list<R: Files>(rt: &R, asked: &NameArgs<'_>, text: &mut Vec<u8>) -> Result<(), ExitLine>
+pub fn read_list<R: Files>(rt: &R, list: Option<&str>, text: &mut Vec<u8>) -> Result<(), ExitLine>
     requires { text.old.items ≡ [] }
     ensures { IfErr result (λ ending. EndsWithoutNames ending.0 ending.1.now) }
 {
-    let Some(path) = asked.list else {
+    let Some(path) = list else {
         return Ok(());
     };
     let mut file = match fs::open(rt, path) {
@@ -61,43 +62,61 @@ pub fn read_list<R: Files>(rt: &R, asked: &NameArgs<'_>, text: &mut Vec<u8>) -> 
     }
 }
 
-/// Returns the requested names, those of the list's text after those of the arguments, sorted by
-/// their bytes.
+/// Returns the names of the arguments and those of the list's text, sorted by their bytes; each may
+/// have a version, or none may.
 ///
 /// # Errors
 /// A line of the list cannot be looked up, or out of memory for the names.
 pub fn sorted_names<'a>(
     alloc: Global,
-    asked: &NameArgs<'a>,
+    names: &[&'a str],
+    versions: bool,
     text: &'a [u8],
 ) -> Result<Vec<&'a [u8]>, ExitLine>
-    ensures names { IfOk result (λ names.
-        IsPermutation (texts_of asked.now.names.items ++ listed_names text.now)
-        (texts_of names.items)) }
+    ensures names { IfOk result (λ sorted.
+        IsPermutation (texts_of names.now ++ listed_names text.now) (texts_of sorted.items)) }
     ensures sorted { IfOk result (λ names. NeverDescend names.items) }
     ensures refused { IfErr result (λ ending. EndsWithoutNames ending.0 ending.1.now) }
 {
-    match gather_names(alloc, &asked.names, text, asked.versions) {
+    match gather_names(alloc, names, text, versions) {
         Ok(names) => Ok(names),
         Err(fault) => Err(lacking(fault)),
     }
 }
 
-/// Returns a request for those rows of a listing that have one of these names, which are sorted by
-/// their bytes.
-fn request_by_names<'a>(listing: &ListingRequest<'a>, names: &'a [&'a [u8]]) -> Request<'a>
+/// Returns these caps, with the rows of these names alone, which are sorted by their bytes.
+pub fn caps_by_names<'n>(caps: &Caps<'_>, names: &'n [&'n [u8]]) -> Caps<'n>
     requires { NeverDescend names.now }
-    ensures file { result.file ≡ listing.now.file }
-    ensures limits { result.limits ≡ listing.now.limits }
-    ensures task { ShowsRowsOf (texts_of names.now) listing.now.parts
-        listing.now.style result.task }
+    ensures limits { result.limits ≡ caps.now.limits }
+    ensures style { style_of result.style
+        ≡ named_style (texts_of names.now) (style_of caps.now.style) }
 {
+    Caps {
+        limits: caps.limits,
+        style: style_with_names(caps.style, names),
+    }
+}
+
+/// Returns the request for those rows of the file's listing that have one of these names, which are
+/// sorted by their bytes.
+fn request_by_names<'a>(
+    file: Option<&'a str>,
+    asked: &CommandArgs<'_>,
+    names: &'a [&'a [u8]],
+) -> Request<'a>
+    requires { NeverDescend names.now }
+    ensures file { result.file ≡ file.entry }
+    ensures limits { result.limits ≡ asked.now.caps.limits }
+    ensures task { ShowsRowsOf (texts_of names.now) asked.now.parts
+        asked.now.caps.style result.task }
+{
+    let Caps { limits, style } = caps_by_names(&asked.caps, names);
     Request {
-        file: listing.file,
-        limits: listing.limits,
+        file,
+        limits,
         task: Task::Show {
-            parts: listing.parts,
-            style: style_with_names(listing.style, names),
+            parts: asked.parts,
+            style,
         },
     }
 }

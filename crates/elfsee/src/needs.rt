@@ -4,14 +4,14 @@ ghost use Rattle.elfsee.specs.Needs.{EndsNeeds};
 
 use crate::needs_of_files::list_needs_of_files;
 use elf_cli::{
-    CANNOT_OPEN, ExitLine, OUT_OF_MEMORY, OUTPUT_BYTES, READ_FAULT, RunEnd, end_run, open,
+    CANNOT_OPEN, CommandArgs, ExitLine, OUT_OF_MEMORY, OUTPUT_BYTES, READ_FAULT, RunEnd, end_run,
+    open,
 };
 use elf_needs::{
     DependencyWalk, LibraryCache, LineOptions, Listed, MOST_OBJECTS, NeedsBuffers, NeedsFault,
     NeedsOptions, OpenFiles, OpenObjects, RootedFiles, SearchDirs, SystemFiles, default_dirs,
     system_cache,
 };
-use elf_requests::{NeedsRequest, PathArgs};
 use elf_source::{FileReader, Out, OutFault, Sink, Source, StreamSource, WriteSink, opened_path};
 use elf_table::{HeaderBuffer, HeaderStore};
 use std::fs;
@@ -30,14 +30,14 @@ const MOST_TRIES: u64 = 100_000;
 #[inline(never)]
 pub fn report_needs<R: Files + Print + Input + AllocGlobal>(
     rt: &R,
-    asked: &NeedsRequest<'_>,
+    asked: &CommandArgs<'_>,
     terminal: Option<Stderr>,
 ) -> Result<ExitLine, ExitLine>
 where
     R::File: FileExt,
 {
     let files = RootedFiles::new(rt, asked.root, rt.alloc());
-    match only_file(&files, &asked.files) {
+    match only_file(&files, asked) {
         Some(file) => list_needs(&files, asked, file),
         None => list_needs_of_files(&files, asked, terminal),
     }
@@ -47,7 +47,7 @@ where
 /// or another path, or a directory at it. It is not inlined: the stack of its caller would hold the
 /// buffers of paths while files are read.
 #[inline(never)]
-fn only_file<'a, R: Files>(rt: &R, files: &PathArgs<'a>) -> Option<&'a str> {
+fn only_file<'a, R: Files>(rt: &R, files: &CommandArgs<'a>) -> Option<&'a str> {
     if files.list.is_some() || files.paths.len() != 1 {
         return None;
     }
@@ -64,13 +64,13 @@ fn only_file<'a, R: Files>(rt: &R, files: &PathArgs<'a>) -> Option<&'a str> {
 /// Out of memory, or the program cannot be opened.
 fn list_needs<R: Files + Print + AllocGlobal>(
     rt: &R,
-    asked: &NeedsRequest<'_>,
+    asked: &CommandArgs<'_>,
     file: &str,
 ) -> Result<ExitLine, ExitLine>
 where
     R::File: FileExt,
 {
-    let Ok(mut headers) = HeaderBuffer::new(rt.alloc(), asked.limits.headers) else {
+    let Ok(mut headers) = HeaderBuffer::new(rt.alloc(), asked.caps.limits.headers) else {
         return Err(OUT_OF_MEMORY);
     };
     let Ok(room) = NeedsBuffers::new(rt.alloc()) else {
@@ -94,7 +94,7 @@ where
 /// Out of memory, or the program cannot be opened.
 fn needs_into<R: Files + AllocGlobal, W: Write + Drop>(
     rt: &R,
-    asked: &NeedsRequest<'_>,
+    asked: &CommandArgs<'_>,
     file: &str,
     store: HeaderStore<'_>,
     rooms: (NeedsBuffers, OpenFiles<R::File>),
@@ -185,15 +185,15 @@ pub fn list_after<S: Source + Drop, W: Sink>(
 /// A cache that is given cannot be opened, or the system's for a fault of the system.
 pub fn loader_cache<R: Files>(
     rt: &R,
-    asked: &NeedsRequest<'_>,
+    asked: &CommandArgs<'_>,
 ) -> Result<Option<LibraryCache<StreamSource<FileReader<R::File>>>>, ExitLine>
 where
     R::File: FileExt,
 {
-    if asked.cache.none {
+    if asked.no_cache {
         return Ok(None);
     }
-    if let Some(path) = asked.cache.file {
+    if let Some(path) = asked.cache {
         return match open(rt, path) {
             Ok(source) => Ok(Some(LibraryCache::new(source))),
             Err(ending) => Err(ending),
@@ -207,7 +207,7 @@ where
 }
 
 /// Returns the directories that are searched last: those that are given, or those of the system.
-pub fn last_dirs<'a, R: Files>(rt: &R, asked: &NeedsRequest<'a>) -> &'a [u8] {
+pub fn last_dirs<'a, R: Files>(rt: &R, asked: &CommandArgs<'a>) -> &'a [u8] {
     match asked.default {
         Some(text) => text.as_bytes(),
         None => default_dirs(rt, asked.root.as_bytes()),
@@ -215,13 +215,13 @@ pub fn last_dirs<'a, R: Files>(rt: &R, asked: &NeedsRequest<'a>) -> &'a [u8] {
 }
 
 /// Returns the settings of a walk, with the directories that are searched last.
-pub fn settings<'a>(asked: &NeedsRequest<'a>, default: &'a [u8]) -> NeedsOptions<'a>
+pub fn settings<'a>(asked: &CommandArgs<'a>, default: &'a [u8]) -> NeedsOptions<'a>
     ensures library { result.folders.library.now ≡ asked.now.library_path.now }
     ensures default { result.folders.default.now ≡ default.now }
     ensures root { result.folders.root.now ≡ asked.now.root.now }
-    ensures budget { result.budget ≡ asked.now.limits.budget }
-    ensures tries { result.tries ≡ unwrap_or asked.now.tries 100000 }
-    ensures format { result.lines.format ≡ asked.now.format }
+    ensures budget { result.budget ≡ asked.now.caps.limits.budget }
+    ensures tries { result.tries ≡ unwrap_or asked.now.max_tries 100000 }
+    ensures format { result.lines.format ≡ asked.now.caps.style.format }
     ensures problems { result.lines.problems ≡ asked.now.problems }
 {
     NeedsOptions {
@@ -230,10 +230,10 @@ pub fn settings<'a>(asked: &NeedsRequest<'a>, default: &'a [u8]) -> NeedsOptions
             default,
             root: asked.root.as_bytes(),
         },
-        budget: asked.limits.budget,
-        tries: asked.tries.unwrap_or(MOST_TRIES),
+        budget: asked.caps.limits.budget,
+        tries: asked.max_tries.unwrap_or(MOST_TRIES),
         lines: LineOptions {
-            format: asked.format,
+            format: asked.caps.style.format,
             problems: asked.problems,
         },
     }

@@ -4,9 +4,8 @@ ghost use Rattle.std.specs.Prelude.{◌≡◌};
 use crate::many::{ending_line, visit_files};
 use crate::needs::{last_dirs, loader_cache, settings};
 use crate::needs_report::{NeedsReport, NeedsRule};
-use elf_cli::{ExitLine, OUT_OF_MEMORY};
+use elf_cli::{CommandArgs, ExitLine, OUT_OF_MEMORY};
 use elf_needs::{MOST_OBJECTS, NeedsBuffers, OpenObjects, SystemFiles};
-use elf_requests::NeedsRequest;
 use elf_table::HeaderBuffer;
 use std::io::{Input, Stderr};
 use std::os::unix::fs::FileExt;
@@ -20,13 +19,13 @@ use std::rt::Files;
 #[inline(never)]
 pub fn list_needs_of_files<R: Files + Print + Input + AllocGlobal>(
     rt: &R,
-    asked: &NeedsRequest<'_>,
+    asked: &CommandArgs<'_>,
     terminal: Option<Stderr>,
 ) -> Result<ExitLine, ExitLine>
 where
     R::File: FileExt,
 {
-    let Ok(headers) = HeaderBuffer::new(rt.alloc(), asked.limits.headers) else {
+    let Ok(headers) = HeaderBuffer::new(rt.alloc(), asked.caps.limits.headers) else {
         return Err(OUT_OF_MEMORY);
     };
     let Ok(room) = NeedsBuffers::new(rt.alloc()) else {
@@ -48,21 +47,22 @@ where
         (room, opened),
     );
     let held = Vec::new(rt.alloc());
-    let ended = visit_files(rt, &asked.files, report, held, asked.format, terminal);
+    let format = asked.caps.style.format;
+    let ended = visit_files(rt, asked, report, held, format, terminal);
     ending_line(ended)
 }
 
 /// Returns the rule by which a request lists the needs of each file, with the directories that are
 /// searched last.
-fn rule_of<'a>(asked: &NeedsRequest<'a>, default: &'a [u8]) -> NeedsRule<'a>
-    ensures limits { result.limits ≡ asked.now.limits }
-    ensures format { result.options.lines.format ≡ asked.now.format }
+fn rule_of<'a>(asked: &CommandArgs<'a>, default: &'a [u8]) -> NeedsRule<'a>
+    ensures limits { result.limits ≡ asked.now.caps.limits }
+    ensures format { result.options.lines.format ≡ asked.now.caps.style.format }
     ensures problems { result.options.lines.problems ≡ asked.now.problems }
     ensures symbols { result.symbols ≡ asked.now.symbols }
     ensures unused { result.unused ≡ asked.now.unused }
 {
     NeedsRule {
-        limits: asked.limits,
+        limits: asked.caps.limits,
         options: settings(asked, default),
         symbols: asked.symbols,
         unused: asked.unused,

@@ -5,13 +5,13 @@
 ghost use Rattle.std.specs.Prelude.{◌≡◌};
 
 use elf_cli::{
-    ExitLine, ListingRequest, OUT_OF_MEMORY, OUTPUT_BYTES, ShowRequest, end_answer, exit, open,
+    CommandArgs, CommandName, ExitLine, OUT_OF_MEMORY, OUTPUT_BYTES, end_answer, exit, open,
     parse_show, read_words, report_refused, report_version,
 };
 use elf_fixtures::sample;
 use elf_listing::show;
 use elf_source::{Counted, MemorySource, Out, Source, WriteSink};
-use elf_table::{Caps, HeaderBuffer, HeaderStore};
+use elf_table::{HeaderBuffer, HeaderStore};
 use std::alloc::Global;
 use std::io::{self, BufWriter, Stderr, Write};
 use std::os::unix::fs::FileExt;
@@ -34,21 +34,34 @@ where
 {
     let words = read_words(rt)?;
     match parse_show(rt.alloc(), words.as_slice()) {
-        Ok(ShowRequest::Listed(listing)) => list(rt, &listing),
-        Ok(ShowRequest::Version) => report_version(rt),
+        Ok(asked) => carry_out(rt, &asked),
         Err(fault) => Err(report_refused(rt.alloc(), &fault, words.as_slice(), errors)),
+    }
+}
+
+/// Lists what the arguments request, or prints the version.
+fn carry_out<R: Files + Print + AllocGlobal>(
+    rt: &R,
+    asked: &CommandArgs<'_>,
+) -> Result<ExitLine, ExitLine>
+where
+    R::File: FileExt,
+{
+    match asked.command {
+        CommandName::Version => report_version(rt),
+        _ => list(rt, asked),
     }
 }
 
 /// Allocates the output, opens the file, and lists it.
 fn list<R: Files + Print + AllocGlobal>(
     rt: &R,
-    listing: &ListingRequest<'_>,
+    listing: &CommandArgs<'_>,
 ) -> Result<ExitLine, ExitLine>
 where
     R::File: FileExt,
 {
-    let Ok(mut room) = HeaderBuffer::new(rt.alloc(), listing.limits.headers) else {
+    let Ok(mut room) = HeaderBuffer::new(rt.alloc(), listing.caps.limits.headers) else {
         return Err(OUT_OF_MEMORY);
     };
     let Ok(output) = BufWriter::with_capacity(rt.alloc(), OUTPUT_BYTES, io::writer(rt)) else {
@@ -70,20 +83,16 @@ where
 /// hold the buffers of a listing twice, once for each type of source.
 #[inline(never)]
 fn write_listing<S: Source + Drop, W: Write + Drop>(
-    listing: &ListingRequest<'_>,
+    listing: &CommandArgs<'_>,
     source: S,
     mut store: HeaderStore<'_>,
     output: BufWriter<W>,
 ) -> ExitLine
-    requires { store.slots ≡ listing.now.limits.headers }
+    requires { store.slots ≡ listing.now.caps.limits.headers }
 {
     let mut src = Counted::new(source);
     let mut out = Out::new(WriteSink::new(output));
-    let caps = Caps {
-        limits: listing.limits,
-        style: listing.style,
-    };
-    let answer = match show(&mut src, &mut store, caps, listing.parts, &mut out) {
+    let answer = match show(&mut src, &mut store, listing.caps, listing.parts, &mut out) {
         Ok(()) => Ok(0),
         Err(stop) => Err(stop),
     };

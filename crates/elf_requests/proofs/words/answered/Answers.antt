@@ -1,19 +1,9 @@
-use Rattle.std.proofs.Common.{Ok, subst}
-use Rattle.std.proofs.lemmas.Result.{err_from_is_err_and}
-use Rattle.clap.specs.Words.{subcommand_rows_of}
-use Rattle.elf_requests.specs.Checks.{ParsesTo}
-use Rattle.elf_requests.proofs.FaultLaws.{faulty, unasked_told}
+use Rattle.std.proofs.Common.{inr}
+use Rattle.std.proofs.lemmas.Result.{IfErr-weaker, IfOk-weaker}
 use Rattle.elf_requests.proofs.words.answered.Goals as goal
 
-pub returns-in-Some-clause-asked : goal.returns-in-Some-clause-asked
-returns-in-Some-clause-asked c = subst (λ asked. ParsesTo (subcommand_rows_of c.args.matches.now) (Ok asked)) c.in-Some.is c.in_ok-asked.ensures
+pub returns-clause-asked : goal.returns-clause-asked
+returns-clause-asked c = IfOk-weaker c.checked.result _ _ (λ asked made. (_, c.in_ok-args.ensures.read, made.0, made.1)) c.checked.ensures.asked
 
-pub returns-in-None-clause-refused : goal.returns-in-None-clause-refused
-returns-in-None-clause-refused c =
-    let nothing = subst (λ asked. ParsesTo (subcommand_rows_of c.args.matches.now) (Ok asked)) c.in-None.is c.in_ok-asked.ensures in
-    unasked_told _ c.unasked.result c.unasked.ensures nothing
-
-pub returns-in_err-asked-clause-refused : goal.returns-in_err-asked-clause-refused
-returns-in_err-asked-clause-refused c =
-    let p = err_from_is_err_and c.from_residual.result c.from_residual.ensures.1 in
-    rw (p.1, p.2) (faulty _ c.in_err-asked.field-0.0 c.in_err-asked.ensures)
+pub returns-clause-refused : goal.returns-clause-refused
+returns-clause-refused c = IfErr-weaker c.checked.result _ _ (λ fault has. inr (_, c.in_ok-args.ensures.read, has)) c.checked.ensures.refused

@@ -1,4 +1,0 @@
-use Rattle.elf_cli.proofs.commands.find_command.Goals as goal
-
-pub returns : goal.returns
-returns c = c.clap_command_of.ensures

@@ -1,0 +1,84 @@
+-- What the arguments of a command have of the values that the command line parsed.
+use Rattle.std.specs.Prelude.{◌≡◌, ◌||◌, ℕ, if◌then◌else◌, bytes_eq, is_some, List, [], codes, Option, None, Some, option_map, unwrap_or}
+use Rattle.clap.specs.Walk.{Row, Text, first_of, one_of, texts}
+use Rattle.elf_model.specs.Prelude.{EveryRow}
+use Rattle.elf_options.specs.Prelude.{choice_of}
+use Rattle.elf_options.specs.declared.caps.Caps.{Caps}
+use Rattle.elf_options.specs.declared.caps.Limits.{Limits}
+use Rattle.elf_options.specs.declared.caps.ListingStyle.{ListingStyle}
+use Rattle.elf_cli.specs.Faults.{IsUnasked}
+use Rattle.elf_cli.specs.Options.{HasNumber, IsCount, asked_format, asked_parts, is_given, is_option_set, values_of}
+use Rattle.elf_cli.specs.declared.command_args.CommandArgs.{CommandArgs}
+use Rattle.elf_cli.specs.declared.command_args.CommandName.{CommandName}
+use Rattle.elf_cli.specs.declared.command_args.CommandName.TheVariants.{Show, Sample, Find, Apply, Check, List as Listings, Traits, Needs, Archive, Version}
+use Rattle.elf_cli.specs.declared.faults.RequestFault.{RequestFault}
+use Rattle.elf_cli.specs.declared.faults.RequestFault.TheVariants.{Memory}
+
+-- the command of a name, of those that the command line has
+abbrev pub command_named : Text → CommandName
+command_named name =
+    if bytes_eq name (codes "show") then Show
+    else if bytes_eq name (codes "sample") then Sample
+    else if bytes_eq name (codes "find") then Find
+    else if bytes_eq name (codes "apply") then Apply
+    else if bytes_eq name (codes "check") then Check
+    else if bytes_eq name (codes "list") then Listings
+    else if bytes_eq name (codes "traits") then Traits
+    else if bytes_eq name (codes "needs") then Needs
+    else if bytes_eq name (codes "archive") then Archive
+    else Version
+
+-- how many headers are allowed and how many bytes may be read
+pub record AreLimits (rows : List Row) (limits : Limits) : Type 0 where
+  pub headers : IsCount 1 65279 (one_of (codes "headers") rows) limits.headers
+  pub budget : (value : Option ℕ) → HasNumber (one_of (codes "max-read") rows) value → limits.budget ≡ value
+
+-- how rows are shown, before any is selected by name
+pub record IsStyle (rows : List Row) (style : ListingStyle) : Type 0 where
+  pub cap : IsCount 1 4096 (one_of (codes "names") rows) style.cap.bytes
+  pub gnu : style.gnu ≡ is_option_set (first_of (codes "gnu") rows)
+  pub by_segments : style.by_segments ≡ is_option_set (first_of (codes "by-segments") rows)
+  pub format : style.format ≡ asked_format rows
+  pub choice : choice_of style.choice ≡ EveryRow
+  pub versions : style.versions ≡ is_option_set (first_of (codes "versions") rows)
+
+pub record AreCapOptions (rows : List Row) (caps : Caps) : Type 0 where
+  pub limits : AreLimits rows caps.limits
+  pub style : IsStyle rows caps.style
+
+-- WHAT IS REQUESTED, an argument a line
+pub record AreOptions (rows : List Row) (args : CommandArgs) : Type 0 where
+  pub file : option_map (λ path. path.now) args.file ≡ first_of (codes "FILE") rows
+  pub name : args.name.now ≡ unwrap_or (first_of (codes "NAME") rows) []
+  pub section : IsCount 0 65535 (one_of (codes "SECTION") rows) args.section
+  pub items : texts args.items.items ≡ values_of (codes "ITEM") rows
+  pub layout : option_map (λ path. path.now) args.layout ≡ first_of (codes "layout") rows
+  pub explain : args.explain ≡ is_option_set (first_of (codes "explain") rows)
+  pub paths : texts args.paths.items ≡ values_of (codes "PATH") rows
+  pub list : option_map (λ path. path.now) args.list ≡ first_of (codes "files0-from") rows
+  pub members : args.members ≡ is_option_set (first_of (codes "members") rows)
+  pub caps : AreCapOptions rows args.caps
+  pub limits_names : args.limits_names ≡ is_given (codes "names") rows
+  pub parts : args.parts.0 ≡ asked_parts rows
+  pub names : texts args.names.items ≡ values_of (codes "name") rows
+  pub name_list : option_map (λ path. path.now) args.name_list ≡ first_of (codes "name-list") rows
+  pub require : option_map (λ text. text.now) args.require ≡ first_of (codes "require") rows
+  pub library_path : args.library_path.now ≡ unwrap_or (first_of (codes "library-path") rows) []
+  pub default : option_map (λ text. text.now) args.default ≡ first_of (codes "default") rows
+  pub root : args.root.now ≡ unwrap_or (first_of (codes "root") rows) []
+  pub cache : option_map (λ path. path.now) args.cache ≡ first_of (codes "cache") rows
+  pub no_cache : args.no_cache ≡ (is_option_set (first_of (codes "no-cache") rows) || is_some (first_of (codes "default") rows))
+  pub max_tries : (value : Option ℕ) → HasNumber (one_of (codes "max-tries") rows) value → args.max_tries ≡ value
+  pub symbols : args.symbols ≡ is_option_set (first_of (codes "symbols") rows)
+  pub unused : args.unused ≡ is_option_set (first_of (codes "unused") rows)
+  pub problems : args.problems ≡ is_option_set (first_of (codes "problems") rows)
+
+-- a command with the values of its arguments
+abbrev pub AreArgs : Option (Text × List Row) → CommandArgs → Type 0
+AreArgs None args = ⊥
+AreArgs (Some (command, rows)) args = (args.command ≡ command_named command) × AreOptions rows args
+
+-- why there are none: out of memory, or there is no command
+abbrev pub IsUnread : Option (Text × List Row) → RequestFault → Type 0
+IsUnread None fault = IsUnasked fault
+IsUnread (Some matches) fault = fault ≡ Memory

@@ -1,0 +1,170 @@
+//! The values of a command's arguments, by a reader for each form.
+ghost use Rattle.std.specs.Prelude.{◌≡◌, ◌≤◌, ℕ, IfOk, List, [], Option, codes, option_map, unwrap_or};
+ghost use Rattle.clap.specs.Walk.{Row, first_of, one_of, rows_of, texts};
+ghost use Rattle.clap.specs.Words.{found_of};
+ghost use Rattle.elf_cli.specs.Options.{HasNumber, IsCount, asked_format, asked_parts};
+ghost use Rattle.elf_cli.specs.Options.{has_name_option, is_given, is_of_words, is_option_set};
+ghost use Rattle.elf_cli.specs.Options.{part_number, values_of};
+
+use clap::ArgMatches;
+use clap::parser::ValueSource;
+use elf_model::Format;
+use elf_record::Parts;
+use std::alloc::{AllocError, Global};
+use std::marker::Model;
+
+/// The values of a command's arguments, as the command line parsed them.
+#[derive(Drop)]
+pub(crate) struct Options<'m, 'a> {
+    matches: &'m ArgMatches<'a>,
+}
+
+impl<'m, 'a> Model for Options<'m, 'a> {
+    ghost Value = { List Row };
+
+    ghost view = { λ options. rows_of (found_of options.matches.now) };
+}
+
+impl<'m, 'a> Options<'m, 'a> {
+    /// Creates the options of a command from what the command line parsed.
+    pub(crate) fn new(matches: &'m ArgMatches<'a>) -> Options<'m, 'a>
+        ensures { result ≡ rows_of (found_of matches.entry.now) }
+    {
+        Options { matches }
+    }
+
+    /// Returns the parts that are selected: the part that is named; otherwise the symbols if rows
+    /// are selected by name, or all parts.
+    pub(crate) fn parts(&self) -> Parts
+        ensures { result.0 ≡ asked_parts self.now }
+    {
+        match self.text("only") {
+            Some(name) => part_named(name),
+            None if self.has_name_option() => Parts::SYMBOLS,
+            None if self.is_set("gnu") => Parts(255),
+            None => Parts(127),
+        }
+    }
+
+    /// Returns `true` if only the rows of some names are requested.
+    fn has_name_option(&self) -> bool
+        ensures { result ≡ has_name_option self.now }
+    {
+        self.text("name").is_some() || self.text("name-list").is_some()
+    }
+
+    /// Returns how a line is written.
+    pub(crate) fn format(&self) -> Format
+        ensures { result ≡ asked_format self.now }
+    {
+        if self.is_set("json") {
+            Format::Object
+        } else {
+            Format::Columns
+        }
+    }
+
+    /// Returns `true` if an option without a value is set.
+    pub(crate) fn is_set(&self, option: &str) -> bool
+        ensures { result ≡ is_option_set (first_of option.now self.now) }
+    {
+        match self.text(option) {
+            Some(text) => text == "true",
+            None => false,
+        }
+    }
+
+    /// Returns `true` if an option is given on the command line.
+    pub(crate) fn is_given(&self, option: &str) -> bool
+        ensures { result ≡ is_given option.now self.now }
+    {
+        from_words(self.matches.value_source(option))
+    }
+
+    /// Returns the value of an argument, if it has one.
+    pub(crate) fn text(&self, argument: &str) -> Option<&'a str>
+        ensures { option_map (λ text. text.now) result ≡ first_of argument.now self.now }
+    {
+        self.matches.get_str(argument)
+    }
+
+    /// Returns the value of an argument, or an empty text if it has none.
+    pub(crate) fn text_or_empty(&self, argument: &str) -> &'a str
+        ensures { result.now ≡ unwrap_or (first_of argument.now self.now) [] }
+    {
+        match self.text(argument) {
+            Some(text) => text,
+            None => "",
+        }
+    }
+
+    /// Returns the values of an argument.
+    ///
+    /// # Errors
+    /// Out of memory for them.
+    pub(crate) fn values(&self, alloc: Global, argument: &str) -> Result<Vec<&'a str>, AllocError>
+        ensures { IfOk result (λ words. texts words.items ≡ values_of argument.now self.now) }
+    {
+        match self.matches.get_strs(argument) {
+            Some(words) => copied_words(alloc, words),
+            None => Ok(Vec::new(alloc)),
+        }
+    }
+
+    /// Returns the number that an argument has, within a range: that of its value if the command
+    /// line accepts it, otherwise the default.
+    pub(crate) fn count(&self, argument: &str, least: u16, most: u16, default: u16) -> u16
+        requires least { least ≤ default }
+        requires most { default ≤ most }
+        ensures { IsCount least most (one_of argument.now self.now) result }
+    {
+        match self.number(argument) {
+            Some(value) if u64::from(least) <= value && value <= u64::from(most) => value as u16,
+            _ => default,
+        }
+    }
+
+    /// Returns the number that an option has, if it has one.
+    pub(crate) fn number(&self, option: &str) -> Option<u64>
+        ensures { (value : Option ℕ) → HasNumber (one_of option.now self.now) value
+            → result ≡ value }
+    {
+        self.matches.get_one(option)
+    }
+}
+
+/// Returns a copy of the slices of arguments; the arguments themselves are not copied.
+fn copied_words<'a>(alloc: Global, words: &[&'a str]) -> Result<Vec<&'a str>, AllocError>
+    ensures { IfOk result (λ copy. copy.items ≡ words.now) }
+{
+    words.iter().copied().collect(alloc)
+}
+
+/// Returns `true` if a value comes from the command line.
+fn from_words(source: Option<ValueSource>) -> bool
+    ensures { result ≡ is_of_words source }
+{
+    match source {
+        Some(ValueSource::CommandLine) => true,
+        Some(ValueSource::DefaultValue) => false,
+        None => false,
+    }
+}
+
+/// Returns the part with this name, of those that the command line accepts; none for the members of
+/// an archive alone.
+fn part_named(name: &str) -> Parts
+    ensures { result.0 ≡ part_number name.now }
+{
+    match name {
+        "members" => Parts(0),
+        "header" => Parts::HEADER,
+        "sections" => Parts::SECTIONS,
+        "segments" => Parts::SEGMENTS,
+        "symbols" => Parts::SYMBOLS,
+        "relocs" => Parts::RELOCS,
+        "notes" => Parts::NOTES,
+        "dynamic" => Parts::DYNAMIC,
+        _ => Parts::VERSIONS,
+    }
+}

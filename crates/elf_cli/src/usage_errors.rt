@@ -1,0 +1,92 @@
+//! Messages for arguments that the command line accepts though they have a fault.
+ghost use Rattle.std.specs.Prelude.{◌≡◌, IfOk};
+ghost use Rattle.clap.specs.Values.{kind_of};
+ghost use Rattle.clap.specs.declared.error.kind.ErrorKind.TheVariants.{Format};
+ghost use Rattle.elf_cli.specs.Faults.{IsUnasked};
+ghost use Rattle.elf_cli.specs.UsageFaults.{ReportsUsage};
+
+use crate::command_args::CommandName;
+use crate::commands::command_with_usage;
+use crate::faults::RequestFault;
+use crate::parser::{MEMBER_PARTS, PARTS};
+use crate::usage_faults::UsageFault;
+use clap::Error;
+use clap::error::ErrorKind;
+use std::alloc::{AllocError, Global};
+
+/// Returns the fault that reports one of a command's arguments.
+pub fn request_fault(alloc: Global, command: CommandName, fault: UsageFault) -> RequestFault
+    ensures { ReportsUsage fault result }
+{
+    match fault {
+        UsageFault::NamesFull => RequestFault::NamesFull,
+        UsageFault::BadName => RequestFault::BadName,
+        UsageFault::NoGnu => usage_error(
+            alloc,
+            command,
+            "the following required arguments were not provided:\n  --gnu",
+        ),
+        UsageFault::NamesLimited => usage_error(
+            alloc,
+            command,
+            "the argument '--names <N>' cannot be used with '--name <NAME>'",
+        ),
+        UsageFault::NoRows => usage_error(
+            alloc,
+            command,
+            "with '--name <NAME>' the part is symbols, relocs or, with '--gnu', versions",
+        ),
+        UsageFault::NoPath => usage_error(
+            alloc,
+            command,
+            "the following required arguments were not provided:\n  <PATH>",
+        ),
+        UsageFault::NoFile => usage_error(
+            alloc,
+            command,
+            "the following required arguments were not provided:\n  <FILE>",
+        ),
+    }
+}
+
+/// Returns the fault of a program that only lists one file, for other commands and for rows that
+/// are selected by name.
+pub(crate) fn not_listed(alloc: Global) -> RequestFault
+    ensures { IsUnasked result }
+{
+    usage_error(
+        alloc,
+        CommandName::Show,
+        "this program has only the commands show, sample and version, without '--name'",
+    )
+}
+
+/// Returns the fault of arguments without a command.
+pub(crate) fn without_command(alloc: Global) -> RequestFault
+    ensures { IsUnasked result }
+{
+    usage_error(alloc, CommandName::Show, "there is no command")
+}
+
+/// Returns the fault with a message, followed by the usage of a command.
+fn usage_error(alloc: Global, command: CommandName, message: &str) -> RequestFault
+    ensures { IsUnasked result }
+{
+    match error_with_usage(alloc, command, message) {
+        Ok(error) => error.into(),
+        Err(AllocError) => RequestFault::Memory,
+    }
+}
+
+/// Returns the error with a message, followed by the usage of a command.
+fn error_with_usage(alloc: Global, command: CommandName, message: &str) -> Result<Error, AllocError>
+    ensures { IfOk result (λ error. kind_of error ≡ Format) }
+{
+    let mut command = command_with_usage(
+        alloc,
+        command,
+        PARTS.as_slice(),
+        MEMBER_PARTS.as_slice(),
+    )?;
+    command.error(ErrorKind::Format, message)
+}

@@ -1,0 +1,135 @@
+//! What is wrong with arguments that the command line accepts.
+ghost use Rattle.std.specs.Prelude.{◌≡◌};
+ghost use Rattle.clap.specs.Walk.{texts};
+ghost use Rattle.elf_cli.specs.UsageFaults.{are_names, has_named_rows, is_name, is_of_many_files};
+ghost use Rattle.elf_cli.specs.UsageFaults.{usage_fault, file_is_missing, gnu_option_is_missing, path_is_missing, takes_file};
+
+use crate::command_args::{CommandArgs, CommandName};
+use elf_options::is_valid_row_name;
+use elf_record::Parts;
+
+/// How many names may be given as arguments.
+const MOST_NAMES: usize = 64;
+
+/// What is wrong with arguments that the command line accepts.
+#[derive(Clone, Copy, Drop)]
+pub enum UsageFault {
+    /// There are more than 64 names.
+    NamesFull,
+    /// One of the names cannot be looked up.
+    BadName,
+    /// `--gnu` is missing: only GNU listings have symbol versions, and only a loader's lookup finds
+    /// the tables by the program headers.
+    NoGnu,
+    /// Rows are selected by name, and the shown bytes of a name are limited.
+    NamesLimited,
+    /// Rows are selected by name in a part that has no such rows.
+    NoRows,
+    /// There is neither a path nor a list of paths.
+    NoPath,
+    /// There is no file.
+    NoFile,
+}
+
+/// Returns the first fault of the arguments of a command, if they have one.
+pub fn usage_fault(args: &CommandArgs<'_>) -> Option<UsageFault>
+    ensures { result ≡ usage_fault args.now }
+{
+    if args.names.len() > MOST_NAMES {
+        return Some(UsageFault::NamesFull);
+    }
+    if !are_names(&args.names, args.caps.style.versions) {
+        return Some(UsageFault::BadName);
+    }
+    if gnu_option_is_missing(args) {
+        return Some(UsageFault::NoGnu);
+    }
+    if args.selects_rows() && args.limits_names {
+        return Some(UsageFault::NamesLimited);
+    }
+    if args.selects_rows() && !has_named_rows(args.parts) {
+        return Some(UsageFault::NoRows);
+    }
+    if path_is_missing(args) {
+        return Some(UsageFault::NoPath);
+    }
+    if file_is_missing(args) {
+        return Some(UsageFault::NoFile);
+    }
+    None
+}
+
+/// Returns `true` if `--gnu` is required and not given.
+fn gnu_option_is_missing(args: &CommandArgs<'_>) -> bool
+    ensures { result ≡ gnu_option_is_missing args.now }
+{
+    if args.caps.style.gnu {
+        return false;
+    }
+    match args.command {
+        CommandName::Find => args.caps.style.by_segments,
+        _ => args.caps.style.versions || args.parts.0 == Parts::VERSIONS.0,
+    }
+}
+
+/// Returns `true` if a command of many files has neither a path nor a list of paths.
+fn path_is_missing(args: &CommandArgs<'_>) -> bool
+    ensures { result ≡ path_is_missing args.now }
+{
+    is_of_many_files(args.command) && args.paths.is_empty() && args.list.is_none()
+}
+
+/// Returns `true` if a command of one file has none.
+fn file_is_missing(args: &CommandArgs<'_>) -> bool
+    ensures { result ≡ file_is_missing args.now }
+{
+    takes_file(args.command) && args.file.is_none()
+}
+
+/// Returns `true` if a command reads many files.
+fn is_of_many_files(command: CommandName) -> bool
+    ensures { result ≡ is_of_many_files command }
+{
+    match command {
+        CommandName::Check | CommandName::List | CommandName::Traits | CommandName::Needs => true,
+        _ => false,
+    }
+}
+
+/// Returns `true` if a command reads the file that its arguments name.
+fn takes_file(command: CommandName) -> bool
+    ensures { result ≡ takes_file command }
+{
+    match command {
+        CommandName::Show | CommandName::Find | CommandName::Apply | CommandName::Archive => true,
+        _ => false,
+    }
+}
+
+/// Returns `true` if these are one part whose rows are selected by name.
+fn has_named_rows(parts: Parts) -> bool
+    ensures { result ≡ has_named_rows parts.0 }
+{
+    parts.0 == Parts::SYMBOLS.0 || parts.0 == Parts::RELOCS.0 || parts.0 == Parts::VERSIONS.0
+}
+
+/// Returns `true` if all arguments are names that can be looked up.
+fn are_names(mut words: &[&str], versions: bool) -> bool
+    ensures { result ≡ are_names versions (texts words.entry.now) }
+{
+    while let [word, rest @ ..] = words {
+        if !is_name(word, versions) {
+            return false;
+        }
+        words = rest;
+    }
+    true
+}
+
+/// Returns `true` if an argument is a name that can be looked up and, if a name may have a version,
+/// has neither an empty name nor an empty version.
+fn is_name(word: &str, versions: bool) -> bool
+    ensures { result ≡ is_name versions word.now }
+{
+    is_valid_row_name(word.as_bytes(), versions)
+}

@@ -1,8 +1,0 @@
-use Rattle.std.proofs.Common.{refl}
-use Rattle.clap.specs.Walk.{rows_of}
-use Rattle.clap.specs.Words.{found_of}
-use Rattle.elf_requests.proofs.CheckLaws.{nothing_by_check}
-use Rattle.elf_requests.proofs.check_words.check_of.Goals as goal
-
-pub returns-in-None : goal.returns-in-None
-returns-in-None c = nothing_by_check (rows_of (found_of c.args.options.now)) (c.in-None.ensures.none refl)
