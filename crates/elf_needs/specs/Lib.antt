@@ -11,6 +11,7 @@ pub mod WorkedLinks
 pub mod Binds
 pub mod Definers
 pub mod Filters
+pub mod Indices
 pub mod Kept
 pub mod Lacking
 pub mod Looks

@@ -21,6 +21,7 @@ use crate::definition::find_definer;
 use crate::file_tables::{FileTables, find_tables};
 use crate::hashed::hashed_symbols;
 use crate::kept_filter::KeptFilter;
+use crate::kept_indices::KeptIndices;
 use crate::missing_version::lacks_version;
 use crate::needed_versions::NeedsWalk;
 use crate::ready::ready_table;
@@ -46,10 +47,13 @@ pub struct LookupObject<S: Source> {
     ready: Option<HashTable>,
     // The words of the hash table's filter that are kept: none if a budget is set.
     filter: KeptFilter,
+    // The indices of versions that are kept: none if a budget is set.
+    indices: KeptIndices,
 }
 
 impl<S: Source> Model for LookupObject<S> {
     ghost use Rattle.elf_needs.specs.Filters.{KeepsFilter};
+    ghost use Rattle.elf_needs.specs.Indices.{KnowsIndices};
     ghost use Rattle.elf_needs.specs.Kept.{IsKept, KnowsVersions, LookupObjectState};
 
     ghost Value = { LookupObjectState };
@@ -58,7 +62,8 @@ impl<S: Source> Model for LookupObject<S> {
 
     ghost invariant = { λ o. IsKept o.source.seen o.headers o.scope o.ready
         × KnowsVersions o.source.seen o.versions
-        × KeepsFilter o.source o.scope.hash o.filter };
+        × KeepsFilter o.source o.scope.hash o.filter
+        × KnowsIndices o.source.seen o.scope o.indices.places };
 }
 
 impl<S: Source> LookupObject<S> {
@@ -88,6 +93,7 @@ impl<S: Source> LookupObject<S> {
                 headers: store.slots(),
                 ready: None,
                 filter: KeptFilter::new(),
+                indices: KeptIndices::new(),
             }),
             Err(fault) => Err((source, fault)),
         }
@@ -95,7 +101,7 @@ impl<S: Source> LookupObject<S> {
 
     /// Reads once what its lookups have in common: the counts of the hash table, whether the
     /// records of versions have no fault, and without a budget the first words of the table's
-    /// filter, at most 4,096 bytes.
+    /// filter, at most 4,096 bytes. Without a budget the indices of versions are kept from then on.
     ///
     /// What is refused or fails is skipped, and each lookup reports it. Requests at most the bytes
     /// left of the budget, if there is one; those requested are subtracted. On return no limit is
@@ -109,6 +115,7 @@ impl<S: Source> LookupObject<S> {
         let keeps = left.is_none();
         self.filter
             .load_if(keeps, &mut self.source, &self.scope.hash);
+        self.indices.keep_if(keeps);
         self.source.limit(None);
         spend_budget(left, self.source.asked() - asked);
         self.ready = ready.unwrap_or(None);
@@ -122,9 +129,9 @@ impl<S: Source> LookupObject<S> {
     }
 
     /// Looks up the symbol that defines a name, of which `hash` is what [`filter_hash`] returns.
-    /// Nothing is read if the words that are kept of the filter exclude it. Requests at most the
-    /// bytes left of the budget, if there is one; those requested are subtracted. On return no
-    /// limit is set.
+    /// Nothing is read if the words that are kept of the filter exclude it, and no record of
+    /// versions if the indices of the version are kept. Requests at most the bytes left of the
+    /// budget, if there is one; those requested are subtracted. On return no limit is set.
     ///
     /// # Errors
     /// Those of [`find_definer`].
@@ -145,7 +152,13 @@ impl<S: Source> LookupObject<S> {
         }
         let asked = self.source.asked();
         self.source.limit(*left);
-        let found = find_definer(&mut self.source, &self.scope, &self.ready, wanted);
+        let found = find_definer(
+            &mut self.source,
+            &self.scope,
+            &self.ready,
+            wanted,
+            &mut self.indices,
+        );
         self.source.limit(None);
         spend_budget(left, self.source.asked() - asked);
         found
