@@ -1,12 +1,12 @@
 -- What the indices of versions that are kept are in a file.
-use Rattle.std.proofs.Common.{◌≡◌, ℕ, ◌<◌, ◌≤◌, ◌*◌, Bool, true, false, List, Option, None, Some, IfSome, Result, Ok, Err, refl, sym, ap, subst, ◌∙◌, arith}
+use Rattle.std.proofs.Common.{◌≡◌, ℕ, true, false, List, Option, None, Some, Result, Ok, Err, refl, sym, ap, ◌∙◌, arith}
 use Rattle.std.specs.Result.{OnOk, is_ok}
-use Rattle.elf_model.specs.Prelude.{CompareResult, LookupTables as IsScopeOf, SymbolQuery, Version, VersionQuery, asked_name, record_cost, version_indices}
+use Rattle.elf_model.specs.Prelude.{CompareResult, LookupTables as IsScopeOf, Version, VersionQuery, asked_name, record_cost, version_indices}
 use Rattle.elf_source.specs.Source.{CountedState, KeepsSource, SetsLimit, SourceState}
 use Rattle.elf_table.proofs.LedgerLaws.{CallReads-more, CallReads-none}
 use Rattle.elf_hash.specs.declared.lookup_tables.LookupTables.{LookupTables}
 use Rattle.elf_loader.specs.Comparing.{CollectsNumbers}
-use Rattle.elf_needs.specs.Indices.{AreIndicesOf, AreNumbersOf, IsIndicesIf, KeepsIndices, KnowsIndices}
+use Rattle.elf_needs.specs.Indices.{AreNumbersOf, KeepsIndices, KnowsIndices}
 use Rattle.elf_needs.specs.declared.kept_indices.VersionIndices.{VersionIndices}
 
 -- what holds of a success, of one

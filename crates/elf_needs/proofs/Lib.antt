@@ -27,6 +27,7 @@ pub mod ReadyLaws
 pub mod SoughtLaws
 pub mod SpendLaws
 pub mod IndexLaws
+pub mod NameLaws
 pub mod FilterLaws
 pub mod PageLaws
 pub mod AskLaws

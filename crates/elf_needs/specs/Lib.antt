@@ -12,6 +12,7 @@ pub mod Binds
 pub mod Definers
 pub mod Filters
 pub mod Indices
+pub mod VersionNames
 pub mod Kept
 pub mod Lacking
 pub mod Looks

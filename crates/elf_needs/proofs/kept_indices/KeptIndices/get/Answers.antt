@@ -1,8 +1,7 @@
 -- The indices at the place are those of the name there, and that is the wanted one.
-use Rattle.std.proofs.Common.{◌≡◌, ◌<◌, List, ℕ, length, Some, sym, ◌∙◌, arith, rules}
+use Rattle.std.proofs.Common.{◌≡◌, ◌<◌, length, sym, ◌∙◌, arith, rules}
 use Rattle.std.proofs.lemmas.List.Elements.{All-get_or}
 use Rattle.std.proofs.lemmas.Slice.Eq.{bytes_eq-Decides}
-use Rattle.elf_model.specs.Loader.{asked_name}
 use Rattle.elf_options.specs.Wants.{asked_of}
 use Rattle.elf_needs.specs.Indices.{IsIndicesIf}
 use Rattle.elf_needs.proofs.IndexLaws.{numbers_of_name}

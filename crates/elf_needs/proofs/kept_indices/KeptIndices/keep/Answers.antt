@@ -1,5 +1,5 @@
 -- The indices are kept by the name that is wanted.
-use Rattle.std.proofs.Common.{◌≡◌, ◌++◌, List, ℕ, Some, sym, ap, subst, ◌∙◌, rules}
+use Rattle.std.proofs.Common.{◌≡◌, ◌++◌, List, ℕ, sym, ap, subst, ◌∙◌}
 use Rattle.std.proofs.lemmas.List.Elements.{All-set}
 use Rattle.elf_model.specs.Prelude.{Version}
 use Rattle.elf_options.specs.Wants.{asked_of}

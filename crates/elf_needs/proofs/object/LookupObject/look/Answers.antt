@@ -2,6 +2,7 @@
 use Rattle.elf_options.specs.Wants.{query_of}
 use Rattle.elf_needs.proofs.SpendLaws.{looks_kept}
 use Rattle.elf_needs.proofs.FilterLaws.{kept_after, looks_excluded}
+use Rattle.elf_needs.proofs.NameLaws.{same_names}
 use Rattle.elf_needs.proofs.object.LookupObject.look.Goals as goal
 
 pub returns : goal.returns
@@ -12,7 +13,7 @@ returns g c =
     (rw (c.asked.ensures, c.asked-asked.ensures) at c.spend_budget.ensures))
 
 pub invariant_of-self : goal.invariant_of-self
-invariant_of-self g c = kept_after c.limit.ensures c.find_definer-found.ensures.did.costs.reads.keeps c.limit-2.ensures c.self.invariant c.find_definer-found.ensures.kept
+invariant_of-self g c = kept_after c.limit.ensures c.find_definer-found.ensures.did.costs.reads.keeps c.limit-2.ensures c.self.invariant c.find_definer-found.ensures.kept same_names
 
 pub returns-then-excludes : goal.returns-then-excludes
 returns-then-excludes g c = looks_excluded (query_of c.args.wanted.now) _ _ (c.excludes.ensures c.if-excludes.true (query_of c.args.wanted.now) c.requires.hash)
