@@ -13,11 +13,17 @@ use Rattle.elf_hash.specs.declared.table.HashTable.{HashTable}
 use Rattle.elf_hash.specs.declared.lookup_tables.LookupTables.{LookupTables}
 use Rattle.elf_hash.proofs.GnuSteps.{passed_over, reported_none}
 use Rattle.elf_needs.specs.Filters.{ExcludesHash, FilterWords, HasFilter, IsFilterOf, IsHashOf, KeepsFilter}
+use Rattle.elf_needs.specs.Indices.{KeepsIndices, KnowsIndices}
 use Rattle.elf_needs.specs.Kept.{IsKept, KnowsVersions, LookupObjectState}
 use Rattle.elf_needs.specs.Looks.{ExcludesName, LooksInObject, SpendsAtMost, SpendsBudget}
+use Rattle.elf_needs.specs.VersionNames.{KeepsNames, KnowsNames}
 use Rattle.elf_needs.specs.VersionTables.{FileVersionsInBounds}
+use Rattle.elf_needs.specs.declared.kept_indices.VersionIndices.{VersionIndices}
+use Rattle.elf_needs.specs.declared.kept_version_names.NamedVersion.{NamedVersion}
 use Rattle.elf_needs.specs.declared.version_tables.FileVersions.{FileVersions}
 use Rattle.elf_needs.proofs.DefinerLaws.{defines_excluded}
+use Rattle.elf_needs.proofs.IndexLaws.{knows_indices, same_indices}
+use Rattle.elf_needs.proofs.NameLaws.{knows_names, same_names}
 use Rattle.elf_needs.proofs.SpendLaws.{kept_ready, scoped}
 
 -- a word among those that are kept
@@ -99,11 +105,21 @@ module _ {a b c d : CountedState} {left : Option ℕ} (set : SetsLimit a b left)
   pub keeps_filter : {place : HashTableLocation} {filter : FilterWords} → ((file : List ℕ) → a.seen.file ≡ Some file → IsFilterOf file place filter) → KeepsFilter d place filter
   keeps_filter tells = record { free = λ some. free.most; known = λ file held. tells file (sym same_file ∙ held) }
 
-  pub kept_between : {headers : ℕ} {scope : LookupTables} {ready : Option HashTable} {versions : FileVersions} {place : HashTableLocation} {filter : FilterWords}
-      → IsKept a.seen headers scope ready × KnowsVersions a.seen versions × KeepsFilter a place filter
-      → IsKept d.seen headers scope ready × KnowsVersions d.seen versions × KeepsFilter d place filter
-  kept_between {headers} {scope} {ready} {versions} (kept, knows, filters) = (
+  pub kept_after :
+      {headers : ℕ} {scope : LookupTables} {ready : Option HashTable} {versions : FileVersions} {place : HashTableLocation} {filter : FilterWords} {old new : List (Option VersionIndices)} {was now : List (Option NamedVersion)}
+      → IsKept a.seen headers scope ready × KnowsVersions a.seen versions × KeepsFilter a place filter × KnowsIndices a.seen scope old × KnowsNames a.seen scope.symbols was
+      → KeepsIndices b.seen scope old new → KeepsNames b.seen scope.symbols was now
+      → IsKept d.seen headers scope ready × KnowsVersions d.seen versions × KeepsFilter d place filter × KnowsIndices d.seen scope new × KnowsNames d.seen scope.symbols now
+  kept_after {headers} {scope} {ready} {versions} (kept, knows, filters, indices, names) keeps_indices keeps_names = (
     kept_ready a.seen d.seen headers scope ready ready kept same_size same_file kept.placed kept.ready_in,
     record { lies = subst (λ (n : ℕ). FileVersionsInBounds n versions) (sym same_size) knows.lies; known = λ file held. knows.known file (sym same_file ∙ held) },
     keeps_filter filters.known,
+    knows_indices set keeps free indices keeps_indices,
+    knows_names set keeps free names keeps_names,
   )
+
+  pub kept_between :
+      {headers : ℕ} {scope : LookupTables} {ready : Option HashTable} {versions : FileVersions} {place : HashTableLocation} {filter : FilterWords} {places : List (Option VersionIndices)} {names : List (Option NamedVersion)}
+      → IsKept a.seen headers scope ready × KnowsVersions a.seen versions × KeepsFilter a place filter × KnowsIndices a.seen scope places × KnowsNames a.seen scope.symbols names
+      → IsKept d.seen headers scope ready × KnowsVersions d.seen versions × KeepsFilter d place filter × KnowsIndices d.seen scope places × KnowsNames d.seen scope.symbols names
+  kept_between all = kept_after all same_indices same_names

@@ -26,6 +26,8 @@ pub mod OpenLaws
 pub mod ReadyLaws
 pub mod SoughtLaws
 pub mod SpendLaws
+pub mod IndexLaws
+pub mod NameLaws
 pub mod FilterLaws
 pub mod PageLaws
 pub mod AskLaws

@@ -1,7 +1,7 @@
 -- What a symbol references, by what is read of it.
-use Rattle.std.proofs.Common.{◌≡◌, ℕ, ◌<◌, ◌≤◌, ◌%◌, ◌^◌, min, nat_lt, ◌==◌, length, Bool, true, false, List, [], ◌∷◌, Option, None, Some, Result, Ok, Err, refl, sym, subst, ◌∙◌, arith}
+use Rattle.std.proofs.Common.{◌≡◌, ℕ, ◌<◌, ◌≤◌, ◌%◌, ◌^◌, min, nat_lt, ◌==◌, length, Bool, true, false, List, [], ◌∷◌, Option, None, Some, Ok, Err, refl, sym, subst, ◌∙◌, arith}
 use Rattle.std.proofs.lemmas.Bool.Decides.{nat_tests}
-use Rattle.elf_model.specs.Prelude.{Cut as ShownCut, DynamicSymbols as AreSymbolsOf, LookupTables as IsScopeOf, NoVersion, NumberNameSource, SOUGHT_BYTES, Version, VersionQuery, VersymTable as AreWordsOf, VisitedRecord, counts_check, field, file_before, file_of_version, first_refusal, hashed_symbol_count, is_reference, name_index, named_at, naming_of, number_in, readings, reference_at, reference_by_index, reference_version, shown, st_name, symbol_offset, symbols_hashed, versym, versym_at, whole_name}
+use Rattle.elf_model.specs.Prelude.{Cut as ShownCut, DynamicSymbols as AreSymbolsOf, LookupTables as IsScopeOf, NoVersion, NumberNameSource, SOUGHT_BYTES, Version, VersymTable as AreWordsOf, VisitedRecord, counts_check, field, file_before, file_of_version, first_refusal, hashed_symbol_count, is_reference, name_index, named_at, naming_of, number_in, readings, reference_at, reference_by_index, reference_version, shown, st_name, symbol_offset, symbols_hashed, versym, versym_at, whole_name}
 use Rattle.elf_model.specs.declared.causes.Refusal.{Refusal}
 use Rattle.elf_model.specs.declared.causes.Cause.TheVariants.{TooLong, VersionCut, VersionIndex}
 use Rattle.elf_table.specs.Prelude.{IsRead, Refuses as RefusesName, row_at, strings_in}
@@ -172,11 +172,6 @@ module _ (file : List ℕ) (told : AreSymbolsOf) (symbols : DynamicSymbols) (y :
 
     pub of_numbered : 2 ≤ word % 2 ^ 15 → file_of_version file told y ≡ file_before file (word % 2 ^ 15) None (readings file told.records)
     of_numbered many = of_numbered_at told.words refl (rw some at is.words) many
-
--- what is found by the index is what is found of the symbol
-pub versioned_as : (told by : Result VersionQuery Refusal) (fault : Fault) → told ≡ by → RefusesAs by fault → RefusesAs told fault
-versioned_as told by (Refused refusal) e tells = λ unless. e ∙ tells unless
-versioned_as told by (Source fault at) e tells = tt
 
 -- A SYMBOL that is read
 module _ (file : List ℕ) (told : AreSymbolsOf) (symbols : DynamicSymbols) (index : ℕ) (symbol : Sym) (is : IsDynamicSymbols file told symbols) (entry : symbols.table.entry ≡ 24) (low : index < symbols.table.count)

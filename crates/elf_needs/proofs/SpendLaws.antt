@@ -12,6 +12,8 @@ use Rattle.elf_hash.specs.Prelude.{IsLookupTables, LookupTablesInBounds, place_o
 use Rattle.elf_hash.specs.declared.table.HashTable.{HashTable}
 use Rattle.elf_hash.specs.declared.lookup_tables.LookupTables.{LookupTables}
 use Rattle.elf_needs.specs.Filters.{filter_bytes}
+use Rattle.elf_needs.specs.Indices.{AreIndicesOf, KnowsIndices}
+use Rattle.elf_needs.specs.declared.kept_indices.VersionIndices.{VersionIndices}
 use Rattle.elf_needs.specs.Prelude.{DefinesAfter, DefinesIn, FaultLeaves, IsKept, IsReadyIf, IsReadyIn, LooksInObject, OverLeft, Prepares, ReturnsReady, SpendsAtMost, SpendsBudget, kept_cost, ready_bytes}
 use Rattle.std.specs.Result.{result_unwrap_or}
 
@@ -71,11 +73,12 @@ module _ (a b c d : CountedState) (headers : ℕ) (scope : LookupTables) (ready 
         tells = rw same looks.tells;
       }
 
-  pub looks_kept : IsKept a.seen headers scope ready → SetsLimit a b left
-      → CallDid b c (fault_of_result result) (lookup_bytes 28 b.seen.size wanted) (λ file. (found : IsScopeOf) → IsLookupTables file found scope → IsReadyIf file found ready → DefinesAfter wanted 28 0 (definition_in file found wanted) b c result)
+  pub looks_kept : (places : List (Option VersionIndices)) → IsKept a.seen headers scope ready → KnowsIndices a.seen scope places → SetsLimit a b left
+      → CallDid b c (fault_of_result result) (lookup_bytes 28 b.seen.size wanted)
+      (λ file. (found : IsScopeOf) → IsLookupTables file found scope → IsReadyIf file found ready → AreIndicesOf file found places → DefinesAfter wanted 28 0 (definition_in file found wanted) b c result)
       → SetsLimit c d None → left_new ≡ option_map (λ bytes. bytes - (d.asked - a.asked)) left
       → LooksInObject wanted (record { src = a; headers = headers }) (record { src = d; headers = headers }) left left_new result
-  looks_kept kept set did free is =
+  looks_kept places kept knows set did free is =
       let costs = SpendsAtMost-of set did.costs free in
       let most = within_budget left a b c set did.costs.reads.same_limit in
       let same = free.asked in
@@ -85,7 +88,7 @@ module _ (a b c d : CountedState) (headers : ℕ) (scope : LookupTables) (ready 
         pays = pays_is left left_new a.asked d.asked is costs.grows (rw same most);
         known = λ file held.
             let in_file = kept.known file held in
-            looks_in file in_file.told in_file.found set (did.known file (rw set.seen held) in_file.told in_file.is (kept.ready_in file held in_file.told in_file.is)) free;
+            looks_in file in_file.told in_file.found set (did.known file (rw set.seen held) in_file.told in_file.is (kept.ready_in file held in_file.told in_file.is) (knows.known file held in_file.told in_file.is)) free;
       }
 
 -- THE LAW: what is charged between the two is subtracted

@@ -11,6 +11,8 @@ pub mod WorkedLinks
 pub mod Binds
 pub mod Definers
 pub mod Filters
+pub mod Indices
+pub mod VersionNames
 pub mod Kept
 pub mod Lacking
 pub mod Looks

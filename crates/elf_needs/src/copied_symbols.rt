@@ -5,7 +5,9 @@ ghost use Rattle.elf_loader.specs.Prelude.{max_versions_of};
 ghost use Rattle.elf_hash.specs.Symbols.{DynamicSymbolsInBounds};
 ghost use Rattle.elf_model.specs.Prelude.{SOUGHT_BYTES, name_bytes};
 ghost use Rattle.elf_needs.specs.Copied.{AreRelocationTags, copied_by, copied_symbol};
+ghost use Rattle.elf_needs.specs.VersionNames.{KeepsNames};
 
+use crate::kept_version_names::KeptVersionNames;
 use crate::reference::{reference_version, whole_name};
 use crate::reference_names::ReferenceNames;
 use elf_hash::{DynamicSymbols, load_by_segments};
@@ -148,10 +150,12 @@ pub(crate) fn named_symbol<S: Source>(
     symbols: &DynamicSymbols,
     index: u64,
     names: &mut ReferenceNames,
+    kept: &mut KeptVersionNames,
 ) -> Result<bool, Fault>
     requires { DynamicSymbolsInBounds src.old.seen.size symbols.now }
-    ensures { CallReads src.old src.new (fault_of_result result) (24 + name_bytes SOUGHT_BYTES
+    ensures costs { CallReads src.old src.new (fault_of_result result) (24 + name_bytes SOUGHT_BYTES
         + (2 + max_versions_of symbols.now * 28 + name_bytes SOUGHT_BYTES)) }
+    ensures kept { KeepsNames src.old.seen symbols.now kept.old.places kept.new.places }
 {
     if index >= symbols.table.len() {
         return Ok(false);
@@ -163,7 +167,7 @@ pub(crate) fn named_symbol<S: Source>(
     if names.name.bytes().is_empty() {
         return Ok(false);
     }
-    let asked = reference_version(src, symbols, index, &mut names.version)?;
+    let asked = reference_version(src, symbols, index, &mut names.version, kept)?;
     names.versioned = asked.versioned;
     Ok(true)
 }

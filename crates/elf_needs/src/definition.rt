@@ -1,12 +1,14 @@
 //! The symbol of a file that defines a name.
 ghost use Rattle.std.specs.Prelude.{◌≡◌, ℕ, ◌+◌, ◌*◌, ◌/◌, ◌≤◌, length, IfSome};
 ghost use Rattle.elf_needs.specs.Definers.{DefinesOn, SaysDefines, definer_with, the_defined};
+ghost use Rattle.elf_needs.specs.Indices.{AreIndicesOf, KeepsIndices};
 ghost use Rattle.elf_needs.specs.Ready.{HasNoNul, IsReadyTable, IsReadyIf};
 ghost use Rattle.elf_hash.specs.Prelude.{DynamicSymbolsInBounds, IsTable, index_of, place_of_table, walk_bytes};
 ghost use Rattle.elf_loader.specs.Prelude.{IsSymbolWithVersym, MayLookOn, has_number, lookup_bytes, match_bytes};
 ghost use Rattle.elf_model.specs.Prelude.{definer_by, definer_walk, definition_in, pad64, record_cost, version_indices};
 ghost use Rattle.elf_options.specs.Wants.{query_of};
 
+use crate::kept_indices::KeptIndices;
 use crate::ready::has_nul;
 use elf_hash::{
     ChainResult, HashTable, LookupTables, Matcher, SymbolMatch, counts, excludes, walk,
@@ -60,7 +62,8 @@ fn if_defined(answer: Option<SymbolMatch>) -> Option<SymbolMatch>
 
 /// Looks up the symbol that defines what is wanted, in the lookup tables, as glibc's dynamic loader
 /// does: the first of the name's chain that has the name, is exported, is not undefined and whose
-/// version matches. Returns its index.
+/// version matches. Returns its index. The version's indices are kept, or those that are kept are
+/// taken, and then no record of versions is read.
 ///
 /// # Errors
 /// Those of [`elf_loader::look_up`] after finding the lookup tables, except those of reading the
@@ -70,16 +73,21 @@ pub(crate) fn find_definer<S: Source>(
     scope: &LookupTables,
     ready: &Option<HashTable>,
     wanted: &SymbolQuery<'_>,
+    kept: &mut KeptIndices,
 ) -> Result<Option<u64>, Fault>
     requires may { MayLookOn src.old scope.now (query_of wanted.now) }
     requires place { IfSome ready.now (λ table. place_of_table table ≡ scope.now.hash) }
-    ensures { DefinesOn src.old src.new scope.now (query_of wanted.now) result 28
+    ensures did { DefinesOn src.old src.new scope.now (query_of wanted.now) result 28
         (lookup_bytes 28 src.old.seen.size (query_of wanted.now)) (λ file told leaves.
-        IsReadyIf file told ready.now → leaves 0 (definition_in file told (query_of wanted.now))) }
+        IsReadyIf file told ready.now → AreIndicesOf file told kept.old.places →
+        leaves 0 (definition_in file told (query_of wanted.now))) }
+    ensures kept { KeepsIndices src.old.seen scope.now kept.old.places kept.new.places }
 {
     match ready {
-        Some(table) if !has_nul(&wanted.asked) => definition_unless(src, scope, table, wanted),
-        _ => definition_counted(src, scope, wanted),
+        Some(table) if !has_nul(&wanted.asked) => {
+            definition_unless(src, scope, table, wanted, kept)
+        }
+        _ => definition_counted(src, scope, wanted, kept),
     }
 }
 
@@ -91,14 +99,17 @@ fn definition_counted<S: Source>(
     src: &mut Counted<S>,
     scope: &LookupTables,
     wanted: &SymbolQuery<'_>,
+    kept: &mut KeptIndices,
 ) -> Result<Option<u64>, Fault>
     requires { MayLookOn src.old scope.now (query_of wanted.now) }
-    ensures { DefinesOn src.old src.new scope.now (query_of wanted.now) result 28
-        (lookup_bytes 28 src.old.seen.size (query_of wanted.now))
-        (λ file told leaves. leaves 0 (definition_in file told (query_of wanted.now))) }
+    ensures did { DefinesOn src.old src.new scope.now (query_of wanted.now) result 28
+        (lookup_bytes 28 src.old.seen.size (query_of wanted.now)) (λ file told leaves.
+        AreIndicesOf file told kept.old.places →
+        leaves 0 (definition_in file told (query_of wanted.now))) }
+    ensures kept { KeepsIndices src.old.seen scope.now kept.old.places kept.new.places }
 {
     let table = counts(src, &scope.hash)?;
-    definition_in_table(src, scope, &table, wanted)
+    definition_in_table(src, scope, &table, wanted, kept)
 }
 
 /// Searches a hash table whose counts, and whose file's records of versions, have no fault, unless
@@ -111,23 +122,25 @@ fn definition_unless<S: Source>(
     scope: &LookupTables,
     table: &HashTable,
     wanted: &SymbolQuery<'_>,
+    kept: &mut KeptIndices,
 ) -> Result<Option<u64>, Fault>
     requires may { MayLookOn src.old scope.now (query_of wanted.now) }
     requires place { place_of_table table.now ≡ scope.now.hash }
     requires plain { HasNoNul (query_of wanted.now).asked }
-    ensures { DefinesOn src.old src.new scope.now (query_of wanted.now) result 28
+    ensures did { DefinesOn src.old src.new scope.now (query_of wanted.now) result 28
         (lookup_bytes 28 src.old.seen.size (query_of wanted.now)) (λ file told leaves.
-        IsReadyTable file told table.now →
+        IsReadyTable file told table.now → AreIndicesOf file told kept.old.places →
         leaves 0 (definition_in file told (query_of wanted.now))) }
+    ensures kept { KeepsIndices src.old.seen scope.now kept.old.places kept.new.places }
 {
     if excludes(src, table, wanted.name)? {
         return Ok(None);
     }
-    definition_in_table(src, scope, table, wanted)
+    definition_in_table(src, scope, table, wanted, kept)
 }
 
-/// Searches a hash table with its counts: finds the indices of the wanted version, and walks the
-/// chain.
+/// Searches a hash table with its counts: finds the indices of the wanted version, if they are not
+/// kept, and walks the chain.
 ///
 /// # Errors
 /// Those of [`version_indices`], and of [`definition_along`].
@@ -136,16 +149,25 @@ fn definition_in_table<S: Source>(
     scope: &LookupTables,
     table: &HashTable,
     wanted: &SymbolQuery<'_>,
+    kept: &mut KeptIndices,
 ) -> Result<Option<u64>, Fault>
     requires may { MayLookOn src.old scope.now (query_of wanted.now) }
     requires place { place_of_table table.now ≡ scope.now.hash }
-    ensures { DefinesOn src.old src.new scope.now (query_of wanted.now) result 12
+    ensures did { DefinesOn src.old src.new scope.now (query_of wanted.now) result 12
         (lookup_bytes 12 src.old.seen.size (query_of wanted.now)) (λ file told leaves.
-        IsTable file told table.now → leaves 0 (definer_with file told (query_of wanted.now)
+        IsTable file told table.now → AreIndicesOf file told kept.old.places → leaves 0
+        (definer_with file told (query_of wanted.now)
         (version_indices file told (query_of wanted.now).asked))) }
+    ensures kept { KeepsIndices src.old.seen scope.now kept.old.places kept.new.places }
 {
+    let place = kept.use_place(&wanted.asked);
+    if let Some(numbers) = kept.get(place, &wanted.asked) {
+        return definition_along(src, scope, table, wanted, numbers);
+    }
     let numbers = version_indices(src, &scope.symbols, &wanted.asked)?;
-    definition_along(src, scope, table, wanted, &numbers)
+    let found = definition_along(src, scope, table, wanted, &numbers);
+    kept.keep(place, &wanted.asked, numbers);
+    found
 }
 
 /// Walks the chain of the wanted name to the symbol that defines it.

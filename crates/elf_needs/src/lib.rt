@@ -26,6 +26,8 @@ mod interpreter;
 mod interpreter_rows;
 mod interpreter_search;
 mod kept_filter;
+mod kept_indices;
+mod kept_version_names;
 mod known_interpreter;
 mod known_object;
 mod library_files;

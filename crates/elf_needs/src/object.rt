@@ -21,6 +21,8 @@ use crate::definition::find_definer;
 use crate::file_tables::{FileTables, find_tables};
 use crate::hashed::hashed_symbols;
 use crate::kept_filter::KeptFilter;
+use crate::kept_indices::KeptIndices;
+use crate::kept_version_names::KeptVersionNames;
 use crate::missing_version::lacks_version;
 use crate::needed_versions::NeedsWalk;
 use crate::ready::ready_table;
@@ -44,13 +46,18 @@ pub struct LookupObject<S: Source> {
     headers: u16,
     // The hash table with its counts, if no lookup is refused before its walk, once that is known.
     ready: Option<HashTable>,
-    // The words of the hash table's filter that are kept: none if a budget is set.
+    // What is kept, none if a budget is set: words of the hash table's filter, and of versions the
+    // indices and the names.
     filter: KeptFilter,
+    indices: KeptIndices,
+    names: KeptVersionNames,
 }
 
 impl<S: Source> Model for LookupObject<S> {
     ghost use Rattle.elf_needs.specs.Filters.{KeepsFilter};
+    ghost use Rattle.elf_needs.specs.Indices.{KnowsIndices};
     ghost use Rattle.elf_needs.specs.Kept.{IsKept, KnowsVersions, LookupObjectState};
+    ghost use Rattle.elf_needs.specs.VersionNames.{KnowsNames};
 
     ghost Value = { LookupObjectState };
 
@@ -58,7 +65,9 @@ impl<S: Source> Model for LookupObject<S> {
 
     ghost invariant = { λ o. IsKept o.source.seen o.headers o.scope o.ready
         × KnowsVersions o.source.seen o.versions
-        × KeepsFilter o.source o.scope.hash o.filter };
+        × KeepsFilter o.source o.scope.hash o.filter
+        × KnowsIndices o.source.seen o.scope o.indices.places
+        × KnowsNames o.source.seen o.scope.symbols o.names.places };
 }
 
 impl<S: Source> LookupObject<S> {
@@ -88,6 +97,8 @@ impl<S: Source> LookupObject<S> {
                 headers: store.slots(),
                 ready: None,
                 filter: KeptFilter::new(),
+                indices: KeptIndices::new(),
+                names: KeptVersionNames::new(),
             }),
             Err(fault) => Err((source, fault)),
         }
@@ -95,7 +106,7 @@ impl<S: Source> LookupObject<S> {
 
     /// Reads once what its lookups have in common: the counts of the hash table, whether the
     /// records of versions have no fault, and without a budget the first words of the table's
-    /// filter, at most 4,096 bytes.
+    /// filter, at most 4,096 bytes. Then versions are kept from now on too.
     ///
     /// What is refused or fails is skipped, and each lookup reports it. Requests at most the bytes
     /// left of the budget, if there is one; those requested are subtracted. On return no limit is
@@ -109,6 +120,8 @@ impl<S: Source> LookupObject<S> {
         let keeps = left.is_none();
         self.filter
             .load_if(keeps, &mut self.source, &self.scope.hash);
+        self.indices.keep_if(keeps);
+        self.names.keep_if(keeps);
         self.source.limit(None);
         spend_budget(left, self.source.asked() - asked);
         self.ready = ready.unwrap_or(None);
@@ -122,9 +135,9 @@ impl<S: Source> LookupObject<S> {
     }
 
     /// Looks up the symbol that defines a name, of which `hash` is what [`filter_hash`] returns.
-    /// Nothing is read if the words that are kept of the filter exclude it. Requests at most the
-    /// bytes left of the budget, if there is one; those requested are subtracted. On return no
-    /// limit is set.
+    /// Nothing is read if the words that are kept of the filter exclude it, and no record of
+    /// versions if the indices of the version are kept. Requests at most the bytes left of the
+    /// budget, if there is one; those requested are subtracted. On return no limit is set.
     ///
     /// # Errors
     /// Those of [`find_definer`].
@@ -145,7 +158,8 @@ impl<S: Source> LookupObject<S> {
         }
         let asked = self.source.asked();
         self.source.limit(*left);
-        let found = find_definer(&mut self.source, &self.scope, &self.ready, wanted);
+        let kept = &mut self.indices;
+        let found = find_definer(&mut self.source, &self.scope, &self.ready, wanted, kept);
         self.source.limit(None);
         spend_budget(left, self.source.asked() - asked);
         found
@@ -202,7 +216,9 @@ impl<S: Source> LookupObject<S> {
     {
         let asked = self.source.asked();
         self.source.limit(*left);
-        let sought = reference_of(&mut self.source, &self.scope.symbols, index, name, version);
+        let symbols = &self.scope.symbols;
+        let kept = &mut self.names;
+        let sought = reference_of(&mut self.source, symbols, index, name, version, kept);
         self.source.limit(None);
         spend_budget(left, self.source.asked() - asked);
         sought
@@ -312,11 +328,10 @@ impl<S: Source> LookupObject<S> {
         state
     }
 
-    /// Returns where its relocation entries are in its bytes, as [`dynamic_relocations`] does.
-    ///
-    /// The program headers are loaded into the store, which is free again afterwards. Requests at
-    /// most the bytes left of the budget, if there is one; those requested are subtracted. On
-    /// return no limit is set.
+    /// Returns where its relocation entries are in its bytes, as [`dynamic_relocations`] does. The
+    /// program headers are loaded into the store, which is free again afterwards. Requests at most
+    /// the bytes left of the budget, if there is one; those requested are subtracted. On return no
+    /// limit is set.
     ///
     /// # Errors
     /// Those of [`dynamic_relocations`].
@@ -338,10 +353,8 @@ impl<S: Source> LookupObject<S> {
     }
 
     /// Returns the index of the symbol whose data the relocation entry at a file offset copies, as
-    /// [`copied_at`] does.
-    ///
-    /// Requests at most the bytes left of the budget, if there is one; those requested are
-    /// subtracted. On return no limit is set.
+    /// [`copied_at`] does. Requests at most the bytes left of the budget, if there is one; those
+    /// requested are subtracted. On return no limit is set.
     ///
     /// # Errors
     /// Those of [`copied_at`].
@@ -359,10 +372,8 @@ impl<S: Source> LookupObject<S> {
     }
 
     /// Reads the name of the symbol at an index, and the version that it needs, into `names`,
-    /// whether it is defined or not, as [`named_symbol`] does.
-    ///
-    /// Requests at most the bytes left of the budget, if there is one; those requested are
-    /// subtracted. On return no limit is set.
+    /// whether it is defined or not, as [`named_symbol`] does. Requests at most the bytes left of
+    /// the budget, if there is one; those requested are subtracted. On return no limit is set.
     ///
     /// # Errors
     /// Those of [`named_symbol`].
@@ -377,7 +388,8 @@ impl<S: Source> LookupObject<S> {
     {
         let asked = self.source.asked();
         self.source.limit(*left);
-        let named = named_symbol(&mut self.source, &self.scope.symbols, index, names);
+        let symbols = &self.scope.symbols;
+        let named = named_symbol(&mut self.source, symbols, index, names, &mut self.names);
         self.source.limit(None);
         spend_budget(left, self.source.asked() - asked);
         named

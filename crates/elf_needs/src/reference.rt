@@ -1,12 +1,14 @@
 //! What a symbol of a file references.
 ghost use Rattle.std.specs.Prelude.{◌≡◌, ℕ, ◌+◌, ◌*◌, ◌<◌, ◌∷◌, [], List, None, Some, IfOk};
 ghost use Rattle.elf_needs.specs.Sought.{SeeksOf, ReturnsAsked, ReturnsSought, ReturnsVersionIf, ReturnsWhole};
+ghost use Rattle.elf_needs.specs.VersionNames.{HaveVersionNames, KeepsNames};
 ghost use Rattle.elf_table.specs.Prelude.{CallDid, StringsInBounds, fault_of_result, strings_in};
 ghost use Rattle.elf_loader.specs.Prelude.{IsFileIf, max_versions_of};
 ghost use Rattle.elf_model.specs.Prelude.{DynamicSymbols as AreSymbolsOf, SOUGHT_BYTES, STB_GLOBAL, STB_GNU_UNIQUE, STB_WEAK, file_before, file_of_version, is_among, is_reference, is_weak, name_bytes, readings, reference_at, reference_by_index, reference_version, symbol_offset, whole_name};
 ghost use Rattle.elf_record.specs.Sym.{IsSym};
 ghost use Rattle.elf_hash.specs.Symbols.{IsDynamicSymbols, DynamicSymbolsInBounds};
 
+use crate::kept_version_names::KeptVersionNames;
 use elf_hash::DynamicSymbols;
 use elf_loader::{name_of, read_half};
 use elf_note::VersionRecord;
@@ -17,7 +19,7 @@ use elf_source::{Counted, Source};
 use elf_table::{Fault, NameBuf, NameEnd, NameLimit, Names, refused};
 
 /// The maximum number of bytes of a referenced symbol or version name.
-const SOUGHT_CAP: NameLimit = NameLimit { bytes: 4096 };
+pub(crate) const SOUGHT_CAP: NameLimit = NameLimit { bytes: 4096 };
 
 /// A referenced symbol.
 #[derive(Clone, Copy)]
@@ -64,17 +66,20 @@ pub(crate) fn reference_symbol<S: Source>(
     index: u64,
     name: &mut NameBuf,
     version: &mut NameBuf,
+    kept: &mut KeptVersionNames,
 ) -> Result<Option<SymbolReference>, Fault>
     requires below { index < symbols.now.table.count }
     requires lies { DynamicSymbolsInBounds src.old.seen.size symbols.now }
     ensures did { CallDid src.old src.new (fault_of_result result) (24 + name_bytes SOUGHT_BYTES
         + (2 + max_versions_of symbols.now * 28 + name_bytes SOUGHT_BYTES))
         (λ file. (told : AreSymbolsOf) → IsDynamicSymbols file told symbols.now →
+        HaveVersionNames file told kept.old.places →
         ReturnsSought (reference_at file told index) (is_weak file (symbol_offset told index))
         name.new version.new result) }
     ensures file { (bytes : List ℕ) → src.old.seen.file ≡ Some bytes → (told : AreSymbolsOf) →
-        IsDynamicSymbols bytes told symbols.now →
+        IsDynamicSymbols bytes told symbols.now → HaveVersionNames bytes told kept.old.places →
         SeeksOf bytes (file_of_version bytes told index) result }
+    ensures kept { KeepsNames src.old.seen symbols.now kept.old.places kept.new.places }
 {
     let symbol = symbols.table.symbol(src, index)?;
     if !is_reference(&symbol) {
@@ -85,7 +90,7 @@ pub(crate) fn reference_symbol<S: Source>(
     if name.bytes().is_empty() {
         return Ok(None);
     }
-    let asked = reference_version(src, symbols, index, version)?;
+    let asked = reference_version(src, symbols, index, version, kept)?;
     Ok(Some(SymbolReference {
         weak: is_weak(&symbol),
         versioned: asked.versioned,
@@ -103,22 +108,24 @@ pub(crate) fn reference_of<S: Source>(
     index: u64,
     name: &mut NameBuf,
     version: &mut NameBuf,
+    kept: &mut KeptVersionNames,
 ) -> Result<Option<SymbolReference>, Fault>
     requires lies { DynamicSymbolsInBounds src.old.seen.size symbols.now }
     ensures did { CallDid src.old src.new (fault_of_result result) (24 + name_bytes SOUGHT_BYTES
         + (2 + max_versions_of symbols.now * 28 + name_bytes SOUGHT_BYTES))
         (λ file. (told : AreSymbolsOf) → IsDynamicSymbols file told symbols.now →
-        index < symbols.now.table.count →
+        HaveVersionNames file told kept.old.places → index < symbols.now.table.count →
         ReturnsSought (reference_at file told index) (is_weak file (symbol_offset told index))
         name.new version.new result) }
     ensures file { (bytes : List ℕ) → src.old.seen.file ≡ Some bytes → (told : AreSymbolsOf) →
-        IsDynamicSymbols bytes told symbols.now →
+        IsDynamicSymbols bytes told symbols.now → HaveVersionNames bytes told kept.old.places →
         SeeksOf bytes (file_of_version bytes told index) result }
+    ensures kept { KeepsNames src.old.seen symbols.now kept.old.places kept.new.places }
 {
     if index >= symbols.table.len() {
         return Ok(None);
     }
-    reference_symbol(src, symbols, index, name, version)
+    reference_symbol(src, symbols, index, name, version, kept)
 }
 
 /// Returns `true` if a symbol references something: it is undefined, global, weak or unique, and
@@ -165,7 +172,7 @@ pub(crate) fn whole_name<S: Source>(
     }
 }
 
-/// Checks whether the symbol at an index needs a version, and reads it.
+/// Checks whether the symbol at an index needs a version, and reads it, if it is not kept.
 ///
 /// # Errors
 /// Those of [`reference_symbol`] after its name.
@@ -174,15 +181,18 @@ pub(crate) fn reference_version<S: Source>(
     symbols: &DynamicSymbols,
     index: u64,
     version: &mut NameBuf,
+    kept: &mut KeptVersionNames,
 ) -> Result<VersionReference, Fault>
     requires lies { DynamicSymbolsInBounds src.old.seen.size symbols.now }
     ensures did { CallDid src.old src.new (fault_of_result result)
         (2 + max_versions_of symbols.now * 28 + name_bytes SOUGHT_BYTES)
         (λ file. (told : AreSymbolsOf) → IsDynamicSymbols file told symbols.now →
+        HaveVersionNames file told kept.old.places →
         ReturnsVersionIf (reference_version file told index) version.new result) }
     ensures file { (bytes : List ℕ) → src.old.seen.file ≡ Some bytes → (told : AreSymbolsOf) →
-        IsDynamicSymbols bytes told symbols.now →
+        IsDynamicSymbols bytes told symbols.now → HaveVersionNames bytes told kept.old.places →
         IfOk result (λ asked. IsFileIf bytes (file_of_version bytes told index) asked.file) }
+    ensures kept { KeepsNames src.old.seen symbols.now kept.old.places kept.new.places }
 {
     let Some(words) = &symbols.words else {
         return Ok(NO_VERSION);
@@ -195,7 +205,39 @@ pub(crate) fn reference_version<S: Source>(
     if number < 2 {
         return Ok(NO_VERSION);
     }
-    let file = by_number(src, symbols, number, place, version)?;
+    version_by_number(src, symbols, number, place, version, kept)
+}
+
+/// Returns the version with an index, which an entry at a file offset has, and its name in
+/// `version`. If it is kept nothing is read, otherwise it is kept.
+///
+/// # Errors
+/// Those of [`reference_symbol`] after the entry.
+fn version_by_number<S: Source>(
+    src: &mut Counted<S>,
+    symbols: &DynamicSymbols,
+    number: u16,
+    at: u64,
+    version: &mut NameBuf,
+    kept: &mut KeptVersionNames,
+) -> Result<VersionReference, Fault>
+    requires lies { DynamicSymbolsInBounds src.old.seen.size symbols.now }
+    ensures did { CallDid src.old src.new (fault_of_result result)
+        (max_versions_of symbols.now * 28 + name_bytes SOUGHT_BYTES)
+        (λ file. (told : AreSymbolsOf) → IsDynamicSymbols file told symbols.now →
+        HaveVersionNames file told kept.old.places →
+        ReturnsVersionIf (reference_by_index file told.records number at) version.new result) }
+    ensures file { (bytes : List ℕ) → src.old.seen.file ≡ Some bytes → (told : AreSymbolsOf) →
+        IsDynamicSymbols bytes told symbols.now → HaveVersionNames bytes told kept.old.places →
+        IfOk result (λ asked. IsFileIf bytes
+        (file_before bytes number None (readings bytes told.records)) asked.file) }
+    ensures kept { KeepsNames src.old.seen symbols.now kept.old.places kept.new.places }
+{
+    if let Some(found) = kept.get(number, version) {
+        return Ok(found);
+    }
+    let file = by_number(src, symbols, number, at, version)?;
+    kept.keep(number, version.bytes(), file);
     Ok(VersionReference {
         versioned: true,
         file,

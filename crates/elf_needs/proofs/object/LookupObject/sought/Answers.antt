@@ -4,7 +4,8 @@ use Rattle.elf_table.proofs.LedgerLaws.{CallReads-more}
 use Rattle.elf_loader.proofs.ReadLaws.{most_all}
 use Rattle.elf_needs.specs.Sought.{reference_bytes}
 use Rattle.elf_needs.proofs.SpendLaws.{spent_off}
-use Rattle.elf_needs.proofs.FilterLaws.{kept_between}
+use Rattle.elf_needs.proofs.FilterLaws.{kept_after}
+use Rattle.elf_needs.proofs.IndexLaws.{same_indices}
 use Rattle.elf_needs.proofs.object.LookupObject.sought.Goals as goal
 
 pub returns : goal.returns
@@ -26,13 +27,13 @@ returns g c =
           let is = kept.known file held in
           let same : is.told ≡ told = let e = is.found in let f = found in cc in
           let here = rw same at is.is in
-          did.known file (rw set.seen held) told.symbols here.symbols (omega (arith, below, here.count, kept.lies.count));
+          did.known file (rw set.seen held) told.symbols here.symbols (c.self.invariant.4.known file held told.symbols here.symbols) (omega (arith, below, here.count, kept.lies.count));
       of_file = λ file told held found below.
           let is = kept.known file held in
           let same : is.told ≡ told = let e = is.found in let f = found in cc in
           let here = rw same at is.is in
-          c.reference_of-sought.ensures.file file (rw set.seen held) told.symbols here.symbols;
+          c.reference_of-sought.ensures.file file (rw set.seen held) told.symbols here.symbols (c.self.invariant.4.known file held told.symbols here.symbols);
     })
 
 pub invariant_of-self : goal.invariant_of-self
-invariant_of-self g c = kept_between c.limit.ensures c.reference_of-sought.ensures.did.costs.reads.keeps c.limit-2.ensures c.self.invariant
+invariant_of-self g c = kept_after c.limit.ensures c.reference_of-sought.ensures.did.costs.reads.keeps c.limit-2.ensures c.self.invariant same_indices c.reference_of-sought.ensures.kept
