@@ -1,5 +1,5 @@
 -- The symbols are counted, and the lines of one more are written, or not; and no symbol is left.
-use Rattle.std.proofs.Common.{Ok, Err, [], get_or, set, sym, ap, ◌∙◌, arith}
+use Rattle.std.proofs.Common.{Ok, Err, [], get_or, set, sym, ap, ◌∙◌, arith, refl}
 use Rattle.std.proofs.lemmas.Result.{err_from_is_err_and}
 use Rattle.elf_model.specs.BoundSymbols.{object_items}
 use Rattle.elf_model.specs.LoaderScope.{lookup_tables_of}

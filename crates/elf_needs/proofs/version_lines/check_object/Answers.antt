@@ -1,5 +1,5 @@
 -- The records are found, one more is read and its version is checked, until none is left.
-use Rattle.std.proofs.Common.{[], ap, get_or, sym, ◌∙◌}
+use Rattle.std.proofs.Common.{[], ap, get_or, sym, ◌∙◌, refl}
 use Rattle.std.proofs.lemmas.Result.{err_from_is_err_and}
 use Rattle.elf_table.proofs.Absent.{none-of}
 use Rattle.elf_model.specs.Prelude.{version_items_of, versions_needed}
