@@ -10,3 +10,4 @@ pub mod Names
 pub mod NoteText
 pub mod PutsSteps
 pub mod TagBits
+pub mod RequestLaws

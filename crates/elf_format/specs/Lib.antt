@@ -6,4 +6,6 @@ pub mod Told
 pub mod Notes
 pub mod Rows
 pub mod Tables
+pub mod NeededObjects
+pub mod Requests
 pub mod Prelude

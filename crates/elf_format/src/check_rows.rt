@@ -1,5 +1,5 @@
 //! The lines of a check of many files.
-ghost use Rattle.std.specs.Prelude.{◌≡◌, ◌++◌, ◌≤◌, length};
+ghost use Rattle.std.specs.Prelude.{◌≡◌, ◌+◌, ◌++◌, ◌≤◌, length};
 ghost use Rattle.arrayvec.specs.ArrayVec.{array_vec_len};
 ghost use Rattle.elf_model.specs.Prelude.{check_front, check_line, fault_fields, file_status_name, unnamed_line, with_fields};
 ghost use Rattle.elf_source.specs.Output.{OutPuts};
@@ -39,6 +39,7 @@ fn check_row<R: Render>(front: &mut LinePrefix, state: FileStatus)
 pub fn put_fault<R: Render>(line: &mut LineBuf, state: FileStatus)
     requires { array_vec_len line.old ≤ 150 }
     ensures items { line.new.items ≡ with_fields R.FORMAT line.old.items (fault_fields state) }
+    ensures len { array_vec_len line.new ≤ array_vec_len line.old + 90 }
 {
     if let FileStatus::Refused(refusal) = state {
         put_hex_field::<R>(line, b"place", 16, refusal.at, b' ');

@@ -3,6 +3,7 @@
 //! `Out`, and [`Render`] writes the fields with their keys. No file is read here.
 #![tactic(auto)]
 
+mod binding_rows;
 mod buffers;
 mod check_rows;
 mod columns;
@@ -10,13 +11,18 @@ mod constant_names;
 mod dynamic_rows;
 mod fields;
 mod hexadecimal;
+mod interpreter_rows;
 mod lack_rows;
 mod lookup_rows;
 mod member_rows;
 mod name_tables;
 mod named;
+mod needed_object_rows;
+mod needed_objects;
+mod needed_version_rows;
 mod note_rows;
 mod objects;
+mod path_rows;
 mod relocation_rows;
 mod render;
 mod rows;
@@ -27,6 +33,7 @@ mod told;
 mod trait_rows;
 mod version_rows;
 
+pub use binding_rows::show_binding;
 pub use buffers::LINES_BUFFER_BYTES;
 pub use check_rows::{put_fault, show_check, show_unnamed};
 pub use columns::{LineBuf, line_of, number_sign, put, put_where};
@@ -36,11 +43,16 @@ pub use fields::{
     LinePrefix, begin, begin_named, put_closing, put_decimal, put_half, put_hex_field,
     put_name_or_decimal, put_name_or_hex, put_name_or_sign, put_signed, put_text,
 };
+pub use interpreter_rows::show_interpreter;
 pub use lack_rows::show_missing;
 pub use lookup_rows::show_steps;
 pub use member_rows::member_prefix;
 pub use named::{SecondName, show_joined, show_named, show_tailed};
+pub use needed_object_rows::{show_object, show_too_many, show_too_many_paths};
+pub use needed_objects::{FoundBy, ObjectRow, ObjectState};
+pub use needed_version_rows::show_needed_version;
 pub use note_rows::{note_prefix, show_note};
+pub use path_rows::show_path;
 pub use relocation_rows::relocation_prefix;
 pub use render::{Columns, Json, Render};
 pub use rows::{cause_word, header_row, show_refusal};

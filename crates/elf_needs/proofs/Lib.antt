@@ -32,10 +32,10 @@ pub mod FilterLaws
 pub mod PageLaws
 pub mod AskLaws
 pub mod StateLaws
+pub mod ItemLineLaws
 pub mod WriteLaws
 pub mod ProviderLaws
 pub mod VersionWriteLaws
 pub mod VersionItemLaws
-pub mod RequestLaws
 pub mod MachineLaws
 pub mod InterpreterLaws

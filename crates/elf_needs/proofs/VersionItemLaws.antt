@@ -11,9 +11,9 @@ use Rattle.elf_table.specs.declared.fault.Fault.{Fault}
 use Rattle.elf_table.specs.declared.fault.Fault.TheVariants.{Refused}
 use Rattle.elf_hash.specs.Prelude.{IsVersionRecordTable}
 use Rattle.elf_hash.specs.declared.symbols.VersionRecordTable.{VersionRecordTable}
-use Rattle.elf_needs.specs.Bound.{ReturnsFault}
+use Rattle.elf_needs.specs.ItemLines.{ReturnsFault, WritesLines}
 use Rattle.elf_needs.specs.NeedWalks.{ReturnsNeed}
-use Rattle.elf_needs.specs.VersionLines.{WritesVersions}
+use Rattle.elf_needs.specs.VersionLines.{needed_version_lines}
 use Rattle.elf_needs.specs.VersionTables.{AreNeedsOf, AreRecordsAt}
 use Rattle.elf_needs.specs.declared.needed_versions.NeedsWalk.{NeedsWalk}
 use Rattle.elf_needs.specs.declared.search_scope.WriteEnd.{WriteEnd}
@@ -160,7 +160,7 @@ module _ (file : List ℕ) (bare : without_sections file ≡ file) where
 -- the line of that refusal is all of an object
 pub object_refused : (objects : VersionedObjects) (object : ℕ) (file : List ℕ) → without_sections file ≡ file → (fault : Fault) → AreNeedsOf file (Err fault)
     → (format : Format) (short : Refusal → Type 0) (a b : OutState) (result : Result WriteEnd NeedsFault) → ReturnsFault format fault a b result
-    → WritesVersions format (version_items_of objects object (versions_needed file)) short a b result
+    → WritesLines (needed_version_lines format) (version_items_of objects object (versions_needed file)) short a b result
 object_refused objects object file bare fault are format short a b result told =
     faulted_versions format (version_items_of objects object (versions_needed file)) short fault a b result
     (λ refusal is unless. items_refused objects object (versions_needed file) refusal (why.2 ∙ ap (λ (r : Refusal). NeedRefused r ∷ []) (same refusal is)))

@@ -1,9 +1,10 @@
--- The lines of one item after another.
+-- The lines of one symbol after another.
 use Rattle.std.proofs.Common.{◌≡◌, ℕ, zero, suc, ◌+◌, ◌-◌, ◌<◌, ◌≤◌, ◌||◌, ◌⊎◌, min, length, drop, get_or, arith, Bool, true, false, List, [], ◌∷◌, ◌++◌, inl, inr, Option, None, Some, Result, Ok, Err, refl, sym, ap, subst, ◌∙◌, append_assoc, append-nil}
 use Rattle.elf_model.proofs.BudgetLaws.{is_budget_fault}
 use Rattle.elf_model.specs.Prelude.{BoundItem, BoundObjects, DynamicSymbols, Faulty, IsBudgetRefusal, LookupTables as IsScopeOf, Told, any_unbound, before_items, bound_item, counted_items, counts_check, first_refusal, hashed_symbol_count, is_failed, is_unbound, items_from, lookup_tables_of, object_items, objects_items, refusal_line, symbols_hashed}
 use Rattle.elf_model.specs.declared.states.BindingState.{BindingState}
-use Rattle.elf_needs.specs.Bound.{IsBudgetShort, IsCutText, LeadsItems, OnlyShort, ReturnsFault, ReturnsItem, WritesLines, WritesSoFar, WritesSymbol, failing_of}
+use Rattle.elf_needs.specs.Bound.{IsBudgetShort, LeadsItems, OnlyShort, ReturnsItem, WritesSymbol, bound_lines}
+use Rattle.elf_needs.specs.ItemLines.{ReturnsFault, WritesLines, WritesSoFar}
 use Rattle.elf_needs.specs.ListedLines.{listed_binding, listed_line, listed_text}
 use Rattle.elf_needs.specs.declared.line_options.LineOptions.{LineOptions}
 use Rattle.elf_model.specs.declared.causes.Refusal.{Refusal}
@@ -18,12 +19,7 @@ use Rattle.elf_source.proofs.PutsLaws.{SinkTakes-nothing, SinkTakes-then, SinkTa
 use Rattle.elf_table.specs.declared.fault.Fault.{Fault}
 use Rattle.elf_table.specs.declared.fault.Fault.TheVariants.{Refused, Source}
 use Rattle.elf_needs.proofs.AskLaws.{file_here}
-
-pub some_is : (a b : Bool) → ◌≡◌ {A = Option Bool} (Some a) (Some b) → a ≡ b
-some_is a b e = cc
-
-pub none_not : (a : Bool) → ◌≡◌ {A = Option Bool} None (Some a) → ⊥
-none_not a e = cc
+use Rattle.elf_needs.proofs.ItemLineLaws.{AreItemLines, ends_cut, ends_fault, ends_last, faulted, so_far_more}
 
 -- the text of items after others, and whether they report that something is missing
 text_then : (lines : LineOptions) (a b : List BoundItem) → listed_text lines (a ++ b) ≡ listed_text lines a ++ listed_text lines b
@@ -42,95 +38,8 @@ or_false : (a : Bool) → (a || false) ≡ a
 or_false true = refl
 or_false false = refl
 
-pub or_true : (a : Bool) → (a || true) ≡ true
-or_true true = refl
-or_true false = refl
-
--- NOTHING IS WRITTEN YET
-pub so_far_none : (lines : LineOptions) (all : List BoundItem) (a : OutState) → WritesSoFar lines all all a a false
-so_far_none lines all a = record { front = []; split = refl; takes = SinkTakes-nothing a; fails_is = refl }
-
--- some more are
-pub so_far_more :
-    {lines : LineOptions} {all : List BoundItem} (left items rest : List BoundItem) {a b c : OutState} {fails : Bool} (more : Bool) → WritesSoFar lines all left a b fails → left ≡ items ++ rest
-    → SinkTakes b c (listed_text lines items) → more ≡ any_unbound items → WritesSoFar lines all rest a c (fails || more)
-so_far_more {lines} {all} left items rest {a} {b} {c} {fails} more before parts takes is = record {
-  front = before.front ++ items;
-  split = before.split ∙ ap (λ (l : List BoundItem). before.front ++ l) parts ∙ sym (append_assoc before.front items rest);
-  takes = subst (λ (text : List ℕ). SinkTakes a c text) (sym (text_then lines before.front items)) (SinkTakes-then _ _ before.takes takes);
-  fails_is = rw (before.fails_is, is) (sym (fail_then before.front items));
-}
-
--- ALL ARE
-pub so_far_all : {lines : LineOptions} {all : List BoundItem} {a b : OutState} {fails : Bool} (short : Refusal → Type 0) → WritesSoFar lines all [] a b fails → WritesLines lines all short a b (Ok (Whole fails))
-so_far_all {lines} {all} {a} {b} {fails} short before =
-    let whole : all ≡ before.front = before.split ∙ append-nil before.front in
-    (subst (λ (l : List BoundItem). SinkTakes a b (listed_text lines l)) (sym whole) before.takes, before.fails_is ∙ ap any_unbound (sym whole))
-
--- a text that is cut, after lines and before others
-cut_after : {lines : LineOptions} {items : List BoundItem} {short : Refusal → Type 0} {text : List ℕ} (all front rest : List BoundItem) → all ≡ front ++ (items ++ rest) → IsCutText lines items short text
-    → IsCutText lines all short (listed_text lines front ++ text)
-cut_after {lines} {items} {short} {text} all front rest split cut = record {
-  front = front ++ cut.front;
-  rest = cut.rest ++ rest;
-  split = split ∙ ap (λ (l : List BoundItem). front ++ (l ++ rest)) cut.split ∙ ap (λ (l : List BoundItem). front ++ l) (append_assoc cut.front cut.rest rest)
-      ∙ sym (append_assoc front cut.front (cut.rest ++ rest));
-  refusal = cut.refusal;
-  for_budget = cut.for_budget;
-  is_short = cut.is_short;
-  text_is = ap (λ (t : List ℕ). listed_text lines front ++ t) cut.text_is ∙ sym (append_assoc (listed_text lines front) (listed_text lines cut.front) (refusal_line lines.format cut.refusal))
-      ∙ ap (λ (t : List ℕ). t ++ refusal_line lines.format cut.refusal) (sym (text_then lines front cut.front));
-}
-
-whole_of : {lines : LineOptions} {all left : List BoundItem} {a b : OutState} {fails : Bool} (items rest : List BoundItem) (before : WritesSoFar lines all left a b fails) → left ≡ items ++ rest → all ≡ before.front ++ (items ++ rest)
-whole_of items rest before parts = before.split ∙ ap (λ (l : List BoundItem). before.front ++ l) parts
-
--- THE LINES END with those of further items, if these end
-module _ {lines : LineOptions} {all : List BoundItem} (left items rest : List BoundItem) {a b : OutState} (c : OutState) {fails : Bool} (short : Refusal → Type 0) (before : WritesSoFar lines all left a b fails) (parts : left ≡ items ++ rest) where
-  pub ends_cut : WritesLines lines items short b c (Ok Cut) → WritesLines lines all short a c (Ok Cut)
-  ends_cut writes =
-      (listed_text lines before.front ++ writes.0, cut_after all before.front rest (whole_of items rest before parts) writes.1, SinkTakes-then _ _ before.takes writes.2)
-
-  pub ends_fault : (fault : NeedsFault) → WritesLines lines items short b c (Err fault) → WritesLines lines all short a c (Err fault)
-  ends_fault Read writes = record {
-    front = before.front ++ writes.front;
-    rest = writes.rest ++ rest;
-    split = whole_of items rest before parts ∙ ap (λ (l : List BoundItem). before.front ++ (l ++ rest)) writes.split ∙ ap (λ (l : List BoundItem). before.front ++ l) (append_assoc writes.front writes.rest rest)
-        ∙ sym (append_assoc before.front writes.front (writes.rest ++ rest));
-    takes = subst (λ (text : List ℕ). SinkTakes a c text) (sym (text_then lines before.front writes.front)) (SinkTakes-then _ _ before.takes writes.takes);
-  }
-  ends_fault Open writes = absurd writes
-  ends_fault (Out fault) writes = go writes.1
-    where
-      go : (writes.0 ≡ listed_text lines items) ⊎ (IsCutText lines items short writes.0) → WritesLines lines all short a c (Err (Out fault))
-      go (inl is) =
-          let text : listed_text lines all ≡ (listed_text lines before.front ++ writes.0) ++ listed_text lines rest =
-          ap (listed_text lines) (whole_of items rest before parts) ∙ text_then lines before.front (items ++ rest) ∙ ap (λ (t : List ℕ). listed_text lines before.front ++ t) (text_then lines items rest)
-          ∙ sym (append_assoc (listed_text lines before.front) (listed_text lines items) (listed_text lines rest)) ∙ ap (λ (t : List ℕ). (listed_text lines before.front ++ t) ++ listed_text lines rest) (sym is) in
-          (listed_text lines all, inl refl, subst (λ (t : List ℕ). SinkTakesPrefix a c t) (sym text) (SinkTakesPrefix-more _ _ (SinkTakesPrefix-then _ _ before.takes writes.2)), writes.3)
-      go (inr cut) =
-          (listed_text lines before.front ++ writes.0, inr (cut_after all before.front rest (whole_of items rest before parts) cut), SinkTakesPrefix-then _ _ before.takes writes.2, writes.3)
-
--- a fault's line is the last of an object, after which none is left
-pub ends_last : {lines : LineOptions} {all : List BoundItem} (left items : List BoundItem) {a b : OutState} (c : OutState) {fails : Bool} (inner outer : Refusal → Type 0) → WritesSoFar lines all left a b fails → left ≡ items
-    → WritesLines lines items inner b c (Ok Ended) → WritesLines lines all outer a c (Ok Ended)
-ends_last {lines} {all} left items {a} {b} c {fails} inner outer before same writes =
-    let whole : all ≡ before.front ++ items = before.split ∙ ap (λ (l : List BoundItem). before.front ++ l) same in (
-      subst (λ (text : List ℕ). SinkTakes a c text) (sym (ap (listed_text lines) whole ∙ text_then lines before.front items)) (SinkTakes-then _ _ before.takes writes.0),
-      ap any_unbound whole ∙ fail_then before.front items ∙ ap (λ (e : Bool). any_unbound before.front || e) writes.1 ∙ or_true (any_unbound before.front),
-    )
-
--- what lines report that are all written
-pub failing_some : (lines : LineOptions) (items : List BoundItem) (short : Refusal → Type 0) (b c : OutState) (end : WriteEnd) (more : Bool) → WritesLines lines items short b c (Ok end) → failing_of end ≡ Some more
-    → SinkTakes b c (listed_text lines items) × (more ≡ any_unbound items)
-failing_some lines items short b c (Whole fails) more writes e = let same : fails ≡ more = some_is fails more e in (writes.0, sym same ∙ writes.1)
-failing_some lines items short b c Ended more writes e = let same : true ≡ more = some_is true more e in (writes.0, sym same ∙ sym writes.1)
-failing_some lines items short b c Cut more writes e = absurd (none_not more e)
-
-pub failing_none : (end : WriteEnd) → failing_of end ≡ None → end ≡ Cut
-failing_none (Whole fails) e = absurd (none_not fails (sym e))
-failing_none Ended e = absurd (none_not true (sym e))
-failing_none Cut e = refl
+pub bound_are : (lines : LineOptions) → AreItemLines (bound_lines lines)
+bound_are lines = record { no_text = refl; none_fails = refl; text_then = text_then lines; fails_then = fail_then }
 
 -- THE LINE OF A FAULT
 pub only_of : (objects : List LookupObjectState) (left : Option ℕ) (fault : Fault) → OnlyShort objects left fault → (refusal : Refusal) → fault ≡ Refused refusal → IsBudgetRefusal refusal → IsBudgetShort objects left refusal
@@ -142,29 +51,10 @@ only_of objects left (Source fault at) only other is budget = absurd (apart is)
     apart : Source fault at ≡ Refused other → ⊥
     apart e = cc
 
-module _ (lines : LineOptions) (all : List BoundItem) (short : Refusal → Type 0) where
-  cut_first : (refusal : Refusal) → IsBudgetRefusal refusal → short refusal → IsCutText lines all short (refusal_line lines.format refusal)
-  cut_first refusal budget is = record { front = []; rest = all; split = refl; refusal = refusal; for_budget = budget; is_short = is; text_is = refl }
-
-  line_alone : (refusal : Refusal) → all ≡ Faulty refusal ∷ [] → (listed_text lines all ≡ refusal_line lines.format refusal) × (any_unbound all ≡ true)
-  line_alone refusal is = rw is (append-nil (refusal_line lines.format refusal), refl)
-
-  pub faulted_lines : (fault : Fault) (a b : OutState) (result : Result WriteEnd NeedsFault) → ((refusal : Refusal) → fault ≡ Refused refusal → (IsBudgetRefusal refusal → ⊥) → all ≡ Faulty refusal ∷ [])
-      → ((refusal : Refusal) → fault ≡ Refused refusal → IsBudgetRefusal refusal → short refusal) → ReturnsFault lines.format fault a b result → WritesLines lines all short a b result
-  faulted_lines (Refused refusal) a b (Ok (Whole fails)) tells only told = absurd told
-  faulted_lines (Refused refusal) a b (Ok Ended) tells only told =
-      let line = line_alone refusal (tells refusal refl told.0) in
-      (subst (λ (t : List ℕ). SinkTakes a b t) (sym line.0) told.1, line.1)
-  faulted_lines (Refused refusal) a b (Ok Cut) tells only told = (refusal_line lines.format refusal, cut_first refusal told.0 (only refusal refl told.0), told.1)
-  faulted_lines (Refused refusal) a b (Err Read) tells only told = absurd told
-  faulted_lines (Refused refusal) a b (Err Open) tells only told = absurd told
-  faulted_lines (Refused refusal) a b (Err (Out fault)) tells only told = go (is_budget_fault refusal.cause)
-    where
-      go : (IsBudgetRefusal refusal) ⊎ (IsBudgetRefusal refusal → ⊥) → WritesLines lines all short a b (Err (Out fault))
-      go (inl budget) = (refusal_line lines.format refusal, inr (cut_first refusal budget (only refusal refl budget)), told.0, told.1)
-      go (inr unless) = (refusal_line lines.format refusal, inl (sym (line_alone refusal (tells refusal refl unless)).0), told.0, told.1)
-  faulted_lines (Source fault at) a b result tells only told =
-      rw (told.0, told.1) (record { front = []; rest = all; split = refl; takes = SinkTakes-nothing a })
+pub faulted_lines : (lines : LineOptions) (all : List BoundItem) (short : Refusal → Type 0) (fault : Fault) (a b : OutState) (result : Result WriteEnd NeedsFault)
+    → ((refusal : Refusal) → fault ≡ Refused refusal → (IsBudgetRefusal refusal → ⊥) → all ≡ Faulty refusal ∷ [])
+    → ((refusal : Refusal) → fault ≡ Refused refusal → IsBudgetRefusal refusal → short refusal) → ReturnsFault lines.format fault a b result → WritesLines (bound_lines lines) all short a b result
+faulted_lines lines = faulted (bound_are lines) Faulty (λ refusal. (append-nil (refusal_line lines.format refusal), refl))
 
 -- OF A SYMBOL
 module _ (lines : LineOptions) (item : Option BoundItem) (object symbol : ℕ) (name : List ℕ) (version : Option (List ℕ)) (short : Refusal → Type 0) where
@@ -293,15 +183,15 @@ IsEnd (Ok Cut) = Unit {0}
 IsEnd (Err fault) = Unit {0}
 
 -- THE ITEM OF ONE SYMBOL more is written, and others may be left, or it is the end
-module _ {lines : LineOptions} {all : List BoundItem} {a b : OutState} {fails : Bool} (left : List BoundItem) (item : Option BoundItem) (rest : List BoundItem) (c : OutState) (before : WritesSoFar lines all left a b fails) (next : left ≡ before_items item rest) where
-  item_more : (short : Refusal → Type 0) (more : Bool) → WritesSymbol lines item short b c (Ok (Whole more)) → WritesSoFar lines all rest a c (fails || more)
-  item_more short more wrote = so_far_more left (before_items item []) rest more before (next ∙ wrote.leads rest) wrote.writes.0 wrote.writes.1
+module _ {lines : LineOptions} {all : List BoundItem} {a b : OutState} {fails : Bool} (left : List BoundItem) (item : Option BoundItem) (rest : List BoundItem) (c : OutState) (before : WritesSoFar (bound_lines lines) all left a b fails) (next : left ≡ before_items item rest) where
+  item_more : (short : Refusal → Type 0) (more : Bool) → WritesSymbol lines item short b c (Ok (Whole more)) → WritesSoFar (bound_lines lines) all rest a c (fails || more)
+  item_more short more wrote = so_far_more (bound_are lines) left (before_items item []) rest more before (next ∙ wrote.leads rest) wrote.writes.0 wrote.writes.1
 
-  item_ends : (short : Refusal → Type 0) → (result : Result WriteEnd NeedsFault) → IsEnd result → WritesSymbol lines item short b c result → WritesLines lines all short a c result
+  item_ends : (short : Refusal → Type 0) → (result : Result WriteEnd NeedsFault) → IsEnd result → WritesSymbol lines item short b c result → WritesLines (bound_lines lines) all short a c result
   item_ends short (Ok (Whole more)) end wrote = absurd end
-  item_ends short (Ok Ended) end wrote = ends_last left (before_items item []) c short short before (next ∙ wrote.leads rest) wrote.writes
-  item_ends short (Ok Cut) end wrote = let parts = parts_of item rest in ends_cut left (before_items item []) parts.0 c short before (next ∙ parts.1) wrote.writes
-  item_ends short (Err fault) end wrote = let parts = parts_of item rest in ends_fault left (before_items item []) parts.0 c short before (next ∙ parts.1) fault wrote.writes
+  item_ends short (Ok Ended) end wrote = ends_last (bound_are lines) left (before_items item []) c short short before (next ∙ wrote.leads rest) wrote.writes
+  item_ends short (Ok Cut) end wrote = let parts = parts_of item rest in ends_cut (bound_are lines) left (before_items item []) parts.0 c short before (next ∙ parts.1) wrote.writes
+  item_ends short (Err fault) end wrote = let parts = parts_of item rest in ends_fault (bound_are lines) left (before_items item []) parts.0 c short before (next ∙ parts.1) fault wrote.writes
 
 -- how many symbols an object has, whose lookup tables are found in its file
 pub record SymbolsIn (file : List ℕ) (headers count : ℕ) : Type 0 where
@@ -321,13 +211,13 @@ counted_in headers n count objects files d new result is counts are less =
 
 -- THE LINE OF ONE SYMBOL of an object more is written, and it is the last, or others are left
 module _ (objects : BoundObjects) (place : ℕ) (file : List ℕ) (count symbol : ℕ) (has : SymbolsIn file objects.headers count) (less : symbol < count) {lines : LineOptions} {a b : OutState} {fails : Bool} (c : OutState)
-    (before : WritesSoFar lines (items_from objects place file has.told.symbols 1 (count - 1)) (items_from objects place file has.told.symbols symbol (count - symbol)) a b fails) where
+    (before : WritesSoFar (bound_lines lines) (items_from objects place file has.told.symbols 1 (count - 1)) (items_from objects place file has.told.symbols symbol (count - symbol)) a b fails) where
   pub symbol_more : (short : Refusal → Type 0) (more : Bool) → WritesSymbol lines (bound_item objects place file has.told.symbols symbol) short b c (Ok (Whole more))
-      → WritesSoFar lines (items_from objects place file has.told.symbols 1 (count - 1)) (items_from objects place file has.told.symbols (symbol + 1) (count - (symbol + 1))) a c (fails || more)
+      → WritesSoFar (bound_lines lines) (items_from objects place file has.told.symbols 1 (count - 1)) (items_from objects place file has.told.symbols (symbol + 1) (count - (symbol + 1))) a c (fails || more)
   symbol_more short more wrote = item_more _ _ _ c before (items_next objects place file has.told.symbols symbol count less) short more wrote
 
   pub symbol_ends : (short : Refusal → Type 0) → (result : Result WriteEnd NeedsFault) → IsEnd result → WritesSymbol lines (bound_item objects place file has.told.symbols symbol) short b c result
-      → WritesLines lines (object_items objects place file) short a c result
+      → WritesLines (bound_lines lines) (object_items objects place file) short a c result
   symbol_ends short result end wrote =
-      subst (λ (all : List BoundItem). WritesLines lines all short a c result) (sym (items_are objects place file has.told has.scope count has.hashed))
+      subst (λ (all : List BoundItem). WritesLines (bound_lines lines) all short a c result) (sym (items_are objects place file has.told has.scope count has.hashed))
       (item_ends _ _ _ c before (items_next objects place file has.told.symbols symbol count less) short result end wrote)

@@ -11,6 +11,7 @@ use Rattle.elf_table.specs.declared.fault.Fault.TheVariants.{Refused, Source}
 use Rattle.elf_needs.specs.Binds.{AreObjectFiles, asked_of_all}
 use Rattle.elf_needs.specs.Kept.{LookupObjectState}
 use Rattle.elf_needs.specs.Looks.{SpendsBudget}
+use Rattle.elf_needs.specs.ItemLines.{ItemLines, WritesLines, status_after}
 use Rattle.elf_needs.specs.ListedLines.{listed_text}
 use Rattle.elf_needs.specs.declared.line_options.LineOptions.{LineOptions}
 use Rattle.elf_needs.specs.declared.reference.SymbolReference.{SymbolReference}
@@ -79,35 +80,9 @@ ReturnsItem told object symbol name version (Ok (Some found)) = told ≡ Some (T
 ReturnsItem told object symbol name version (Err (Refused refusal)) = (IsBudgetRefusal refusal → ⊥) → told ≡ Some (Faulty refusal)
 ReturnsItem told object symbol name version (Err (Source fault at)) = Unit {0}
 
--- a text is a prefix of the lines, each whole, and then that of a refusal for lack of budget, which
--- is short there
-pub record IsCutText (lines : LineOptions) (all : List BoundItem) (short : Refusal → Type 0) (text : List ℕ) : Type 0 where
-  pub front : List BoundItem
-  pub rest : List BoundItem
-  pub split : all ≡ front ++ rest
-  pub refusal : Refusal
-  pub for_budget : IsBudgetRefusal refusal
-  pub is_short : short refusal
-  pub text_is : text ≡ listed_text lines front ++ refusal_line lines.format refusal
-
--- only the first lines were written
-pub record WritesFront (lines : LineOptions) (all : List BoundItem) (old new : OutState) : Type 0 where
-  pub front : List BoundItem
-  pub rest : List BoundItem
-  pub split : all ≡ front ++ rest
-  pub takes : SinkTakes old new (listed_text lines front)
-
--- THE EFFECT OF WRITING THE LINES: all of them are written; or, only if the budget is short, a
--- prefix of them and the line that reports it; or a read failed after a prefix; or the output
--- failed in one of these texts. No file is opened for it
-abbrev pub WritesLines : LineOptions → List BoundItem → (short : Refusal → Type 0) → OutState → OutState → Result WriteEnd NeedsFault → Type 0
-WritesLines lines all short old new (Ok (Whole fails)) = SinkTakes old new (listed_text lines all) × (fails ≡ any_unbound all)
-WritesLines lines all short old new (Ok Ended) = SinkTakes old new (listed_text lines all) × (any_unbound all ≡ true)
-WritesLines lines all short old new (Ok Cut) = (text : List ℕ) × IsCutText lines all short text × SinkTakes old new text
-WritesLines lines all short old new (Err Read) = WritesFront lines all old new
-WritesLines lines all short old new (Err Open) = ⊥
-WritesLines lines all short old new (Err (Out fault)) =
-    (text : List ℕ) × ((text ≡ listed_text lines all) ⊎ (IsCutText lines all short text)) × SinkTakesPrefix old new text × IsOutFault new fault
+-- how the lines of symbols are written
+abbrev pub bound_lines : LineOptions → ItemLines BoundItem
+bound_lines lines = record { format = lines.format; text = listed_text lines; fails = any_unbound }
 
 -- how the items of an object go on after those of one symbol: a fault is the last
 abbrev pub LeadsItems : Option BoundItem → Result WriteEnd NeedsFault → Type 0
@@ -118,43 +93,11 @@ LeadsItems item (Err fault) = Unit {0}
 
 -- THE EFFECT OF WRITING THE LINE OF A SYMBOL
 pub record WritesSymbol (lines : LineOptions) (item : Option BoundItem) (short : Refusal → Type 0) (old new : OutState) (result : Result WriteEnd NeedsFault) : Type 0 where
-  pub writes : WritesLines lines (before_items item []) short old new result
+  pub writes : WritesLines (bound_lines lines) (before_items item []) short old new result
   pub leads : LeadsItems item result
-
--- the effect of writing the line of a fault: that of a refusal, which ends the lines of an object,
--- or all of them for lack of budget
-abbrev pub ReturnsFault : Format → Fault → OutState → OutState → Result WriteEnd NeedsFault → Type 0
-ReturnsFault format (Refused refusal) old new (Ok (Whole fails)) = ⊥
-ReturnsFault format (Refused refusal) old new (Ok Ended) = (IsBudgetRefusal refusal → ⊥) × SinkTakes old new (refusal_line format refusal)
-ReturnsFault format (Refused refusal) old new (Ok Cut) = IsBudgetRefusal refusal × SinkTakes old new (refusal_line format refusal)
-ReturnsFault format (Refused refusal) old new (Err Read) = ⊥
-ReturnsFault format (Refused refusal) old new (Err Open) = ⊥
-ReturnsFault format (Refused refusal) old new (Err (Out fault)) = SinkTakesPrefix old new (refusal_line format refusal) × IsOutFault new fault
-ReturnsFault format (Source fault at) old new result = (result ≡ Err Read) × (new ≡ old)
-
--- whether lines report that something is missing, if all are written
-abbrev pub failing_of : WriteEnd → Option Bool
-failing_of (Whole fails) = Some fails
-failing_of Ended = Some true
-failing_of Cut = None
-
--- n of the items are written, and the others are left
-pub record WritesSoFar (lines : LineOptions) (all left : List BoundItem) (old new : OutState) (fails : Bool) : Type 0 where
-  pub front : List BoundItem
-  pub split : all ≡ front ++ left
-  pub takes : SinkTakes old new (listed_text lines front)
-  pub fails_is : fails ≡ any_unbound front
-
--- the exit status after lines: 1 if they report that a symbol is missing, or its state cannot be
--- determined, or if they are cut; otherwise as before
-abbrev pub status_after : WriteEnd → ℕ → ℕ
-status_after (Whole false) status = status
-status_after (Whole true) status = 1
-status_after Ended status = 1
-status_after Cut status = 1
 
 -- THE EFFECT OF WRITING THE BINDINGS OF ALL OBJECTS
 abbrev pub WritesBindings : LineOptions → List BoundItem → (short : Refusal → Type 0) → OutState → OutState → (status : ℕ) → Result ℕ NeedsFault → Type 0
 WritesBindings lines all short old new before (Ok status) =
-    (end : WriteEnd) × WritesLines lines all short old new (Ok end) × (status ≡ status_after end before)
-WritesBindings lines all short old new before (Err fault) = WritesLines lines all short old new (Err fault)
+    (end : WriteEnd) × WritesLines (bound_lines lines) all short old new (Ok end) × (status ≡ status_after end before)
+WritesBindings lines all short old new before (Err fault) = WritesLines (bound_lines lines) all short old new (Err fault)

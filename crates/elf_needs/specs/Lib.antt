@@ -22,15 +22,14 @@ pub mod Ready
 pub mod Sought
 pub mod Interpreting
 pub mod Pages
+pub mod ItemLines
 pub mod Bound
 pub mod Copied
-pub mod Requests
 pub mod Budget
 pub mod Caches
 pub mod Called
 pub mod Replaced
 pub mod Walked
-pub mod ObjectLines
 pub mod ListedLines
 pub mod VersionTables
 pub mod NeedWalks

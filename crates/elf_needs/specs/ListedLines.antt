@@ -2,11 +2,11 @@
 use Rattle.std.specs.Prelude.{ℕ, ◌&&◌, not, Bool, true, false, if◌then◌else◌, List, [], ◌∷◌, ◌++◌, Option}
 use Rattle.elf_model.specs.Prelude.{BoundItem, Faulty, Told, binding_line, is_unbound, refusal_line}
 use Rattle.elf_model.specs.declared.states.BindingState.{BindingState}
-use Rattle.elf_needs.specs.ObjectLines.{object_line}
+use Rattle.elf_format.specs.NeededObjects.{object_line}
 use Rattle.elf_needs.specs.declared.line_options.LineOptions.{LineOptions}
-use Rattle.elf_needs.specs.declared.states.ObjectRow.{ObjectRow}
-use Rattle.elf_needs.specs.declared.states.ObjectState.{ObjectState}
-use Rattle.elf_needs.specs.declared.states.ObjectState.TheVariants as state
+use Rattle.elf_format.specs.declared.needed_objects.ObjectRow.{ObjectRow}
+use Rattle.elf_format.specs.declared.needed_objects.ObjectState.{ObjectState}
+use Rattle.elf_format.specs.declared.needed_objects.ObjectState.TheVariants as state
 
 -- the line of a symbol: only if it is missing or its state is not known, where only problems are
 -- written

@@ -1,11 +1,12 @@
 -- The words of this crate, for one import elsewhere.
 pub use Rattle.elf_needs.specs.Binds.{AreObjectFiles, AskedFirst, AskedOf, BindsAcross, ReturnsBinding, asked_of_all, reached}
-pub use Rattle.elf_needs.specs.Bound.{AsksAll, IsBudgetShort, ReturnsItem, SameObject, WritesSoFar, bound_among}
+pub use Rattle.elf_needs.specs.Bound.{AsksAll, IsBudgetShort, ReturnsItem, SameObject, bound_among, bound_lines}
 pub use Rattle.elf_needs.specs.Definers.{DefinesAfter, ReturnsDefiner}
 pub use Rattle.elf_needs.specs.Entries.{AreEntryValues, AreNeeds, HasFlags, IsHeldText, IsNeed, KeepsLinks, KeepsText, ReturnsLinks, ReturnsStrings, ReturnsText, first_index, no_info, text_by, with_index}
 pub use Rattle.elf_needs.specs.Held.{LinkInfoState}
 pub use Rattle.elf_needs.specs.Linked.{ReturnsLinked, linked_file}
 pub use Rattle.elf_needs.specs.Kept.{IsKept, IsReadyIn, LookupObjectState}
+pub use Rattle.elf_needs.specs.ItemLines.{WritesSoFar}
 pub use Rattle.elf_needs.specs.Lacking.{definition_if, definitions_of}
 pub use Rattle.elf_needs.specs.Looks.{DefinesIn, FailsIn, FaultLeaves, LooksInObject, OverLeft, Prepares, SpendsAtMost, SpendsBudget, kept_cost}
 pub use Rattle.elf_needs.specs.Opens.{AsksKept, KeepsOne, SpendsBudgetAtLeast}

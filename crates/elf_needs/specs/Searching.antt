@@ -2,8 +2,8 @@
 -- tried for its name, in order, by texts alone (gABI 5, Shared Object Dependencies; ld.so(8)).
 use Rattle.std.specs.Prelude.{◌≡◌, ◌≢◌, ◌<◌, ◌⊎◌, take, ℕ, zero, suc, ◌==◌, ◌&&◌, ◌||◌, nat_eq, nat_lt, not, Bool, true, false, if◌then◌else◌, List, [], ◌∷◌, ◌++◌, length, slice_index, codes, Option, None, Some, option_map}
 use Rattle.std.specs.List.{cons_option, list_any, starts_with}
-use Rattle.elf_needs.specs.declared.states.FoundBy.{FoundBy}
-use Rattle.elf_needs.specs.declared.states.FoundBy.TheVariants as by
+use Rattle.elf_format.specs.declared.needed_objects.FoundBy.{FoundBy}
+use Rattle.elf_format.specs.declared.needed_objects.FoundBy.TheVariants as by
 
 -- `:` and `;` separate directories, `/` the names of a path, `$` begins a token
 abbrev pub COLON : ℕ

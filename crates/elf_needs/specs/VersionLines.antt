@@ -4,7 +4,7 @@ use Rattle.elf_model.specs.Prelude.{IsBudgetRefusal, VersionItem, VersionRecordT
 use Rattle.elf_model.specs.declared.formats.Format.{Format}
 use Rattle.elf_model.specs.declared.causes.Refusal.{Refusal}
 use Rattle.elf_source.specs.Output.{IsOutFault, OutState, SinkTakes, SinkTakesPrefix}
-use Rattle.elf_needs.specs.Bound.{failing_of, status_after}
+use Rattle.elf_needs.specs.ItemLines.{ItemLines, WritesLines, WritesSoFar, failing_of, status_after}
 use Rattle.elf_needs.specs.NeedWalks.{IsNeedsOf, needs_left}
 use Rattle.elf_needs.specs.Providers.{versioned_among}
 use Rattle.elf_needs.specs.declared.needed_versions.NeedsWalk.{NeedsWalk}
@@ -15,59 +15,25 @@ use Rattle.elf_needs.specs.declared.walk.Listed.{Listed}
 use Rattle.elf_needs.specs.declared.walk.NeedsFault.{NeedsFault}
 use Rattle.elf_needs.specs.declared.walk.NeedsFault.TheVariants.{Open, Out, Read}
 
--- a text is a prefix of the lines, each whole, and then that of a refusal for lack of budget, which
--- is short there
-pub record IsCutVersions (format : Format) (all : List VersionItem) (short : Refusal → Type 0) (text : List ℕ) : Type 0 where
-  pub front : List VersionItem
-  pub rest : List VersionItem
-  pub split : all ≡ front ++ rest
-  pub refusal : Refusal
-  pub for_budget : IsBudgetRefusal refusal
-  pub is_short : short refusal
-  pub text_is : text ≡ version_items_text format front ++ refusal_line format refusal
+-- how the lines of versions are written
+abbrev pub needed_version_lines : Format → ItemLines VersionItem
+needed_version_lines format = record { format = format; text = version_items_text format; fails = any_lacking }
 
--- only the first lines were written
-pub record WritesVersionsFront (format : Format) (all : List VersionItem) (old new : OutState) : Type 0 where
-  pub front : List VersionItem
-  pub rest : List VersionItem
-  pub split : all ≡ front ++ rest
-  pub takes : SinkTakes old new (version_items_text format front)
-
--- THE EFFECT OF WRITING THE LINES: all of them are written; or, only if the budget is short, a
--- prefix of them and the line that reports it; or a read failed after a prefix; or the output
--- failed in one of these texts. No file is opened for it
-abbrev pub WritesVersions : Format → List VersionItem → (short : Refusal → Type 0) → OutState → OutState → Result WriteEnd NeedsFault → Type 0
-WritesVersions format all short old new (Ok (Whole fails)) = SinkTakes old new (version_items_text format all) × (fails ≡ any_lacking all)
-WritesVersions format all short old new (Ok Ended) = SinkTakes old new (version_items_text format all) × (any_lacking all ≡ true)
-WritesVersions format all short old new (Ok Cut) = (text : List ℕ) × IsCutVersions format all short text × SinkTakes old new text
-WritesVersions format all short old new (Err Read) = WritesVersionsFront format all old new
-WritesVersions format all short old new (Err Open) = ⊥
-WritesVersions format all short old new (Err (Out fault)) =
-    (text : List ℕ) × ((text ≡ version_items_text format all) ⊎ (IsCutVersions format all short text)) × SinkTakesPrefix old new text
-    × IsOutFault new fault
-
--- the same of one version, which is not the last that an object needs
+-- the effect of writing the line of one version, which is not the last that an object needs
 abbrev pub WritesVersion : Format → List VersionItem → (short : Refusal → Type 0) → OutState → OutState → Result WriteEnd NeedsFault → Type 0
-WritesVersion format all short old new (Ok (Whole fails)) = WritesVersions format all short old new (Ok (Whole fails))
+WritesVersion format all short old new (Ok (Whole fails)) = WritesLines (needed_version_lines format) all short old new (Ok (Whole fails))
 WritesVersion format all short old new (Ok Ended) = ⊥
-WritesVersion format all short old new (Ok Cut) = WritesVersions format all short old new (Ok Cut)
-WritesVersion format all short old new (Err fault) = WritesVersions format all short old new (Err fault)
-
--- the first of the items are written, and the others are left
-pub record WritesVersionsSoFar (format : Format) (all left : List VersionItem) (old new : OutState) (fails : Bool) : Type 0 where
-  pub front : List VersionItem
-  pub split : all ≡ front ++ left
-  pub takes : SinkTakes old new (version_items_text format front)
-  pub fails_is : fails ≡ any_lacking front
+WritesVersion format all short old new (Ok Cut) = WritesLines (needed_version_lines format) all short old new (Ok Cut)
+WritesVersion format all short old new (Err fault) = WritesLines (needed_version_lines format) all short old new (Err fault)
 
 -- THE EFFECT OF READING ONE RECORD of what an object needs, and of writing its line: none was left;
 -- some of the lines are written, and others are left; or it is the end of them
 abbrev pub WritesNeed : Format → (all left : List VersionItem) → (short : Refusal → Type 0) → OutState → OutState → Result (Option WriteEnd) NeedsFault → Type 0
 WritesNeed format all left short old new (Ok None) = (all ≡ []) × (new ≡ old)
-WritesNeed format all left short old new (Ok (Some (Whole fails))) = WritesVersionsSoFar format all left old new fails
-WritesNeed format all left short old new (Ok (Some Ended)) = WritesVersions format all short old new (Ok Ended)
-WritesNeed format all left short old new (Ok (Some Cut)) = WritesVersions format all short old new (Ok Cut)
-WritesNeed format all left short old new (Err fault) = WritesVersions format all short old new (Err fault)
+WritesNeed format all left short old new (Ok (Some (Whole fails))) = WritesSoFar (needed_version_lines format) all left old new fails
+WritesNeed format all left short old new (Ok (Some Ended)) = WritesLines (needed_version_lines format) all short old new (Ok Ended)
+WritesNeed format all left short old new (Ok (Some Cut)) = WritesLines (needed_version_lines format) all short old new (Ok Cut)
+WritesNeed format all left short old new (Err fault) = WritesLines (needed_version_lines format) all short old new (Err fault)
 
 -- the items of the object at a position; and those of the records that are left of it
 abbrev pub object_versions : (files : List (List ℕ)) → SearchScope → (place : ℕ) → List VersionItem
@@ -82,12 +48,12 @@ left_versions files scope place told walk =
 pub record WalksVersions (files : List (List ℕ)) (scope : SearchScope) (place : ℕ) (walk : NeedsWalk) (old new : OutState) (fails : Bool) : Type 0 where
   pub told : IsTableOf
   pub is : IsNeedsOf (get_or files place []) told walk
-  pub writes : WritesVersionsSoFar scope.lines.format (object_versions files scope place) (left_versions files scope place told walk) old new fails
+  pub writes : WritesSoFar (needed_version_lines scope.lines.format) (object_versions files scope place) (left_versions files scope place told walk) old new fails
 
 -- THE EFFECT OF WRITING THE LINES OF ALL OBJECTS: the exit status is 1 if there is one, and
 -- otherwise what it was
 abbrev pub WritesAllVersions : Format → List VersionItem → (short : Refusal → Type 0) → OutState → OutState → (status : ℕ) → Result Listed NeedsFault → Type 0
 WritesAllVersions format all short old new before (Ok listed) =
-    (end : WriteEnd) × WritesVersions format all short old new (Ok end) × (listed.status ≡ status_after end before)
+    (end : WriteEnd) × WritesLines (needed_version_lines format) all short old new (Ok end) × (listed.status ≡ status_after end before)
     × (listed.whole ≡ is_some (failing_of end))
-WritesAllVersions format all short old new before (Err fault) = WritesVersions format all short old new (Err fault)
+WritesAllVersions format all short old new before (Err fault) = WritesLines (needed_version_lines format) all short old new (Err fault)

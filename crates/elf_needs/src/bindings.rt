@@ -3,14 +3,15 @@ ghost use Rattle.std.specs.Prelude.{◌≡◌, ◌<◌, ℕ, [], List, Ok, get_o
 ghost use Rattle.elf_needs.specs.Binds.{AreObjectFiles};
 ghost use Rattle.elf_model.specs.BoundSymbols.{before_items, bound_item, bound_items, object_items};
 ghost use Rattle.elf_model.specs.LoaderScope.{LookupTables as IsScopeOf, lookup_tables_of};
-ghost use Rattle.elf_needs.specs.Bound.{AsksAll, IsBudgetShort, ReturnsFault, WritesBindings, WritesLines, WritesSymbol, bound_among, bound_of, status_after};
+ghost use Rattle.elf_needs.specs.Bound.{AsksAll, IsBudgetShort, WritesBindings, WritesSymbol, bound_among, bound_lines, bound_of};
+ghost use Rattle.elf_needs.specs.ItemLines.{ReturnsFault, WritesLines, status_after};
 
-use crate::binding_rows::list_binding;
 use crate::binding_states::is_unbound;
 use crate::bound_states::{DefinitionAt, item_of};
 use crate::faults::is_budget_fault;
 use crate::object::LookupObject;
 use crate::open_objects::OpenObjects;
+use crate::problem_rows::list_binding;
 use crate::reference_names::ReferenceNames;
 use crate::search_scope::{SearchScope, WriteEnd, either, failing, index_at};
 use crate::walk::{DependencyWalk, NeedsFault};
@@ -78,7 +79,7 @@ fn bind_all<S: Source, W: Sink>(
     ensures asks { AsksAll objects.old objects.new left.old left.new }
     ensures known { (headers : ℕ) (files : List (List ℕ)) →
         AreObjectFiles headers objects.old files →
-        WritesLines scope.now.lines (bound_items (bound_among headers files scope.now))
+        WritesLines (bound_lines scope.now.lines) (bound_items (bound_among headers files scope.now))
         (IsBudgetShort objects.new left.new) out.old out.new result }
 {
     let mut names = ReferenceNames::new();
@@ -109,7 +110,7 @@ fn bind_object<S: Source, W: Sink>(
     ensures asks { AsksAll objects.old objects.new left.old left.new }
     ensures known { (headers : ℕ) (files : List (List ℕ)) →
         AreObjectFiles headers objects.old files →
-        WritesLines scope.now.lines (object_items (bound_among headers files scope.now) place
+        WritesLines (bound_lines scope.now.lines) (object_items (bound_among headers files scope.now) place
         (get_or files place [])) (IsBudgetShort objects.new left.new) out.old out.new result }
 {
     let count = match objects[place].symbol_count(left) {

@@ -5,7 +5,7 @@ ghost use Rattle.elf_needs.specs.Called.{interpreter_object, is_interpreter_file
 use crate::file_identity::{FileIdentity, is_file};
 use crate::known_object::{ObjectList, is_text};
 use crate::object_reports::{ObjectReport, report_alone};
-use crate::states::ObjectState;
+use elf_format::ObjectState;
 
 /// The interpreter that the program names. It is an object only if it is needed by name.
 #[derive(Clone, Copy)]

@@ -7,8 +7,8 @@ use crate::file_identity::{FileIdentity, is_file};
 use crate::known_interpreter::Interpreter;
 use crate::links::{LinkInfo, LinkInfoStore, NeededLibrary};
 use crate::paths::dir_of_path;
-use crate::states::FoundBy;
 use crate::texts::StringArena;
+use elf_format::FoundBy;
 use std::alloc::{AllocError, Global};
 
 /// The maximum number of objects of a program.

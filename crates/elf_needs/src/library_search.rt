@@ -6,8 +6,8 @@ ghost use Rattle.elf_needs.specs.Steps.{dirs_in};
 use crate::path_budget::PathBudget;
 use crate::paths::CandidatePath;
 use crate::search_path_list::SearchPathList;
-use crate::states::FoundBy;
 use crate::tries::CandidatePaths;
+use elf_format::FoundBy;
 use std::marker::Model;
 
 /// The paths of a name in lists of directories that were not tried yet.

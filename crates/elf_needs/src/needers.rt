@@ -5,8 +5,8 @@ ghost use Rattle.elf_needs.specs.Searching.{default_dirs, default_for, first_run
 ghost use Rattle.elf_needs.specs.Steps.{dirs_in, dirs_of, needer_of, needers_of};
 
 use crate::search_path_list::SearchPathList;
-use crate::states::FoundBy;
 use arrayvec::ArrayVec;
+use elf_format::FoundBy;
 
 /// An object that needs others: its DT_RPATH and its DT_RUNPATH, if it has them, the directory that
 /// it is in (gABI 5, Shared Object Dependencies), and whether its needs are not searched for in the

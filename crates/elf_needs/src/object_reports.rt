@@ -9,8 +9,8 @@ use crate::known_object::KnownObject;
 use crate::links::LinkInfo;
 use crate::object_file::{ObjectFile, ObjectRole};
 use crate::open_objects::OpenObjects;
-use crate::states::{FoundBy, ObjectState};
 use crate::walk::{DependencyWalk, NeedsFault};
+use elf_format::{FoundBy, ObjectState};
 use elf_source::{Sink, Source};
 use elf_table::Fault;
 

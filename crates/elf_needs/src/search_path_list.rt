@@ -1,7 +1,7 @@
 //! Lists of directories.
 ghost use Rattle.std.specs.Prelude.{◌≡◌, []};
 
-use crate::states::FoundBy;
+use elf_format::FoundBy;
 
 /// A list of directories, separated by colons, and the directory that replaces `$ORIGIN` in it; if
 /// there is none, a `$` is a byte like any other.

@@ -1,6 +1,6 @@
 //! Where names are looked up, and the result of writing lines.
 ghost use Rattle.std.specs.Prelude.{◌≡◌, ◌==◌, ◌||◌, get_or, position};
-ghost use Rattle.elf_needs.specs.Bound.{failing_of};
+ghost use Rattle.elf_needs.specs.ItemLines.{failing_of};
 
 use crate::known_object::ObjectList;
 use crate::line_options::LineOptions;

@@ -4,11 +4,12 @@ ghost use Rattle.elf_model.specs.NeededVersions.{Needs, state_of_needed, version
 ghost use Rattle.elf_model.specs.Loader.{VersionRecordTable as IsTableOf};
 ghost use Rattle.elf_needs.specs.Binds.{AreObjectFiles};
 ghost use Rattle.elf_needs.specs.Bound.{AsksAll, IsBudgetShort, OnlyShort};
+ghost use Rattle.elf_needs.specs.ItemLines.{WritesLines};
 ghost use Rattle.elf_needs.specs.Kept.{LookupObjectState};
 ghost use Rattle.elf_needs.specs.NeedWalks.{GoesOnAfter, IsNeedsOf, StepsNeeds, needed_of};
 ghost use Rattle.elf_needs.specs.Providers.{as_provider, versioned_among, versioned_of};
 ghost use Rattle.elf_needs.specs.Sought.{ReturnsAs};
-ghost use Rattle.elf_needs.specs.VersionLines.{WritesAllVersions, WritesNeed, WritesVersion, WritesVersions, left_versions, object_versions};
+ghost use Rattle.elf_needs.specs.VersionLines.{WritesAllVersions, WritesNeed, WritesVersion, left_versions, needed_version_lines, object_versions};
 
 use crate::bindings::{status_after, tell};
 use crate::needed_versions::NeedsWalk;
@@ -16,8 +17,8 @@ use crate::object::LookupObject;
 use crate::open_objects::OpenObjects;
 use crate::providers::LibraryProvider;
 use crate::search_scope::{SearchScope, WriteEnd, either, failing, index_at, place_of};
-use crate::version_rows::show_needed_version;
 use crate::walk::{DependencyWalk, Listed, NeedsFault};
+use elf_format::show_needed_version;
 use elf_model::VersionState;
 use elf_source::{Out, Sink, Source};
 use elf_table::Fault;
@@ -77,7 +78,7 @@ fn check_all<S: Source, W: Sink>(
     ensures asks { AsksAll objects.old objects.new left.old left.new }
     ensures known { (headers : ℕ) (files : List (List ℕ)) →
         AreObjectFiles headers objects.old files →
-        WritesVersions scope.now.lines.format
+        WritesLines (needed_version_lines scope.now.lines.format)
         (version_items (versioned_among files scope.now)) (IsBudgetShort objects.new left.new)
         out.old out.new result }
 {
@@ -107,7 +108,7 @@ fn check_object<S: Source, W: Sink>(
     ensures asks { AsksAll objects.old objects.new left.old left.new }
     ensures known { (headers : ℕ) (files : List (List ℕ)) →
         AreObjectFiles headers objects.old files →
-        WritesVersions scope.now.lines.format (object_versions files scope.now place)
+        WritesLines (needed_version_lines scope.now.lines.format) (object_versions files scope.now place)
         (IsBudgetShort objects.new left.new) out.old out.new result }
 {
     let mut walk = match objects[place].needs() {

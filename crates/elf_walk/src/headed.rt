@@ -8,9 +8,10 @@ ghost use Rattle.elf_walk.specs.Lists.{ListsHeaded, sort_ceiling, sort_cost};
 ghost use Rattle.elf_model.specs.FileLists.{path_line};
 
 use crate::options::ListOptions;
-use crate::path_lines::{defer_path_line, show_path};
+use crate::path_lines::defer_path_line;
 use crate::sorts::list_by_type;
 use elf_archive::end_listed;
+use elf_format::show_path;
 use elf_model::FileMagic;
 use elf_source::{Counted, DeferredSink, Out, RangeSource, Sink, Source};
 use elf_table::{HeaderStore, RunFault};

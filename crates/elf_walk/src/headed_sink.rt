@@ -3,7 +3,7 @@ ghost use Rattle.std.specs.Prelude.{◌≡◌, true, None, OnOk};
 ghost use Rattle.elf_source.specs.Output.{OutPuts, nothing_held};
 ghost use Rattle.elf_walk.specs.Headed.{text_headed};
 
-use crate::path_lines::show_path;
+use elf_format::show_path;
 use elf_model::Format;
 use elf_source::{Out, OutFault, Sink, SinkFault};
 

@@ -56,7 +56,7 @@ pub use members::check_archive;
 pub use open_failure::unopened;
 pub use options::ListOptions;
 pub use path::{PATH_BYTES, PathText, join};
-pub use path_lines::{HELD_BYTES, show_path};
+pub use path_lines::HELD_BYTES;
 pub use paths::visit_path;
 pub use required::lacking;
 pub use short::{UNDECIDED, read_short_file_status, refused_state, short_file_status};

@@ -5,7 +5,8 @@ use Rattle.elf_table.proofs.Absent.{none-of}
 use Rattle.elf_model.specs.BoundSymbols.{bound_items, object_items, objects_items}
 use Rattle.elf_needs.specs.Bound.{IsBudgetShort, bound_among}
 use Rattle.elf_needs.proofs.AskLaws.{are_kept, as_many, asks_none, asks_then}
-use Rattle.elf_needs.proofs.WriteLaws.{ends_cut, ends_fault, failing_none, failing_some, objects_next, objects_none, so_far_all, so_far_more, so_far_none}
+use Rattle.elf_needs.proofs.ItemLineLaws.{ends_cut, ends_fault, failing_none, failing_some, so_far_all, so_far_more, so_far_none}
+use Rattle.elf_needs.proofs.WriteLaws.{bound_are, objects_next, objects_none}
 use Rattle.elf_needs.proofs.bindings.bind_all.Goals as goal
 
 pub returns-in_err-end-clause-asks : goal.returns-in_err-end-clause-asks
@@ -20,7 +21,7 @@ returns-in_err-end-clause-known g c =
     (λ headers files are.
     let objects = bound_among headers files c.args.scope.now in
     let low : l.place < length files = omega (arith, as_many headers c.args.objects.now files are, i.end, c.loop-place-test.true) in
-    ends_fault (objects_items objects l.place (drop l.place files)) (object_items objects l.place (get_or files l.place [])) (objects_items objects (l.place + 1) (drop (l.place + 1) files))
+    ends_fault (bound_are c.args.scope.now.lines) (objects_items objects l.place (drop l.place files)) (object_items objects l.place (get_or files l.place [])) (objects_items objects (l.place + 1) (drop (l.place + 1) files))
     c.bind_object.new.out (IsBudgetShort c.bind_object.new.objects c.bind_object.new.left) (i.known headers files are) (objects_next objects l.place files low) _ (c.in_err-end.ensures.known headers files (are_kept headers files i.asks are)))
 
 pub returns-in_default-clause-asks : goal.returns-in_default-clause-asks
@@ -34,7 +35,7 @@ returns-in_default-clause-known g c =
     λ headers files are.
     let objects = bound_among headers files c.args.scope.now in
     let low : l.place < length files = omega (arith, as_many headers c.args.objects.now files are, i.end, c.loop-place-test.true) in
-    ends_cut (objects_items objects l.place (drop l.place files)) (object_items objects l.place (get_or files l.place [])) (objects_items objects (l.place + 1) (drop (l.place + 1) files))
+    ends_cut (bound_are c.args.scope.now.lines) (objects_items objects l.place (drop l.place files)) (object_items objects l.place (get_or files l.place [])) (objects_items objects (l.place + 1) (drop (l.place + 1) files))
     c.bind_object.new.out (IsBudgetShort c.bind_object.new.objects c.bind_object.new.left) (i.known headers files are) (objects_next objects l.place files low) (rw cut at (c.in_ok-end.ensures.known headers files (are_kept headers files i.asks are)))
 
 pub loop-place-preserved : goal.loop-place-preserved
@@ -46,9 +47,9 @@ loop-place-preserved g c =
       known = λ headers files are.
           let objects = bound_among headers files c.args.scope.now in
           let low : l.place < length files = omega (arith, as_many headers c.args.objects.now files are, i.end, c.loop-place-test.true) in
-          let writes = failing_some c.args.scope.now.lines (object_items objects l.place (get_or files l.place [])) (IsBudgetShort c.bind_object.new.objects c.bind_object.new.left) l.out c.bind_object.new.out c.in_ok-end.end c.in-Some.more (c.in_ok-end.ensures.known headers files (are_kept headers files i.asks are)) (sym c.failing.ensures ∙ c.in-Some.is) in
+          let writes = failing_some (bound_are c.args.scope.now.lines) (object_items objects l.place (get_or files l.place [])) (IsBudgetShort c.bind_object.new.objects c.bind_object.new.left) l.out c.bind_object.new.out c.in_ok-end.end c.in-Some.more (c.in_ok-end.ensures.known headers files (are_kept headers files i.asks are)) (sym c.failing.ensures ∙ c.in-Some.is) in
           rw c.either-fails.ensures
-          (so_far_more (objects_items objects l.place (drop l.place files)) (object_items objects l.place (get_or files l.place [])) (objects_items objects (l.place + 1) (drop (l.place + 1) files))
+          (so_far_more (bound_are c.args.scope.now.lines) (objects_items objects l.place (drop l.place files)) (object_items objects l.place (get_or files l.place [])) (objects_items objects (l.place + 1) (drop (l.place + 1) files))
           c.in-Some.more (i.known headers files are) (objects_next objects l.place files low) writes.0 writes.1);
       end = i.end;
     }
@@ -60,11 +61,11 @@ returns-clause-known g c =
     λ headers files are.
     let objects = bound_among headers files c.args.scope.now in
     let none = objects_none objects l.place files (omega (arith, as_many headers c.args.objects.now files are, i.end, c.loop-place-test.false)) in
-    so_far_all (IsBudgetShort l.objects l.left) (rw none at (i.known headers files are))
+    so_far_all (bound_are c.args.scope.now.lines) (IsBudgetShort l.objects l.left) (rw none at (i.known headers files are))
 
 pub loop-place-init : goal.loop-place-init
 loop-place-init g c = record {
   asks = asks_none c.args.objects.now c.args.left.now;
-  known = λ headers files are. so_far_none c.args.scope.now.lines (bound_items (bound_among headers files c.args.scope.now)) c.args.out.now;
+  known = λ headers files are. so_far_none (bound_are c.args.scope.now.lines) (bound_items (bound_among headers files c.args.scope.now)) (bound_items (bound_among headers files c.args.scope.now)) c.args.out.now refl;
   end = refl;
 }

@@ -1,12 +1,13 @@
 -- The symbols are counted, and the lines of one more are written, or not; and no symbol is left.
-use Rattle.std.proofs.Common.{Ok, Err, [], get_or, set, sym, ap, ◌∙◌, arith}
+use Rattle.std.proofs.Common.{Ok, Err, [], get_or, set, sym, ap, ◌∙◌, arith, refl}
 use Rattle.std.proofs.lemmas.Result.{err_from_is_err_and}
 use Rattle.elf_model.specs.BoundSymbols.{object_items}
 use Rattle.elf_model.specs.LoaderScope.{lookup_tables_of}
 use Rattle.elf_needs.specs.Bound.{IsBudgetShort, bound_among}
 use Rattle.elf_needs.specs.declared.search_scope.WriteEnd.TheVariants.{Cut, Ended}
 use Rattle.elf_needs.proofs.AskLaws.{are_kept, asks_one, asks_then, file_here, short_one, spends_same}
-use Rattle.elf_needs.proofs.WriteLaws.{SymbolsIn, counted_in, faulted_lines, hashed_fits, items_are, items_none, items_refused, only_of, so_far_all, so_far_none, symbol_ends, symbol_more}
+use Rattle.elf_needs.proofs.ItemLineLaws.{so_far_all, so_far_none}
+use Rattle.elf_needs.proofs.WriteLaws.{SymbolsIn, bound_are, counted_in, faulted_lines, hashed_fits, items_are, items_none, items_refused, only_of, symbol_ends, symbol_more}
 use Rattle.elf_needs.proofs.bindings.bind_object.Goals as goal
 
 pub returns-in-Err-clause-asks : goal.returns-in-Err-clause-asks
@@ -31,7 +32,7 @@ loop-symbol-init g c =
     let e = c.symbol_count.ensures in
     record {
       asks = asks_one c.args.objects.now c.args.place c.index-objects-place.result c.symbol_count.new.self c.requires (spends_same e.costs e.same_headers) e.pays;
-      known = λ headers files are told found hashed. so_far_none c.args.scope.now.lines _ c.args.out.now;
+      known = λ headers files are told found hashed. so_far_none (bound_are c.args.scope.now.lines) _ _ c.args.out.now refl;
     }
 
 pub returns-in_err-fails-clause-asks : goal.returns-in_err-fails-clause-asks
@@ -100,4 +101,4 @@ returns-clause-known g c =
     let has = counted_in headers c.args.place c.in-Ok.count c.args.objects.now files c.index-objects-place.result c.symbol_count.new.self c.symbol_count.result c.in-Ok.is c.symbol_count.ensures are c.requires in
     let none = items_none objects c.args.place file has.told.symbols l.symbol c.in-Ok.count (omega (arith, c.loop-symbol-test.false)) in
     rw (items_are objects c.args.place file has.told has.scope c.in-Ok.count has.hashed)
-    (so_far_all (IsBudgetShort l.objects l.left) (rw none at (i.known headers files are has.told has.scope has.hashed)))
+    (so_far_all (bound_are c.args.scope.now.lines) (IsBudgetShort l.objects l.left) (rw none at (i.known headers files are has.told has.scope has.hashed)))

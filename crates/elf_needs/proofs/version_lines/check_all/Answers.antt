@@ -8,8 +8,8 @@ use Rattle.elf_needs.specs.Providers.{versioned_among}
 use Rattle.elf_needs.specs.VersionLines.{object_versions}
 use Rattle.elf_needs.proofs.AskLaws.{are_kept, as_many, asks_none, asks_then}
 use Rattle.elf_needs.proofs.VersionItemLaws.{versions_next, versions_none}
-use Rattle.elf_needs.proofs.VersionWriteLaws.{failing_versions, versions_end_cut, versions_end_fault, versions_so_far_all, versions_so_far_more, versions_so_far_none}
-use Rattle.elf_needs.proofs.WriteLaws.{failing_none}
+use Rattle.elf_needs.proofs.ItemLineLaws.{ends_cut, ends_fault, failing_none, failing_some, so_far_all, so_far_more, so_far_none}
+use Rattle.elf_needs.proofs.VersionWriteLaws.{versions_are}
 use Rattle.elf_needs.proofs.version_lines.check_all.Goals as goal
 
 pub returns-in_err-end-clause-asks : goal.returns-in_err-end-clause-asks
@@ -24,7 +24,7 @@ returns-in_err-end-clause-known g c =
     (λ headers files are.
     let objects = versioned_among files c.args.scope.now in
     let low : l.place < length files = omega (arith, as_many headers c.args.objects.now files are, i.end, c.loop-place-test.true) in
-    versions_end_fault (version_items_from objects l.place (drop l.place files)) (object_versions files c.args.scope.now l.place) (version_items_from objects (l.place + 1) (drop (l.place + 1) files))
+    ends_fault (versions_are c.args.scope.now.lines.format) (version_items_from objects l.place (drop l.place files)) (object_versions files c.args.scope.now l.place) (version_items_from objects (l.place + 1) (drop (l.place + 1) files))
     c.check_object.new.out (IsBudgetShort c.check_object.new.objects c.check_object.new.left) (i.known headers files are) (versions_next objects l.place files low) _ (c.in_err-end.ensures.known headers files (are_kept headers files i.asks are)))
 
 pub returns-in_default-clause-asks : goal.returns-in_default-clause-asks
@@ -38,7 +38,7 @@ returns-in_default-clause-known g c =
     λ headers files are.
     let objects = versioned_among files c.args.scope.now in
     let low : l.place < length files = omega (arith, as_many headers c.args.objects.now files are, i.end, c.loop-place-test.true) in
-    versions_end_cut (version_items_from objects l.place (drop l.place files)) (object_versions files c.args.scope.now l.place) (version_items_from objects (l.place + 1) (drop (l.place + 1) files))
+    ends_cut (versions_are c.args.scope.now.lines.format) (version_items_from objects l.place (drop l.place files)) (object_versions files c.args.scope.now l.place) (version_items_from objects (l.place + 1) (drop (l.place + 1) files))
     c.check_object.new.out (IsBudgetShort c.check_object.new.objects c.check_object.new.left) (i.known headers files are) (versions_next objects l.place files low) (rw cut at (c.in_ok-end.ensures.known headers files (are_kept headers files i.asks are)))
 
 pub loop-place-preserved : goal.loop-place-preserved
@@ -50,9 +50,9 @@ loop-place-preserved g c =
       known = λ headers files are.
           let objects = versioned_among files c.args.scope.now in
           let low : l.place < length files = omega (arith, as_many headers c.args.objects.now files are, i.end, c.loop-place-test.true) in
-          let writes = failing_versions c.args.scope.now.lines.format (object_versions files c.args.scope.now l.place) (IsBudgetShort c.check_object.new.objects c.check_object.new.left) l.out c.check_object.new.out c.in_ok-end.end c.in-Some.more (c.in_ok-end.ensures.known headers files (are_kept headers files i.asks are)) (sym c.failing.ensures ∙ c.in-Some.is) in
+          let writes = failing_some (versions_are c.args.scope.now.lines.format) (object_versions files c.args.scope.now l.place) (IsBudgetShort c.check_object.new.objects c.check_object.new.left) l.out c.check_object.new.out c.in_ok-end.end c.in-Some.more (c.in_ok-end.ensures.known headers files (are_kept headers files i.asks are)) (sym c.failing.ensures ∙ c.in-Some.is) in
           rw c.either-fails.ensures
-          (versions_so_far_more (version_items_from objects l.place (drop l.place files)) (object_versions files c.args.scope.now l.place) (version_items_from objects (l.place + 1) (drop (l.place + 1) files))
+          (so_far_more (versions_are c.args.scope.now.lines.format) (version_items_from objects l.place (drop l.place files)) (object_versions files c.args.scope.now l.place) (version_items_from objects (l.place + 1) (drop (l.place + 1) files))
           c.in-Some.more (i.known headers files are) (versions_next objects l.place files low) writes.0 writes.1);
       end = i.end;
     }
@@ -64,11 +64,11 @@ returns-clause-known g c =
     λ headers files are.
     let objects = versioned_among files c.args.scope.now in
     let none = versions_none objects l.place files (omega (arith, as_many headers c.args.objects.now files are, i.end, c.loop-place-test.false)) in
-    versions_so_far_all (IsBudgetShort l.objects l.left) (rw none at (i.known headers files are))
+    so_far_all (versions_are c.args.scope.now.lines.format) (IsBudgetShort l.objects l.left) (rw none at (i.known headers files are))
 
 pub loop-place-init : goal.loop-place-init
 loop-place-init g c = record {
   asks = asks_none c.args.objects.now c.args.left.now;
-  known = λ headers files are. let all = version_items (versioned_among files c.args.scope.now) in versions_so_far_none c.args.scope.now.lines.format all all c.args.out.now refl;
+  known = λ headers files are. let all = version_items (versioned_among files c.args.scope.now) in so_far_none (versions_are c.args.scope.now.lines.format) all all c.args.out.now refl;
   end = refl;
 }

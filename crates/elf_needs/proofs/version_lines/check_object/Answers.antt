@@ -1,5 +1,5 @@
 -- The records are found, one more is read and its version is checked, until none is left.
-use Rattle.std.proofs.Common.{[], ap, get_or, sym, ◌∙◌}
+use Rattle.std.proofs.Common.{[], ap, get_or, sym, ◌∙◌, refl}
 use Rattle.std.proofs.lemmas.Result.{err_from_is_err_and}
 use Rattle.elf_table.proofs.Absent.{none-of}
 use Rattle.elf_model.specs.Prelude.{version_items_of, versions_needed}
@@ -9,7 +9,8 @@ use Rattle.elf_needs.specs.VersionLines.{left_versions, object_versions}
 use Rattle.elf_needs.proofs.AskLaws.{are_kept, asks_none, asks_then, file_here}
 use Rattle.elf_needs.proofs.NeedLaws.{steps_here}
 use Rattle.elf_needs.proofs.VersionItemLaws.{items_none, needs_none, needs_some, object_refused}
-use Rattle.elf_needs.proofs.VersionWriteLaws.{version_listed, versions_end_last, versions_so_far_none, versions_so_far_step, walk_cut, walk_ends, walk_stops}
+use Rattle.elf_needs.proofs.ItemLineLaws.{ends_last, so_far_none, so_far_step}
+use Rattle.elf_needs.proofs.VersionWriteLaws.{version_listed, versions_are, walk_cut, walk_ends, walk_stops}
 use Rattle.elf_needs.proofs.version_lines.check_object.Goals as goal
 
 pub returns-in-Ok-None-clause-known : goal.returns-in-Ok-None-clause-known
@@ -45,7 +46,7 @@ needs-init g c = record {
       record {
         told = some.0;
         is = starts.0;
-        writes = versions_so_far_none c.args.scope.now.lines.format (object_versions files c.args.scope.now c.args.place) (left_versions files c.args.scope.now c.args.place some.0 c.new-walk.result) c.args.out.now
+        writes = so_far_none (versions_are c.args.scope.now.lines.format) (object_versions files c.args.scope.now c.args.place) (left_versions files c.args.scope.now c.args.place some.0 c.new-walk.result) c.args.out.now
             (ap (version_items_of (versioned_among files c.args.scope.now) (get_or c.args.scope.now.indexes.now c.args.place 0)) (some.2 ∙ sym starts.1));
       };
 }
@@ -62,7 +63,7 @@ needs-preserved g c =
       known = λ headers files are.
           let before = i.known headers files are in
           let next = rw (c.in-Some.is, c.in-Whole.is) at (c.in_ok-end.ensures.known headers files before.told (are_kept headers files i.asks are) before.is) in
-          rw c.either-fails.ensures (record { told = before.told; is = next.0; writes = versions_so_far_step before.writes next.1 });
+          rw c.either-fails.ensures (record { told = before.told; is = next.0; writes = so_far_step (versions_are c.args.scope.now.lines.format) before.writes next.1 });
     }
 
 pub returns-in_err-end-clause-asks : goal.returns-in_err-end-clause-asks
@@ -88,7 +89,7 @@ returns-in-Ended-clause-known g c =
     λ headers files are.
     let before = i.known headers files are in
     let next = rw (c.in-Some.is, c.in-Ended.is) at (c.in_ok-end.ensures.known headers files before.told (are_kept headers files i.asks are) before.is) in
-    versions_end_last (left_versions files c.args.scope.now c.args.place before.told c.needs.walk) c.check_next.new.out (IsBudgetShort c.check_next.new.objects c.check_next.new.left) before.writes next.1
+    ends_last (versions_are c.args.scope.now.lines.format) (left_versions files c.args.scope.now c.args.place before.told c.needs.walk) _ c.check_next.new.out (IsBudgetShort c.check_next.new.objects c.check_next.new.left) (IsBudgetShort c.check_next.new.objects c.check_next.new.left) before.writes refl next.1
 
 pub returns-in-Cut-clause-asks : goal.returns-in-Cut-clause-asks
 returns-in-Cut-clause-asks g c = asks_then c.needs.invariant.asks c.check_next.ensures.asks

@@ -2,7 +2,8 @@
 use Rattle.std.proofs.Common.{ℕ, List, Ok, Err, subst, sym, ◌∙◌}
 use Rattle.std.proofs.lemmas.Result.{err_from_is_err_and}
 use Rattle.elf_model.specs.BoundSymbols.{bound_items}
-use Rattle.elf_needs.specs.Bound.{IsBudgetShort, WritesLines, bound_of}
+use Rattle.elf_needs.specs.Bound.{IsBudgetShort, bound_lines, bound_of}
+use Rattle.elf_needs.specs.ItemLines.{WritesLines}
 use Rattle.elf_needs.specs.Kept.{LookupObjectState}
 use Rattle.elf_needs.proofs.AskLaws.{front_taken}
 use Rattle.elf_needs.proofs.walk.DependencyWalk.bind.Goals as goal
@@ -13,9 +14,9 @@ returns-in_err-end-clause-known g c =
     let known = rw (c.deref_mut.ensures.value) at c.in_err-end.ensures.known in
     rw (p.1, p.2)
     (λ headers files are.
-    subst (λ (objects : List LookupObjectState). WritesLines c.args.self.now.lines (bound_items (bound_of headers files c.args.opened.now.indexes.items c.args.self.now.objects)) (IsBudgetShort objects c.bind_all.new.left) c.args.self.now.out c.bind_all.new.out
+    subst (λ (objects : List LookupObjectState). WritesLines (bound_lines c.args.self.now.lines) (bound_items (bound_of headers files c.args.opened.now.indexes.items c.args.self.now.objects)) (IsBudgetShort objects c.bind_all.new.left) c.args.self.now.out c.bind_all.new.out
     (Err c.in_err-end.field-0.0)) (sym (front_taken c.args.opened.now.objects.len c.bind_all.new.objects _ (c.bind_all.ensures.asks.objects.same_length ∙ c.deref_mut.ensures.len)))
-    (subst (λ (indexes : List ℕ). WritesLines c.args.self.now.lines (bound_items (bound_of headers files indexes c.args.self.now.objects)) (IsBudgetShort c.bind_all.new.objects c.bind_all.new.left) c.args.self.now.out c.bind_all.new.out
+    (subst (λ (indexes : List ℕ). WritesLines (bound_lines c.args.self.now.lines) (bound_items (bound_of headers files indexes c.args.self.now.objects)) (IsBudgetShort c.bind_all.new.objects c.bind_all.new.left) c.args.self.now.out c.bind_all.new.out
     (Err c.in_err-end.field-0.0)) c.deref.ensures.value (known headers files are)))
 
 pub returns-clause-known : goal.returns-clause-known
@@ -23,9 +24,9 @@ returns-clause-known g c =
     let known = rw (c.deref_mut.ensures.value) at c.in_ok-end.ensures.known in
     λ headers files are. (
       c.in_ok-end.end,
-      subst (λ (objects : List LookupObjectState). WritesLines c.args.self.now.lines (bound_items (bound_of headers files c.args.opened.now.indexes.items c.args.self.now.objects)) (IsBudgetShort objects c.bind_all.new.left) c.args.self.now.out c.bind_all.new.out
+      subst (λ (objects : List LookupObjectState). WritesLines (bound_lines c.args.self.now.lines) (bound_items (bound_of headers files c.args.opened.now.indexes.items c.args.self.now.objects)) (IsBudgetShort objects c.bind_all.new.left) c.args.self.now.out c.bind_all.new.out
           (Ok c.in_ok-end.end)) (sym (front_taken c.args.opened.now.objects.len c.bind_all.new.objects _ (c.bind_all.ensures.asks.objects.same_length ∙ c.deref_mut.ensures.len)))
-          (subst (λ (indexes : List ℕ). WritesLines c.args.self.now.lines (bound_items (bound_of headers files indexes c.args.self.now.objects)) (IsBudgetShort c.bind_all.new.objects c.bind_all.new.left) c.args.self.now.out c.bind_all.new.out
+          (subst (λ (indexes : List ℕ). WritesLines (bound_lines c.args.self.now.lines) (bound_items (bound_of headers files indexes c.args.self.now.objects)) (IsBudgetShort c.bind_all.new.objects c.bind_all.new.left) c.args.self.now.out c.bind_all.new.out
           (Ok c.in_ok-end.end)) c.deref.ensures.value (known headers files are)),
       c.status_after-self.ensures,
     )

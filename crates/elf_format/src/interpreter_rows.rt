@@ -4,7 +4,9 @@ ghost use Rattle.elf_source.specs.Output.{OutPuts};
 ghost use Rattle.elf_format.specs.Fronts.{front_of};
 ghost use Rattle.elf_model.specs.Prelude.{interpreter_front, interpreter_line, interpreter_state};
 
-use elf_format::{Columns, Json, LinePrefix, Render, begin_named, put_text, show_named};
+use crate::fields::{LinePrefix, begin_named, put_text};
+use crate::named::show_named;
+use crate::render::{Columns, Json, Render};
 use elf_model::Format;
 use elf_source::{Out, OutFault, Sink};
 
@@ -32,7 +34,7 @@ fn interpreter_state(is_found: bool) -> &'static str
 ///
 /// # Errors
 /// A fault of the output, with a prefix of the line written.
-pub(crate) fn show_interpreter<W: Sink>(
+pub fn show_interpreter<W: Sink>(
     is_found: bool,
     path: &[u8],
     format: Format,

@@ -2,8 +2,8 @@
 use Rattle.std.proofs.Common.{ℕ, List, subst}
 use Rattle.elf_format.specs.Fronts.{front_of}
 use Rattle.elf_source.specs.Output.{OutPuts}
-use Rattle.elf_needs.proofs.RequestLaws.{requested_is}
-use Rattle.elf_needs.proofs.binding_rows.show_requested.Goals as goal
+use Rattle.elf_format.proofs.RequestLaws.{requested_is}
+use Rattle.elf_format.proofs.binding_rows.show_requested.Goals as goal
 
 pub returns : goal.returns
 returns g c =

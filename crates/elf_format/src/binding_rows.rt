@@ -6,16 +6,13 @@ ghost use Rattle.elf_source.specs.Output.{OutPuts};
 ghost use Rattle.elf_format.specs.Fronts.{front_of};
 ghost use Rattle.elf_model.specs.BindingLines.{line_requested};
 ghost use Rattle.elf_model.specs.Loader.{asked_name};
-ghost use Rattle.elf_needs.specs.Requests.{after_request, before_request};
-ghost use Rattle.elf_needs.specs.ListedLines.{listed_binding};
+ghost use Rattle.elf_format.specs.Requests.{after_request, before_request};
 ghost use Rattle.elf_options.specs.Wants.{query_of};
 
-use crate::binding_states::is_unbound;
-use crate::line_options::LineOptions;
-use elf_format::{
-    Columns, Json, LineBuf, LinePrefix, Render, SecondName, begin_named, put_decimal,
-    put_name_or_decimal, put_text, show_joined, show_named,
-};
+use crate::columns::LineBuf;
+use crate::fields::{LinePrefix, begin_named, put_decimal, put_name_or_decimal, put_text};
+use crate::named::{SecondName, show_joined, show_named};
+use crate::render::{Columns, Json, Render};
 use elf_model::{BindingState, Format};
 use elf_options::SymbolQuery;
 use elf_source::{Out, OutFault, Sink};
@@ -106,29 +103,6 @@ pub fn show_binding<W: Sink>(
         None => show_named(&mut front, wanted.name, false, out),
         Some(version) => show_requested(&mut front, wanted.name, version, out),
     }
-}
-
-/// Writes the line of a symbol as [`show_binding`] does; if only problems are written, that of a
-/// symbol that is missing, or whose state cannot be determined.
-///
-/// # Errors
-/// A fault of the output, with a prefix of the line written.
-pub(crate) fn list_binding<W: Sink>(
-    object: u16,
-    symbol: u64,
-    state: BindingState,
-    wanted: &SymbolQuery<'_>,
-    lines: LineOptions,
-    out: &mut Out<W>,
-) -> Result<(), OutFault>
-    ensures puts { OutPuts out.old out.new result
-        (listed_binding lines object symbol state (query_of wanted.now).name
-        (asked_name (query_of wanted.now).asked)) }
-{
-    if lines.problems && !is_unbound(state) {
-        return out.put(b"");
-    }
-    show_binding(object, symbol, state, wanted, lines.format, out)
 }
 
 /// Writes a line that ends in a name and the referenced version: in columns after `@`, in a JSON

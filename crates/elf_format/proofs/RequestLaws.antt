@@ -7,7 +7,7 @@ use Rattle.elf_model.specs.Names.DisplayedName.{Whole}
 use Rattle.elf_model.specs.declared.formats.Format.{Format}
 use Rattle.elf_model.specs.declared.formats.Format.TheVariants.{Columns, Object}
 use Rattle.elf_format.specs.Named.{escaped_bytes, line_tailed}
-use Rattle.elf_needs.specs.Requests.{after_request, before_request}
+use Rattle.elf_format.specs.Requests.{after_request, before_request}
 
 -- texts in pieces
 three_is : (name sign version end : List ℕ) → name ++ (sign ++ (version ++ end)) ≡ (name ++ (sign ++ version)) ++ end

@@ -4,10 +4,9 @@ ghost use Rattle.elf_model.specs.NeededVersions.{needed_version_front, needed_ve
 ghost use Rattle.elf_source.specs.Output.{OutPuts};
 ghost use Rattle.elf_format.specs.Fronts.{front_of};
 
-use elf_format::{
-    Columns, Json, LinePrefix, Render, begin_named, put_decimal, put_name_or_decimal, put_text,
-    show_named,
-};
+use crate::fields::{LinePrefix, begin_named, put_decimal, put_name_or_decimal, put_text};
+use crate::named::show_named;
+use crate::render::{Columns, Json, Render};
 use elf_model::{Format, VersionState};
 use elf_source::{Out, OutFault, Sink};
 

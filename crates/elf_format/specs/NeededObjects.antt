@@ -6,11 +6,11 @@ use Rattle.elf_model.specs.declared.formats.Format.{Format}
 use Rattle.elf_model.specs.declared.formats.Format.TheVariants.{Columns, Object}
 use Rattle.elf_model.specs.Names.DisplayedName.{Whole}
 use Rattle.elf_model.specs.declared.states.FileStatus.TheVariants as file
-use Rattle.elf_needs.specs.declared.states.FoundBy.{FoundBy}
-use Rattle.elf_needs.specs.declared.states.FoundBy.TheVariants as by
-use Rattle.elf_needs.specs.declared.states.ObjectRow.{ObjectRow}
-use Rattle.elf_needs.specs.declared.states.ObjectState.{ObjectState}
-use Rattle.elf_needs.specs.declared.states.ObjectState.TheVariants as state
+use Rattle.elf_format.specs.declared.needed_objects.FoundBy.{FoundBy}
+use Rattle.elf_format.specs.declared.needed_objects.FoundBy.TheVariants as by
+use Rattle.elf_format.specs.declared.needed_objects.ObjectRow.{ObjectRow}
+use Rattle.elf_format.specs.declared.needed_objects.ObjectState.{ObjectState}
+use Rattle.elf_format.specs.declared.needed_objects.ObjectState.TheVariants as state
 
 -- the word of a state
 unfoldable pub object_state_name : ObjectState → List ℕ

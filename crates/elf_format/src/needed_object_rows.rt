@@ -1,23 +1,25 @@
 //! The lines of the objects that a program needs.
 ghost use Rattle.std.specs.Prelude.{◌≡◌, ◌≤◌, length};
 ghost use Rattle.arrayvec.specs.ArrayVec.{array_vec_len};
-ghost use Rattle.elf_model.specs.Prelude.{fault_fields, with_fields};
+ghost use Rattle.elf_model.specs.Prelude.{with_fields};
 ghost use Rattle.elf_source.specs.Output.{OutPuts};
 ghost use Rattle.elf_format.specs.Fronts.{front_of};
-ghost use Rattle.elf_needs.specs.ObjectLines.{file_state, found_by_fields, found_by_name, object_front, object_line, object_state_name, objects_end_line, too_many_line, too_many_paths_line};
-ghost use Rattle.elf_needs.specs.ListedLines.{listed_object};
+ghost use Rattle.elf_format.specs.NeededObjects.{file_state, found_by_fields, found_by_name, object_front, object_line, object_state_name, objects_end_line, too_many_line, too_many_paths_line};
 
-use crate::line_options::LineOptions;
-use crate::states::{FoundBy, ObjectRow, ObjectState};
-use elf_format::{
-    Columns, Json, LineBuf, LinePrefix, Render, begin, begin_named, cause_word, put_closing,
-    put_decimal, put_hex_field, put_name_or_decimal, put_text, show_named,
+use crate::check_rows::put_fault;
+use crate::columns::LineBuf;
+use crate::fields::{
+    LinePrefix, begin, begin_named, put_closing, put_decimal, put_hex_field, put_name_or_decimal,
+    put_text,
 };
+use crate::named::show_named;
+use crate::needed_objects::{FoundBy, ObjectRow, ObjectState};
+use crate::render::{Columns, Json, Render};
 use elf_model::{FileStatus, Format};
 use elf_source::{Out, OutFault, Sink};
 
 /// Writes the `L` line of an object up to its path.
-#[tactic(auto, unfolding(crate::specs::ObjectLines::object_front))]
+#[tactic(auto, unfolding(crate::specs::NeededObjects::object_front))]
 fn object_row<R: Render>(front: &mut LinePrefix, row: ObjectRow)
     ensures front { front_of front.new ≡ object_front R.FORMAT row }
     ensures key { length front.new.key.now ≤ 16 }
@@ -33,27 +35,8 @@ fn object_row<R: Render>(front: &mut LinePrefix, row: ObjectRow)
     }
     let state = object_state_name(row.state).as_bytes();
     put_text::<R>(line, b"state", 8, state, b' ');
-    put_refusal::<R>(line, file_state(row.state));
+    put_fault::<R>(line, file_state(row.state));
     put_found_by::<R>(line, row.found_by);
-}
-
-/// Appends the offset and the cause of a refusal; in columns a hyphen if there is none.
-#[tactic(auto, unfolding(elf_model::specs::Fields::with_field))]
-fn put_refusal<R: Render>(line: &mut LineBuf, state: FileStatus)
-    requires { array_vec_len line.old ≤ 120 }
-    ensures items { line.new.items ≡ with_fields R.FORMAT line.old.items (fault_fields state) }
-    ensures len { array_vec_len line.new ≤ 210 }
-{
-    if let FileStatus::Refused(refusal) = state {
-        let cause = cause_word(refusal.cause).as_bytes();
-        put_hex_field::<R>(line, b"place", 16, refusal.at, b' ');
-        put_text::<R>(line, b"cause", 0, cause, b' ');
-        return;
-    }
-    match R::FORMAT {
-        Format::Columns => line.try_extend_from_slice(b"- ").unwrap(),
-        Format::Object => {}
-    }
 }
 
 /// Appends how an object was found, in an object of JSON.
@@ -74,7 +57,7 @@ fn put_found_by<R: Render>(line: &mut LineBuf, found_by: Option<FoundBy>)
 }
 
 /// Returns the word of how an object was found.
-#[tactic(auto, unfolding(crate::specs::ObjectLines::found_by_name))]
+#[tactic(auto, unfolding(crate::specs::NeededObjects::found_by_name))]
 fn found_by_name(found_by: FoundBy) -> &'static str
     ensures word { result.now ≡ found_by_name found_by }
     ensures short { length result.now ≤ 12 }
@@ -101,7 +84,7 @@ fn file_state(state: ObjectState) -> FileStatus
 }
 
 /// Returns the word of a state in an object's line.
-#[tactic(auto, unfolding(crate::specs::ObjectLines::object_state_name))]
+#[tactic(auto, unfolding(crate::specs::NeededObjects::object_state_name))]
 fn object_state_name(state: ObjectState) -> &'static str
     ensures word { result.now ≡ object_state_name state }
     ensures short { length result.now ≤ 8 }
@@ -136,25 +119,6 @@ pub fn show_object<W: Sink>(
         Format::Object => object_row::<Json>(&mut front, row),
     }
     show_named(&mut front, path, false, out)
-}
-
-/// Writes the line of an object as [`show_object`] does; if only problems are written, that of one
-/// that is missing or refused.
-///
-/// # Errors
-/// A fault of the output, with a prefix of the line written.
-pub(crate) fn list_object<W: Sink>(
-    row: ObjectRow,
-    path: &[u8],
-    lines: LineOptions,
-    out: &mut Out<W>,
-) -> Result<(), OutFault>
-    ensures puts { OutPuts out.old out.new result (listed_object lines row path.now) }
-{
-    match row.state {
-        ObjectState::Found | ObjectState::Unused if lines.problems => out.put(b""),
-        _ => show_object(row, path, lines.format, out),
-    }
 }
 
 /// Writes the line that ends the objects if one more is needed than are listed: the file offset of
@@ -203,7 +167,7 @@ fn show_end<W: Sink>(
 }
 
 /// Returns the line that ends the objects.
-#[tactic(auto, unfolding(crate::specs::ObjectLines::objects_end_line))]
+#[tactic(auto, unfolding(crate::specs::NeededObjects::objects_end_line))]
 fn end_row<R: Render>(place: u64, cause: &str) -> LineBuf
     requires short { length cause.now ≤ 16 }
     ensures { result.items ≡ objects_end_line R.FORMAT place cause.now }
