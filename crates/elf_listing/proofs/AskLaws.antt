@@ -1,10 +1,10 @@
 -- What a listing reads within its budget.
-use Rattle.std.proofs.Common.{subst, ◌≡◌, ℕ, ◌+◌, ◌^◌, ◌<◌, ◌≤◌, false, Option, None, Some, Result, Err, refl, sym, ap, ◌∙◌, arith}
+use Rattle.std.proofs.Common.{subst, ◌≡◌, ℕ, ◌+◌, ◌^◌, ◌≤◌, false, Option, None, Some, Result, Err, sym, ap, ◌∙◌, arith}
 use Rattle.std.specs.Prelude.{IfSome}
 use Rattle.elf_model.specs.Prelude.{first_refusal, has_tables, known_parts, length_checks, style_ceiling}
 use Rattle.elf_model.specs.declared.formats.Format.{Format}
 use Rattle.elf_model.specs.declared.causes.Refusal.{Refusal}
-use Rattle.elf_source.specs.Prelude.{CountedState, ExceedsBudget, OutState, ReadsUpTo, SetsLimit, SourceState, counted}
+use Rattle.elf_source.specs.Prelude.{CountedState, OutState, ReadsUpTo, SetsLimit, SourceState}
 use Rattle.elf_source.proofs.LimitLaws.{late_budget, within_budget}
 use Rattle.elf_table.specs.Prelude.{IsReadRefusal}
 use Rattle.elf_table.specs.declared.run_fault.RunFault.TheVariants.{Out}

@@ -1,6 +1,6 @@
 -- What is added from the first section that holds records of a kind.
-use Rattle.std.proofs.Common.{◌≡◌, ℕ, ◌+◌, ◌*◌, ◌/◌, ◌≤◌, ◌==◌, not, true, false, List, [], ◌++◌, length, Option, None, Some, Result, Ok, Err, refl, sym, ap, ◌∙◌, subst, arith, append-nil}
-use Rattle.elf_model.specs.Prelude.{Check, VisitedRecord, all_checks, first_of_type, first_refusal, first_strings, first_versions, or_refusal, section_at, section_versions, sh_offset, sh_size, strings_of, version_table, versions_in, visited_from, walk_refusal}
+use Rattle.std.proofs.Common.{◌≡◌, ℕ, ◌+◌, ◌≤◌, List, [], ◌++◌, Option, None, Some, Err, refl, sym, ap, ◌∙◌, subst, arith, append-nil}
+use Rattle.elf_model.specs.Prelude.{VisitedRecord, all_checks, first_of_type, first_refusal, first_versions, or_refusal, section_at, section_versions, sh_offset, sh_size, strings_of, version_table, versions_in, visited_from, walk_refusal}
 use Rattle.elf_model.specs.declared.versions.VersionKind.TheVariants.{Definition, File}
 use Rattle.elf_model.specs.declared.causes.Refusal.{Refusal}
 use Rattle.elf_model.specs.declared.versions.VersionKind.{VersionKind}

@@ -1,5 +1,5 @@
 -- The loop of a listing over a cursor's rows.
-use Rattle.std.proofs.Common.{◌≡◌, ℕ, ◌+◌, ◌*◌, ◌<◌, ◌≤◌, Bool, true, false, List, Option, None, Some, Ok, Err, refl, sym, ap, ◌∙◌, arith}
+use Rattle.std.proofs.Common.{◌≡◌, ℕ, ◌+◌, ◌*◌, ◌<◌, ◌≤◌, Bool, true, false, List, Option, None, Some, Ok, Err, sym, ap, ◌∙◌, arith}
 use Rattle.elf_model.specs.Prelude.{ListingItem, each, slice}
 use Rattle.elf_source.specs.Prelude.{CountedState, OutState, ReadsUpTo}
 use Rattle.elf_note.specs.Ahead.{ReadsOnCredit}

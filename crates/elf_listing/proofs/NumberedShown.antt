@@ -1,6 +1,6 @@
 -- The rows of symbols' versions, by the locations of their names.
-use Rattle.std.proofs.Common.{◌≡◌, ℕ, ◌+◌, ◌*◌, List, [], ◌∷◌, refl, sym, ap, ◌∙◌, arith}
-use Rattle.elf_model.specs.Prelude.{LinePrefix, ListingItem, ListingStyle, chosen_row, field, number_in, slice, symbol_version_prefix, versym}
+use Rattle.std.proofs.Common.{◌≡◌, ℕ, List, refl, ap, ◌∙◌, arith}
+use Rattle.elf_model.specs.Prelude.{LinePrefix, ListingStyle, chosen_row, field, number_in, slice, symbol_version_prefix, versym}
 use Rattle.elf_model.proofs.Slices.{field-slice}
 use Rattle.elf_listing.specs.Prelude.{reported_row, version_told}
 use Rattle.elf_listing.specs.declared.numbered.VersionStrings.{VersionStrings}

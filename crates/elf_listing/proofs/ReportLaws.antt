@@ -1,13 +1,13 @@
 -- The report of a listing, and of one that a budget cuts short.
 use Rattle.elf_options.specs.Prelude.{style_of}
 use Rattle.elf_options.specs.declared.caps.Caps.{Caps}
-use Rattle.std.proofs.Common.{◌≡◌, ℕ, ◌+◌, ◌^◌, ◌<◌, ◌≤◌, List, ◌∷◌, ◌++◌, length, None, Some, Ok, Err, Option, option_map, refl, sym, ap, ◌∙◌, inl, inr, ◌⊎◌, append-nil, arith}
+use Rattle.std.proofs.Common.{◌≡◌, ℕ, ◌^◌, ◌≤◌, List, ◌∷◌, ◌++◌, length, None, Some, Ok, Err, Option, option_map, refl, sym, ap, ◌∙◌, inl, inr, ◌⊎◌, append-nil, arith}
 use Rattle.elf_model.specs.Prelude.{Fault as FaultItem, IsBudgetRefusal, IsBudgeted, IsReport, ListingItem, ListingStyle, end_text, fault_of, lines_of, listing, listing_cost, refusal_line, report_of}
 use Rattle.elf_model.specs.declared.causes.Cause.TheVariants.{Budget}
 use Rattle.elf_model.specs.declared.causes.Refusal.{Refusal}
 use Rattle.elf_model.proofs.BudgetLaws.{is_budget_fault}
 use Rattle.elf_model.proofs.ListingLemmas.{listings_append}
-use Rattle.elf_source.specs.Prelude.{CountedState, OutState, SetsLimit, SinkTakes, SinkTakesPrefix, counted}
+use Rattle.elf_source.specs.Prelude.{CountedState, OutState, SetsLimit, SinkTakesPrefix, counted}
 use Rattle.elf_source.proofs.LimitLaws.{budget_below}
 use Rattle.elf_source.proofs.PutsLaws.{SinkTakes-then, SinkTakesPrefix-then, SinkTakesPrefix-more, SinkTakesPrefix-all}
 use Rattle.elf_table.specs.Prelude.{IsReadRefusal}

@@ -1,9 +1,8 @@
 -- The items of one row, by the line that was written.
-use Rattle.elf_model.specs.Prelude.{DisplayedName, Fault as FaultItem, IsBudgetRefusal, Line, LinePrefix, ListingItem, ListingStyle, NoSuffix, RowFilter, Suffix, chooses, chosen_row, e_machine, e_phoff, entry_at, lines_of, named_line, named_row, r_sym, relocation_prefix, relocation_row, section_at, segment_at, segment_line, segment_row, sh_offset, shown, st_name, strings_of, symbol_named, symbol_prefix, symbol_row}
+use Rattle.elf_model.specs.Prelude.{DisplayedName, Fault as FaultItem, IsBudgetRefusal, Line, LinePrefix, ListingItem, ListingStyle, NoSuffix, RowFilter, Suffix, chooses, chosen_row, e_machine, e_phoff, entry_at, lines_of, named_row, r_sym, relocation_prefix, relocation_row, section_at, segment_at, segment_line, segment_row, sh_offset, shown, st_name, strings_of, symbol_named, symbol_prefix, symbol_row}
 use Rattle.elf_model.specs.declared.causes.Cause.{Cause}
 use Rattle.elf_model.specs.declared.causes.Refusal.{Refusal}
 use Rattle.std.proofs.Common.{◌≡◌, ℕ, ◌+◌, ◌*◌, List, [], ◌∷◌, Bool, true, false, Result, Ok, Err, refl, sym, ap, ◌∙◌, subst, arith, append-nil}
-use Rattle.elf_format.specs.Named.{shown_as}
 use Rattle.elf_source.specs.Output.{OutState, SinkTakes, SinkTakesPrefix}
 use Rattle.elf_source.proofs.PutsLaws.{SinkTakes-nothing}
 use Rattle.elf_table.specs.Prelude.{IsOfRead, NameRead, shown_by, stop_of}
@@ -14,7 +13,7 @@ use Rattle.elf_table.specs.declared.run_fault.RunFault.{RunFault}
 use Rattle.elf_options.specs.Prelude.{choice_of}
 use Rattle.elf_options.specs.declared.caps.ListingStyle.{ListingStyle as Shape}
 use Rattle.elf_table.specs.declared.fault.Fault.TheVariants.{Refused, Source}
-use Rattle.elf_listing.specs.Shows.{WroteItems, WrotePrefix, WroteUntilRefusal, WroteUntilStop, WroteSome, cut_of}
+use Rattle.elf_listing.specs.Shows.{WroteItems, WrotePrefix, WroteUntilRefusal, WroteUntilStop, WroteSome}
 
 -- the same items
 pub WroteSome-as : {X : Type 0} (a b : OutState) (result : Result X RunFault) {xs ys : List ListingItem} → xs ≡ ys → WroteSome a b result ys → WroteSome a b result xs

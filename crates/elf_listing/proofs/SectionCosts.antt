@@ -1,5 +1,5 @@
 -- What the tables of a loaded file read, by the section headers in the store.
-use Rattle.elf_model.specs.Prelude.{Check, DYNAMIC, HeaderTable, ListingStyle, NOTES, PT_DYNAMIC, SECTIONS, SEGMENTS, TableKind, after_header, ceiling, cost_where, e_phnum, e_shnum, early_checks, file_segments, first_refusal, has, has_tables, header_checks, held_headers, is_loadable, is_outside, kind_by_kind, kinds_cost, known_parts, listing_cost, name_bytes, p_filesz, p_offset, p_type, pass, range_checks_of, refuse, relocations, relocations_with_versions, section_at, section_dynamic, section_kinds, section_name_checks, section_notes, sections_cost, segment_at, segment_dynamic, segment_kinds, segment_notes, segments_cost, sh_offset, sh_size, style_ceiling, suffixed_symbols, suffixes_most, sum_over, symbol_versions, symbols, table_checks_of, table_cost, tables_cost, version_definitions, version_needs, viewed as view_of, whole_checks_of}
+use Rattle.elf_model.specs.Prelude.{Check, DYNAMIC, HeaderTable, ListingStyle, NOTES, PT_DYNAMIC, SECTIONS, SEGMENTS, TableKind, after_header, ceiling, cost_where, e_phnum, e_shnum, early_checks, file_segments, first_refusal, has, has_tables, header_checks, held_headers, is_loadable, is_outside, kind_by_kind, kinds_cost, known_parts, listing_cost, name_bytes, p_filesz, p_offset, p_type, pass, range_checks_of, refuse, relocations, relocations_with_versions, section_dynamic, section_kinds, section_name_checks, section_notes, sections_cost, segment_dynamic, segment_kinds, segment_notes, segments_cost, sh_offset, sh_size, style_ceiling, suffixed_symbols, suffixes_most, sum_over, symbol_versions, symbols, table_checks_of, table_cost, tables_cost, version_definitions, version_needs, viewed as view_of, whole_checks_of}
 use Rattle.elf_model.specs.declared.causes.Cause.TheVariants.{SizeNotWhole, TableOutside}
 use Rattle.std.proofs.Common.{◌≡◌, ℕ, ◌+◌, ◌-◌, ◌*◌, ◌/◌, ◌%◌, ◌<◌, ◌≤◌, ◌==◌, ◌&&◌, ◌||◌, ◌⊎◌, inl, inr, not, if◌then◌else◌, Bool, true, false, List, [], ◌∷◌, length, Option, None, Some, Result, Ok, refl, sym, ap, ◌∙◌, arith}
 use Rattle.std.proofs.lemmas.Bool.{cases_Bool, eqb-true}
@@ -13,7 +13,7 @@ use Rattle.elf_record.specs.declared.ehdr.Ehdr.{Ehdr}
 use Rattle.elf_table.specs.Prelude.{HoldsSectionHeaders, HoldsSegments, IsOpened, LoadedFile, StoreState, StringTableRange, TableRange, byte_rows, checked, dynamic_of, early_of, load_cost, row, rows, segment_bytes, table_of}
 use Rattle.elf_table.specs.declared.fault.Fault.{Fault}
 use Rattle.elf_table.proofs.RelocationLaws.{passed_first}
-use Rattle.elf_listing.specs.Prelude.{asked_cost, name_cost, needs_segment_view, of_sections, of_segments, section_headers_part, segments_listed, store_sections, store_segments, tables_listed, view_cost, viewed_headers}
+use Rattle.elf_listing.specs.Prelude.{name_cost, needs_segment_view, store_sections, store_segments, tables_listed, view_cost, viewed_headers}
 use Rattle.elf_listing.proofs.FileShown.{viewed_none}
 use Rattle.elf_table.proofs.LoadLaws.{early_is}
 

@@ -1,7 +1,7 @@
 -- The items of one header, by what the store and the checks of a loaded file return.
 use Rattle.elf_model.specs.Prelude.{Check, DT_STRSZ, LinePrefix, ListingItem, ListingStyle, TableKind, all_checks, dynamic_at, dynamic_count, dynamic_row, dynamic_table_checks, e_machine, e_shnum, e_shoff, e_shstrndx, each, entry_count, first_refusal, guarded, listed_value, mapped_strings, named_row, no_name, p_filesz, p_offset, range_checks_of, section_at, section_dynamic, section_name, section_prefix, section_row, segment_dynamic_checks, sh_link, sh_name, sh_offset, sh_size, shown, slice, strings_at as strings_mapped, strings_checks, strings_of, table_checks, table_rows, unless_empty}
 use Rattle.elf_model.specs.declared.causes.Refusal.{Refusal}
-use Rattle.std.proofs.Common.{◌≡◌, ℕ, ◌+◌, ◌*◌, ◌/◌, ◌<◌, ◌==◌, ◌&&◌, not, Bool, true, false, inl, inr, if◌then◌else◌, List, [], ◌∷◌, ◌++◌, length, Option, None, Some, Result, Ok, Err, refl, sym, ap, ◌∙◌, subst, arith}
+use Rattle.std.proofs.Common.{◌≡◌, ℕ, ◌+◌, ◌*◌, ◌/◌, ◌<◌, ◌==◌, ◌&&◌, not, Bool, true, false, inl, inr, if◌then◌else◌, List, [], ◌++◌, length, Option, None, Some, Result, Ok, Err, refl, sym, ap, ◌∙◌, subst, arith}
 use Rattle.std.proofs.lemmas.Bool.{cases_Bool, eqb-true}
 use Rattle.elf_model.proofs.CheckSteps.{first_refusal-none, first_refusal-some}
 use Rattle.elf_model.proofs.ListingLemmas.{guarded-passes, guarded-fault}

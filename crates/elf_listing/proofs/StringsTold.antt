@@ -2,7 +2,6 @@
 use Rattle.elf_model.specs.Prelude.{DisplayedName, Fault as FaultItem, LinePrefix, ListingItem, ListingStyle, d_tag, d_un, dynamic_prefix, dynamic_row, first_refusal, is_string_tag, mapped_checks, mapped_place, named_row, no_name, shown, strings_at}
 use Rattle.elf_model.specs.declared.causes.Cause.{Cause}
 use Rattle.elf_model.specs.declared.causes.Refusal.{Refusal}
-use Rattle.elf_model.specs.declared.causes.Cause.TheVariants.{Unmapped}
 use Rattle.std.proofs.Common.{◌≡◌, ℕ, Bool, true, false, List, [], ◌∷◌, Option, None, Some, Result, Ok, Err, refl, sym, ap, ◌∙◌, subst}
 use Rattle.elf_source.specs.Output.{OutState}
 use Rattle.elf_table.specs.Prelude.{NameRead, StringTableRange, answered, stop_of, strings_in, strings_mapped}

@@ -1,6 +1,6 @@
 -- What the rows of a table read with the versions after their names, and what the version lookup
 -- reads.
-use Rattle.std.proofs.Common.{◌≡◌, ℕ, ◌+◌, ◌*◌, ◌/◌, ◌≤◌, ◌==◌, if◌then◌else◌, Bool, true, false, Option, None, Some, Result, Ok, refl, sym, ap, ◌∙◌, subst, arith}
+use Rattle.std.proofs.Common.{◌≡◌, ℕ, ◌+◌, ◌*◌, ◌/◌, ◌≤◌, ◌==◌, if◌then◌else◌, Bool, true, false, Option, None, Some, Ok, sym, ap, ◌∙◌, subst, arith}
 use Rattle.std.proofs.Math.Nat.{mul-add}
 use Rattle.std.specs.Prelude.{is_none}
 use Rattle.elf_model.specs.Prelude.{HeaderTable, TableKind, first_numbers, name_bytes, pass, sh_offset, sh_size, suffixes_cost, table_checks_of, table_cost, walks_cost}

@@ -1,12 +1,12 @@
 -- The version lookup of a table's symbols, by the checks of its section of version indices and the
 -- walks.
-use Rattle.std.proofs.Common.{◌≡◌, ℕ, ◌+◌, ◌*◌, ◌/◌, ◌==◌, if◌then◌else◌, Bool, true, false, List, Option, None, Some, Result, Ok, Err, ◌⊎◌, inl, inr, refl, sym, ap, ◌∙◌}
-use Rattle.elf_model.specs.Prelude.{HeaderTable, all_checks, entry_count, first_numbers, first_refusal, name_bytes, or_refusal, section_at, sh_offset, suffixes_refusal, symbol_versions, version_numbers_of, walks_cost}
+use Rattle.std.proofs.Common.{◌≡◌, ℕ, ◌+◌, ◌==◌, if◌then◌else◌, Bool, true, false, List, Option, None, Some, Ok, Err, inl, inr, refl, ap, ◌∙◌}
+use Rattle.elf_model.specs.Prelude.{HeaderTable, all_checks, entry_count, first_numbers, first_refusal, name_bytes, or_refusal, section_at, suffixes_refusal, symbol_versions, version_numbers_of, walks_cost}
 use Rattle.elf_model.specs.declared.causes.Refusal.{Refusal}
-use Rattle.elf_table.specs.Prelude.{AreVersioned, RefusedBy, TableRange}
+use Rattle.elf_table.specs.Prelude.{AreVersioned, RefusedBy}
 use Rattle.elf_table.specs.declared.fault.Fault.{Fault}
 use Rattle.elf_table.specs.declared.fault.Fault.TheVariants.{Refused, Source}
-use Rattle.elf_listing.specs.Prelude.{AreNumbered, AreSuffixes, NumberedOr, SuffixesOr, suffix_bytes, walks_asked, walks_refusal}
+use Rattle.elf_listing.specs.Prelude.{AreNumbered, NumberedOr, SuffixesOr, suffix_bytes, walks_asked, walks_refusal}
 use Rattle.elf_listing.specs.declared.suffixes.VersionLookup.{VersionLookup}
 use Rattle.elf_listing.proofs.FirstTaken.{or-none}
 

@@ -1,7 +1,7 @@
 -- A line written in pieces ends in the name and its version.
-use Rattle.std.proofs.Common.{◌≡◌, ℕ, Bool, true, false, List, [], ◌∷◌, ◌++◌, Result, Ok, Err, refl, sym, ap, ◌∙◌, append_assoc, subst}
+use Rattle.std.proofs.Common.{◌≡◌, ℕ, Bool, true, false, List, ◌++◌, Result, Ok, refl, sym, ap, ◌∙◌, append_assoc, subst}
 use Rattle.std.specs.Prelude.{codes, if◌then◌else◌}
-use Rattle.elf_model.specs.Prelude.{DisplayedName, EveryRow, LinePrefix, Suffixed, closing, cut_mark, escaped, line_suffixed, lines_of, member_key, name_member, name_text, newline, quoted, string_text, suffix_members, suffix_text, suffixed_line, suffixed_row, version_member, version_sign}
+use Rattle.elf_model.specs.Prelude.{DisplayedName, EveryRow, LinePrefix, Suffixed, closing, cut_mark, escaped, line_suffixed, lines_of, member_key, name_member, name_text, newline, quoted, string_text, suffix_members, suffix_text, suffixed_row, version_member, version_sign}
 use Rattle.elf_model.specs.declared.causes.Cause.{Cause}
 use Rattle.elf_model.specs.declared.formats.Format.TheVariants.{Columns, Object}
 use Rattle.elf_model.specs.declared.formats.Format.{Format}

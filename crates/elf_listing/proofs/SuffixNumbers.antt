@@ -1,8 +1,8 @@
 -- The name of a version by its index, in the string table that holds it.
-use Rattle.std.proofs.Common.{◌≡◌, ℕ, ◌<◌, ◌==◌, nat_lt, Bool, true, false, List, [], ◌++◌, length, slice_index_or, Option, None, Some, Result, Ok, Err, refl, sym, ap, ◌∙◌, subst}
-use Rattle.elf_model.specs.Prelude.{DisplayedName, IsBudgetRefusal, SHT_GNU_VERDEF, SHT_GNU_VERNEED, Suffix, Suffixed, VisitedRecord, first_strings, first_versions, name_index, named_at, named_by, shown, suffix_of, version_named, version_of, version_strings}
+use Rattle.std.proofs.Common.{◌≡◌, ℕ, ◌<◌, nat_lt, Bool, false, List, ◌++◌, length, slice_index_or, Option, None, Some, Result, Ok, Err, refl, sym, ap, ◌∙◌}
+use Rattle.elf_model.specs.Prelude.{DisplayedName, SHT_GNU_VERDEF, SHT_GNU_VERNEED, Suffix, VisitedRecord, first_versions, name_index, named_at, named_by, shown, suffix_of, version_named, version_of, version_strings}
 use Rattle.elf_model.specs.declared.causes.Cause.{Cause}
-use Rattle.elf_model.specs.declared.versions.VersionKind.TheVariants.{Definition, File, Need}
+use Rattle.elf_model.specs.declared.versions.VersionKind.TheVariants.{Definition, File}
 use Rattle.elf_model.specs.declared.causes.Refusal.{Refusal}
 use Rattle.elf_model.specs.declared.causes.Cause.TheVariants.{VersionIndex}
 use Rattle.elf_table.specs.Prelude.{NameRead, strings_in}
@@ -10,9 +10,8 @@ use Rattle.elf_table.specs.declared.names.NameEnd.TheVariants.{Cut, Whole}
 use Rattle.elf_table.specs.declared.fault.Fault.{Fault}
 use Rattle.elf_table.specs.declared.names.NameEnd.{NameEnd}
 use Rattle.elf_table.specs.declared.fault.Fault.TheVariants.{Refused, Source}
-use Rattle.elf_note.specs.Prelude.{IsNameOfRecord, IsPlaceOfRecord, name_at}
+use Rattle.elf_note.specs.Prelude.{name_at}
 use Rattle.elf_note.specs.declared.version_names.VersionNameRef.TheVariants.{Defined, Needed, Nowhere}
-use Rattle.elf_note.specs.declared.version_names.VersionNameRef.{VersionNameRef}
 use Rattle.elf_listing.specs.Prelude.{AreNumbered, SuffixNamed, number_reported}
 use Rattle.elf_listing.specs.declared.numbered.VersionStrings.{VersionStrings}
 use Rattle.elf_listing.proofs.VersionedShown.{some-definitions, some-needs, strings-defined, strings-needed}

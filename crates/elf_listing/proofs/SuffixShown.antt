@@ -1,7 +1,6 @@
 -- Rows that end in a name with its version, by what was read of both.
-use Rattle.std.proofs.Common.{◌≡◌, ℕ, ◌+◌, ◌*◌, ◌≤◌, ◌==◌, ◌&&◌, not, if◌then◌else◌, Bool, true, false, List, [], ◌∷◌, ◌++◌, Option, None, Some, Result, Ok, Err, IfErr, refl, sym, ap, ◌∙◌, subst, arith, map}
-use Rattle.std.specs.List.{list_any}
-use Rattle.elf_model.specs.Prelude.{DisplayedName, EveryRow, Fault as FaultItem, IsBudgetRefusal, Line, LinePrefix, ListingItem, ListingStyle, NoSuffix, RowFilter, RowsOf, Suffix, Suffixed, chooses, e_machine, entry_at, is_named, linked_at, named_row, r_sym, relocation_prefix, relocation_row, relocation_row_with_version, section_at, sh_link, sh_offset, shown, st_name, strings_of, suffixed_row, symbol_named, symbol_prefix, symbol_row, symbol_row_with_version, symbol_suffix, wanted_text}
+use Rattle.std.proofs.Common.{◌≡◌, ℕ, ◌+◌, ◌*◌, ◌≤◌, ◌==◌, if◌then◌else◌, Bool, true, false, List, [], ◌∷◌, Option, None, Some, Result, Ok, Err, refl, sym, ap, ◌∙◌, arith}
+use Rattle.elf_model.specs.Prelude.{DisplayedName, EveryRow, Fault as FaultItem, Line, LinePrefix, ListingItem, ListingStyle, NoSuffix, RowFilter, Suffix, chooses, e_machine, entry_at, linked_at, named_row, r_sym, relocation_prefix, relocation_row, relocation_row_with_version, section_at, sh_link, sh_offset, shown, st_name, strings_of, suffixed_row, symbol_named, symbol_prefix, symbol_row, symbol_row_with_version, symbol_suffix}
 use Rattle.elf_model.specs.declared.causes.Cause.{Cause}
 use Rattle.elf_model.specs.declared.causes.Refusal.{Refusal}
 use Rattle.elf_model.proofs.SuffixLaws.{unsuffixed_line, unsuffixed_row}
@@ -14,8 +13,6 @@ use Rattle.elf_note.proofs.SpendsLaws.{SpendsAtMost-then, SpendsAtMost-to}
 use Rattle.elf_source.specs.Prelude.{OutState}
 use Rattle.elf_source.specs.declared.source.Source.{Ghosts as Sources}
 use Rattle.elf_source.specs.declared.sink.Sink.{Ghosts as Sinks}
-use Rattle.elf_options.specs.Prelude.{choice_of, texts_of}
-use Rattle.elf_options.specs.declared.row_filter.RowFilter.{RowFilter as Choice}
 use Rattle.elf_listing.specs.Prelude.{ListingReads, SuffixRead, WroteUntilStop, row_by, suffix_by, suffix_read}
 use Rattle.elf_listing.specs.declared.listing.Listing.{Listing}
 use Rattle.elf_listing.specs.declared.read_suffix.VersionSuffixEnd.{VersionSuffixEnd}

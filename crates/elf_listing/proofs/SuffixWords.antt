@@ -1,16 +1,14 @@
 -- What the entry of a symbol gives, by the cases of the definition.
-use Rattle.std.proofs.Common.{◌≡◌, ℕ, ◌+◌, ◌*◌, ◌<◌, ◌≤◌, ◌==◌, ◌&&◌, nat_lt, not, if◌then◌else◌, Bool, true, false, List, Option, None, Some, Result, Ok, Err, refl, sym, ap, ◌∙◌, arith}
+use Rattle.std.proofs.Common.{◌≡◌, ℕ, ◌+◌, ◌*◌, ◌<◌, ◌≤◌, ◌==◌, ◌&&◌, nat_lt, not, Bool, true, false, List, Option, None, Some, Result, Ok, Err, refl, sym, ap, ◌∙◌, arith}
 use Rattle.std.proofs.lemmas.Bool.{eq-eqb, le-ltb, lt-ltb, ne_eqb}
-use Rattle.elf_model.specs.Prelude.{NoSuffix, Suffix, Suffixed, entry_at, entry_count, is_default, number_in, section_at, sh_offset, st_shndx, suffix_at, symbol_suffix, versym, word_suffix}
+use Rattle.elf_model.specs.Prelude.{NoSuffix, Suffix, entry_at, entry_count, is_default, number_in, section_at, st_shndx, suffix_at, symbol_suffix, versym, word_suffix}
 use Rattle.elf_model.specs.declared.causes.Refusal.{Refusal}
 use Rattle.elf_model.specs.declared.causes.Cause.TheVariants.{VersionCut}
-use Rattle.elf_table.specs.Prelude.{shown_by}
 use Rattle.elf_table.specs.declared.fault.Fault.{Fault}
 use Rattle.elf_table.specs.declared.names.NameEnd.{NameEnd}
 use Rattle.elf_table.specs.declared.fault.Fault.TheVariants.{Refused, Source}
 use Rattle.elf_listing.specs.Prelude.{AreSuffixes, SuffixNamed, SuffixRead, number_reported}
 use Rattle.elf_listing.specs.declared.suffixes.VersionLookup.{VersionLookup}
-use Rattle.elf_listing.specs.declared.read_suffix.VersionSuffixEnd.{VersionSuffixEnd}
 
 module _ (file : List ℕ) (table : ℕ) (suffixes : VersionLookup) (are : AreSuffixes file table suffixes) (cap symbol_at index : ℕ) where
   suffix_is : symbol_suffix file cap table symbol_at index ≡ suffix_at file cap (section_at file are.section) symbol_at index

@@ -1,10 +1,9 @@
 -- A section of version records, by its checks and a walk over its bytes.
-use Rattle.std.proofs.Common.{◌≡◌, ℕ, ◌+◌, ◌*◌, ◌/◌, ◌≤◌, ◌==◌, Bool, true, false, List, [], ◌∷◌, ◌++◌, length, Option, None, Some, Result, Ok, Err, refl, sym, ap, ◌∙◌, arith}
-use Rattle.elf_model.specs.Prelude.{Check, ListingItem, ListingStyle, all_checks, first_refusal, range_checks_of, record_size, section_at, sh_link, sh_offset, sh_size, slice, strings_checks, strings_of, table_rows, version_table, versions_in, versions_rows, visited_from, visited_rows}
+use Rattle.std.proofs.Common.{◌≡◌, ℕ, ◌+◌, ◌*◌, ◌/◌, ◌≤◌, ◌==◌, true, false, List, ◌++◌, length, None, Result, Ok, Err, refl, sym, ap, ◌∙◌, arith}
+use Rattle.elf_model.specs.Prelude.{Check, ListingStyle, all_checks, first_refusal, range_checks_of, record_size, section_at, sh_link, sh_offset, sh_size, strings_checks, strings_of, table_rows, version_table, versions_in, versions_rows, visited_from, visited_rows}
 use Rattle.elf_model.specs.declared.versions.VersionKind.TheVariants.{Definition, File, Need}
 use Rattle.elf_model.specs.declared.versions.VersionKind.{VersionKind}
 use Rattle.elf_model.proofs.CheckSteps.{first_refusal-none, first_refusal-some}
-use Rattle.elf_model.proofs.VersionSteps.{met-ended}
 use Rattle.elf_table.specs.Prelude.{RefusedBy, StringTableRange, TableRange, byte_rows, names_at, rows, string_table_at, strings_in}
 use Rattle.elf_table.specs.declared.fault.Fault.{Fault}
 use Rattle.elf_table.specs.declared.run_fault.RunFault.{RunFault}

@@ -1,7 +1,7 @@
 -- What the rows of symbols' versions read, and what finds the names of their version indices.
-use Rattle.std.proofs.Common.{◌≡◌, ℕ, ◌+◌, ◌*◌, ◌/◌, ◌<◌, ◌≤◌, ◌==◌, ◌&&◌, not, min, if◌then◌else◌, Bool, true, false, inl, inr, List, [], ◌∷◌, Option, None, Some, Result, Ok, Err, refl, sym, ap, ◌∙◌, arith}
+use Rattle.std.proofs.Common.{◌≡◌, ℕ, ◌+◌, ◌*◌, ◌/◌, ◌≤◌, ◌==◌, not, min, if◌then◌else◌, Bool, true, false, [], ◌∷◌, Option, None, Some, Ok, refl, sym, ap, ◌∙◌, arith}
 use Rattle.std.specs.Prelude.{is_none}
-use Rattle.elf_model.specs.Prelude.{HeaderTable, SHT_GNU_VERSYM, cost_where, first_typed, has_symbol_table, header_field, is_inside, is_outside, max_records, name_bytes, pass, record_size, refuse, sh_link, sh_offset, sh_size, sh_type, symbol_versions, table_checks_of, table_cost, versioned_cost, walk_cost, walks_cost}
+use Rattle.elf_model.specs.Prelude.{HeaderTable, SHT_GNU_VERSYM, first_typed, has_symbol_table, header_field, is_inside, is_outside, max_records, name_bytes, pass, record_size, refuse, sh_link, sh_offset, sh_size, sh_type, symbol_versions, table_checks_of, table_cost, versioned_cost, walk_cost, walks_cost}
 use Rattle.elf_model.specs.declared.causes.Cause.TheVariants.{TableOutside}
 use Rattle.elf_model.specs.declared.versions.VersionKind.{VersionKind}
 use Rattle.elf_model.proofs.StoreLemmas.{places_decide_nothing}

@@ -1,12 +1,11 @@
 -- The rows of symbols' versions are those of their version indices' names, if the names of all
 -- records are shown.
-use Rattle.std.proofs.Common.{◌≡◌, ℕ, zero, suc, ◌+◌, ◌*◌, ◌/◌, ◌<◌, ◌≤◌, ◌==◌, ◌&&◌, not, nat_lt, min, if◌then◌else◌, Bool, true, false, ◌⊎◌, inl, inr, List, [], ◌∷◌, ◌++◌, length, Option, None, Some, Result, Ok, Err, refl, sym, ap, ◌∙◌, subst, arith, append-nil}
+use Rattle.std.proofs.Common.{◌≡◌, ℕ, zero, suc, ◌+◌, ◌*◌, ◌≤◌, ◌==◌, nat_lt, min, if◌then◌else◌, true, false, inl, inr, List, [], ◌∷◌, ◌++◌, Option, None, Some, Result, Ok, Err, refl, sym, ap, ◌∙◌, arith, append-nil}
 use Rattle.std.proofs.lemmas.Bool.{cases_Bool}
 use Rattle.std.proofs.lemmas.List.Elements.{All-nil}
 use Rattle.std.specs.Prelude.{All}
-use Rattle.std.specs.Prelude.{is_none}
 use Rattle.std.specs.Result.{is_ok}
-use Rattle.elf_model.specs.Prelude.{DisplayedName, Fault as FaultItem, HeaderTable, LinePrefix, ListingItem, ListingStyle, RowFilter, SHT_GNU_VERDEF, SHT_GNU_VERNEED, TableKind, VERSYM_SIZE, Versions, VisitedRecord, all_checks, chosen_row, cost_where, e_shnum, each, end_rows, entry_count, fault_of, file_sections, first_of_type, first_refusal, first_strings, first_typed, first_versions, has_symbol_table, header_field, is_inside, kinds_rows, name_bytes, name_index, named_at, named_by, number_in, numbered_row, pass, records_rows, refused_row, section_at, section_versions, sh_offset, sh_size, sh_type, shown, strings_of, symbol_version_prefix, symbol_version_row, symbol_version_rows, symbol_versions, table_checks_of, table_cost, table_rows, version_definitions, version_named, version_needs, version_of, version_strings, version_table, versioned_cost, versioned_rows, versioned_symbols, versions_in, versions_rows, versym, visited_from, visited_rows, walk_cost, walks_cost}
+use Rattle.elf_model.specs.Prelude.{DisplayedName, Fault as FaultItem, LinePrefix, ListingItem, ListingStyle, RowFilter, SHT_GNU_VERDEF, SHT_GNU_VERNEED, TableKind, VERSYM_SIZE, VisitedRecord, all_checks, chosen_row, e_shnum, each, end_rows, entry_count, fault_of, file_sections, first_of_type, first_refusal, first_strings, first_versions, header_field, kinds_rows, name_index, named_at, named_by, number_in, numbered_row, records_rows, refused_row, section_at, section_versions, sh_offset, sh_size, sh_type, shown, strings_of, symbol_version_prefix, symbol_version_row, symbol_version_rows, symbol_versions, table_rows, version_definitions, version_named, version_needs, version_of, version_strings, versioned_symbols, versions_rows, versym, visited_rows}
 use Rattle.elf_model.specs.declared.causes.Cause.{Cause}
 use Rattle.elf_model.specs.declared.versions.VersionKind.TheVariants.{Definition, File, Need}
 use Rattle.elf_model.specs.declared.causes.Refusal.{Refusal}
@@ -14,17 +13,17 @@ use Rattle.elf_model.specs.declared.causes.Cause.TheVariants.{VersionCut, Versio
 use Rattle.elf_model.specs.declared.versions.VersionKind.{VersionKind}
 use Rattle.elf_model.proofs.VersionNameLaws.{IsDefinition, back-none, each-none, front-none, named-is, names_are_shown, table-kinds}
 use Rattle.elf_model.proofs.LookupSteps.{first_that-holds}
-use Rattle.elf_note.specs.Prelude.{IsNameOfRecord, NamesNumbers, name_at}
+use Rattle.elf_note.specs.Prelude.{IsNameOfRecord, name_at}
 use Rattle.elf_note.specs.declared.version_names.VersionNameRef.TheVariants.{Defined, Needed, Nowhere}
 use Rattle.elf_note.specs.declared.version_names.VersionNameRef.{VersionNameRef}
-use Rattle.elf_table.specs.Prelude.{StringTableRange, TableRange, stop_of, strings_in}
+use Rattle.elf_table.specs.Prelude.{TableRange, stop_of, strings_in}
 use Rattle.elf_table.specs.declared.fault.Fault.{Fault}
 use Rattle.elf_table.specs.declared.run_fault.RunFault.{RunFault}
 use Rattle.elf_table.specs.declared.fault.Fault.TheVariants.{Refused, Source}
 use Rattle.elf_source.specs.Prelude.{OutState}
 use Rattle.elf_source.specs.declared.source.Source.{Ghosts as Sources}
 use Rattle.elf_source.specs.declared.sink.Sink.{Ghosts as Sinks}
-use Rattle.elf_listing.specs.Prelude.{AreNumbered, AreRecordsWhole, ListingCalls, ListingReads, NumberedOr, WroteItems, WroteUntilRefusal, WroteUntilStop, kind_type, reported_row, version_told, versioned_items, walks_refusal}
+use Rattle.elf_listing.specs.Prelude.{AreNumbered, AreRecordsWhole, ListingCalls, ListingReads, NumberedOr, WroteItems, WroteUntilRefusal, WroteUntilStop, reported_row, version_told, versioned_items, walks_refusal}
 use Rattle.elf_listing.specs.declared.listing.Listing.{Listing}
 use Rattle.elf_listing.specs.declared.numbered.VersionStrings.{VersionStrings}
 use Rattle.elf_listing.proofs.ListsLaws.{SameFile-then}

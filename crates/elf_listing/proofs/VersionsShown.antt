@@ -1,6 +1,6 @@
 -- The rows of symbol versions, by what is left of a walk over their records.
-use Rattle.std.proofs.Common.{◌≡◌, ℕ, ◌+◌, ◌-◌, ◌*◌, ◌≤◌, List, [], ◌∷◌, ◌++◌, Option, None, Some, Ok, Err, refl, sym, ap, ◌∙◌, append_assoc, append-nil, arith}
-use Rattle.elf_model.specs.Prelude.{DisplayedName, Fault as FaultItem, ListingItem, ListingStyle, Versions, VisitedRecord, chosen_row, end_rows, flags_word, hash_word, name_index, named_at, no_versions, number_word, shown, version_prefix, version_row, visited_rows, with_visited}
+use Rattle.std.proofs.Common.{◌≡◌, ℕ, ◌+◌, ◌-◌, ◌*◌, ◌≤◌, List, [], ◌++◌, Option, None, Some, Ok, Err, refl, ap, ◌∙◌, append_assoc, append-nil, arith}
+use Rattle.elf_model.specs.Prelude.{ListingItem, ListingStyle, Versions, VisitedRecord, chosen_row, end_rows, no_versions, shown, version_prefix, version_row, visited_rows, with_visited}
 use Rattle.elf_model.specs.declared.causes.Refusal.{Refusal}
 use Rattle.elf_table.specs.Prelude.{CallDid, stop_of}
 use Rattle.elf_table.specs.declared.fault.Fault.{Fault}
@@ -12,7 +12,7 @@ use Rattle.elf_options.specs.declared.caps.ListingStyle.{ListingStyle as Shape}
 use Rattle.elf_note.specs.Prelude.{GivesVersion, IsCursorOf, IsVersion, KeepsWalk, LeavesWalk, ReturnsVersion, StepsIn, VersionCursorState, unread, versions_left, why_stopped_now}
 use Rattle.elf_note.specs.declared.record.VersionRecord.{VersionRecord}
 use Rattle.elf_note.proofs.TakenLaws.{going-did, unread-fewer}
-use Rattle.elf_listing.specs.Prelude.{WrittenBefore, WroteItems, WrotePrefix, WroteUntilStop, versions_items}
+use Rattle.elf_listing.specs.Prelude.{WrittenBefore, WroteItems, WroteUntilStop, versions_items}
 use Rattle.elf_listing.proofs.NotesShown.{before_more, before_stopped}
 
 -- the row of a record as returned

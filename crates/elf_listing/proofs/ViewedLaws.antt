@@ -1,7 +1,7 @@
 -- Program headers that are loaded remain those of a source that is read, and are checked if a style
 -- uses them.
-use Rattle.std.proofs.Common.{◌≡◌, ℕ, ◌==◌, ◌&&◌, ◌||◌, Bool, true, false, List, [], None, if◌then◌else◌, refl, ap, ◌∙◌, sym, eq-eqb}
-use Rattle.elf_model.specs.Prelude.{DYNAMIC, ListingStyle, NOTES, SEGMENTS, e_shnum, first_refusal, has, needs_segments, overlap_checks, view_checks}
+use Rattle.std.proofs.Common.{◌≡◌, ℕ, ◌==◌, ◌&&◌, Bool, true, false, List, [], None, if◌then◌else◌, refl, ap, ◌∙◌, sym, eq-eqb}
+use Rattle.elf_model.specs.Prelude.{ListingStyle, e_shnum, first_refusal, needs_segments, overlap_checks, view_checks}
 use Rattle.elf_source.specs.Source.{CountedState, ReadsUpTo}
 use Rattle.elf_table.specs.Prelude.{HoldsSectionHeaders, LoadedFile, StoreState}
 use Rattle.elf_listing.specs.Viewed.{IsViewed, needs_segment_view, viewed_headers}

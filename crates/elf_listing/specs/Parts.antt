@@ -1,7 +1,7 @@
 -- The parts of a listing after the file header: what is listed of each section, and how much is
 -- read.
 use Rattle.std.specs.Prelude.{ℕ, ◌+◌, ◌*◌, ◌==◌, ◌&&◌, ◌≡◌, not, Bool, true, false, List, Option, None, Some, Result}
-use Rattle.elf_model.specs.Prelude.{DYNAMIC, DisplayedName, HeaderTable, ListingItem, ListingStyle, NOTES, RELOCS, SECTIONS, SEGMENTS, SYMBOLS, TableKind, cost_where, each, fault_of, has, held_headers, name_bytes, no_name, records_rows, relocations, relocations_with_versions, section_at, section_dynamic, section_notes, section_row, segment_at, segment_dynamic, segment_notes, segment_row, shown, suffixed_symbols, sum_over, symbol_versions, symbols, table_cost, table_rows, version_definitions, version_needs}
+use Rattle.elf_model.specs.Prelude.{DisplayedName, HeaderTable, ListingItem, ListingStyle, SECTIONS, SEGMENTS, TableKind, cost_where, each, fault_of, has, held_headers, name_bytes, no_name, records_rows, relocations, relocations_with_versions, section_at, section_dynamic, section_notes, section_row, segment_at, segment_dynamic, segment_notes, segment_row, shown, suffixed_symbols, sum_over, symbol_versions, symbols, table_cost, table_rows, version_definitions, version_needs}
 use Rattle.elf_model.specs.declared.causes.Cause.{Cause}
 use Rattle.elf_table.specs.Prelude.{LoadedFile, StoreState, StringTableRange, row, segment_bytes, strings_in}
 

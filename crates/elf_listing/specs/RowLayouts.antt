@@ -1,5 +1,5 @@
 -- The rows of each kind of table.
-use Rattle.std.specs.Prelude.{ℕ, ◌≡◌, ◌+◌, ◌*◌, ◌<◌, ◌^◌, List, IfSome}
+use Rattle.std.specs.Prelude.{◌≡◌, ◌+◌, ◌*◌, ◌<◌, ◌^◌, IfSome}
 use Rattle.elf_model.specs.Prelude.{DYNAMIC_SIZE, RELA_SIZE, SYMBOL_SIZE, VERSYM_SIZE, dynamic_at, dynamic_count, dynamic_row, e_phoff, name_bytes, relocation_row, relocation_row_with_version, section_at, segment_row, sh_link, sh_offset, strings_of, symbol_row, symbol_row_with_version}
 use Rattle.elf_table.specs.Prelude.{RefersTo, StringsInBounds, SymbolTableInBounds, strings_in}
 use Rattle.elf_listing.specs.Numbered.{NumberedWithin, reported_row}

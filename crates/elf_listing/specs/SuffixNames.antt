@@ -1,6 +1,6 @@
 -- The effect of calls that read the name of a version by its index.
-use Rattle.std.specs.Prelude.{ℕ, ◌≡◌, ◌≤◌, nat_lt, Bool, false, List, Option, None, Some, Result, Ok, Err}
-use Rattle.elf_model.specs.Prelude.{Suffix, Suffixed, VERSYM_SIZE, VisitedRecord, name_bytes, name_index, named_at, shown, suffix_of, version_named, version_strings, versym}
+use Rattle.std.specs.Prelude.{ℕ, ◌≡◌, nat_lt, Bool, false, List, None, Some, Result, Ok, Err}
+use Rattle.elf_model.specs.Prelude.{Suffix, VERSYM_SIZE, name_bytes, name_index, named_at, shown, suffix_of, version_named, version_strings, versym}
 use Rattle.elf_model.specs.declared.causes.Refusal.{Refusal}
 use Rattle.elf_model.specs.declared.causes.Cause.TheVariants.{VersionIndex}
 use Rattle.elf_table.specs.Prelude.{IsOfRead, NameRead, StringTableRange, strings_in}

@@ -1,6 +1,6 @@
 -- The listing of the versions of symbols, and the names of their version indices.
 use Rattle.std.specs.Prelude.{ℕ, ◌≡◌, ◌+◌, ◌*◌, min, nat_lt, if◌then◌else◌, List, [], ◌++◌, Option, None, Some, Result, Ok, Err, IfOk}
-use Rattle.elf_model.specs.Prelude.{IsBudgetRefusal, ListingItem, ListingStyle, SHT_GNU_VERDEF, SHT_GNU_VERNEED, VERSYM_SIZE, VisitedRecord, all_checks, each, first_of_type, first_refusal, first_strings, first_versions, name_bytes, or_refusal, record_size, refused_row, section_at, section_versions, version_table, walk_cost, walk_refusal, walks_cost}
+use Rattle.elf_model.specs.Prelude.{IsBudgetRefusal, ListingItem, ListingStyle, SHT_GNU_VERDEF, SHT_GNU_VERNEED, VERSYM_SIZE, VisitedRecord, each, first_strings, first_versions, name_bytes, or_refusal, record_size, refused_row, walk_cost, walk_refusal, walks_cost}
 use Rattle.elf_model.specs.declared.versions.VersionKind.TheVariants.{Definition, File}
 use Rattle.elf_model.specs.declared.causes.Refusal.{Refusal}
 use Rattle.elf_model.specs.declared.causes.Cause.TheVariants.{VersionCut}

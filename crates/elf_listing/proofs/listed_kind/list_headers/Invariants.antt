@@ -1,6 +1,6 @@
 -- The headers before the index were shown.
 use Rattle.elf_options.specs.Permitted.{style_of}
-use Rattle.std.proofs.Common.{◌≡◌, ℕ, ◌-◌, ◌≤◌, List, Ok}
+use Rattle.std.proofs.Common.{◌≡◌, ◌-◌, ◌≤◌, Ok}
 use Rattle.elf_model.specs.Prelude.{each, sum_over}
 use Rattle.elf_listing.specs.Prelude.{ListingCalls, ListingWrote}
 use Rattle.elf_listing.proofs.listed_kind.list_headers.Given as goal

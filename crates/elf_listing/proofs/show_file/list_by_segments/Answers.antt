@@ -1,5 +1,5 @@
 -- The file as it is, or with the section header fields of its header masked meanwhile.
-use Rattle.std.proofs.Common.{List, ℕ, refl, sym}
+use Rattle.std.proofs.Common.{refl, sym}
 use Rattle.elf_model.specs.Style.{without_sections}
 use Rattle.elf_model.proofs.StyleLemmas.{view_tells_of_none}
 use Rattle.elf_options.specs.Permitted.{style_of}

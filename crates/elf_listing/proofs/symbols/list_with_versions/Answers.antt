@@ -1,15 +1,14 @@
 -- The table's checks and its string table's, and then the version lookup, come before its rows.
-use Rattle.std.proofs.Common.{rules, ◌≡◌, ℕ, ◌+◌, ◌*◌, ◌≤◌, false, true, Option, None, Some, Ok, Err, refl, sym, ap, ◌∙◌, subst, arith}
+use Rattle.std.proofs.Common.{ℕ, ◌+◌, Option, None, Some, Ok, Err, refl, sym, ap, ◌∙◌, subst}
 use Rattle.std.proofs.lemmas.Result.{err_from_is_err_and}
 use Rattle.elf_options.specs.Permitted.{style_of}
-use Rattle.elf_table.specs.Prelude.{StringTableRange, row}
-use Rattle.elf_model.specs.Prelude.{is_symbol_table, name_bytes, section_at, slice, suffixed_symbols, symbol_row_with_version, symbols}
-use Rattle.elf_table.proofs.RelocationLaws.{symbols-fail, symbols-pass}
-use Rattle.elf_listing.specs.Prelude.{SuffixesOr, store_sections, suffix_bytes, walks_asked}
+use Rattle.elf_table.specs.Prelude.{StringTableRange}
+use Rattle.elf_model.specs.Prelude.{name_bytes, section_at, slice, suffixed_symbols, symbols}
+use Rattle.elf_table.proofs.RelocationLaws.{symbols-pass}
+use Rattle.elf_listing.specs.Prelude.{SuffixesOr, store_sections}
 use Rattle.elf_listing.specs.declared.suffixes.VersionLookup.{VersionLookup}
-use Rattle.elf_listing.proofs.ListsLaws.{ListingCalls-nothing, ListingCalls-refused, ListingCalls-unread}
+use Rattle.elf_listing.proofs.ListsLaws.{ListingCalls-unread}
 use Rattle.elf_listing.proofs.RowLaws.{WroteSome-as}
-use Rattle.elf_listing.proofs.SectionShown.{no_table, table_fails, table_passes}
 use Rattle.elf_listing.proofs.SuffixCosts.{no_fewer, plain_within, rows_plain, rows_within, suffixed_within, walks_within}
 use Rattle.elf_listing.proofs.SuffixTables.{ListingCalls-behind, symbols_plain, symbols_refused, symbols_shown}
 use Rattle.elf_listing.proofs.symbols.list_with_versions.Goals as goal

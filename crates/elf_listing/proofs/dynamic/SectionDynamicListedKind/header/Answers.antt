@@ -4,7 +4,6 @@ use Rattle.std.proofs.Common.{rules, ◌≡◌, ◌==◌, false, refl, sym, ◌�
 use Rattle.std.proofs.lemmas.Bool.{eq-eqb, ne_eqb}
 use Rattle.std.proofs.lemmas.Result.{err_from_is_err_and}
 use Rattle.elf_model.specs.Prelude.{section_at, section_dynamic, sh_size}
-use Rattle.elf_table.specs.Store.{row}
 use Rattle.elf_listing.proofs.RowLaws.{WroteSome-as}
 use Rattle.elf_listing.proofs.SectionCosts.{section_within}
 use Rattle.elf_listing.proofs.SectionShown.{dynamic_fails, dynamic_passes, empty_dynamic, no_table, strings_fail, table_fails, table_passes}

@@ -4,7 +4,7 @@ use Rattle.std.proofs.Common.{rules, ◌≡◌, ◌*◌, refl, sym, ap, ◌∙�
 use Rattle.std.proofs.lemmas.Bool.{eq-eqb, ne_eqb}
 use Rattle.std.proofs.lemmas.Result.{err_from_is_err_and}
 use Rattle.elf_model.specs.TableKinds.{segment_dynamic}
-use Rattle.elf_table.specs.Prelude.{HoldsProgramHeaders, segment_bytes, size_of}
+use Rattle.elf_table.specs.Prelude.{HoldsProgramHeaders, size_of}
 use Rattle.elf_table.proofs.OpenLaws.{still_open}
 use Rattle.elf_note.proofs.HeldLaws.{still_held}
 use Rattle.elf_listing.proofs.RowLaws.{WroteSome-as, WroteUntilStop-unread-first}

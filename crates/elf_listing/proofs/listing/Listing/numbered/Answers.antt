@@ -1,8 +1,8 @@
 -- The definitions are added before the needs.
-use Rattle.std.proofs.Common.{rules, ◌≡◌, ◌+◌, [], refl, ◌∙◌, arith}
+use Rattle.std.proofs.Common.{[], ◌∙◌, arith}
 use Rattle.std.proofs.lemmas.Result.{err_from_is_err_and}
 use Rattle.elf_model.specs.Prelude.{SHT_GNU_VERDEF, first_versions, walks_cost}
-use Rattle.elf_model.specs.declared.versions.VersionKind.TheVariants.{Definition, File}
+use Rattle.elf_model.specs.declared.versions.VersionKind.TheVariants.{Definition}
 use Rattle.elf_note.proofs.SpendsLaws.{SpendsAtMost-then, SpendsAtMost-to}
 use Rattle.elf_source.proofs.ReadsLaws.{ReadsUpTo-none}
 use Rattle.elf_listing.proofs.FirstTaken.{numbered-cut, numbered-later, or-none}

@@ -1,5 +1,5 @@
 -- The name is looked up in the string table of the record that names the version index.
-use Rattle.std.proofs.Common.{rules, ◌≡◌, ◌+◌, ◌<◌, length, refl, sym, ◌∙◌, arith}
+use Rattle.std.proofs.Common.{rules, ◌<◌, length, refl, sym, ◌∙◌, arith}
 use Rattle.elf_note.proofs.SpendsLaws.{SpendsAtMost-none}
 use Rattle.elf_listing.proofs.SuffixNumbers.{told_defined, told_needed, told_nowhere}
 use Rattle.elf_listing.proofs.listing.Listing.read_number.Goals as goal

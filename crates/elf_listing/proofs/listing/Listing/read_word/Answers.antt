@@ -1,5 +1,5 @@
 -- The entry is the file's.
-use Rattle.std.proofs.Common.{◌≡◌, ◌+◌, refl, ◌∙◌, arith}
+use Rattle.std.proofs.Common.{refl}
 use Rattle.elf_table.proofs.OpenLaws.{still_open}
 use Rattle.elf_note.proofs.HeldLaws.{still_held}
 use Rattle.elf_note.proofs.SpendsLaws.{SpendsAtMost-reads}

@@ -1,8 +1,8 @@
 -- What is found is of the first section of version numbers that links to the table.
-use Rattle.std.proofs.Common.{◌≡◌, ◌+◌, ◌==◌, [], refl, sym, ap, ◌∙◌, arith}
+use Rattle.std.proofs.Common.{[], refl, sym, ◌∙◌, arith}
 use Rattle.std.proofs.lemmas.Result.{err_from_is_err_and}
 use Rattle.std.proofs.lemmas.Bool.{ne_eqb}
-use Rattle.elf_note.proofs.SpendsLaws.{SpendsAtMost-none, SpendsAtMost-to}
+use Rattle.elf_note.proofs.SpendsLaws.{SpendsAtMost-none}
 use Rattle.elf_listing.specs.Parts.{store_sections}
 use Rattle.elf_note.proofs.WordLaws.{none-of}
 use Rattle.elf_listing.proofs.FirstTaken.{check-says}

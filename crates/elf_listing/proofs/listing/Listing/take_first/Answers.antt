@@ -1,9 +1,9 @@
 -- The records of the first section are added, if its checks pass.
-use Rattle.std.proofs.Common.{rules, ◌≡◌, ℕ, ◌==◌, true, false, Some, None, refl, sym, ap, ◌∙◌, arith}
+use Rattle.std.proofs.Common.{rules, ◌≡◌, ℕ, ◌==◌, false, Some, None, refl, sym, ap, ◌∙◌, arith}
 use Rattle.std.proofs.lemmas.Bool.{ne_eqb}
 use Rattle.std.proofs.lemmas.Result.{err_from_is_err_and}
 use Rattle.elf_table.proofs.OpenLaws.{still_open}
-use Rattle.elf_model.specs.Prelude.{all_checks, file_sections, first_of_type, first_typed, section_at, sh_size, version_table}
+use Rattle.elf_model.specs.Prelude.{file_sections, first_of_type, first_typed, section_at, sh_size}
 use Rattle.elf_note.specs.Ahead.{ReadsOnCredit}
 use Rattle.elf_note.proofs.HeldLaws.{still_held}
 use Rattle.elf_note.proofs.SpendsLaws.{SpendsAtMost-none, SpendsAtMost-reads, SpendsAtMost-then, SpendsAtMost-to}

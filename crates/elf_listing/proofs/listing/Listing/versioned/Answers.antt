@@ -1,5 +1,5 @@
 -- The rows come before the refusal of a symbol without an entry.
-use Rattle.std.proofs.Common.{rules, ◌≡◌, ◌+◌, ◌*◌, nat_lt, true, false, refl, sym, ap, ◌∙◌, append-nil, arith}
+use Rattle.std.proofs.Common.{◌≡◌, ◌+◌, ◌*◌, nat_lt, true, false, ap, append-nil, arith}
 use Rattle.std.proofs.lemmas.Bool.Decides.{nat_tests}
 use Rattle.std.proofs.lemmas.Result.{err_from_is_err_and}
 use Rattle.elf_model.specs.Prelude.{VERSYM_SIZE, name_bytes}
@@ -9,7 +9,6 @@ use Rattle.elf_listing.specs.SymbolVersions.{versioned_items}
 use Rattle.elf_listing.proofs.ListsLaws.{ListingCalls-within}
 use Rattle.elf_listing.proofs.ShowLaws.{WroteUntilStop-more}
 use Rattle.elf_listing.proofs.VersionedShown.{Ends-behind}
-use Rattle.elf_listing.proofs.VersionSections.{same_le}
 use Rattle.elf_listing.proofs.listing.Listing.versioned.Goals as goal
 
 pub returns-in_err-list_rows : goal.returns-in_err-list_rows

@@ -1,5 +1,5 @@
 -- The line is written in full, or a prefix of it at a fault.
-use Rattle.std.proofs.Common.{rules, ◌≡◌, ◌≤◌, refl, ◌∙◌, arith}
+use Rattle.std.proofs.Common.{refl, arith}
 use Rattle.std.proofs.lemmas.Result.{err_from_is_err_and}
 use Rattle.elf_format.specs.Fronts.{front_of}
 use Rattle.elf_note.proofs.SpendsLaws.{SpendsAtMost-none}

@@ -4,7 +4,7 @@ use Rattle.std.proofs.Common.{rules, refl, sym, ap, ◌∙◌, arith}
 use Rattle.std.proofs.lemmas.Bool.{eq-eqb, ne_eqb}
 use Rattle.std.proofs.lemmas.Result.{err_from_is_err_and}
 use Rattle.elf_model.specs.Prelude.{note_align, section_at, section_notes, sh_addralign, sh_size, slice, walk_rows, walked}
-use Rattle.elf_table.specs.Prelude.{TableRange, row}
+use Rattle.elf_table.specs.Prelude.{TableRange}
 use Rattle.elf_listing.specs.Parts.{store_sections}
 use Rattle.elf_listing.proofs.RowLaws.{WroteSome-as}
 use Rattle.elf_listing.proofs.SectionCosts.{range_within}

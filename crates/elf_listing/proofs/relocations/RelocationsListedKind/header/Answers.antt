@@ -1,11 +1,9 @@
 -- The table's checks and those of the symbols that it refers to come before its rows.
 use Rattle.elf_options.specs.Permitted.{style_of}
-use Rattle.std.proofs.Common.{rules, ◌≡◌, Bool, refl, sym, ap, ◌∙◌, subst}
+use Rattle.std.proofs.Common.{rules, Bool, refl, sym, ap, ◌∙◌, subst}
 use Rattle.std.proofs.lemmas.Bool.{eq-eqb, ne_eqb}
 use Rattle.std.proofs.lemmas.Result.{err_from_is_err_and}
 use Rattle.elf_model.specs.Prelude.{each, relocation_row, relocations, section_at}
-use Rattle.elf_record.specs.declared.ehdr.Ehdr.{Ehdr}
-use Rattle.elf_table.specs.Store.{row}
 use Rattle.elf_listing.specs.HeadersListed.{ListsHeader}
 use Rattle.elf_listing.specs.Prelude.{relocations_kind, relocations_part}
 use Rattle.elf_listing.proofs.NamedKinds.{relocations_checks, relocations_have}

@@ -1,12 +1,11 @@
 -- The name of the symbol and then its version are read before the line is written.
-use Rattle.std.proofs.Common.{◌≡◌, ℕ, ◌+◌, ◌*◌, ◌/◌, ◌^◌, ◌==◌, not, refl, sym, ap, ◌∙◌, [], Ok, Err, arith}
+use Rattle.std.proofs.Common.{◌≡◌, ◌+◌, ◌*◌, ◌/◌, ◌^◌, refl, sym, ap, ◌∙◌, [], Ok, Err, arith}
 use Rattle.std.proofs.lemmas.Result.{err_from_is_err_and}
 use Rattle.elf_options.specs.Permitted.{style_of}
 use Rattle.elf_model.specs.Prelude.{entry_at, linked_at, name_bytes, section_at, sh_link, sh_offset}
-use Rattle.elf_table.specs.Prelude.{shown_by}
 use Rattle.elf_table.specs.declared.names.NameEnd.{NameEnd}
 use Rattle.elf_table.specs.declared.names.NameEnd.TheVariants.{Whole}
-use Rattle.elf_listing.specs.Suffixed.{suffix_cost, suffix_read}
+use Rattle.elf_listing.specs.Suffixed.{suffix_cost}
 use Rattle.elf_listing.proofs.RowLaws.{WroteSome-as, chosen-as}
 use Rattle.elf_listing.proofs.ListsLaws.{ListingCalls-hidden, ListingCalls-named, ListingCalls-unread}
 use Rattle.elf_listing.proofs.ShowLaws.{Whole-none}

@@ -1,6 +1,6 @@
 -- The table's checks and its string table's come before its rows.
 use Rattle.elf_options.specs.Permitted.{style_of}
-use Rattle.std.proofs.Common.{rules, ◌≡◌, ℕ, Bool, false, true, Option, None, refl, sym, ap, ◌∙◌, subst}
+use Rattle.std.proofs.Common.{rules, ◌≡◌, Bool, false, true, refl, sym, ap, ◌∙◌, subst}
 use Rattle.std.proofs.lemmas.Result.{err_from_is_err_and}
 use Rattle.elf_model.specs.Prelude.{each, is_symbol_table, section_at, slice, symbol_row, symbols}
 use Rattle.elf_table.specs.Prelude.{StringTableRange, row}
