@@ -4,7 +4,7 @@ ghost use Rattle.elf_options.specs.Prelude.{NeverDescend, named_style, style_of,
 ghost use Rattle.elfsee.specs.Ends.{EndsWithoutMemory};
 ghost use Rattle.elfsee.specs.Naming.{EndsWithoutNames};
 
-use crate::many::{ending_line, visit_files};
+use crate::many::{VisitedPaths, ending_line, visit_files};
 use crate::names::{caps_by_names, read_list, sorted_names};
 use elf_cli::{CommandArgs, ExitLine, OUT_OF_MEMORY};
 use elf_table::HeaderBuffer;
@@ -94,6 +94,10 @@ where
         return Err(OUT_OF_MEMORY);
     };
     let lists = ListFiles::new(room.store(), *rule);
+    let files = VisitedPaths {
+        paths: &files.paths,
+        list: files.list,
+    };
     let ended = visit_files(rt, files, lists, held, rule.caps.style.format, terminal);
     ending_line(ended)
 }

@@ -43,7 +43,11 @@ where
     let checks = new_checks(asked, room.store());
     let held = Vec::new(rt.alloc());
     let format = asked.caps.style.format;
-    ending_line(visit_files(rt, asked, checks, held, format, terminal))
+    let files = VisitedPaths {
+        paths: &asked.paths,
+        list: asked.list,
+    };
+    ending_line(visit_files(rt, files, checks, held, format, terminal))
 }
 
 /// Prints how all requested files are hardened. Progress is shown on a terminal, if there is one.
@@ -66,7 +70,11 @@ where
     let lines = new_trait_lines(asked, room.store());
     let held = Vec::new(rt.alloc());
     let format = asked.args.caps.style.format;
-    let ended = visit_files(rt, &asked.args, lines, held, format, terminal);
+    let files = VisitedPaths {
+        paths: &asked.args.paths,
+        list: asked.args.list,
+    };
+    let ended = visit_files(rt, files, lines, held, format, terminal);
     ending_line(ended)
 }
 
@@ -115,11 +123,20 @@ pub enum FilesEnd {
     Unwritten,
 }
 
+/// The paths that are visited.
+#[derive(Clone, Copy)]
+pub struct VisitedPaths<'p> {
+    /// The paths of files and directories.
+    pub paths: &'p [&'p str],
+    /// The path of a file with more paths, each ended by NUL; `-` is standard input.
+    pub list: Option<&'p str>,
+}
+
 /// Allocates the buffers, except those for headers, and visits all requested files. `held` is where
 /// bytes of the output may be deferred.
 pub fn visit_files<R: Files + Print + Input + AllocGlobal, A: FileVisitor + Drop>(
     rt: &R,
-    files: &CommandArgs<'_>,
+    files: VisitedPaths<'_>,
     each: A,
     held: Vec<u8>,
     format: Format,
@@ -230,7 +247,7 @@ fn run_end(ended: FilesEnd) -> RunEnd {
 /// How the visit ended if the list or the output failed.
 fn visit_all<R: Files + Input, W: Sink, A: FileVisitor + Drop>(
     rt: &R,
-    files: &CommandArgs<'_>,
+    files: VisitedPaths<'_>,
     many: &mut FileRun<W, Stderr, A>,
     walk: &mut DirWalk,
     entries: &mut [u8],
@@ -239,7 +256,7 @@ where
     R::File: FileExt,
     ensures { IfErr result StopsFiles }
 {
-    if let Err(OutFault { .. }) = visit_paths(rt, many, walk, &files.paths) {
+    if let Err(OutFault { .. }) = visit_paths(rt, many, walk, files.paths) {
         return Err(FilesEnd::Unwritten);
     }
     if let Some(list) = files.list {

@@ -1,7 +1,7 @@
 //! What each of many programs needs.
 ghost use Rattle.std.specs.Prelude.{◌≡◌};
 
-use crate::many::{ending_line, visit_files};
+use crate::many::{VisitedPaths, ending_line, visit_files};
 use crate::needs::{last_dirs, loader_cache, settings};
 use crate::needs_report::{NeedsReport, NeedsRule};
 use elf_cli::{CommandArgs, ExitLine, OUT_OF_MEMORY};
@@ -48,7 +48,11 @@ where
     );
     let held = Vec::new(rt.alloc());
     let format = asked.caps.style.format;
-    let ended = visit_files(rt, asked, report, held, format, terminal);
+    let files = VisitedPaths {
+        paths: &asked.paths,
+        list: asked.list,
+    };
+    let ended = visit_files(rt, files, report, held, format, terminal);
     ending_line(ended)
 }
 
