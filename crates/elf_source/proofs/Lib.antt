@@ -4,6 +4,7 @@ pub mod HoldLaws
 mod Known
 pub mod LimitLaws
 pub mod ReadsLaws
+mod PageLaws
 pub mod PutsLaws
 pub mod LineLaws
 pub mod OnwardLaws

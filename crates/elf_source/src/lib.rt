@@ -6,6 +6,7 @@
 //! [`FailSource`] and [`TurnSource`] show what a caller does at faults and changes of a file.
 #![tactic(auto)]
 
+mod cached_source;
 mod counted;
 mod fail_source;
 mod faults;
@@ -15,6 +16,8 @@ mod null_sink;
 mod offset_reader;
 mod opened;
 mod output;
+mod page;
+mod page_cache;
 mod range_source;
 mod reader;
 mod section_header_mask;
@@ -26,6 +29,7 @@ mod stream_source;
 mod turn_source;
 mod write_sink;
 
+pub use cached_source::CachedSource;
 pub use counted::{Counted, READ_BYTES};
 pub use fail_source::FailSource;
 pub use faults::{AskFault, OutFault, ReadAtFault, SinkFault, SourceFault};
@@ -35,6 +39,7 @@ pub use null_sink::NullSink;
 pub use offset_reader::FileReader;
 pub use opened::opened_path;
 pub use output::{Out, give};
+pub use page_cache::PageCache;
 pub use range_source::RangeSource;
 pub use reader::ReadAt;
 pub use seek_reader::SeekReader;
