@@ -8,6 +8,7 @@ mod arg_specs;
 mod arguments;
 mod builder;
 mod command_args;
+mod command_sets;
 mod commands;
 mod exit_lines;
 mod faults;
@@ -17,6 +18,7 @@ mod listings;
 mod options;
 mod outputs;
 mod parser;
+mod part_names;
 mod program_arguments;
 mod texts;
 mod usage_errors;
@@ -24,12 +26,11 @@ mod usage_faults;
 mod version;
 
 pub use command_args::{CommandArgs, CommandName, read_args};
-pub use commands::command_line;
 pub use exit_lines::{
     CANNOT_OPEN, ExitLine, OUT_OF_MEMORY, READ_FAULT, WRITE_FAULT, exit, outcome,
 };
 pub use faults::RequestFault;
-pub use files::open;
+pub use files::{allocate, open};
 pub use line_sink::LineSink;
 pub use listings::parse_show;
 pub use outputs::{
