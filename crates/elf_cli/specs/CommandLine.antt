@@ -11,7 +11,6 @@ use Rattle.clap.specs.declared.builder.value_parser.ValueParser.TheVariants.{Nam
 use Rattle.elf_cli.specs.declared.command_args.CommandName.{CommandName}
 use Rattle.elf_cli.specs.declared.command_args.CommandName.TheVariants as command
 use Rattle.elf_cli.specs.declared.command_sets.TheConstants.{SHOW, SAMPLE, FIND, APPLY, CHECK, LIST, TRAITS, NEEDS, ARCHIVE, VERSION}
-use Rattle.elf_cli.specs.declared.command_sets.TheConstants.{LINES, LISTING, MANY_FILES, ONE_FILE, READING, SELECTING}
 use Rattle.elf_cli.specs.declared.part_names.PartNames.{PartNames}
 
 -- an option without a value, which is set if it is given
@@ -46,13 +45,29 @@ indexed name parser = record (required name) { parser = Some parser }
 abbrev pub any_words : Text → Rule
 any_words name = record (new_rule name) { range = Some (record { start_inclusive = 0; end_inclusive = usize_max }) }
 
--- THE ARGUMENTS of all commands, in the order of help: the set of the commands that have it, as
--- bits, and its rule
+-- the commands that read the file that an argument names
+abbrev one_file : ℕ
+one_file = SHOW + FIND + APPLY + ARCHIVE
+
+-- those that read many files
+abbrev many_files : ℕ
+many_files = CHECK + LIST + TRAITS + NEEDS
+
+-- those that list the tables of a file, or check them as a listing does
+abbrev listing : ℕ
+listing = SHOW + SAMPLE + CHECK + LIST + ARCHIVE
+
+-- those whose rows may be selected by name
+abbrev selecting : ℕ
+selecting = SHOW + LIST + ARCHIVE
+
+-- THE ARGUMENTS of all commands, in the order of help: the commands that have it, a bit for each,
+-- and its rule
 abbrev pub argument_rows : PartNames → List (ℕ × Rule)
 argument_rows parts =
-    (READING, numbered_option (codes "headers") (Signed (pos 1) (pos 65279)) (codes "4096"))
-    ∷ (LISTING, numbered_option (codes "names") (Signed (pos 1) (pos 4096)) (codes "256"))
-    ∷ (READING, option (codes "max-read") (Unsigned 0 9223372036854775807))
+    (one_file + SAMPLE + many_files, numbered_option (codes "headers") (Signed (pos 1) (pos 65279)) (codes "4096"))
+    ∷ (listing, numbered_option (codes "names") (Signed (pos 1) (pos 4096)) (codes "256"))
+    ∷ (one_file + SAMPLE + many_files, option (codes "max-read") (Unsigned 0 9223372036854775807))
     ∷ (NEEDS, option (codes "max-tries") (Unsigned 0 9223372036854775807))
     ∷ (NEEDS, valued (codes "library-path"))
     ∷ (NEEDS, valued (codes "default"))
@@ -65,23 +80,23 @@ argument_rows parts =
     ∷ (TRAITS, valued (codes "require"))
     ∷ (SHOW + SAMPLE + CHECK + LIST, option (codes "only") (Names parts.listed))
     ∷ (ARCHIVE, option (codes "only") (Names parts.archived))
-    ∷ (LISTING, flag (codes "gnu"))
+    ∷ (listing, flag (codes "gnu"))
     ∷ (FIND, flag (codes "gnu"))
-    ∷ (LISTING, flag (codes "by-segments"))
+    ∷ (listing, flag (codes "by-segments"))
     ∷ (FIND, flag (codes "by-segments"))
-    ∷ (LINES, flag (codes "json"))
-    ∷ (SELECTING + SAMPLE, flag (codes "versions"))
-    ∷ (SELECTING, repeated (codes "name"))
-    ∷ (SELECTING, valued (codes "name-list"))
+    ∷ (listing + FIND + TRAITS + NEEDS, flag (codes "json"))
+    ∷ (selecting + SAMPLE, flag (codes "versions"))
+    ∷ (selecting, repeated (codes "name"))
+    ∷ (selecting, valued (codes "name-list"))
     ∷ (APPLY, valued (codes "layout"))
     ∷ (APPLY, flag (codes "explain"))
     ∷ (CHECK + LIST, flag (codes "members"))
-    ∷ (MANY_FILES, valued (codes "files0-from"))
-    ∷ (ONE_FILE, required (codes "FILE"))
+    ∷ (many_files, valued (codes "files0-from"))
+    ∷ (one_file, required (codes "FILE"))
     ∷ (FIND, required (codes "NAME"))
     ∷ (APPLY, indexed (codes "SECTION") (Signed (pos 0) (pos 65535)))
     ∷ (APPLY, any_words (codes "ITEM"))
-    ∷ (MANY_FILES, any_words (codes "PATH"))
+    ∷ (many_files, any_words (codes "PATH"))
     ∷ []
 
 -- a command's name, with what it is called here and its bit

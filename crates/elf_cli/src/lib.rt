@@ -1,7 +1,8 @@
-//! What the programs share: [`command_line`], the commands and options as they are described to
-//! `clap`, and [`parse_arguments`]; [`CommandArgs`], what the arguments request, and
-//! [`usage_fault`], their first fault; the file that is opened; the output that is written last; and
-//! [`outcome`] and [`exit`], the exit status and the line on standard error.
+//! What the programs share: the commands and their arguments, as tables from which the command line
+//! is built, and [`parse_arguments`]; [`CommandArgs`], what the arguments request, and
+//! [`usage_fault`], their first fault; the file that is opened, and the buffers for it; the output
+//! that is written last; and [`outcome`] and [`exit`], the exit status and the line on standard
+//! error.
 #![tactic(auto)]
 
 mod arg_specs;
