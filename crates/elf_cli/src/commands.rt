@@ -15,6 +15,7 @@ use crate::texts::{ABOUT, CHECKED, FOUND, HARDENED, ITEMS, LISTED, MEMBERS, MORE
 use clap::Command;
 use std::alloc::{AllocError, Global};
 
+// In the order of `CommandName`, which is that of help.
 static COMMANDS: [CommandSpec; 10] = [
     CommandSpec {
         name: "show",
@@ -146,6 +147,13 @@ fn command_among(mut rows: &[CommandSpec], name: &str) -> CommandName
     CommandName::Version
 }
 
+/// Returns the row of a command.
+fn row_of(command: CommandName) -> &'static CommandSpec
+    ensures { result.now.command ≡ command }
+{
+    &COMMANDS[command as usize]
+}
+
 /// Returns a command whose errors end in its usage.
 ///
 /// # Errors
@@ -154,7 +162,7 @@ pub(crate) fn command_with_usage<'a>(
     alloc: Global,
     command: CommandName,
 ) -> Result<Command<'a>, AllocError> {
-    let command = &COMMANDS[command as usize];
+    let command = row_of(command);
     let name = command.name;
     let usage = format!(in alloc; "elfsee {name}")?;
     clap_command_of(alloc, command, known_parts())?.bin_name(usage.as_str())
