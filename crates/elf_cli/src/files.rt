@@ -5,29 +5,31 @@ use crate::exit_lines::{CANNOT_OPEN, ExitLine, OUT_OF_MEMORY, READ_FAULT};
 use crate::outputs::OUTPUT_BYTES;
 use elf_source::{FileReader, StreamSource, opened_path};
 use elf_table::HeaderBuffer;
+use std::alloc::Global;
 use std::fs;
-use std::io::{self, BufWriter, Printer};
+use std::io::{BufWriter, Write};
 use std::os::unix::fs::{FileExt, FileTypeExt};
 use std::rt::Files;
 
-/// Allocates memory for so many headers of a file, and the output.
+/// Allocates memory for so many headers of a file, and the buffer of an output.
 ///
 /// # Errors
 /// How the program ends if it is out of memory.
-pub fn allocate<R: Print + AllocGlobal>(
-    rt: &R,
+pub fn allocate<W: Write + Drop>(
+    alloc: Global,
     headers: u16,
-) -> Result<(HeaderBuffer, BufWriter<Printer<'_, R>>), ExitLine>
+    output: W,
+) -> Result<(HeaderBuffer, BufWriter<W>), ExitLine>
     requires some { 1 ≤ headers }
     requires permitted { headers ≤ 65279 }
     ensures headers { IfOk result (λ buffers. buffers.0 ≡ headers) }
     ensures refused { IfErr result (λ ending. (ending.0 ≡ 3)
         × (ending.1.now ≡ codes "elfsee: out of memory")) }
 {
-    let Ok(room) = HeaderBuffer::new(rt.alloc(), headers) else {
+    let Ok(room) = HeaderBuffer::new(alloc, headers) else {
         return Err(OUT_OF_MEMORY);
     };
-    match BufWriter::with_capacity(rt.alloc(), OUTPUT_BYTES, io::writer(rt)) {
+    match BufWriter::with_capacity(alloc, OUTPUT_BYTES, output) {
         Ok(output) => Ok((room, output)),
         Err(_) => Err(OUT_OF_MEMORY),
     }

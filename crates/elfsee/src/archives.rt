@@ -10,7 +10,7 @@ use elf_record::Parts;
 use elf_requests::archive_status;
 use elf_source::{Counted, DeferredSink, Out, RangeSource, Source, WriteSink};
 use elf_table::{Caps, HeaderStore};
-use std::io::{BufWriter, Write};
+use std::io::{self, BufWriter, Write};
 use std::os::unix::fs::FileExt;
 use std::rt::Files;
 
@@ -60,7 +60,7 @@ where
     ensures { IfErr result (λ ending.
         EndsWithoutMemory ending.0 ending.1.now ⊎ EndsWithoutFile ending.0 ending.1.now) }
 {
-    let (mut room, output) = match allocate(rt, caps.limits.headers) {
+    let (mut room, output) = match allocate(rt.alloc(), caps.limits.headers, io::writer(rt)) {
         Ok(buffers) => buffers,
         Err(ending) => return Err(ending),
     };

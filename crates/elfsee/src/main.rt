@@ -35,7 +35,7 @@ use missing_reason::report_missing_reason;
 use names::show_chosen;
 use needs::report_needs;
 use std::alloc::Global;
-use std::io::{BufWriter, Input, IsTerminal, Stderr, Write};
+use std::io::{self, BufWriter, Input, IsTerminal, Stderr, Write};
 use std::os::unix::fs::FileExt;
 use std::process::ExitCode;
 use std::rt::{Env, Files};
@@ -117,7 +117,7 @@ where
     ensures { IfErr result (λ ending.
         EndsWithoutMemory ending.0 ending.1.now ⊎ EndsWithoutFile ending.0 ending.1.now) }
 {
-    let (mut room, output) = match allocate(rt, request.limits.headers) {
+    let (mut room, output) = match allocate(rt.alloc(), request.limits.headers, io::writer(rt)) {
         Ok(buffers) => buffers,
         Err(ending) => return Err(ending),
     };

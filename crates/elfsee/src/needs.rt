@@ -14,7 +14,7 @@ use elf_needs::{
 use elf_source::{FileReader, Out, OutFault, Sink, Source, StreamSource, WriteSink, opened_path};
 use elf_table::HeaderStore;
 use std::fs;
-use std::io::{BufWriter, ErrorKind, Input, Stderr, Write};
+use std::io::{self, BufWriter, ErrorKind, Input, Stderr, Write};
 use std::os::unix::fs::FileExt;
 use std::rt::Files;
 
@@ -69,7 +69,11 @@ fn list_needs<R: Files + Print + AllocGlobal>(
 where
     R::File: FileExt,
 {
-    let (mut headers, output) = match allocate(rt, asked.caps.limits.headers) {
+    let (mut headers, output) = match allocate(
+        rt.alloc(),
+        asked.caps.limits.headers,
+        io::writer(rt),
+    ) {
         Ok(buffers) => buffers,
         Err(ending) => return Err(ending),
     };

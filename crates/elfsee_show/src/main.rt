@@ -12,18 +12,16 @@ use elf_fixtures::sample;
 use elf_listing::show;
 use elf_source::{Counted, MemorySource, Out, Source, WriteSink};
 use elf_table::HeaderStore;
-use std::io::{BufWriter, Stderr, Write};
+use std::io::{self, BufWriter, Stderr, Write};
 use std::os::unix::fs::FileExt;
 use std::process::ExitCode;
 use std::rt::{Env, Files};
 
 fn main(rt: HostRuntime) -> ExitCode {
-    let errors = rt.stderr();
-    exit(&rt, answer(&rt, errors))
+    exit(&rt, answer(&rt, rt.stderr()))
 }
 
-/// Lists what the arguments request, or prints the version. Messages for wrong arguments, and help,
-/// are written to `errors`.
+/// Lists what the arguments request, or prints the version, or writes to `errors` what is wrong.
 fn answer<R: Env + Files + Print + AllocGlobal>(
     rt: &R,
     errors: Stderr,
@@ -32,14 +30,16 @@ where
     R::File: FileExt,
 {
     let words = read_words(rt)?;
-    let args = match parse_show(rt.alloc(), words.as_slice()) {
-        Ok(args) => args,
-        Err(fault) => return Err(report_refused(rt.alloc(), &fault, words.as_slice(), errors)),
-    };
+    let args = parse_show(rt.alloc(), words.as_slice()).map_err(|fault| report_refused(
+        rt.alloc(),
+        &fault,
+        words.as_slice(),
+        errors,
+    ))?;
     if let CommandName::Version = args.command {
         return report_version(rt);
     }
-    let (mut room, output) = allocate(rt, args.caps.limits.headers)?;
+    let (mut room, output) = allocate(rt.alloc(), args.caps.limits.headers, io::writer(rt))?;
     match args.file {
         Some(path) => Ok(list(&args, open(rt, path)?, room.store(), output)),
         None => Ok(list(&args, MemorySource::new(sample()), room.store(), output)),
