@@ -18,24 +18,19 @@ use std::process::ExitCode;
 use std::rt::{Env, Files};
 
 fn main(rt: HostRuntime) -> ExitCode {
-    exit(&rt, answer(&rt, rt.stderr()))
+    exit(&rt, run(&rt, rt.stderr()))
 }
 
 /// Lists what the arguments request, or prints the version, or writes to `errors` what is wrong.
-fn answer<R: Env + Files + Print + AllocGlobal>(
-    rt: &R,
-    errors: Stderr,
-) -> Result<ExitLine, ExitLine>
+fn run<R: Env + Files + Print + AllocGlobal>(rt: &R, errors: Stderr) -> Result<ExitLine, ExitLine>
 where
     R::File: FileExt,
 {
     let words = read_words(rt)?;
-    let args = parse_show(rt.alloc(), words.as_slice()).map_err(|fault| report_refused(
-        rt.alloc(),
-        &fault,
-        words.as_slice(),
-        errors,
-    ))?;
+    let args = match parse_show(rt.alloc(), words.as_slice()) {
+        Ok(args) => args,
+        Err(fault) => return Err(report_refused(rt.alloc(), &fault, words.as_slice(), errors)),
+    };
     if let CommandName::Version = args.command {
         return report_version(rt);
     }
