@@ -8,16 +8,17 @@ use Rattle.clap.specs.Walk.{Text}
 use Rattle.clap.specs.declared.error.Error.{Error}
 use Rattle.clap.specs.declared.parser.matches.ArgMatches.{ArgMatches}
 use Rattle.clap.proofs.OnLiterals.{clap_on_literals}
-use Rattle.elf_cli.specs.Prelude.{ArePartNames, AreRead, AreRefused, IsFaultOf, IsOneOf, PartWords, program}
+use Rattle.elf_cli.specs.Prelude.{ArePartNames, AreRead, AreRefused, IsFaultOf, IsOneOf, program}
+use Rattle.elf_cli.specs.declared.part_names.PartNames.{PartNames}
 use Rattle.elf_cli.specs.declared.faults.RequestFault.TheVariants.{BadItem, BadName, BadTrait, LayoutFull, LayoutRepeat, Memory, NamesFull, Words}
 use Rattle.elf_cli.specs.declared.faults.RequestFault.{RequestFault}
 
 -- the command line is one whose matches and faults are known: no argument has a rule on another
-is_known : (parts : PartWords) → is_simple_and_free (program parts) ≡ true
+is_known : (parts : PartNames) → is_simple_and_free (program parts) ≡ true
 unfolding clap_on_literals
 is_known parts = refl
 
-has_known_matches : (parts : PartWords) → is_simple (program parts) ≡ true
+has_known_matches : (parts : PartNames) → is_simple (program parts) ≡ true
 unfolding clap_on_literals
 has_known_matches parts = refl
 
@@ -33,7 +34,7 @@ fault_told kinds error LayoutRepeat is has = is
 fault_told kinds error BadTrait is has = is
 
 -- an error of a command line that is that one
-pub refused : (app : App) (parts : PartWords) (words : List Text) (error : Error) (fault : RequestFault) → app ≡ program parts → ArePartNames parts
+pub refused : (app : App) (parts : PartNames) (words : List Text) (error : Error) (fault : RequestFault) → app ≡ program parts → ArePartNames parts
     → (is_simple_and_free app ≡ true → HasKind (fault_of app words) error) → IsFaultOf error fault → AreRefused words fault
 refused app parts words error fault is named kinds told = record {
   parts = parts;
@@ -42,7 +43,7 @@ refused app parts words error fault is named kinds told = record {
 }
 
 -- matches of such a command line: they are those of the arguments, for which it has no fault
-pub read : (app : App) (parts : PartWords) (words : List Text) (m : ArgMatches) → app ≡ program parts → ArePartNames parts
+pub read : (app : App) (parts : PartNames) (words : List Text) (m : ArgMatches) → app ≡ program parts → ArePartNames parts
     → (is_simple_and_free app ≡ true → fault_of app words ≡ []) → HasMatchesOf app words m → AreRead words (subcommand_rows_of m)
 read app parts words m is named taken matches = record {
   parts = parts;

@@ -1,32 +1,22 @@
 -- What the arguments of a command have of the values that the command line parsed.
-use Rattle.std.specs.Prelude.{◌≡◌, ◌||◌, ℕ, if◌then◌else◌, bytes_eq, is_some, List, [], codes, Option, None, Some, option_map, unwrap_or}
+use Rattle.std.specs.Prelude.{◌≡◌, ◌||◌, ℕ, is_some, List, [], codes, Option, None, Some, option_map, unwrap_or}
 use Rattle.clap.specs.Walk.{Row, Text, first_of, one_of, texts}
 use Rattle.elf_model.specs.Prelude.{EveryRow}
 use Rattle.elf_options.specs.Prelude.{choice_of}
 use Rattle.elf_options.specs.declared.caps.Caps.{Caps}
 use Rattle.elf_options.specs.declared.caps.Limits.{Limits}
 use Rattle.elf_options.specs.declared.caps.ListingStyle.{ListingStyle}
+use Rattle.elf_cli.specs.CommandLine.{command_among, command_rows}
 use Rattle.elf_cli.specs.Faults.{IsUnasked}
 use Rattle.elf_cli.specs.Options.{HasNumber, IsCount, asked_format, asked_parts, is_given, is_option_set, values_of}
 use Rattle.elf_cli.specs.declared.command_args.CommandArgs.{CommandArgs}
 use Rattle.elf_cli.specs.declared.command_args.CommandName.{CommandName}
-use Rattle.elf_cli.specs.declared.command_args.CommandName.TheVariants.{Show, Sample, Find, Apply, Check, List as Listings, Traits, Needs, Archive, Version}
 use Rattle.elf_cli.specs.declared.faults.RequestFault.{RequestFault}
 use Rattle.elf_cli.specs.declared.faults.RequestFault.TheVariants.{Memory}
 
 -- the command of a name, of those that the command line has
 abbrev pub command_named : Text → CommandName
-command_named name =
-    if bytes_eq name (codes "show") then Show
-    else if bytes_eq name (codes "sample") then Sample
-    else if bytes_eq name (codes "find") then Find
-    else if bytes_eq name (codes "apply") then Apply
-    else if bytes_eq name (codes "check") then Check
-    else if bytes_eq name (codes "list") then Listings
-    else if bytes_eq name (codes "traits") then Traits
-    else if bytes_eq name (codes "needs") then Needs
-    else if bytes_eq name (codes "archive") then Archive
-    else Version
+command_named name = command_among command_rows name
 
 -- how many headers are allowed and how many bytes may be read
 pub record AreLimits (rows : List Row) (limits : Limits) : Type 0 where

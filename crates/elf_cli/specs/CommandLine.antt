@@ -1,16 +1,17 @@
--- The command line: its commands and their options, as the parser of the arguments sees them.
-use Rattle.std.specs.Prelude.{List, [], ◌∷◌, codes, pos, true, Some}
-use Rattle.std.specs.Borrow.{Bor}
+-- The command line: its commands and their arguments, as the parser of the arguments sees them.
+use Rattle.std.specs.Prelude.{ℕ, ◌+◌, ◌==◌, if◌then◌else◌, bytes_eq, List, [], ◌∷◌, codes, pos, true, Some}
+use Rattle.std.specs.Int.RustNames.{bit_and}
+use Rattle.std.specs.List.{fold}
 use Rattle.clap.specs.Walk.{Rule, Text}
 use Rattle.clap.specs.Simple.{App, new_app, new_rule, with_rule, with_subcommand}
 use Rattle.clap.specs.Lexer.{usize_max}
 use Rattle.clap.specs.declared.builder.action.ArgAction.TheVariants.{Append, SetTrue}
 use Rattle.clap.specs.declared.builder.value_parser.ValueParser.{ValueParser}
-use Rattle.clap.specs.declared.builder.value_parser.ValueParser.TheVariants.{Signed, Unsigned, Names}
-
--- a `&[&str]`
-abbrev pub ArgWords : Type 0
-ArgWords = Bor (List (Bor Text))
+use Rattle.clap.specs.declared.builder.value_parser.ValueParser.TheVariants.{Names, Signed, Unsigned}
+use Rattle.elf_cli.specs.declared.command_args.CommandName.{CommandName}
+use Rattle.elf_cli.specs.declared.command_args.CommandName.TheVariants as command
+use Rattle.elf_cli.specs.declared.command_sets.TheConstants.{SHOW, SAMPLE, FIND, APPLY, CHECK, LIST, TRAITS, NEEDS, ARCHIVE, VERSION}
+use Rattle.elf_cli.specs.declared.part_names.PartNames.{PartNames}
 
 -- an option without a value, which is set if it is given
 abbrev pub flag : Text → Rule
@@ -44,137 +45,101 @@ indexed name parser = record (required name) { parser = Some parser }
 abbrev pub any_words : Text → Rule
 any_words name = record (new_rule name) { range = Some (record { start_inclusive = 0; end_inclusive = usize_max }) }
 
-abbrev headers_option : Rule
-headers_option = numbered_option (codes "headers") (Signed (pos 1) (pos 65279)) (codes "4096")
+-- the commands that read the file that an argument names
+abbrev one_file : ℕ
+one_file = SHOW + FIND + APPLY + ARCHIVE
 
-abbrev names_option : Rule
-names_option = numbered_option (codes "names") (Signed (pos 1) (pos 4096)) (codes "256")
+-- those that read many files
+abbrev many_files : ℕ
+many_files = CHECK + LIST + TRAITS + NEEDS
 
-abbrev max_read_option : Rule
-max_read_option = option (codes "max-read") (Unsigned 0 9223372036854775807)
+-- those that list the tables of a file, or check them as a listing does
+abbrev listing : ℕ
+listing = SHOW + SAMPLE + CHECK + LIST + ARCHIVE
 
-abbrev only_option : ArgWords → Rule
-only_option parts = option (codes "only") (Names parts)
+-- those whose rows may be selected by name
+abbrev selecting : ℕ
+selecting = SHOW + LIST + ARCHIVE
 
-abbrev gnu_option : Rule
-gnu_option = flag (codes "gnu")
+-- THE ARGUMENTS of all commands, in the order of help: the commands that have it, a bit for each,
+-- and its rule
+abbrev pub argument_rows : PartNames → List (ℕ × Rule)
+argument_rows parts =
+    (one_file + SAMPLE + many_files, numbered_option (codes "headers") (Signed (pos 1) (pos 65279)) (codes "4096"))
+    ∷ (listing, numbered_option (codes "names") (Signed (pos 1) (pos 4096)) (codes "256"))
+    ∷ (one_file + SAMPLE + many_files, option (codes "max-read") (Unsigned 0 9223372036854775807))
+    ∷ (NEEDS, option (codes "max-tries") (Unsigned 0 9223372036854775807))
+    ∷ (NEEDS, valued (codes "library-path"))
+    ∷ (NEEDS, valued (codes "default"))
+    ∷ (NEEDS, valued (codes "root"))
+    ∷ (NEEDS, valued (codes "cache"))
+    ∷ (NEEDS, flag (codes "no-cache"))
+    ∷ (NEEDS, flag (codes "symbols"))
+    ∷ (NEEDS, flag (codes "unused"))
+    ∷ (NEEDS, flag (codes "problems"))
+    ∷ (TRAITS, valued (codes "require"))
+    ∷ (SHOW + SAMPLE + CHECK + LIST, option (codes "only") (Names parts.listed))
+    ∷ (ARCHIVE, option (codes "only") (Names parts.archived))
+    ∷ (listing, flag (codes "gnu"))
+    ∷ (FIND, flag (codes "gnu"))
+    ∷ (listing, flag (codes "by-segments"))
+    ∷ (FIND, flag (codes "by-segments"))
+    ∷ (listing + FIND + TRAITS + NEEDS, flag (codes "json"))
+    ∷ (selecting + SAMPLE, flag (codes "versions"))
+    ∷ (selecting, repeated (codes "name"))
+    ∷ (selecting, valued (codes "name-list"))
+    ∷ (APPLY, valued (codes "layout"))
+    ∷ (APPLY, flag (codes "explain"))
+    ∷ (CHECK + LIST, flag (codes "members"))
+    ∷ (many_files, valued (codes "files0-from"))
+    ∷ (one_file, required (codes "FILE"))
+    ∷ (FIND, required (codes "NAME"))
+    ∷ (APPLY, indexed (codes "SECTION") (Signed (pos 0) (pos 65535)))
+    ∷ (APPLY, any_words (codes "ITEM"))
+    ∷ (many_files, any_words (codes "PATH"))
+    ∷ []
 
-abbrev by_segments_option : Rule
-by_segments_option = flag (codes "by-segments")
+-- a command's name, with what it is called here and its bit
+abbrev pub CommandRow : Type 0
+CommandRow = Text × CommandName × ℕ
 
-abbrev json_option : Rule
-json_option = flag (codes "json")
+-- THE COMMANDS, in the order of help
+abbrev pub command_rows : List CommandRow
+command_rows =
+    (codes "show", command.Show, SHOW)
+    ∷ (codes "sample", command.Sample, SAMPLE)
+    ∷ (codes "find", command.Find, FIND)
+    ∷ (codes "apply", command.Apply, APPLY)
+    ∷ (codes "check", command.Check, CHECK)
+    ∷ (codes "list", command.List, LIST)
+    ∷ (codes "traits", command.Traits, TRAITS)
+    ∷ (codes "needs", command.Needs, NEEDS)
+    ∷ (codes "archive", command.Archive, ARCHIVE)
+    ∷ (codes "version", command.Version, VERSION)
+    ∷ []
 
-abbrev file_argument : Rule
-file_argument = required (codes "FILE")
+-- the command of a name, of those that the command line has
+abbrev pub command_among : List CommandRow → Text → CommandName
+command_among [] name = command.Version
+command_among (known ∷ rest) name = if bytes_eq name known.0 then known.1 else command_among rest name
 
--- a command with the options of what reads a file and lists nothing
-abbrev with_reading_options : App → App
-with_reading_options command = with_rule (with_rule command headers_option) max_read_option
+-- a command with one more argument, if it is in the set of the commands that have it
+abbrev pub with_argument : ℕ → App → ℕ × Rule → App
+with_argument bit app argument = if bit_and argument.0 bit == bit then with_rule app argument.1 else app
 
--- a command with the options of a listing
-abbrev with_listing_options : ArgWords → App → App
-with_listing_options parts command =
-    with_rule (with_rule (with_rule (with_rule (with_rule (with_rule (with_rule command headers_option) names_option) max_read_option)
-    (only_option parts)) gnu_option) by_segments_option) json_option
+-- a command with its arguments
+abbrev pub described : PartNames → CommandRow → App
+described parts known = fold (with_argument known.2) (new_app known.0) (argument_rows parts)
 
--- a command with the options of a listing that is written: whether the version of a symbol follows
--- its name
-abbrev with_written_rows : ArgWords → App → App
-with_written_rows parts command = with_rule (with_listing_options parts command) (flag (codes "versions"))
-
--- a command with the options of a listing whose rows are selected by name: one per occurrence, and
--- a file of such names, one per line
-abbrev with_chosen_rows : ArgWords → App → App
-with_chosen_rows parts command = with_rule (with_rule (with_written_rows parts command) (repeated (codes "name"))) (valued (codes "name-list"))
-
--- a file of paths, each ended by NUL
-abbrev list_option : Rule
-list_option = valued (codes "files0-from")
-
--- any number of paths
-abbrev path_argument : Rule
-path_argument = any_words (codes "PATH")
-
--- a command that reads many files, and perhaps the members of archives
-abbrev over_files : App → App
-over_files command = with_rule (with_rule (with_rule command (flag (codes "members"))) list_option) path_argument
-
-abbrev pub show_command : ArgWords → App
-show_command parts = with_rule (with_chosen_rows parts (new_app (codes "show"))) file_argument
-
-abbrev pub sample_command : ArgWords → App
-sample_command parts = with_written_rows parts (new_app (codes "sample"))
-
-abbrev pub find_command : App
-find_command =
-    with_rule (with_rule (with_rule (with_rule (with_rule (with_reading_options (new_app (codes "find"))) gnu_option) by_segments_option) json_option)
-    file_argument) (required (codes "NAME"))
-
--- a file of items, one per line; whether the item that would help is printed if an address is
--- missing; a section's index; and items
-abbrev pub apply_command : App
-apply_command =
-    with_rule (with_rule (with_rule (with_rule (with_rule (with_reading_options (new_app (codes "apply"))) (valued (codes "layout"))) (flag (codes "explain")))
-    file_argument) (indexed (codes "SECTION") (Signed (pos 0) (pos 65535)))) (any_words (codes "ITEM"))
-
-abbrev pub check_command : ArgWords → App
-check_command parts = over_files (with_listing_options parts (new_app (codes "check")))
-
-abbrev pub list_command : ArgWords → App
-list_command parts = over_files (with_chosen_rows parts (new_app (codes "list")))
-
--- required traits, separated by commas
-abbrev pub traits_command : App
-traits_command =
-    with_rule (with_rule (with_rule (with_rule (with_reading_options (new_app (codes "traits"))) (valued (codes "require"))) json_option) list_option) path_argument
-
--- how many paths may be tried
-abbrev max_tries_option : Rule
-max_tries_option = option (codes "max-tries") (Unsigned 0 9223372036854775807)
-
--- a command with the options of where libraries are searched: how many paths may be tried;
--- directories, separated by colons; the root directory of another system's files; and a loader's
--- cache, or none
-abbrev with_search_options : App → App
-with_search_options command =
-    with_rule (with_rule (with_rule (with_rule (with_rule (with_rule command max_tries_option) (valued (codes "library-path"))) (valued (codes "default"))) (valued (codes "root")))
-    (valued (codes "cache"))) (flag (codes "no-cache"))
-
--- whether the file that each symbol is bound to is printed too, which libraries are not used, and
--- whether only lines that make the status 1 are printed
-abbrev pub needs_command : App
-needs_command =
-    with_rule (with_rule (with_rule (with_rule (with_rule (with_rule (with_search_options (with_reading_options (new_app (codes "needs")))) (flag (codes "symbols"))) (flag (codes "unused")))
-    (flag (codes "problems"))) json_option) list_option) path_argument
-
-abbrev pub archive_command : ArgWords → App
-archive_command parts = with_rule (with_chosen_rows parts (new_app (codes "archive"))) file_argument
+-- a program with one more command
+abbrev pub with_command : PartNames → App → CommandRow → App
+with_command parts app known = with_subcommand app (described parts known).top
 
 -- the program, whose arguments begin after its name, and which requires a command
 abbrev pub without_command : App
 without_command = let app = new_app (codes "elfsee") in
     record app { top = record app.top { no_binary_name = true; subcommand_required = true; arg_required_else_help = true } }
 
--- the program, with the commands that read one file, except the one that lists an archive
-abbrev pub with_one_file : ArgWords → App
-with_one_file parts =
-    with_subcommand (with_subcommand (with_subcommand (with_subcommand without_command (show_command parts).top) (sample_command parts).top)
-    find_command.top) apply_command.top
-
--- a program, with the commands that read many files
-abbrev pub with_many_files : ArgWords → App → App
-with_many_files parts app =
-    with_subcommand (with_subcommand (with_subcommand (with_subcommand app (check_command parts).top) (list_command parts).top) traits_command.top)
-    needs_command.top
-
--- the names of the parts of a listing, and of those of an archive's
-pub record PartWords : Type 0 where
-  pub listed : ArgWords
-  pub archived : ArgWords
-
--- THE COMMAND LINE: the program with all its commands; `version` takes no argument
-abbrev pub program : PartWords → App
-program parts =
-    with_subcommand (with_subcommand (with_many_files parts.listed (with_one_file parts.listed)) (archive_command parts.archived).top)
-    (new_app (codes "version")).top
+-- THE COMMAND LINE: the program with all its commands
+abbrev pub program : PartNames → App
+program parts = fold (with_command parts) without_command command_rows

@@ -60,14 +60,13 @@ part_names =
 abbrev pub member_part_names : List (ℕ × List ℕ)
 member_part_names = (0, codes "members") ∷ part_names
 
--- the number with this name in a table; the command line accepts no names but those of the parts
-abbrev number_named : List (ℕ × List ℕ) → Text → ℕ
-number_named [] name = VERSIONS
-number_named (part ∷ []) name = part.0
-number_named (part ∷ (other ∷ rest)) name = if bytes_eq name part.1 then part.0 else number_named (other ∷ rest) name
+-- the part with this name in a table; the command line accepts no names but those of the parts
+abbrev pub part_among : List (ℕ × List ℕ) → Text → ℕ
+part_among [] name = VERSIONS
+part_among (part ∷ rest) name = if bytes_eq name part.1 then part.0 else part_among rest name
 
 abbrev pub part_number : Text → ℕ
-part_number name = number_named member_part_names name
+part_number name = part_among member_part_names name
 
 -- whether only the rows of some names are requested: there is a name, or a file of names
 abbrev pub has_name_option : List Row → Bool

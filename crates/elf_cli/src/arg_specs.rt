@@ -4,15 +4,18 @@ ghost use Rattle.elf_cli.specs.CommandLine.{any_words, flag, indexed, numbered_o
 ghost use Rattle.elf_cli.specs.CommandLine.{option, repeated, required, valued};
 ghost use Rattle.elf_cli.specs.Described.{rule_by};
 
+use crate::part_names::PartNames;
 use clap::builder::ValueParser;
 use clap::{Arg, ArgAction};
 use std::alloc::Global;
 
-/// An argument of a command.
+/// An argument of one or more commands.
 pub(crate) struct ArgSpec {
     pub(crate) name: &'static str,
     pub(crate) kind: ArgKind,
     pub(crate) help: &'static str,
+    /// The set of the commands that have it.
+    pub(crate) commands: u16,
 }
 
 /// How an argument is read.
@@ -27,8 +30,10 @@ pub(crate) enum ArgKind {
     Number(ValueParser<'static>),
     /// An option with a number, and its default if the option is absent.
     Count(ValueParser<'static>, &'static str),
-    /// An option with the name of a part.
+    /// An option with the name of a part of a listing.
     Part,
+    /// An option with the name of a part of an archive's listing.
+    MemberPart,
     /// A required argument.
     Needed,
     /// A required argument, a number.
@@ -37,9 +42,9 @@ pub(crate) enum ArgKind {
     Any,
 }
 
-/// Returns the `clap` argument for a specification, with this parser for the name of a part.
-pub(crate) fn clap_arg_of<'a>(alloc: Global, word: &ArgSpec, part: ValueParser<'a>) -> Arg<'a>
-    ensures { IsArg (rule_by part.entry word.now) result }
+/// Returns the `clap` argument for a specification, given the names of parts.
+pub(crate) fn clap_arg_of<'a>(alloc: Global, word: &ArgSpec, parts: PartNames<'a>) -> Arg<'a>
+    ensures { IsArg (rule_by parts.entry word.now) result }
 {
     match word.kind {
         ArgKind::Flag => flag(alloc, word),
@@ -47,7 +52,8 @@ pub(crate) fn clap_arg_of<'a>(alloc: Global, word: &ArgSpec, part: ValueParser<'
         ArgKind::Repeated(value) => repeated(alloc, word, value),
         ArgKind::Number(parser) => parsed(alloc, word, "N", parser),
         ArgKind::Count(parser, default) => count(alloc, word, parser, default),
-        ArgKind::Part => parsed(alloc, word, "PART", part),
+        ArgKind::Part => parsed(alloc, word, "PART", ValueParser::Names(parts.listed)),
+        ArgKind::MemberPart => parsed(alloc, word, "PART", ValueParser::Names(parts.archived)),
         ArgKind::Needed => required(alloc, word),
         ArgKind::Index(parser) => index(alloc, word, parser),
         ArgKind::Any => any(alloc, word),

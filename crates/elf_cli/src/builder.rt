@@ -1,24 +1,27 @@
 //! Commands built from their descriptions.
-ghost use Rattle.std.specs.Prelude.{◌≡◌, IfOk, false};
-ghost use Rattle.clap.specs.Simple.{App, new_app, with_subcommand};
+ghost use Rattle.std.specs.Prelude.{◌≡◌, IfOk};
+ghost use Rattle.clap.specs.Simple.{App, new_app};
 ghost use Rattle.clap.specs.Words.{app_of};
 ghost use Rattle.elf_cli.specs.Building.{IsBuilt};
-ghost use Rattle.elf_cli.specs.Described.{described, add_subcommands, add_args};
+ghost use Rattle.elf_cli.specs.CommandLine.{described, with_argument, with_command};
+ghost use Rattle.elf_cli.specs.Described.{argument_row, command_row};
 
 use crate::arg_specs::{ArgSpec, clap_arg_of};
+use crate::arguments::all_arguments;
+use crate::command_args::CommandName;
+use crate::part_names::PartNames;
 use clap::Command;
-use clap::builder::ValueParser;
 use std::alloc::{AllocError, Global};
 
 /// The description of a command.
 pub(crate) struct CommandSpec {
     pub(crate) name: &'static str,
-    /// The program's name and that of the command, as an error's usage has them.
-    pub(crate) usage: &'static str,
+    pub(crate) command: CommandName,
+    /// Its bit in a set of commands.
+    pub(crate) bit: u16,
     /// What help prints before the arguments, and after them.
     pub(crate) about: &'static str,
     pub(crate) more: &'static str,
-    pub(crate) words: &'static [ArgSpec],
 }
 
 /// Creates a command with the given name, with what its help prints before and after its arguments.
@@ -33,50 +36,37 @@ pub(crate) fn new_command<'a>(
     Command::new(alloc, name).about(about).after_help(more)
 }
 
-/// Returns the command for a description, with this parser for the name of a part.
+/// Returns the command for a description with its arguments, given the names of parts.
 pub(crate) fn clap_command_of<'a>(
     alloc: Global,
     command: &CommandSpec,
-    part: ValueParser<'a>,
+    parts: PartNames<'a>,
 ) -> Result<Command<'a>, AllocError>
-    ensures { IfOk result (IsBuilt (described part.entry command.now)) }
+    ensures { IfOk result (IsBuilt (described parts.entry (command_row command.now))) }
 {
-    let named = new_command(alloc, command.name, command.about, command.more);
-    add_args(alloc, named, command.words, part)
-}
-
-/// Returns a command with the given arguments added after those it has.
-fn add_args<'a>(
-    alloc: Global,
-    command: Command<'a>,
-    words: &[ArgSpec],
-    part: ValueParser<'a>,
-) -> Result<Command<'a>, AllocError>
-    ensures { (app : App) → IsBuilt app command.entry
-        → IfOk result (IsBuilt (add_args part.entry app words.now)) }
-{
-    let mut whole = command;
-    for word in words {
-        whole = whole.arg(clap_arg_of(alloc, word, part))?;
+    let mut whole = new_command(alloc, command.name, command.about, command.more);
+    let arguments = all_arguments();
+    for argument in arguments {
+        whole = with_argument(alloc, whole, argument, command.bit, parts)?;
     }
     Ok(whole)
 }
 
-/// Returns a command with the given subcommands added after those it has.
-pub(crate) fn add_subcommands<'a>(
+/// Returns a command with one more argument, if the command with this bit has it.
+fn with_argument<'a>(
     alloc: Global,
     command: Command<'a>,
-    below: &[CommandSpec],
-    part: ValueParser<'a>,
+    argument: &ArgSpec,
+    bit: u16,
+    parts: PartNames<'a>,
 ) -> Result<Command<'a>, AllocError>
-    ensures { (app : App) → app_of command.entry ≡ app
-        → IfOk result (λ whole. app_of whole ≡ add_subcommands part.entry app below.now) }
+    ensures { (app : App) → IsBuilt app command.entry → IfOk result
+        (IsBuilt (with_argument bit app (argument_row parts.entry argument.now))) }
 {
-    let mut whole = command;
-    for one in below {
-        whole = with_command(alloc, whole, one, part)?;
+    if argument.commands & bit != bit {
+        return Ok(command);
     }
-    Ok(whole)
+    command.arg(clap_arg_of(alloc, argument, parts))
 }
 
 /// Returns a command with one more subcommand.
@@ -84,12 +74,11 @@ pub(crate) fn with_command<'a>(
     alloc: Global,
     command: Command<'a>,
     below: &CommandSpec,
-    part: ValueParser<'a>,
+    parts: PartNames<'a>,
 ) -> Result<Command<'a>, AllocError>
-    ensures { (app : App) → app_of command.entry ≡ app
-        → IfOk result (λ whole. app_of whole
-        ≡ with_subcommand app (described part.entry below.now).top) }
+    ensures { (app : App) → app_of command.entry ≡ app → IfOk result (λ whole.
+        app_of whole ≡ with_command parts.entry app (command_row below.now)) }
 {
-    let below = clap_command_of(alloc, below, part)?;
+    let below = clap_command_of(alloc, below, parts)?;
     command.subcommand(below)
 }

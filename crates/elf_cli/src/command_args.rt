@@ -6,6 +6,7 @@ ghost use Rattle.elf_cli.specs.Args.{AreArgs, AreCapOptions, AreOptions, IsUnrea
 ghost use Rattle.elf_cli.specs.Options.{is_option_set};
 ghost use Rattle.elf_cli.specs.declared.faults.RequestFault.TheVariants.{Memory};
 
+use crate::commands::command_named;
 use crate::faults::RequestFault;
 use crate::options::Options;
 use crate::usage_errors::without_command;
@@ -66,7 +67,7 @@ pub struct CommandArgs<'a> {
     pub members: bool,
     /// How many headers are allowed, how many bytes may be read, and how rows are shown, before any
     /// is selected by name.
-    pub caps: Caps<'static>,
+    pub caps: Caps<'a>,
     /// Whether a limit on the shown bytes of a name is given.
     pub limits_names: bool,
     /// The parts of a listing.
@@ -193,7 +194,7 @@ fn has_no_cache(options: &Options<'_, '_>) -> bool
 }
 
 /// Returns the limits and the style that the options set.
-fn caps_of(options: &Options<'_, '_>) -> Caps<'static>
+fn caps_of<'a>(options: &Options<'_, 'a>) -> Caps<'a>
     ensures { AreCapOptions options.now result }
 {
     Caps {
@@ -211,23 +212,5 @@ fn caps_of(options: &Options<'_, '_>) -> Caps<'static>
             choice: RowFilter::every_row(),
             versions: options.is_set("versions"),
         },
-    }
-}
-
-/// Returns the command of this name, of those that the command line has.
-fn command_named(name: &str) -> CommandName
-    ensures { result ≡ command_named name.now }
-{
-    match name {
-        "show" => CommandName::Show,
-        "sample" => CommandName::Sample,
-        "find" => CommandName::Find,
-        "apply" => CommandName::Apply,
-        "check" => CommandName::Check,
-        "list" => CommandName::List,
-        "traits" => CommandName::Traits,
-        "needs" => CommandName::Needs,
-        "archive" => CommandName::Archive,
-        _ => CommandName::Version,
     }
 }

@@ -1,5 +1,4 @@
 //! Why arguments are no request.
-ghost use Rattle.std.specs.Prelude.{◌≡◌};
 ghost use Rattle.elf_cli.specs.Faults.{IsFaultOf};
 
 use clap::error::ErrorKind;

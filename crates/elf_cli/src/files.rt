@@ -1,11 +1,39 @@
-//! The files that programs open.
-ghost use Rattle.std.specs.Prelude.{◌≡◌, ◌⊎◌, IfErr, codes};
+//! The files that programs open, and the buffers for reading one.
+ghost use Rattle.std.specs.Prelude.{◌≡◌, ◌≤◌, ◌⊎◌, IfErr, IfOk, codes};
 
-use crate::exit_lines::{CANNOT_OPEN, ExitLine, READ_FAULT};
+use crate::exit_lines::{CANNOT_OPEN, ExitLine, OUT_OF_MEMORY, READ_FAULT};
+use crate::outputs::OUTPUT_BYTES;
 use elf_source::{FileReader, StreamSource, opened_path};
+use elf_table::HeaderBuffer;
+use std::alloc::Global;
 use std::fs;
+use std::io::{BufWriter, Write};
 use std::os::unix::fs::{FileExt, FileTypeExt};
 use std::rt::Files;
+
+/// Allocates memory for so many headers of a file, and the buffer of an output.
+///
+/// # Errors
+/// How the program ends if it is out of memory.
+pub fn allocate<W: Write + Drop>(
+    alloc: Global,
+    headers: u16,
+    output: W,
+) -> Result<(HeaderBuffer, BufWriter<W>), ExitLine>
+    requires some { 1 ≤ headers }
+    requires permitted { headers ≤ 65279 }
+    ensures headers { IfOk result (λ buffers. buffers.0 ≡ headers) }
+    ensures refused { IfErr result (λ ending. (ending.0 ≡ 3)
+        × (ending.1.now ≡ codes "elfsee: out of memory")) }
+{
+    let Ok(room) = HeaderBuffer::new(alloc, headers) else {
+        return Err(OUT_OF_MEMORY);
+    };
+    match BufWriter::with_capacity(alloc, OUTPUT_BYTES, output) {
+        Ok(output) => Ok((room, output)),
+        Err(_) => Err(OUT_OF_MEMORY),
+    }
+}
 
 /// Opens a file that can be read at an offset; for `-` that on standard input. Directories, pipes
 /// and sockets are not opened, so that opening does not block, unless another process puts a pipe

@@ -1,13 +1,15 @@
-//! What the programs share: [`command_line`], the commands and options as they are described to
-//! `clap`, and [`parse_arguments`]; [`CommandArgs`], what the arguments request, and
-//! [`usage_fault`], their first fault; the file that is opened; the output that is written last; and
-//! [`outcome`] and [`exit`], the exit status and the line on standard error.
+//! What the programs share: the commands and their arguments, as tables from which the command line
+//! is built, and [`parse_arguments`]; [`CommandArgs`], what the arguments request, and
+//! [`usage_fault`], their first fault; the file that is opened, and the buffers for it; the output
+//! that is written last; and [`outcome`] and [`exit`], the exit status and the line on standard
+//! error.
 #![tactic(auto)]
 
 mod arg_specs;
 mod arguments;
 mod builder;
 mod command_args;
+mod command_sets;
 mod commands;
 mod exit_lines;
 mod faults;
@@ -17,6 +19,7 @@ mod listings;
 mod options;
 mod outputs;
 mod parser;
+mod part_names;
 mod program_arguments;
 mod texts;
 mod usage_errors;
@@ -24,12 +27,11 @@ mod usage_faults;
 mod version;
 
 pub use command_args::{CommandArgs, CommandName, read_args};
-pub use commands::command_line;
 pub use exit_lines::{
     CANNOT_OPEN, ExitLine, OUT_OF_MEMORY, READ_FAULT, WRITE_FAULT, exit, outcome,
 };
 pub use faults::RequestFault;
-pub use files::open;
+pub use files::{allocate, open};
 pub use line_sink::LineSink;
 pub use listings::parse_show;
 pub use outputs::{

@@ -1,5 +1,5 @@
 //! A sink that passes on whole lines.
-ghost use Rattle.std.specs.Prelude.{◌≡◌, ◌+◌, ◌<◌, ◌≤◌, [], Some, false, drop, length};
+ghost use Rattle.std.specs.Prelude.{◌≡◌, ◌+◌, ◌<◌, ◌≤◌, [], Some, length};
 ghost use Rattle.std.specs.Io.KnownBytes.{Keeps, append_known};
 ghost use Rattle.elf_source.specs.Output.{KeepsPart, nothing_held};
 ghost use Rattle.elf_cli.specs.Lines.{AreWholeLines, GivesFront};

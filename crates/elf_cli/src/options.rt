@@ -1,11 +1,12 @@
 //! The values of a command's arguments, by a reader for each form.
-ghost use Rattle.std.specs.Prelude.{◌≡◌, ◌≤◌, ℕ, IfOk, List, [], Option, codes, option_map, unwrap_or};
+ghost use Rattle.std.specs.Prelude.{◌≡◌, ◌≤◌, ℕ, IfOk, List, [], Option, option_map, unwrap_or};
 ghost use Rattle.clap.specs.Walk.{Row, first_of, one_of, rows_of, texts};
 ghost use Rattle.clap.specs.Words.{found_of};
 ghost use Rattle.elf_cli.specs.Options.{HasNumber, IsCount, asked_format, asked_parts};
 ghost use Rattle.elf_cli.specs.Options.{has_name_option, is_given, is_of_words, is_option_set};
-ghost use Rattle.elf_cli.specs.Options.{part_number, values_of};
+ghost use Rattle.elf_cli.specs.Options.{values_of};
 
+use crate::part_names::part_named;
 use clap::ArgMatches;
 use clap::parser::ValueSource;
 use elf_model::Format;
@@ -148,23 +149,5 @@ fn from_words(source: Option<ValueSource>) -> bool
         Some(ValueSource::CommandLine) => true,
         Some(ValueSource::DefaultValue) => false,
         None => false,
-    }
-}
-
-/// Returns the part with this name, of those that the command line accepts; none for the members of
-/// an archive alone.
-fn part_named(name: &str) -> Parts
-    ensures { result.0 ≡ part_number name.now }
-{
-    match name {
-        "members" => Parts(0),
-        "header" => Parts::HEADER,
-        "sections" => Parts::SECTIONS,
-        "segments" => Parts::SEGMENTS,
-        "symbols" => Parts::SYMBOLS,
-        "relocs" => Parts::RELOCS,
-        "notes" => Parts::NOTES,
-        "dynamic" => Parts::DYNAMIC,
-        _ => Parts::VERSIONS,
     }
 }

@@ -1,25 +1,16 @@
 //! The parser of the command line.
 ghost use Rattle.std.specs.Prelude.{◌≡◌, IfErr, IfOk, map};
 ghost use Rattle.clap.specs.Words.{app_of, subcommand_rows_of};
-ghost use Rattle.elf_cli.specs.CommandLine.{PartWords, program};
+ghost use Rattle.elf_cli.specs.CommandLine.{program};
 ghost use Rattle.elf_cli.specs.Reading.{ArePartNames, AreRead, AreRefused};
+ghost use Rattle.elf_cli.specs.declared.part_names.PartNames.{PartNames};
 
 use crate::commands::command_line;
 use crate::faults::RequestFault;
+use crate::part_names::known_parts;
 use clap::{ArgMatches, Command};
 use std::alloc::{AllocError, Global};
 use std::convert::AsStr;
-
-/// The names of the parts of a listing, in its order, GNU parts last.
-pub(crate) static PARTS: [&str; 8] = [
-    "header", "sections", "segments", "symbols", "relocs", "notes", "dynamic", "versions",
-];
-
-/// The names of the parts of an archive's listing: its members alone, and those of a listing.
-pub(crate) static MEMBER_PARTS: [&str; 9] = [
-    "members", "header", "sections", "segments", "symbols", "relocs", "notes", "dynamic",
-    "versions",
-];
 
 /// Parses arguments, without the program's name: a command with the values of its arguments.
 ///
@@ -34,7 +25,7 @@ pub fn parse_arguments<'a, S: AsStr>(
         AreRead (map S.text words.entry.now) (subcommand_rows_of matches)) }
     ensures refused { IfErr result (AreRefused (map S.text words.entry.now)) }
 {
-    match command_line(alloc, PARTS.as_slice(), MEMBER_PARTS.as_slice()) {
+    match command_line(alloc, known_parts()) {
         Ok(mut commands) => read_by(&mut commands, words),
         Err(AllocError) => Err(RequestFault::Memory),
     }
@@ -45,10 +36,10 @@ fn read_by<'a, S: AsStr>(
     commands: &mut Command<'a>,
     words: &'a [S],
 ) -> Result<ArgMatches<'a>, RequestFault>
-    ensures read { (parts : PartWords) → app_of commands.old ≡ program parts → ArePartNames parts
+    ensures read { (parts : PartNames) → app_of commands.old ≡ program parts → ArePartNames parts
         → IfOk result
         (λ matches. AreRead (map S.text words.entry.now) (subcommand_rows_of matches)) }
-    ensures refused { (parts : PartWords) → app_of commands.old ≡ program parts
+    ensures refused { (parts : PartNames) → app_of commands.old ≡ program parts
         → ArePartNames parts → IfErr result (AreRefused (map S.text words.entry.now)) }
 {
     match commands.try_get_matches_from_mut(words) {

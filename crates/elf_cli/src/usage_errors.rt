@@ -8,7 +8,6 @@ ghost use Rattle.elf_cli.specs.UsageFaults.{ReportsUsage};
 use crate::command_args::CommandName;
 use crate::commands::command_with_usage;
 use crate::faults::RequestFault;
-use crate::parser::{MEMBER_PARTS, PARTS};
 use crate::usage_faults::UsageFault;
 use clap::Error;
 use clap::error::ErrorKind;
@@ -82,11 +81,6 @@ fn usage_error(alloc: Global, command: CommandName, message: &str) -> RequestFau
 fn error_with_usage(alloc: Global, command: CommandName, message: &str) -> Result<Error, AllocError>
     ensures { IfOk result (λ error. kind_of error ≡ Format) }
 {
-    let mut command = command_with_usage(
-        alloc,
-        command,
-        PARTS.as_slice(),
-        MEMBER_PARTS.as_slice(),
-    )?;
+    let mut command = command_with_usage(alloc, command)?;
     command.error(ErrorKind::Format, message)
 }

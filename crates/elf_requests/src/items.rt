@@ -1,5 +1,5 @@
 //! Layout items given as arguments.
-ghost use Rattle.std.specs.Prelude.{◌≡◌, IfErr, IfOk, Ok, Err};
+ghost use Rattle.std.specs.Prelude.{IfErr, IfOk, Ok, Err};
 ghost use Rattle.elf_model.specs.Placing.{no_items};
 ghost use Rattle.elf_requests.specs.Layouts.{LaysWords, PutsItem, RefusesItem};
 ghost use Rattle.clap.specs.Walk.{texts};

@@ -5,11 +5,11 @@ ghost use Rattle.elfsee.specs.Naming.{EndsWithoutNames};
 
 use crate::names::{caps_by_names, read_list, sorted_names};
 use elf_archive::show_archive;
-use elf_cli::{CANNOT_OPEN, CommandArgs, ExitLine, OUT_OF_MEMORY, OUTPUT_BYTES, end_answer, open};
+use elf_cli::{CANNOT_OPEN, CommandArgs, ExitLine, allocate, end_answer, open};
 use elf_record::Parts;
 use elf_requests::archive_status;
 use elf_source::{Counted, DeferredSink, Out, RangeSource, Source, WriteSink};
-use elf_table::{Caps, HeaderBuffer, HeaderStore};
+use elf_table::{Caps, HeaderStore};
 use std::io::{self, BufWriter, Write};
 use std::os::unix::fs::FileExt;
 use std::rt::Files;
@@ -60,11 +60,9 @@ where
     ensures { IfErr result (λ ending.
         EndsWithoutMemory ending.0 ending.1.now ⊎ EndsWithoutFile ending.0 ending.1.now) }
 {
-    let Ok(mut room) = HeaderBuffer::new(rt.alloc(), caps.limits.headers) else {
-        return Err(OUT_OF_MEMORY);
-    };
-    let Ok(output) = BufWriter::with_capacity(rt.alloc(), OUTPUT_BYTES, io::writer(rt)) else {
-        return Err(OUT_OF_MEMORY);
+    let (mut room, output) = match allocate(rt.alloc(), caps.limits.headers, io::writer(rt)) {
+        Ok(buffers) => buffers,
+        Err(ending) => return Err(ending),
     };
     match open(rt, file) {
         Ok(source) => {

@@ -19,7 +19,7 @@ ghost use Rattle.elfsee.specs.Ends.{AnswersFile, EndsRunOver, EndsWithoutFile, E
 
 use archives::list_archive;
 use elf_cli::{
-    ExitLine, OUT_OF_MEMORY, OUTPUT_BYTES, end_answer, exit, open, read_words, report_refused,
+    ExitLine, OUT_OF_MEMORY, allocate, end_answer, exit, open, read_words, report_refused,
     report_version,
 };
 use elf_fixtures::sample;
@@ -27,7 +27,7 @@ use elf_layout::Layout;
 use elf_record::Refusal;
 use elf_requests::{ParsedCommand, Request, request, run};
 use elf_source::{Counted, MemorySource, Out, Sink, Source, WriteSink};
-use elf_table::{HeaderBuffer, HeaderStore, RunFault};
+use elf_table::{HeaderStore, RunFault};
 use layouts::apply_laid;
 use lists::list_files;
 use many::{check_many, report_traits};
@@ -117,11 +117,9 @@ where
     ensures { IfErr result (λ ending.
         EndsWithoutMemory ending.0 ending.1.now ⊎ EndsWithoutFile ending.0 ending.1.now) }
 {
-    let Ok(mut room) = HeaderBuffer::new(rt.alloc(), request.limits.headers) else {
-        return Err(OUT_OF_MEMORY);
-    };
-    let Ok(output) = BufWriter::with_capacity(rt.alloc(), OUTPUT_BYTES, io::writer(rt)) else {
-        return Err(OUT_OF_MEMORY);
+    let (mut room, output) = match allocate(rt.alloc(), request.limits.headers, io::writer(rt)) {
+        Ok(buffers) => buffers,
+        Err(ending) => return Err(ending),
     };
     match answer_into(rt, request, room.store(), output, errors) {
         Ok((ending, _output)) => Ok(ending),

@@ -4,8 +4,7 @@ ghost use Rattle.elfsee.specs.Needs.{EndsNeeds};
 
 use crate::needs_of_files::list_needs_of_files;
 use elf_cli::{
-    CANNOT_OPEN, CommandArgs, ExitLine, OUT_OF_MEMORY, OUTPUT_BYTES, READ_FAULT, RunEnd, end_run,
-    open,
+    CANNOT_OPEN, CommandArgs, ExitLine, OUT_OF_MEMORY, READ_FAULT, RunEnd, allocate, end_run, open,
 };
 use elf_needs::{
     DependencyWalk, LibraryCache, LineOptions, Listed, MOST_OBJECTS, NeedsBuffers, NeedsFault,
@@ -13,7 +12,7 @@ use elf_needs::{
     system_cache,
 };
 use elf_source::{FileReader, Out, OutFault, Sink, Source, StreamSource, WriteSink, opened_path};
-use elf_table::{HeaderBuffer, HeaderStore};
+use elf_table::HeaderStore;
 use std::fs;
 use std::io::{self, BufWriter, ErrorKind, Input, Stderr, Write};
 use std::os::unix::fs::FileExt;
@@ -70,17 +69,19 @@ fn list_needs<R: Files + Print + AllocGlobal>(
 where
     R::File: FileExt,
 {
-    let Ok(mut headers) = HeaderBuffer::new(rt.alloc(), asked.caps.limits.headers) else {
-        return Err(OUT_OF_MEMORY);
+    let (mut headers, output) = match allocate(
+        rt.alloc(),
+        asked.caps.limits.headers,
+        io::writer(rt),
+    ) {
+        Ok(buffers) => buffers,
+        Err(ending) => return Err(ending),
     };
     let Ok(room) = NeedsBuffers::new(rt.alloc()) else {
         return Err(OUT_OF_MEMORY);
     };
     let Ok(opened) = OpenObjects::new(rt.alloc(), MOST_OBJECTS, asked.symbols || asked.unused)
     else {
-        return Err(OUT_OF_MEMORY);
-    };
-    let Ok(output) = BufWriter::with_capacity(rt.alloc(), OUTPUT_BYTES, io::writer(rt)) else {
         return Err(OUT_OF_MEMORY);
     };
     needs_into(rt, asked, file, headers.store(), (room, opened), output)

@@ -1,9 +1,18 @@
-use Rattle.std.proofs.Common.{◌∙◌}
-use Rattle.elf_cli.specs.CommandLine.{with_one_file, without_command}
+use Rattle.std.proofs.Common.{◌≡◌, ◌∙◌, subst, sym}
+use Rattle.std.proofs.lemmas.List.Sums.{fold_more}
+use Rattle.clap.specs.Words.{app_of}
+use Rattle.elf_cli.specs.CommandLine.{with_command, without_command}
+use Rattle.elf_cli.specs.Described.{command_row}
+use Rattle.elf_cli.proofs.BuildingLaws.{all_taken}
 use Rattle.elf_cli.proofs.commands.command_line.Goals as goal
+
+pub loop-command-preserved : goal.loop-command-preserved
+loop-command-preserved c =
+    subst (λ a. app_of c.in_ok-whole-2.whole ≡ a)
+    (sym (fold_more (λ app row. with_command c.args.parts app (command_row row)) without_command _ c.loop-command.command-index _ c.loop-command-test.true))
+    (c.in_ok-whole-2.ensures _ c.loop-command.invariant)
 
 pub returns : goal.returns
 returns c =
-    let one = c.in_ok-command.ensures without_command c.in_ok-program.ensures ∙ c.of_one_file.ensures c.args.parts in
-    let many = c.in_ok-command-2.ensures (with_one_file c.args.parts) one ∙ c.of_many_files.ensures c.args.parts (with_one_file c.args.parts) in
-    c.with_command-2.ensures _ (c.in_ok-command-3.ensures _ many)
+    c.loop-command.invariant
+    ∙ all_taken (with_command c.args.parts) command_row without_command _ c.loop-command.command-index _ c.loop-command-test.false c.all_commands-commands.ensures

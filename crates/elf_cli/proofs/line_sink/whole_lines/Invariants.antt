@@ -1,5 +1,5 @@
 -- No line ends after the place reached.
-use Rattle.std.proofs.Common.{◌≡◌, ◌≤◌, length}
+use Rattle.std.proofs.Common.{◌≤◌, length}
 use Rattle.elf_cli.specs.Lines.{NoLineFrom}
 use Rattle.elf_cli.proofs.line_sink.whole_lines.Given as goal
 

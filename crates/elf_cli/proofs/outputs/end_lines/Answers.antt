@@ -1,6 +1,4 @@
 -- What is left of an output of whole lines.
-use Rattle.std.proofs.Common.{rules, ◌≡◌, true, false}
-use Rattle.elf_cli.specs.Endings.{wants_rest_of}
 use Rattle.elf_cli.proofs.OutputLaws.{rest_put}
 use Rattle.elf_cli.proofs.outputs.end_lines.Goals.{then-is_rest_wanted, else-is_rest_wanted}
 use Rattle.elf_cli.proofs.outputs.end_lines.Goals as goal

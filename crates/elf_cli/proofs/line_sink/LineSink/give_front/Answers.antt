@@ -1,5 +1,5 @@
 -- A prefix of the buffer is written, and the rest moves up.
-use Rattle.std.proofs.Common.{rules, ◌≡◌, ◌≤◌, sym, drop, length, take, arith}
+use Rattle.std.proofs.Common.{rules, ◌≡◌, ◌≤◌, sym, length, arith}
 use Rattle.std.proofs.lemmas.List.{length-take-le}
 use Rattle.elf_cli.proofs.LineLaws.{front_kept, given_front, moved_up}
 use Rattle.elf_cli.proofs.line_sink.LineSink.give_front.Goals as goal
