@@ -3,7 +3,7 @@ ghost use Rattle.std.specs.Prelude.{◌≡◌, ◌≤◌, ◌⊎◌, IfErr, IfOk
 
 use crate::exit_lines::{CANNOT_OPEN, ExitLine, OUT_OF_MEMORY, READ_FAULT};
 use crate::outputs::OUTPUT_BYTES;
-use elf_source::{FileReader, StreamSource, opened_path};
+use elf_source::{FileReader, PageCache, StreamSource, opened_path};
 use elf_table::HeaderBuffer;
 use std::alloc::Global;
 use std::fs;
@@ -31,6 +31,24 @@ pub fn allocate<W: Write + Drop>(
     };
     match BufWriter::with_capacity(alloc, OUTPUT_BYTES, output) {
         Ok(output) => Ok((room, output)),
+        Err(_) => Err(OUT_OF_MEMORY),
+    }
+}
+
+/// Allocates the pages of a file that are cached. With a read budget there are none, since each
+/// byte that is read of the file counts.
+///
+/// # Errors
+/// How the program ends if it is out of memory.
+pub fn allocate_pages(alloc: Global, budget: Option<u64>) -> Result<PageCache, ExitLine>
+    ensures { IfErr result (λ ending. (ending.0 ≡ 3)
+        × (ending.1.now ≡ codes "elfsee: out of memory")) }
+{
+    if budget.is_some() {
+        return Ok(PageCache::new(alloc, false));
+    }
+    match PageCache::with_room(alloc) {
+        Ok(pages) => Ok(pages),
         Err(_) => Err(OUT_OF_MEMORY),
     }
 }

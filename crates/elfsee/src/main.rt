@@ -19,14 +19,14 @@ ghost use Rattle.elfsee.specs.Ends.{AnswersFile, EndsRunOver, EndsWithoutFile, E
 
 use archives::list_archive;
 use elf_cli::{
-    ExitLine, OUT_OF_MEMORY, allocate, end_answer, exit, open, read_words, report_refused,
-    report_version,
+    ExitLine, OUT_OF_MEMORY, allocate, allocate_pages, end_answer, exit, open, read_words,
+    report_refused, report_version,
 };
 use elf_fixtures::sample;
 use elf_layout::Layout;
 use elf_record::Refusal;
 use elf_requests::{ParsedCommand, Request, request, run};
-use elf_source::{Counted, MemorySource, Out, Sink, Source, WriteSink};
+use elf_source::{CachedSource, Counted, MemorySource, Out, PageCache, Sink, Source, WriteSink};
 use elf_table::{HeaderStore, RunFault};
 use layouts::apply_laid;
 use lists::list_files;
@@ -106,7 +106,7 @@ fn make_layout(alloc: Global) -> Result<Box<Layout>, ExitLine>
     }
 }
 
-/// Allocates the output, opens the file, and carries out the request.
+/// Allocates the buffers, opens the file, and carries out the request.
 fn answer_request<R: Files + Print + AllocGlobal>(
     rt: &R,
     request: &Request<'_>,
@@ -121,13 +121,18 @@ where
         Ok(buffers) => buffers,
         Err(ending) => return Err(ending),
     };
-    match answer_into(rt, request, room.store(), output, errors) {
+    let pages = match allocate_pages(rt.alloc(), request.limits.budget) {
+        Ok(pages) => pages,
+        Err(ending) => return Err(ending),
+    };
+    match answer_into(rt, request, room.store(), pages, output, errors) {
         Ok((ending, _output)) => Ok(ending),
         Err(ending) => Err(ending),
     }
 }
 
-/// Opens the file, and carries out the request. Returns how the program ends, and the sink.
+/// Opens the file, and carries out the request; what is read of the file is cached in `pages`.
+/// Returns how the program ends, and the sink.
 ///
 /// # Errors
 /// The file cannot be opened.
@@ -135,6 +140,7 @@ fn answer_into<R: Files + AllocGlobal, W: Write + Drop>(
     rt: &R,
     request: &Request<'_>,
     store: HeaderStore<'_>,
+    pages: PageCache,
     output: BufWriter<W>,
     errors: Stderr,
 ) -> Result<(ExitLine, WriteSink<W>), ExitLine>
@@ -149,7 +155,10 @@ where
     let alloc = rt.alloc();
     match request.file {
         Some(path) => match open(rt, path) {
-            Ok(source) => Ok(write_answer(alloc, request, source, store, output, errors)),
+            Ok(source) => {
+                let source = CachedSource::new(source, pages);
+                Ok(write_answer(alloc, request, source, store, output, errors))
+            }
             Err(ending) => Err(ending),
         },
         None => {

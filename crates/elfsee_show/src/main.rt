@@ -5,12 +5,12 @@
 ghost use Rattle.std.specs.Prelude.{◌≡◌};
 
 use elf_cli::{
-    CommandArgs, CommandName, ExitLine, allocate, end_answer, exit, open, parse_show, read_words,
-    report_refused, report_version,
+    CommandArgs, CommandName, ExitLine, allocate, allocate_pages, end_answer, exit, open,
+    parse_show, read_words, report_refused, report_version,
 };
 use elf_fixtures::sample;
 use elf_listing::show;
-use elf_source::{Counted, MemorySource, Out, Source, WriteSink};
+use elf_source::{CachedSource, Counted, MemorySource, Out, Source, WriteSink};
 use elf_table::HeaderStore;
 use std::io::{self, BufWriter, Stderr, Write};
 use std::os::unix::fs::FileExt;
@@ -35,8 +35,12 @@ where
         return report_version(rt);
     }
     let (mut room, output) = allocate(rt.alloc(), args.caps.limits.headers, io::writer(rt))?;
+    let pages = allocate_pages(rt.alloc(), args.caps.limits.budget)?;
     match args.file {
-        Some(path) => Ok(list(&args, open(rt, path)?, room.store(), output)),
+        Some(path) => {
+            let source = CachedSource::new(open(rt, path)?, pages);
+            Ok(list(&args, source, room.store(), output))
+        }
         None => Ok(list(&args, MemorySource::new(sample()), room.store(), output)),
     }
 }
