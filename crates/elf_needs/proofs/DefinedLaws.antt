@@ -3,7 +3,7 @@ use Rattle.std.proofs.Common.{◌≡◌, ℕ, zero, suc, ◌+◌, if◌then◌el
 use Rattle.std.proofs.lemmas.Bool.{cases_Bool}
 use Rattle.std.proofs.lemmas.Bool.Decides.{nat_tests}
 use Rattle.std.specs.Prelude.{◌==◌, is_none, is_some, not, option_map}
-use Rattle.elf_model.specs.Prelude.{DT_VERDEF, DT_VERSYM, IsBudgetRefusal, Meets, Misses, NeededVersion, RecordCursorState, Refuses, VersionRecordRead, VersionRecordTable as IsTableOf, Versions, VisitedRecord, along, define_version, dynamic_segment_index, first_position, first_refusal, hash_word, name_index, named_at, next_position, next_word, no_versions, readings_of, record_checks, version_records_at, rest_checks, rest_place, rest_size, same, segment_at, segment_strings, state_by_records, state_by_segments, state_in_file, tagged_row, visited_at, visited_from, with_visited}
+use Rattle.elf_model.specs.Prelude.{DT_VERDEF, DT_VERSYM, Meets, NeededVersion, RecordCursorState, VersionRecordRead, VersionRecordTable as IsTableOf, Versions, VisitedRecord, along, define_version, dynamic_segment_index, first_position, first_refusal, hash_word, name_index, named_at, next_position, next_word, readings_of, record_checks, version_records_at, rest_checks, rest_place, rest_size, same, segment_at, segment_strings, state_by_records, state_by_segments, state_in_file, tagged_row, visited_at, visited_from, with_visited}
 use Rattle.elf_model.specs.Records.{vd_hash}
 use Rattle.elf_model.specs.declared.causes.Cause.{Cause}
 use Rattle.elf_model.specs.declared.causes.Refusal.{Refusal}
@@ -21,7 +21,7 @@ use Rattle.elf_note.specs.declared.record.VersionRecord.{VersionRecord}
 use Rattle.elf_note.specs.declared.record_position.RecordPosition.{RecordPosition}
 use Rattle.elf_loader.proofs.LeftReadings.{ended-left, left_of, refused-left}
 use Rattle.elf_needs.specs.NeedWalks.{AtDefinition, DefinesOne}
-use Rattle.elf_needs.specs.Sought.{IsReportedAlone, RefusesAs, ReturnsAs}
+use Rattle.elf_needs.specs.Sought.{IsReportedAlone, RefusesAs}
 use Rattle.elf_needs.specs.VersionTables.{AreRecordsAt, AreVersionsAt, AreVersionsOf, FileVersionsInBounds, no_file_versions}
 use Rattle.elf_needs.specs.declared.version_tables.FileVersions.{FileVersions}
 

@@ -1,8 +1,8 @@
 -- What the words that are kept of a filter exclude.
-use Rattle.std.proofs.Common.{◌≡◌, ℕ, ◌+◌, ◌*◌, ◌/◌, ◌%◌, ◌^◌, ◌<◌, ◌≤◌, ◌&&◌, not, Bool, false, true, List, [], is_some, length, take, Option, None, Some, Result, Ok, refl, sym, ap, subst, ◌∙◌, arith}
+use Rattle.std.proofs.Common.{◌≡◌, ℕ, ◌+◌, ◌*◌, ◌/◌, ◌%◌, ◌^◌, ◌≤◌, ◌&&◌, not, Bool, false, true, List, [], is_some, length, take, Option, None, Some, Ok, refl, sym, ap, subst, ◌∙◌, arith}
 use Rattle.elf_model.specs.Bytes.{field, slice}
 use Rattle.elf_model.specs.GnuHash.{filter_may_contain, gnu_hash, is_set}
-use Rattle.elf_model.specs.Prelude.{LookupTables as IsScopeOf, GnuTable, SymbolQuery, definition_lookup}
+use Rattle.elf_model.specs.Prelude.{GnuTable, SymbolQuery}
 use Rattle.elf_model.proofs.Slices.{field-slice}
 use Rattle.elf_source.specs.Source.{CountedState, SetsLimit, KeepsSource, SourceState}
 use Rattle.elf_source.proofs.ReadsLaws.{ReadsUpTo-none}

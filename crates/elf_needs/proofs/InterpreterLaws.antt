@@ -11,7 +11,7 @@ use Rattle.elf_model.proofs.Slices.{field-slice}
 use Rattle.elf_model.proofs.StyleLemmas.{view_tells_of_none}
 use Rattle.elf_source.specs.Source.{CountedState, MasksSectionHeaders}
 use Rattle.elf_table.proofs.FaultLaws.{charges_hidden}
-use Rattle.elf_table.specs.Prelude.{CallDid, CallReads, HoldsProgramHeaders, LoadedFile, StoreState, StringTableRange, fault_of_result, first_of_kind, strings, strings_in}
+use Rattle.elf_table.specs.Prelude.{CallDid, HoldsProgramHeaders, LoadedFile, StoreState, StringTableRange, fault_of_result, first_of_kind, strings, strings_in}
 use Rattle.elf_table.specs.Views.{segment_place}
 use Rattle.elf_table.specs.declared.fault.Fault.{Fault}
 use Rattle.elf_table.specs.declared.fault.Fault.TheVariants.{Refused, Source}

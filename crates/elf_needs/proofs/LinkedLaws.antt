@@ -1,6 +1,6 @@
 -- Which of many files have needs that are listed, by their headers, which are loaded.
 use Rattle.std.proofs.Common.{◌≡◌, ℕ, Bool, true, List, ◌++◌, None, Some, Result, Ok, Err, refl}
-use Rattle.elf_model.specs.Prelude.{IsBudgetRefusal, e_shnum, first_refusal, header_checks, load_checks, without_sections}
+use Rattle.elf_model.specs.Prelude.{e_shnum, first_refusal, header_checks, load_checks, without_sections}
 use Rattle.elf_model.specs.declared.causes.Refusal.{Refusal}
 use Rattle.elf_model.proofs.StyleLemmas.{view_tells_of_none}
 use Rattle.elf_source.specs.Source.{CountedState, MasksSectionHeaders}

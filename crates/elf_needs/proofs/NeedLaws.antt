@@ -1,5 +1,5 @@
 -- What the versions that a file needs or defines cost to read.
-use Rattle.std.proofs.Common.{◌≡◌, ℕ, zero, suc, ◌+◌, ◌-◌, ◌*◌, ◌/◌, ◌<◌, ◌≤◌, List, length, length-set, get_or, get_or-set_same, set, Option, None, Some, Ok, Err, sym, ap, subst, ◌∙◌, arith}
+use Rattle.std.proofs.Common.{◌≡◌, ℕ, zero, suc, ◌+◌, ◌-◌, ◌*◌, ◌/◌, ◌<◌, ◌≤◌, List, length, length-set, get_or, get_or-set_same, set, Option, Some, Ok, Err, sym, ap, subst, ◌∙◌, arith}
 use Rattle.elf_model.specs.Prelude.{max_records}
 use Rattle.elf_model.specs.declared.versions.VersionKind.{VersionKind}
 use Rattle.elf_model.specs.declared.versions.VersionKind.TheVariants.{Definition, File, Need}
@@ -8,7 +8,7 @@ use Rattle.elf_hash.specs.declared.symbols.VersionRecordTable.{VersionRecordTabl
 use Rattle.elf_note.specs.Prelude.{KeepsWalk, LeavesWalk, VersionCursorState, unread}
 use Rattle.elf_note.specs.declared.record.VersionRecord.{VersionRecord}
 use Rattle.elf_table.specs.declared.fault.Fault.{Fault}
-use Rattle.elf_loader.proofs.RecordWalk.{StepsRelocationWalk, gone_by, walk-next, walk-pays, walk-spends}
+use Rattle.elf_loader.proofs.RecordWalk.{StepsRelocationWalk, walk-pays, walk-spends}
 use Rattle.elf_needs.proofs.AskLaws.{same_element}
 use Rattle.elf_needs.specs.Bound.{AsksAll}
 use Rattle.elf_needs.specs.Kept.{LookupObjectState}

@@ -1,16 +1,12 @@
 -- What is read of the versions that a file needs or defines.
-use Rattle.std.proofs.Common.{◌≡◌, ℕ, zero, suc, ◌+◌, ◌-◌, ◌*◌, ◌≤◌, if◌then◌else◌, Bool, true, false, List, [], ◌∷◌, Option, None, Some, Result, Ok, Err, IfSome, IfOk, refl, sym, ap, subst, ◌∙◌, arith}
-use Rattle.std.specs.Prelude.{◌==◌, not, is_none, is_some, option_map}
+use Rattle.std.proofs.Common.{◌≡◌, ℕ, ◌-◌, Bool, List, [], ◌∷◌, None, Result, Ok, Err, refl, sym, subst, ◌∙◌}
+use Rattle.std.specs.Prelude.{◌==◌, not}
 use Rattle.std.specs.Int.RustNames.{bit_and}
-use Rattle.elf_model.specs.Prelude.{DT_VERDEF, DT_VERSYM, NeedRefused, IsBudgetRefusal, Meets, Misses, NeededVersion, NeededVersionRead, Needs, RecordCursorState, Refuses, VersionRecordRead, VersionRecordTable as IsTableOf, Versions, VisitedRecord, define_version, dynamic_segment_index, first_refusal, hash_word, flags_word, name_index, named_at, needed_versions, next_position, readings_of, record_checks, version_records_at, rest_checks, same, segment_at, state_by_records, state_by_segments, state_in_file, tagged_row, visited_at, visited_from, whole_name, with_visited}
-use Rattle.elf_model.specs.Records.{vd_hash, vna_flags, vna_hash}
-use Rattle.elf_model.specs.declared.causes.Cause.{Cause}
+use Rattle.elf_model.specs.Prelude.{NeedRefused, Meets, NeededVersionRead, Needs, VersionRecordRead, VersionRecordTable as IsTableOf, VisitedRecord, hash_word, flags_word, name_index, named_at, needed_versions, whole_name}
+use Rattle.elf_model.specs.Records.{vna_flags, vna_hash}
 use Rattle.elf_model.specs.declared.causes.Refusal.{Refusal}
-use Rattle.elf_model.specs.declared.states.VersionState.{VersionState}
 use Rattle.elf_model.specs.declared.states.VersionState.TheVariants as state
-use Rattle.elf_model.specs.declared.versions.VersionKind.{VersionKind}
 use Rattle.elf_model.specs.declared.versions.VersionKind.TheVariants.{Definition, File, Need}
-use Rattle.elf_table.specs.Prelude.{strings_in}
 use Rattle.elf_table.specs.declared.fault.Fault.{Fault}
 use Rattle.elf_table.specs.declared.fault.Fault.TheVariants.{Refused, Source}
 use Rattle.elf_hash.specs.Prelude.{IsVersionRecordTable}
@@ -19,7 +15,7 @@ use Rattle.elf_note.specs.Reading.{IsCursorOf, IsVersion, ReturnsVersion, Versio
 use Rattle.elf_note.specs.declared.record.VersionRecord.{VersionRecord}
 use Rattle.elf_loader.proofs.LeftReadings.{ended-left, left_of, refused-left}
 use Rattle.elf_needs.specs.NeedWalks.{IsNeedsOf, ReturnsNeed, ReturnsNeedIf, needs_left}
-use Rattle.elf_needs.specs.Sought.{RefusesAs, ReturnsWhole}
+use Rattle.elf_needs.specs.Sought.{ReturnsWhole}
 use Rattle.elf_needs.specs.declared.needed_versions.NeedsWalk.{NeedsWalk}
 
 -- THE NAME OF A RECORD

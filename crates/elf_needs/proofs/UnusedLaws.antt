@@ -1,5 +1,5 @@
 -- What was requested from objects, of which one more was read.
-use Rattle.std.proofs.Common.{◌≡◌, ℕ, ◌<◌, List, length, get_or, set, Option, Result}
+use Rattle.std.proofs.Common.{ℕ, ◌<◌, List, length, get_or, set, Option, Result}
 use Rattle.elf_model.specs.Prelude.{SymbolQuery}
 use Rattle.elf_table.specs.declared.fault.Fault.{Fault}
 use Rattle.elf_needs.specs.Copied.{ReadsKept}

@@ -1,17 +1,17 @@
 -- The tables of symbol versions of a file, by its dynamic entries.
-use Rattle.std.proofs.Common.{◌≡◌, ◌⊎◌, inl, inr, ℕ, ◌/◌, Bool, true, false, List, [], ◌∷◌, ◌++◌, Option, None, Some, Result, Ok, Err, refl, sym, ap, subst, ◌∙◌}
+use Rattle.std.proofs.Common.{◌≡◌, ◌⊎◌, inl, inr, ℕ, ◌/◌, true, List, [], ◌∷◌, ◌++◌, Option, None, Some, Result, Ok, Err, refl, sym, ap, subst, ◌∙◌}
 use Rattle.std.specs.Prelude.{◌==◌, ◌||◌, is_none, is_some, nat_lt, option_map}
-use Rattle.elf_model.specs.Prelude.{Check, DT_STRSZ, DT_STRTAB, DT_SYMTAB, DT_VERSYM, HashStyle, IsBudgetRefusal, LookupTables as IsScopeOf, VersionRecordTable as IsTableOf, checks_of_row, d_un, dynamic_segment_index, e_shnum, first_refusal, has_wide_kind, hash_row, header_checks, least_size, load_checks, lookup_tables_by_segments, lookup_tables_of, mapped_bytes, mapped_checks, mapped_place, overlap_checks, p_filesz, p_offset, version_records_at, records_of_tag, refuse, rest_checks, rest_place, rest_size, rows_checks, scope_in_segment, scope_in_segments, segment_at, segment_checks, segment_dynamic_checks, segment_strings, tagged_row, without_sections}
+use Rattle.elf_model.specs.Prelude.{Check, DT_STRSZ, DT_STRTAB, DT_SYMTAB, DT_VERSYM, HashStyle, LookupTables as IsScopeOf, VersionRecordTable as IsTableOf, checks_of_row, d_un, dynamic_segment_index, e_shnum, first_refusal, has_wide_kind, hash_row, header_checks, least_size, load_checks, lookup_tables_by_segments, lookup_tables_of, mapped_bytes, mapped_checks, mapped_place, overlap_checks, p_filesz, p_offset, version_records_at, records_of_tag, refuse, rest_checks, rest_place, rest_size, rows_checks, scope_in_segment, scope_in_segments, segment_at, segment_checks, segment_dynamic_checks, segment_strings, tagged_row, without_sections}
 use Rattle.elf_model.specs.declared.causes.Cause.TheVariants.{HashShape, NoHash, Unmapped}
 use Rattle.elf_model.specs.declared.causes.Refusal.{Refusal}
 use Rattle.elf_model.specs.declared.versions.VersionKind.{VersionKind}
 use Rattle.elf_model.proofs.StyleLemmas.{view_is_its_own, view_tells_of_none}
 use Rattle.elf_source.specs.Source.{CountedState, SourceState}
 use Rattle.elf_model.proofs.CheckSteps.{first_refusal-back, first_refusal-none, first_refusal-some, passes_front}
-use Rattle.elf_table.specs.Prelude.{ChecksThenValue, IsOfRead, RefusedBy, StoreState, StringTableRange, TableRange, dynamic_table_at, rows, strings, strings_in, strings_mapped}
+use Rattle.elf_table.specs.Prelude.{ChecksThenValue, IsOfRead, RefusedBy, StoreState, StringTableRange, dynamic_table_at, rows, strings, strings_in, strings_mapped}
 use Rattle.elf_table.specs.declared.fault.Fault.{Fault}
 use Rattle.elf_table.specs.declared.fault.Fault.TheVariants.{Refused, Source}
-use Rattle.elf_hash.specs.Prelude.{AreInFront, AreTaggedEntries, AreVersionRecordTables, IsVersionRecordTable, LoadsSegments, dynamic_entry_at, table_if_any, version_rows}
+use Rattle.elf_hash.specs.Prelude.{AreInFront, AreTaggedEntries, AreVersionRecordTables, LoadsSegments, dynamic_entry_at, table_if_any, version_rows}
 use Rattle.elf_hash.specs.declared.dyn_entry.DynEntry.{DynEntry}
 use Rattle.elf_hash.specs.declared.dyn_entry.DynamicTags.{DynamicTags}
 use Rattle.elf_hash.specs.declared.symbols.VersionRecordTable.{VersionRecordTable}

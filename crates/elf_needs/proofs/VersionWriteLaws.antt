@@ -1,13 +1,12 @@
 -- The lines of one needed version after another.
-use Rattle.std.proofs.Common.{◌≡◌, ◌⊎◌, ℕ, ◌||◌, Bool, true, false, List, [], ◌∷◌, ◌++◌, inl, inr, Option, None, Some, Result, Ok, Err, refl, sym, ap, subst, ◌∙◌, append_assoc, append-nil}
-use Rattle.elf_model.proofs.BudgetLaws.{is_budget_fault}
+use Rattle.std.proofs.Common.{◌≡◌, ℕ, ◌||◌, Bool, true, false, List, [], ◌∷◌, ◌++◌, inl, Option, None, Some, Result, Ok, Err, refl, sym, ap, subst, ◌∙◌, append_assoc, append-nil}
 use Rattle.elf_model.specs.Prelude.{IsBudgetRefusal, RecordsRefused, VersionAbsent, VersionItem, any_lacking, needed_version_line, refusal_line, version_items_text}
 use Rattle.elf_model.specs.declared.causes.Refusal.{Refusal}
 use Rattle.elf_model.specs.declared.formats.Format.{Format}
 use Rattle.elf_model.specs.declared.states.VersionState.{VersionState}
 use Rattle.elf_source.specs.Prelude.{IsOutFault, OutState, SinkTakes, SinkTakesPrefix}
 use Rattle.elf_source.specs.declared.faults.OutFault.{OutFault}
-use Rattle.elf_source.proofs.PutsLaws.{SinkTakes-nothing, SinkTakes-then, SinkTakesPrefix-more, SinkTakesPrefix-then}
+use Rattle.elf_source.proofs.PutsLaws.{SinkTakes-nothing}
 use Rattle.elf_table.specs.declared.fault.Fault.{Fault}
 use Rattle.elf_table.specs.declared.fault.Fault.TheVariants.{Refused, Source}
 use Rattle.elf_needs.specs.ItemLines.{ReturnsFault, WritesLines, WritesSoFar}
@@ -16,7 +15,7 @@ use Rattle.elf_needs.specs.VersionLines.{WritesNeed, WritesVersion, needed_versi
 use Rattle.elf_needs.specs.declared.search_scope.WriteEnd.{WriteEnd}
 use Rattle.elf_needs.specs.declared.search_scope.WriteEnd.TheVariants.{Cut, Ended, Whole}
 use Rattle.elf_needs.specs.declared.walk.NeedsFault.{NeedsFault}
-use Rattle.elf_needs.specs.declared.walk.NeedsFault.TheVariants.{Open, Out, Read}
+use Rattle.elf_needs.specs.declared.walk.NeedsFault.TheVariants.{Out, Read}
 use Rattle.elf_needs.proofs.ItemLineLaws.{AreItemLines, ends_cut, ends_fault, faulted, so_far_all, so_far_none}
 
 -- the text of items after others, and whether there is one

@@ -1,11 +1,10 @@
 -- The effect of binding the symbols of a program's objects, over files that are kept open.
-use Rattle.std.specs.Prelude.{ℕ, ◌≡◌, ◌+◌, ◌<◌, ◌≤◌, ◌⊎◌, Bool, true, false, List, [], ◌++◌, length, get_or, Option, None, Some, Result, Ok, Err}
-use Rattle.elf_model.specs.Prelude.{BoundItem, BoundObjects, Faulty, IsBudgetRefusal, LookupTables as IsScopeOf, Told, any_unbound, before_items, file_of_version, is_weak, lookup_tables_of, refusal_line, symbol_offset}
+use Rattle.std.specs.Prelude.{ℕ, ◌≡◌, ◌+◌, ◌<◌, ◌≤◌, List, [], ◌++◌, length, get_or, Option, None, Some, Result, Ok, Err}
+use Rattle.elf_model.specs.Prelude.{BoundItem, BoundObjects, Faulty, IsBudgetRefusal, LookupTables as IsScopeOf, Told, any_unbound, before_items, file_of_version, is_weak, lookup_tables_of, symbol_offset}
 use Rattle.elf_model.specs.declared.states.BindingState.{BindingState}
 use Rattle.elf_source.specs.Source.{counted}
-use Rattle.elf_model.specs.declared.formats.Format.{Format}
 use Rattle.elf_model.specs.declared.causes.Refusal.{Refusal}
-use Rattle.elf_source.specs.Output.{IsOutFault, SinkTakes, SinkTakesPrefix, OutState}
+use Rattle.elf_source.specs.Output.{OutState}
 use Rattle.elf_table.specs.declared.fault.Fault.{Fault}
 use Rattle.elf_table.specs.declared.fault.Fault.TheVariants.{Refused, Source}
 use Rattle.elf_needs.specs.Binds.{AreObjectFiles, asked_of_all}
@@ -22,7 +21,6 @@ use Rattle.elf_needs.specs.declared.search_scope.WriteEnd.{WriteEnd}
 use Rattle.elf_needs.specs.declared.search_scope.WriteEnd.TheVariants.{Cut, Ended, Whole}
 use Rattle.elf_needs.specs.declared.known_object.ObjectList.{ObjectList}
 use Rattle.elf_needs.specs.declared.walk.NeedsFault.{NeedsFault}
-use Rattle.elf_needs.specs.declared.walk.NeedsFault.TheVariants.{Open, Out, Read}
 
 -- the objects whose files these are, with a given number of headers allowed in each, their indices
 -- among all objects, and all objects

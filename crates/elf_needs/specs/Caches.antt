@@ -1,5 +1,5 @@
 -- What is requested from a loader's cache.
-use Rattle.std.specs.Prelude.{ℕ, ◌≡◌, ◌-◌, ◌≤◌}
+use Rattle.std.specs.Prelude.{◌≡◌, ◌-◌, ◌≤◌}
 use Rattle.elf_source.specs.Source.{CountedState, counted}
 use Rattle.elf_needs.specs.Looks.{SpendsBudget}
 use Rattle.elf_needs.specs.declared.object_file.ReadAccount.{ReadAccount}

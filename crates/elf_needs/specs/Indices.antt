@@ -1,10 +1,11 @@
 -- The indices of versions that are kept of a file.
-use Rattle.std.specs.Prelude.{ℕ, ◌≡◌, List, Option, None, Some, IfSome, All}
-use Rattle.elf_model.specs.Prelude.{LookupTables as IsScopeOf, Version, VersionQuery, is_among, version_indices}
+use Rattle.std.specs.Prelude.{ℕ, ◌≡◌, ◌≤◌, List, Option, None, Some, IfSome, IsFalse, IsTrue, All, length, get_or}
+use Rattle.elf_model.specs.Prelude.{LookupTables as IsScopeOf, Version, VersionQuery, asked_name, is_among, version_indices}
 use Rattle.elf_source.specs.Source.{SourceState}
 use Rattle.elf_hash.specs.Prelude.{IsLookupTables}
 use Rattle.elf_hash.specs.declared.lookup_tables.LookupTables.{LookupTables}
 use Rattle.elf_loader.specs.NumberSets.{has_number}
+use Rattle.elf_needs.specs.declared.kept_indices.KeptIndices.{KeptIndices}
 use Rattle.elf_needs.specs.declared.kept_indices.VersionIndices.{VersionIndices}
 
 -- a set has exactly the indices of the wanted version, for which no record is refused
@@ -30,3 +31,14 @@ pub record KnowsIndices (seen : SourceState) (scope : LookupTables) (places : Li
 -- after a call it remains so
 pub record KeepsIndices (seen : SourceState) (scope : LookupTables) (old new : List (Option VersionIndices)) : Type 0 where
   pub keeps : (file : List ℕ) → seen.file ≡ Some file → (told : IsScopeOf) → IsLookupTables file told scope → AreIndicesOf file told old → AreIndicesOf file told new
+
+-- what is kept at a place has the name and the indices
+abbrev pub HasIndices : (name numbers : List ℕ) → Option VersionIndices → Type 0
+HasIndices name numbers (Some kept) = (kept.name.items ≡ name) × (kept.numbers ≡ numbers)
+HasIndices name numbers None = ⊥
+
+-- THE INDICES OF A VERSION ARE PUT at a place, if any are kept and its name has at most 32 bytes; if
+-- none are kept nothing changes
+pub record PutsIndices (old new : KeptIndices) (place : ℕ) (asked : VersionQuery) (numbers : List ℕ) : Type 0 where
+  pub unless : IsFalse old.keeps → new ≡ old
+  pub puts : IsTrue old.keeps → (name : List ℕ) → asked_name asked ≡ Some name → length name ≤ 32 → HasIndices name numbers (get_or new.places place None)

@@ -23,7 +23,15 @@ GivesHeld held at old new true =
     (file : List ℕ) → IsPageOf file held → new ≡ take (length old) (drop at file)
 GivesHeld held at old new false = new ≡ old
 
--- the same for all pages of a source
-abbrev pub GivesOf : SourceState → (at : ℕ) → (old new : List ℕ) → Bool → Type 0
-GivesOf seen at old new true = (file : List ℕ) → seen.file ≡ Some file → new ≡ take (length old) (drop at file)
-GivesOf seen at old new false = new ≡ old
+-- the same for all pages that are held
+abbrev pub GivesAny : List HeldBytes → (at : ℕ) → (old new : List ℕ) → Bool → Type 0
+GivesAny pages at old new true = (file : List ℕ) → All (IsPageOf file) pages → new ≡ take (length old) (drop at file)
+GivesAny pages at old new false = new ≡ old
+
+-- after a call they remain those of any file that they were of
+abbrev pub KeepsPages : (old new : List HeldBytes) → Type 0
+KeepsPages old new = (file : List ℕ) → All (IsPageOf file) old → All (IsPageOf file) new
+
+-- after a read of a source they remain those of its file
+abbrev pub ReadsPage : SourceState → (old new : List HeldBytes) → Type 0
+ReadsPage seen old new = (file : List ℕ) → seen.file ≡ Some file → All (IsPageOf file) old → All (IsPageOf file) new

@@ -1,9 +1,9 @@
 -- The effect of writing the lines of the versions that objects need and that are not there.
-use Rattle.std.specs.Prelude.{ℕ, ◌≡◌, ◌⊎◌, is_some, Bool, true, List, [], ◌++◌, get_or, Option, None, Some, Result, Ok, Err}
-use Rattle.elf_model.specs.Prelude.{IsBudgetRefusal, VersionItem, VersionRecordTable as IsTableOf, any_lacking, refusal_line, version_items_of, version_items_text, versions_needed}
+use Rattle.std.specs.Prelude.{ℕ, ◌≡◌, is_some, Bool, List, [], get_or, Option, None, Some, Result, Ok, Err}
+use Rattle.elf_model.specs.Prelude.{VersionItem, VersionRecordTable as IsTableOf, any_lacking, version_items_of, version_items_text, versions_needed}
 use Rattle.elf_model.specs.declared.formats.Format.{Format}
 use Rattle.elf_model.specs.declared.causes.Refusal.{Refusal}
-use Rattle.elf_source.specs.Output.{IsOutFault, OutState, SinkTakes, SinkTakesPrefix}
+use Rattle.elf_source.specs.Output.{OutState}
 use Rattle.elf_needs.specs.ItemLines.{ItemLines, WritesLines, WritesSoFar, failing_of, status_after}
 use Rattle.elf_needs.specs.NeedWalks.{IsNeedsOf, needs_left}
 use Rattle.elf_needs.specs.Providers.{versioned_among}
@@ -13,7 +13,6 @@ use Rattle.elf_needs.specs.declared.search_scope.WriteEnd.{WriteEnd}
 use Rattle.elf_needs.specs.declared.search_scope.WriteEnd.TheVariants.{Cut, Ended, Whole}
 use Rattle.elf_needs.specs.declared.walk.Listed.{Listed}
 use Rattle.elf_needs.specs.declared.walk.NeedsFault.{NeedsFault}
-use Rattle.elf_needs.specs.declared.walk.NeedsFault.TheVariants.{Open, Out, Read}
 
 -- how the lines of versions are written
 abbrev pub needed_version_lines : Format → ItemLines VersionItem

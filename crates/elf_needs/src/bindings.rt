@@ -1,7 +1,7 @@
 //! The bindings of the symbols that the objects of a program reference.
 ghost use Rattle.std.specs.Prelude.{◌≡◌, ◌<◌, ℕ, [], List, Ok, get_or, length};
 ghost use Rattle.elf_needs.specs.Binds.{AreObjectFiles};
-ghost use Rattle.elf_model.specs.BoundSymbols.{before_items, bound_item, bound_items, object_items};
+ghost use Rattle.elf_model.specs.BoundSymbols.{bound_item, bound_items, object_items};
 ghost use Rattle.elf_model.specs.LoaderScope.{LookupTables as IsScopeOf, lookup_tables_of};
 ghost use Rattle.elf_needs.specs.Bound.{AsksAll, IsBudgetShort, WritesBindings, WritesSymbol, bound_among, bound_lines, bound_of};
 ghost use Rattle.elf_needs.specs.ItemLines.{ReturnsFault, WritesLines, status_after};

@@ -1,24 +1,20 @@
 //! A source over another, of which some pages are cached.
 ghost use Rattle.std.specs.Prelude.{◌≡◌, ℕ, ◌+◌, ◌≤◌, List, length, take, drop, Some, IfErr, OnOk, ⊤};
-ghost use Rattle.elf_needs.specs.Pages.{GivesOf};
 ghost use Rattle.elf_source.specs.Source.{KeepsSource, IsSourceFault};
 
-use crate::page::{PAGE_BYTES, Page};
+use crate::page::PAGE_BYTES;
+use crate::page_cache::PageCache;
 use elf_source::{Source, SourceFault};
+use std::alloc::Global;
 use std::marker::Model;
 
-/// How many pages are cached.
-pub const PAGES: usize = 8;
-
-/// A source over another of which the last eight pages read are cached, 1,024 bytes each. Its file,
+/// A source over another of which the last 32 pages read are cached, 4,096 bytes each. Its file,
 /// its length and its failures are the other's.
 #[derive(Drop)]
 pub struct CachedSource<S: Source> {
     source: S,
     keeps: bool,
-    // The index of the page that was read first.
-    next: usize,
-    pages: [Page; PAGES],
+    pages: PageCache,
 }
 
 impl<S: Source> Model for CachedSource<S> {
@@ -34,36 +30,15 @@ impl<S: Source> Model for CachedSource<S> {
 
 impl<S: Source> CachedSource<S> {
     /// Creates a source over another, with no page cached yet, and if `keeps` is false none ever.
-    pub fn new(source: S, keeps: bool) -> Self
+    /// Each page is allocated from `alloc` when it is read; without memory it is not cached.
+    pub fn new(alloc: Global, source: S, keeps: bool) -> Self
         ensures { result ≡ S.seen source }
     {
         CachedSource {
             source,
             keeps,
-            next: 0,
-            pages: [
-                Page::new(),
-                Page::new(),
-                Page::new(),
-                Page::new(),
-                Page::new(),
-                Page::new(),
-                Page::new(),
-                Page::new(),
-            ],
+            pages: PageCache::new(alloc),
         }
-    }
-
-    /// Fills `out` with the bytes at the offset `at`, if one cached page has all of them.
-    fn give(&self, at: u64, out: &mut [u8]) -> bool
-        ensures { GivesOf self.now at out.old out.new result }
-    {
-        for place in 0..PAGES {
-            if self.pages[place].give(at, out) {
-                return true;
-            }
-        }
-        false
     }
 }
 
@@ -89,14 +64,12 @@ impl<S: Source> Source for CachedSource<S> {
         ensures faults { IfErr result (IsSourceFault self.old self.new) }
         ensures keeps { KeepsSource self.old self.new }
     {
-        if self.give(at, out) {
+        if self.pages.give(at, out) {
             return Ok(());
         }
         if self.keeps && stands_in_one(at, out.len()) && at < self.source.length() {
-            let place = self.next % PAGES;
-            self.next = place + 1;
-            self.pages[place].load(&mut self.source, at);
-            if self.pages[place].give(at, out) {
+            self.pages.load(&mut self.source, at);
+            if self.pages.give(at, out) {
                 return Ok(());
             }
         }

@@ -1,5 +1,5 @@
 //! The values of dynamic entries that have no text of their own.
-ghost use Rattle.std.specs.Prelude.{◌≡◌, ℕ, List, IfErr, IfOk};
+ghost use Rattle.std.specs.Prelude.{◌≡◌, IfErr, IfOk};
 ghost use Rattle.elf_table.specs.Prelude.{CallDid, IsOfRead, TableInBounds, fault_of_result, size_of};
 ghost use Rattle.elf_needs.specs.Entries.{AreEntryValues};
 

@@ -1,5 +1,5 @@
 //! The names of versions that are kept.
-ghost use Rattle.std.specs.Prelude.{◌≡◌, ℕ, List, IfSome, true};
+ghost use Rattle.std.specs.Prelude.{◌≡◌, ℕ, List, IfSome, IsFalse, true};
 ghost use Rattle.elf_model.specs.Prelude.{DynamicSymbols as AreSymbolsOf};
 ghost use Rattle.elf_needs.specs.VersionNames.{HaveVersionNames, HasVersionName};
 
@@ -9,7 +9,7 @@ use elf_note::VersionRecord;
 use elf_table::NameBuf;
 
 /// The maximum number of versions whose names are kept.
-const MOST_NAMES: usize = 8;
+const MOST_NAMES: usize = 16;
 
 /// The version with an index.
 #[derive(Drop)]
@@ -20,7 +20,8 @@ struct NamedVersion {
     file: Option<VersionRecord>,
 }
 
-/// The names of versions of a file by their indices: of at most eight, with at most 32 bytes.
+/// The names of versions of a file by their indices: of at most sixteen, with at most 32
+/// bytes.
 #[derive(Drop)]
 pub(crate) struct KeptVersionNames {
     keeps: bool,
@@ -35,13 +36,17 @@ impl KeptVersionNames {
     {
         KeptVersionNames {
             keeps: false,
-            places: [None, None, None, None, None, None, None, None],
+            places: [
+                None, None, None, None, None, None, None, None, None, None, None, None, None, None,
+                None, None,
+            ],
         }
     }
 
     /// Sets whether names are kept from now on.
     pub(crate) fn keep_if(&mut self, keeps: bool)
-        ensures { self.new.places ≡ self.old.places }
+        ensures set { self.new.keeps ≡ keeps }
+        ensures same { self.new.places ≡ self.old.places }
     {
         self.keeps = keeps;
     }
@@ -69,10 +74,11 @@ impl KeptVersionNames {
     /// Keeps the version with an index instead of the one at its place, if names are kept and its
     /// name has at most 32 bytes.
     pub(crate) fn keep(&mut self, number: u16, bytes: &[u8], file: Option<VersionRecord>)
-        ensures { (whole : List ℕ) (told : AreSymbolsOf) →
+        ensures known { (whole : List ℕ) (told : AreSymbolsOf) →
             HaveVersionNames whole told self.old.places →
             HasVersionName whole told number bytes.now file →
             HaveVersionNames whole told self.new.places }
+        ensures unless { IsFalse self.old.keeps → self.new ≡ self.old }
     {
         if !self.keeps {
             return;

@@ -1,7 +1,7 @@
 //! What a program needs, as GNU's dynamic loader sees it: [`DependencyWalk`] finds its objects in
 //! the order of the loader, along the paths that the loader would try for each library, and writes
 //! a line for each; and which object defines each symbol that they reference. Nothing is run or
-//! loaded. Memory is allocated once, before the first file.
+//! loaded. Memory is allocated once, before the first file, except for pages that are cached.
 #![tactic(auto)]
 
 mod bind_name;
@@ -45,6 +45,7 @@ mod object_reports;
 mod open_failures;
 mod open_objects;
 mod page;
+mod page_cache;
 mod path_budget;
 mod path_elements;
 mod paths;
@@ -75,7 +76,7 @@ pub use bind_name::{BindFault, BindResult, bind};
 pub use binding_states::{is_unbound, unbound_state};
 pub use budget::spend_budget;
 pub use buffers::NeedsBuffers;
-pub use cached_source::{CachedSource, PAGES};
+pub use cached_source::CachedSource;
 pub use faults::{is_budget_fault, is_reported_alone};
 pub use interpreter::{is_interpreter, read_interpreter};
 pub use known_object::MOST_OBJECTS;
@@ -88,7 +89,6 @@ pub use loader_cache::{LibraryCache, system_cache};
 pub use needers::{NeedingObject, SearchPaths, gather_dirs};
 pub use object::LookupObject;
 pub use open_objects::OpenObjects;
-pub use page::PAGE_BYTES;
 pub use paths::{CandidatePath, dir_of_path, named_path};
 pub use reference::SymbolReference;
 pub use reference_names::ReferenceNames;

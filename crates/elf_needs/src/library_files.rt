@@ -1,5 +1,5 @@
 //! Which files can be the library that is searched for.
-ghost use Rattle.std.specs.Prelude.{◌≡◌, ◌+◌, ◌≤◌, ℕ, List, length};
+ghost use Rattle.std.specs.Prelude.{◌≡◌, length};
 ghost use Rattle.elf_table.specs.Prelude.{CallDid, fault_of_result};
 ghost use Rattle.elf_model.specs.Prelude.{RefusedAt, field, first_refusal, has_other_abi, library_checks, library_file};
 ghost use Rattle.elf_needs.specs.Fits.{ReturnsLibrary, fitted, type_checks};

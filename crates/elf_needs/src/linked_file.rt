@@ -1,5 +1,5 @@
 //! Which of many files have needs that are listed.
-ghost use Rattle.std.specs.Prelude.{◌≡◌, ◌+◌, ◌*◌, ◌<◌, ◌^◌, ℕ, List, is_some};
+ghost use Rattle.std.specs.Prelude.{◌≡◌, ◌+◌, ◌*◌, ◌<◌, ℕ, List, is_some};
 ghost use Rattle.elf_table.specs.Prelude.{CallDid, HoldsProgramHeaders, fault_of_result};
 ghost use Rattle.elf_model.specs.Prelude.{dynamic_segment_index, e_shnum, e_type};
 ghost use Rattle.elf_needs.specs.Linked.{ReturnsLinked, is_linked, is_linked_type, linked_file, linked_shown};

@@ -1,5 +1,5 @@
 //! What a file needs, and where that is stored.
-ghost use Rattle.std.specs.Prelude.{◌≡◌, ◌+◌, ◌<◌, ◌≤◌, ◌++◌, ◌∷◌, [], ◌&&◌, ℕ, List, IfOk, IfSome, IsNone, Some, false, is_some, true, nat_lt, length, slice_get, slice_index_or, if◌then◌else◌};
+ghost use Rattle.std.specs.Prelude.{◌≡◌, ◌+◌, ◌<◌, ◌≤◌, ◌++◌, ◌∷◌, [], ℕ, IfOk, Some, false, true, nat_lt, length, slice_get, slice_index_or, if◌then◌else◌};
 ghost use Rattle.elf_table.specs.Prelude.{CallDid, StringsInBounds, fault_of_result, strings_in};
 ghost use Rattle.elf_model.specs.Prelude.{LINK_TEXT_BYTES, shown};
 ghost use Rattle.elf_needs.specs.Held.{with_text};

@@ -88,7 +88,7 @@ impl<S: Source + Drop> OpenObjects<CachedSource<S>> {
             return Ok(());
         }
         let keeps = left.is_none();
-        let mut source = Counted::new(CachedSource::new(source, keeps));
+        let mut source = Counted::new(CachedSource::new(*self.objects.allocator(), source, keeps));
         source.mask_section_headers(true);
         source.limit(*left);
         match LookupObject::open(source, store) {

@@ -7,7 +7,7 @@ use elf_source::Source;
 use std::marker::Model;
 
 /// How many bytes a page has.
-pub const PAGE_BYTES: usize = 1024;
+pub(crate) const PAGE_BYTES: usize = 4096;
 
 /// Bytes of a file at an offset, as many as are held.
 #[derive(Drop)]
@@ -25,7 +25,7 @@ impl Model for Page {
 
     ghost view = { λ p. record { at = p.at; bytes = take p.held p.bytes } };
 
-    ghost invariant = { λ p. p.held ≤ 1024 };
+    ghost invariant = { λ p. p.held ≤ 4096 };
 }
 
 impl Page {

@@ -1,6 +1,6 @@
 //! Paths composed of directories and names.
-ghost use Rattle.std.specs.Prelude.{◌≡◌, ◌==◌, ◌∷◌, ◌++◌, ◌≤◌, [], length, Some, None, true, false, slice_index};
-ghost use Rattle.elf_needs.specs.Searching.{MOST_PATH_BYTES, PATH_SLASH, after_dir, root_before, entry_path, expanded, IsDirOf, dir_of_entry, if_short, is_rooted};
+ghost use Rattle.std.specs.Prelude.{◌≡◌, ◌==◌, ◌∷◌, ◌++◌, ◌≤◌, [], length, Some, None, true, false};
+ghost use Rattle.elf_needs.specs.Searching.{MOST_PATH_BYTES, after_dir, root_before, entry_path, expanded, IsDirOf, dir_of_entry, if_short, is_rooted};
 ghost use Rattle.elf_needs.specs.Steps.{IsMade, PutsText, origin_of};
 
 use crate::tokens::token_at;

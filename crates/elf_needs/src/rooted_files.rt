@@ -5,7 +5,7 @@ use crate::root_path::{PathEntries, PathEntry, resolve};
 use memchr::memrchr;
 use std::alloc::{Alloc, Allocator, Global};
 use std::fmt::Display;
-use std::fs::{self, Metadata, OpenOptions, Permissions};
+use std::fs::{self, Metadata, OpenOptions};
 use std::io::{self, ErrorKind, Input, Lines};
 use std::path::PathBuf;
 use std::rt::Files;

@@ -1,5 +1,5 @@
 //! Texts in memory that is allocated once.
-ghost use Rattle.std.specs.Prelude.{◌≡◌, ◌+◌, ◌<◌, ◌≤◌, ◌++◌, ◌∷◌, [], ℕ, List, IfOk, IfSome, IsNone, is_some, nat_lt, ◌&&◌, length, slice_index_or};
+ghost use Rattle.std.specs.Prelude.{◌≡◌, ◌+◌, ◌<◌, ◌≤◌, [], IfOk, IfSome, IsNone, is_some, nat_lt, ◌&&◌, length, slice_index_or};
 ghost use Rattle.elf_model.specs.Prelude.{has_room, slice};
 ghost use Rattle.elf_needs.specs.Held.{with_text};
 
@@ -24,7 +24,7 @@ struct TextSpan {
 }
 
 impl Model for StringArena {
-    ghost use Rattle.std.specs.Prelude.{◌≡◌, ◌≤◌, ◌<◌, ◌+◌, ◌-◌, ◌^◌, ℕ, List, map, All, length, vec_capacity};
+    ghost use Rattle.std.specs.Prelude.{◌≡◌, ◌≤◌, ◌<◌, ◌+◌, ◌-◌, ◌^◌, map, All, length, vec_capacity};
     ghost use Rattle.elf_model.specs.Bytes.{slice};
     ghost use Rattle.elf_needs.specs.Held.{HeldTexts};
 

@@ -1,5 +1,5 @@
 -- Each record that is yielded is compared, until one is the version or none is left.
-use Rattle.std.proofs.Common.{◌+◌, ◌-◌, ◌*◌, ◌≡◌, [], Ok, Err, ap, length, ◌∙◌, arith}
+use Rattle.std.proofs.Common.{◌+◌, ◌-◌, ◌≡◌, [], ap, length, ◌∙◌, arith}
 use Rattle.std.proofs.lemmas.Result.{err_from_is_err_and}
 use Rattle.elf_table.proofs.Absent.{none-of}
 use Rattle.elf_table.proofs.LedgerLaws.{CallDid-as, CallDid-none, CallDid-then}
@@ -7,7 +7,7 @@ use Rattle.elf_model.specs.Prelude.{define_version, pad64}
 use Rattle.elf_note.specs.Reading.{unread}
 use Rattle.elf_note.proofs.TakenLaws.{going-did}
 use Rattle.elf_loader.proofs.LeftReadings.{left_of, start-left}
-use Rattle.elf_loader.proofs.RecordWalk.{gone-most, gone_by, walk-gives, walk-next, walk-pays, walk-spends, walk-starts}
+use Rattle.elf_loader.proofs.RecordWalk.{gone-most, walk-gives, walk-next, walk-pays, walk-spends, walk-starts}
 use Rattle.elf_needs.proofs.DefinedLaws.{at_first, define_ends, define_fails, met_kind, next_kind, refuses_then}
 use Rattle.elf_needs.proofs.defined_versions.defines.Goals as goal
 

@@ -1,5 +1,5 @@
 -- Some records of the table are compared, and the others are left.
-use Rattle.std.proofs.Common.{◌≡◌, ◌+◌, ◌*◌, [], List, length, None}
+use Rattle.std.proofs.Common.{◌≡◌, ◌+◌, ◌*◌, [], length, None}
 use Rattle.elf_table.specs.Ledger.{CallDid}
 use Rattle.elf_model.specs.Prelude.{VersionRecordTable as IsTableOf, define_version, pad64, readings_of}
 use Rattle.elf_model.specs.declared.versions.VersionKind.TheVariants.{Definition}

@@ -1,5 +1,5 @@
 -- No definitions, a refusal of them, or they are searched.
-use Rattle.std.proofs.Common.{◌+◌, ◌*◌, ◌/◌, Ok, length, ap, sym, ◌∙◌, arith, mul-le-mul_right}
+use Rattle.std.proofs.Common.{◌+◌, Ok, length, ap, sym, ◌∙◌, arith, mul-le-mul_right}
 use Rattle.elf_model.specs.Prelude.{pad64, state_by_records}
 use Rattle.elf_table.proofs.Absent.{none-of}
 use Rattle.elf_table.proofs.LedgerLaws.{CallDid-as, CallDid-none}

@@ -49,5 +49,5 @@ pub returns-clause-kept : goal.returns-clause-kept
 returns-clause-kept g c = record {
   keeps = λ file held told is are.
       let collects = c.in_ok-numbers.ensures.known file held told is.symbols in
-      c.keep.ensures file told (rw c.use_place-place.ensures.same are) (collected file told (query_of c.args.wanted.now).asked c.in_ok-numbers.numbers collects);
+      c.keep.ensures.known file told (rw c.use_place-place.ensures.same are) (collected file told (query_of c.args.wanted.now).asked c.in_ok-numbers.numbers collects);
 }

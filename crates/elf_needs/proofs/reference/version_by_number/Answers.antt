@@ -30,7 +30,7 @@ pub returns-clause-kept : goal.returns-clause-kept
 returns-clause-kept g c = record {
   keeps = λ file held told is are.
       let asked = c.in_ok-file.ensures.did.known file held told is in
-      c.keep.ensures file told are
+      c.keep.ensures.known file told are
       (rw c.bytes.ensures.value
       (record { named = named_anywhere file told.records c.args.number c.args.at _ asked; of_file = c.in_ok-file.ensures.file file held told is }));
 }

@@ -7,8 +7,8 @@ use Rattle.elf_needs.specs.Indices.{AreNumbersOf, IsIndicesIf}
 use Rattle.elf_needs.proofs.IndexLaws.{numbers_by_name, on_ok}
 use Rattle.elf_needs.proofs.kept_indices.KeptIndices.keep.Goals as goal
 
-pub returns-then-is_ok : goal.returns-then-is_ok
-returns-then-is_ok c = λ file told are numbers.
+pub returns-then-is_ok-clause-known : goal.returns-then-is_ok-clause-known
+returns-then-is_ok-clause-known c = λ file told are numbers.
     let version = c.in-Some.version.now in
     let put = on_ok c.try_extend_from_slice.result (sym c.is_ok.ensures.value ∙ c.if-is_ok.true) c.try_extend_from_slice.ensures.ok in
     let name : c.try_extend_from_slice.new.self.items ≡ version = put ∙ ap (λ (front : List ℕ). front ++ version) c.new-name.ensures in

@@ -9,10 +9,10 @@ pub returns-in-Some-clause-named : goal.returns-in-Some-clause-named
 returns-in-Some-clause-named c = λ file told are.
     let places = c.args.self.now.places in
     let kept = c.in-Some.kept in
-    let size : length places ≡ 8 = search rules in
+    let size : length places ≡ 16 = search rules in
     let from = c.from.ensures in
-    let low : c.from.result % 8 < length places = omega (arith, size) in
-    let here = rw c.in-Some.is at (All-get_or (HasVersionNameIf file told) places (c.from.result % 8) c.index-self-from.result low are) in
+    let low : c.from.result % 16 < length places = omega (arith, size) in
+    let here = rw c.in-Some.is at (All-get_or (HasVersionNameIf file told) places (c.from.result % 16) c.index-self-from.result low are) in
     let number : kept.number ≡ c.args.number = c.if-kept-number.true in
     let few : length c.as_slice.result.now ≤ 4096 = omega (arith, c.as_slice.ensures.fits) in
     let name : c.add.new.self ≡ kept.name.items =

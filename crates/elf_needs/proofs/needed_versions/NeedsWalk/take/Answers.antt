@@ -1,7 +1,6 @@
 -- The name of the record is read, or refused.
 use Rattle.std.proofs.Common.{[], Ok, Err, sym, ◌∙◌, arith}
 use Rattle.std.proofs.lemmas.Result.{err_from_is_err_and}
-use Rattle.elf_model.specs.Prelude.{needed_versions}
 use Rattle.elf_table.proofs.LedgerLaws.{CallDid-as}
 use Rattle.elf_table.specs.Prelude.{strings_in}
 use Rattle.elf_needs.proofs.NeedReadLaws.{definition_met, file_met, name_of_met, need_fails, need_met}

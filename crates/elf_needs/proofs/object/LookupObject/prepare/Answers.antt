@@ -23,4 +23,4 @@ invariant_of-self g c =
     let first = c.ready_table-ready.ensures.did in
     let did = did_first first c.load_if.ensures in
     rw c.unwrap_or-self-inside.ensures
-    (kept_prepared c.self.inside.headers c.self.inside.scope c.self.inside.ready _ c.self.invariant.0 c.limit.ensures did c.ready_table-ready.ensures.place c.limit-2.ensures, knows_between c.self.invariant.1 c.limit.ensures did c.limit-2.ensures, keeps_filter c.limit.ensures did.costs.reads.keeps c.limit-2.ensures (λ file held. c.load_if.ensures.known file (first.costs.reads.keeps.same_file ∙ ap (λ (s : SourceState). s.file) c.limit.ensures.seen ∙ held)), rw c.keep_if.ensures (knows_indices c.limit.ensures did.costs.reads.keeps c.limit-2.ensures c.self.invariant.3 same_indices), rw c.keep_if-2.ensures (knows_names c.limit.ensures did.costs.reads.keeps c.limit-2.ensures c.self.invariant.4 same_names))
+    (kept_prepared c.self.inside.headers c.self.inside.scope c.self.inside.ready _ c.self.invariant.0 c.limit.ensures did c.ready_table-ready.ensures.place c.limit-2.ensures, knows_between c.self.invariant.1 c.limit.ensures did c.limit-2.ensures, keeps_filter c.limit.ensures did.costs.reads.keeps c.limit-2.ensures (λ file held. c.load_if.ensures.known file (first.costs.reads.keeps.same_file ∙ ap (λ (s : SourceState). s.file) c.limit.ensures.seen ∙ held)), rw c.keep_if.ensures.same (knows_indices c.limit.ensures did.costs.reads.keeps c.limit-2.ensures c.self.invariant.3 same_indices), rw c.keep_if-2.ensures.same (knows_names c.limit.ensures did.costs.reads.keeps c.limit-2.ensures c.self.invariant.4 same_names))

@@ -1,0 +1,94 @@
+//! The pages of a file that were read last.
+ghost use Rattle.std.specs.Prelude.{◌≡◌, ◌<◌, []};
+ghost use Rattle.elf_needs.specs.Pages.{GivesAny, KeepsPages, ReadsPage};
+ghost use Rattle.elf_source.specs.Source.{KeepsSource};
+
+use crate::page::{PAGE_BYTES, Page};
+use elf_source::Source;
+use std::alloc::Global;
+use std::marker::Model;
+
+/// How many pages are cached.
+const PAGES: usize = 32;
+
+/// How many pages, by their numbers in the file, have an index of their own.
+const INDEXES: usize = 256;
+
+/// The pages of a file that were read last, at most 32.
+#[derive(Drop)]
+pub(crate) struct PageCache {
+    pages: Vec<Page>,
+    // The index of the page that is replaced next.
+    next: usize,
+    // The index of a page that is cached, by the remainder of its number in the file.
+    indexes: [u8; INDEXES],
+}
+
+impl Model for PageCache {
+    ghost use Rattle.std.specs.Prelude.{List};
+    ghost use Rattle.elf_needs.specs.Pages.{HeldBytes};
+
+    ghost Value = { List HeldBytes };
+
+    ghost view = { λ c. c.pages.items };
+}
+
+impl PageCache {
+    /// Creates an empty cache, which allocates each page from `alloc`.
+    pub(crate) fn new(alloc: Global) -> PageCache
+        ensures { result ≡ [] }
+    {
+        PageCache {
+            pages: Vec::new(alloc),
+            next: 0,
+            indexes: [0; INDEXES],
+        }
+    }
+
+    /// Fills `out` with the bytes at the file offset `at`, if the page that contains it is cached
+    /// and has all of them.
+    pub(crate) fn give(&self, at: u64, out: &mut [u8]) -> bool
+        ensures { GivesAny self.now at out.old out.new result }
+    {
+        match self.pages.get(usize::from(self.indexes[index_place(at)])) {
+            Some(page) => page.give(at, out),
+            None => false,
+        }
+    }
+
+    /// Reads the page that contains the file offset `at`: as a new page, or in place of the one
+    /// that was read first. If there is no memory for it, or the read fails, it is not cached.
+    pub(crate) fn load<S: Source>(&mut self, source: &mut S, at: u64)
+        requires { at < (S.seen source.old).size }
+        ensures keeps { KeepsSource (S.seen source.old) (S.seen source.new) }
+        ensures held { ReadsPage (S.seen source.old) self.old self.new }
+    {
+        let index = self.next_index();
+        if index < self.pages.len() {
+            self.indexes[index_place(at)] = index as u8;
+            self.pages[index].load(source, at);
+        }
+    }
+
+    /// Returns the index of the page that is read next: a new one, or the one that was read first.
+    fn next_index(&mut self) -> usize
+        ensures few { result < 32 }
+        ensures held { KeepsPages self.old self.new }
+    {
+        let count = self.pages.len();
+        if count < PAGES {
+            let _ = self.pages.push(Page::new());
+            return count;
+        }
+        let index = self.next % PAGES;
+        self.next = index + 1;
+        index
+    }
+}
+
+/// Returns the place of the index of the page that contains a file offset.
+fn index_place(at: u64) -> usize
+    ensures { result < 256 }
+{
+    (at / PAGE_BYTES as u64) as usize % INDEXES
+}
