@@ -29,7 +29,6 @@ pub mod SpendLaws
 pub mod IndexLaws
 pub mod NameLaws
 pub mod FilterLaws
-pub mod PageLaws
 pub mod AskLaws
 pub mod StateLaws
 pub mod ItemLineLaws

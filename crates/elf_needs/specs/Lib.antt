@@ -21,7 +21,6 @@ pub mod Opens
 pub mod Ready
 pub mod Sought
 pub mod Interpreting
-pub mod Pages
 pub mod ItemLines
 pub mod Bound
 pub mod Copied

@@ -3,7 +3,6 @@ ghost use Rattle.std.specs.Prelude.{◌≡◌};
 ghost use Rattle.elf_needs.specs.Budget.{AsksFile, AsksFiles};
 ghost use Rattle.elf_needs.specs.Walked.{report_alone, status_with};
 
-use crate::cached_source::CachedSource;
 use crate::file_identity::FileIdentity;
 use crate::known_object::KnownObject;
 use crate::links::LinkInfo;
@@ -11,7 +10,7 @@ use crate::object_file::{ObjectFile, ObjectRole};
 use crate::open_objects::OpenObjects;
 use crate::walk::{DependencyWalk, NeedsFault};
 use elf_format::{FoundBy, ObjectState};
-use elf_source::{Sink, Source};
+use elf_source::{CachedSource, Sink, Source};
 use elf_table::Fault;
 
 /// The result for an object: its state, what its dynamic entries give, and where its needs are.

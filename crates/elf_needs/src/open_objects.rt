@@ -4,10 +4,9 @@ ghost use Rattle.elf_needs.specs.Looks.{SpendsBudget};
 ghost use Rattle.elf_needs.specs.Opens.{AsksKept, KeepsIndex, KeepsOne};
 
 use crate::budget::spend_budget;
-use crate::cached_source::CachedSource;
 use crate::link_reader::without_hash;
 use crate::object::LookupObject;
-use elf_source::{Counted, Source};
+use elf_source::{CachedSource, Counted, PageCache, Source};
 use elf_table::{Fault, HeaderStore};
 use std::alloc::{AllocError, Global};
 
@@ -88,7 +87,8 @@ impl<S: Source + Drop> OpenObjects<CachedSource<S>> {
             return Ok(());
         }
         let keeps = left.is_none();
-        let mut source = Counted::new(CachedSource::new(*self.objects.allocator(), source, keeps));
+        let pages = PageCache::new(*self.objects.allocator(), keeps);
+        let mut source = Counted::new(CachedSource::new(source, pages));
         source.mask_section_headers(true);
         source.limit(*left);
         match LookupObject::open(source, store) {

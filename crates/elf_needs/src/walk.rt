@@ -4,7 +4,6 @@ ghost use Rattle.elf_needs.specs.Budget.{AsksFiles};
 ghost use Rattle.elf_needs.specs.Called.{HoldsNothing};
 
 use crate::buffers::NeedsBuffers;
-use crate::cached_source::CachedSource;
 use crate::candidates::{FileSource, attributes_at};
 use crate::known_object::{MOST_OBJECTS, ObjectList};
 use crate::line_options::LineOptions;
@@ -15,7 +14,7 @@ use crate::paths::CandidatePath;
 use crate::search_dirs::{Search, SearchDirs, SystemFiles};
 use crate::walk_needs::ControlFlow;
 use elf_format::FoundBy;
-use elf_source::{Out, OutFault, Sink};
+use elf_source::{CachedSource, Out, OutFault, Sink};
 use elf_table::HeaderStore;
 use std::os::unix::fs::FileExt;
 use std::rt::Files;

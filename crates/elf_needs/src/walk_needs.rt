@@ -2,7 +2,6 @@
 ghost use Rattle.std.specs.Prelude.{◌≡◌};
 ghost use Rattle.elf_needs.specs.Budget.{AsksFiles};
 
-use crate::cached_source::CachedSource;
 use crate::candidates::{FileSource, SearchEnd};
 use crate::known_object::{KnownObject, MOST_OBJECTS};
 use crate::links::NeededLibrary;
@@ -14,7 +13,7 @@ use crate::search_dirs::SystemFiles;
 use crate::walk::{DependencyWalk, NeedsFault, OpenFiles};
 use elf_format::{FoundBy, ObjectRow, ObjectState, show_too_many, show_too_many_paths};
 use elf_record::{Cause, Refusal};
-use elf_source::{Sink, Source};
+use elf_source::{CachedSource, Sink, Source};
 use memchr::memchr;
 use std::os::unix::fs::FileExt;
 use std::rt::Files;

@@ -2,7 +2,6 @@
 ghost use Rattle.std.specs.Prelude.{◌≡◌};
 ghost use Rattle.elf_needs.specs.Budget.{AsksFile, AsksFiles};
 
-use crate::cached_source::CachedSource;
 use crate::needed_names::within_root;
 use crate::object_file::{ObjectFile, ObjectRole};
 use crate::object_reports::{ObjectPlace, ObjectReport, found_identity, report_alone};
@@ -12,7 +11,7 @@ use crate::problem_rows::list_object;
 use crate::walk::{DependencyWalk, NeedsFault};
 use elf_format::{ObjectRow, ObjectState};
 use elf_record::{Cause, Refusal};
-use elf_source::{Sink, Source};
+use elf_source::{CachedSource, Sink, Source};
 use elf_table::{Fault, NameBuf};
 
 /// The file offset of a file header's number of program headers (gABI 4, ELF Header).
