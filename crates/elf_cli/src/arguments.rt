@@ -87,7 +87,8 @@ static ARGUMENTS: [ArgSpec; 32] = [
     ArgSpec {
         name: "require",
         kind: ArgKind::Value("WORDS"),
-        help: "Print which of these words each program and library lacks, as in stack=nx,relro=full",
+        help: "Print which of these words each program and library lacks, as in \
+            stack=nx,relro=full",
         commands: TRAITS,
     },
     ArgSpec {
@@ -197,7 +198,8 @@ static ARGUMENTS: [ArgSpec; 32] = [
     ArgSpec {
         name: "ITEM",
         kind: ArgKind::Any,
-        help: "An address: at:INDEX=ADDR, def:NAME=ADDR, plt:NAME=ADDR, got:NAME=ADDR or tpgot:NAME=ADDR",
+        help: "An address: at:INDEX=ADDR, def:NAME=ADDR, plt:NAME=ADDR, got:NAME=ADDR or \
+            tpgot:NAME=ADDR",
         commands: APPLY,
     },
     ArgSpec {

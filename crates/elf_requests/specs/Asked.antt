@@ -1,5 +1,5 @@
 -- What the arguments of a command request.
-use Rattle.std.specs.Prelude.{Bool, true, false, ◌≡◌, ◌≤◌, length, option_map, List, None, Some, Ok}
+use Rattle.std.specs.Prelude.{Bool, true, false, ◌≡◌, ◌≤◌, length, option_map, None, Some, Ok}
 use Rattle.clap.specs.Walk.{Text, texts}
 use Rattle.elf_model.specs.Prelude.{IsWanted, is_complete, no_items, parse_query}
 use Rattle.elf_cli.specs.UsageFaults.{selects_rows}
