@@ -37,9 +37,9 @@ load_alone file headers style parts fault store read same tables refusal is othe
     ∙ guarded-fault (load_checks file headers) (loaded_items file style parts) refusal (ap (λ n. first_refusal (load_checks file n)) (sym same) ∙ first other)
 
 -- if the load passes, what follows its checks is listed
-load_behind : (file : List ℕ) (headers slots : ℕ) (style : ListingStyle) (parts : ℕ) → first_refusal (load_checks file slots) ≡ None → slots ≡ headers → has_tables parts ≡ true
+load_after : (file : List ℕ) (headers slots : ℕ) (style : ListingStyle) (parts : ℕ) → first_refusal (load_checks file slots) ≡ None → slots ≡ headers → has_tables parts ≡ true
     → load_items file headers style parts ≡ loaded_items file style parts
-load_behind file headers slots style parts passed same tables =
+load_after file headers slots style parts passed same tables =
     load_some file headers style parts tables
     ∙ guarded-passes (load_checks file headers) (loaded_items file style parts) (ap (λ n. first_refusal (load_checks file n)) (sym same) ∙ passed)
 
@@ -50,7 +50,7 @@ pub view_alone : (file : List ℕ) (headers slots : ℕ) (style : ListingStyle) 
 unfolding loaded_items
 view_alone file headers slots style parts passed same tables fault checked refusal is other =
     let first = rw is at checked in
-    load_behind file headers slots style parts passed same tables
+    load_after file headers slots style parts passed same tables
     ∙ guarded-fault (view_checks file style parts) (table_items file style parts) refusal (first other)
 
 -- if they pass too, the tables are listed
@@ -58,7 +58,7 @@ pub load_passed : (file : List ℕ) (headers slots : ℕ) (style : ListingStyle)
     → first_refusal (view_checks file style parts) ≡ None → load_items file headers style parts ≡ table_items file style parts
 unfolding loaded_items
 load_passed file headers slots style parts passed same tables checked =
-    load_behind file headers slots style parts passed same tables
+    load_after file headers slots style parts passed same tables
     ∙ guarded-passes (view_checks file style parts) (table_items file style parts) checked
 
 -- a part of n headers
@@ -152,8 +152,8 @@ kinds_are file style parts loaded store belongs view =
           (sections_alone (rows (symbols_part style.versions)) (rows (relocations_part style.versions)) (rows (of_sections section_notes)) (rows (of_sections section_dynamic)) (rows (of_sections version_definitions)) (rows (of_sections version_needs)) (rows (of_sections symbol_versions))))
     ]
 
-behind : (a b c d e f : List ListingItem) → a ++ ((((b ++ c) ++ d) ++ e) ++ f) ≡ ((((a ++ b) ++ c) ++ d) ++ e) ++ f
-behind a b c d e f = simp append_assoc
+regrouped : (a b c d e f : List ListingItem) → a ++ ((((b ++ c) ++ d) ++ e) ++ f) ≡ ((((a ++ b) ++ c) ++ d) ++ e) ++ f
+regrouped a b c d e f = simp append_assoc
 
 -- the tables of the headers in the store
 abbrev pub by_store : List ℕ → ListingStyle → ℕ → StoreState → List ListingItem
@@ -173,7 +173,7 @@ tables_are file style parts loaded store belongs view =
     let count : e_shnum file ≡ store.loaded = sym (belongs.count ∙ belongs.header.e_shnum) in
     let first : List ListingItem = of_headers file style parts section_headers_part store.loaded ++ segment_part file style parts in
     ap (λ n. (of_headers file style parts section_headers_part n ++ segment_part file style parts) ++ kinds_rows (table_headers style.versions file).kinds (table_headers style.versions file).headers file style parts) count
-    ∙ (ap (λ rest. first ++ rest) (kinds_are file style parts loaded store belongs view) ∙ behind first _ _ _ _ _)
+    ∙ (ap (λ rest. first ++ rest) (kinds_are file style parts loaded store belongs view) ∙ regrouped first _ _ _ _ _)
 
 -- if the rows of definitions and needs are listed and have no fault, they have none at all
 pub versions_none : (file : List ℕ) (style : ListingStyle) (parts : ℕ) (loaded : LoadedFile) (store : StoreState) → HoldsSectionHeaders file loaded store

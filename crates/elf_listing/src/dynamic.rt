@@ -76,7 +76,7 @@ impl ListedKind for SectionDynamic {
         }
         let table = listing.file.table(index, DYNAMIC_BYTES)?;
         let names = listing.file.strings(index)?;
-        let strings = DynamicStringTable::LinkedSymbolTable(names);
+        let strings = DynamicStringTable::LinkedStringTable(names);
         list_rows(listing, table, &DynamicEntries { strings }, &mut NoVersions)
     }
 }
