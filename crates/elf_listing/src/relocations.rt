@@ -18,8 +18,8 @@ use crate::suffixes::VersionLookup;
 use crate::table_rows::{TableRows, list_rows};
 use elf_format::{LinePrefix, Render, relocation_prefix};
 use elf_note::NameIndex;
-use elf_record::Rela;
 use elf_record::numbers::SHT_RELA;
+use elf_record::{Parts, Rela};
 use elf_source::{Sink, Source};
 use elf_table::{
     Cursor, Fault, LinkedSymbol, LinkedSymbolTable, NameBuf, NameEnd, Row, RunFault, Table,
@@ -72,6 +72,11 @@ impl TableRows for Relocations {
 
 impl ListedKind for Relocations {
     ghost listed = { relocations_part };
+
+    #[tactic(auto, using(crate::proofs::PartsLaws::relocations_bit))]
+    fn part(_versions: bool) -> Parts {
+        Parts::RELOCS
+    }
 
     fn count<S: Source, W: Sink>(listing: &Listing<'_, '_, '_, '_, S, W>) -> u16 {
         listing.file.sections()
