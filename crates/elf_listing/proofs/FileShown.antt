@@ -1,7 +1,7 @@
 -- The items of a whole listing: the file header's, and what follows it.
 use Rattle.std.proofs.lemmas.Bool.{cases_Bool, eqb-true, or_left, or_right}
-use Rattle.std.proofs.Common.{◌≡◌, ℕ, ◌==◌, ◌||◌, inl, inr, Bool, true, List, [], ◌∷◌, ◌++◌, None, Err, false, sym, ap, ◌∙◌, refl, append-nil, append_assoc}
-use Rattle.elf_model.specs.Prelude.{DYNAMIC, Fault, HEADER, IsBudgetRefusal, Line, ListingItem, ListingStyle, NOTES, SEGMENTS, TableHeaders, VERSIONS, e_phnum, e_shnum, each, fault_of, file_sections, file_segments, first_refusal, has, has_tables, header_checks, header_line, kinds_rows, known_parts, listing, load_checks, load_items, loaded_items, records_rows, relocations, relocations_with_versions, section_dynamic, section_kinds, section_notes, segment_dynamic, segment_kinds, segment_notes, segment_row, suffixed_symbols, symbol_versions, symbols, table_headers, table_items, version_definitions, version_needs, view_checks, viewed as view_of, where_asked}
+use Rattle.std.proofs.Common.{◌≡◌, ℕ, ◌==◌, ◌||◌, inl, inr, true, List, [], ◌∷◌, ◌++◌, None, Err, false, sym, ap, ◌∙◌, refl, append-nil, append_assoc}
+use Rattle.elf_model.specs.Prelude.{DYNAMIC, Fault, HEADER, IsBudgetRefusal, Line, ListingItem, ListingStyle, NOTES, SEGMENTS, TableHeaders, TableKind, HeaderTable, VERSIONS, table_rows, e_phnum, e_shnum, each, fault_of, file_sections, file_segments, first_refusal, has, has_tables, header_checks, header_line, kinds_rows, known_parts, listing, load_checks, load_items, loaded_items, records_rows, segment_dynamic, segment_kinds, segment_notes, segment_row, symbol_versions, table_headers, table_items, version_definitions, version_needs, view_checks, viewed as view_of, where_asked}
 use Rattle.elf_model.specs.declared.formats.Format.{Format}
 use Rattle.elf_model.specs.declared.causes.Refusal.{Refusal}
 use Rattle.elf_model.proofs.VersionNameLaws.{back-none, front-none, records-none}
@@ -10,7 +10,7 @@ use Rattle.elf_model.proofs.ListingLemmas.{guarded-passes, guarded-fault, load_s
 use Rattle.elf_table.specs.Prelude.{HeaderRead, HoldsSectionHeaders, LoadedAs, LoadedFile, StoreState}
 use Rattle.elf_table.specs.declared.fault.Fault.{Fault as TableFault}
 use Rattle.elf_table.specs.declared.fault.Fault.TheVariants.{Refused}
-use Rattle.elf_listing.specs.Prelude.{ChecksView, PartListed, of_sections, of_segments, part_items, relocations_part, section_headers_part, symbols_part, viewed_headers}
+use Rattle.elf_listing.specs.Prelude.{ChecksView, PartListed, first_kinds, kinds_items, of_sections, of_segments, part_items, record_kinds, section_headers_part, sections_listed, segments_parts, viewed_headers}
 
 -- the file header's part
 abbrev pub header_part : Format → List ℕ → ℕ → List ListingItem
@@ -37,9 +37,9 @@ load_alone file headers style parts fault store read same tables refusal is othe
     ∙ guarded-fault (load_checks file headers) (loaded_items file style parts) refusal (ap (λ n. first_refusal (load_checks file n)) (sym same) ∙ first other)
 
 -- if the load passes, what follows its checks is listed
-load_behind : (file : List ℕ) (headers slots : ℕ) (style : ListingStyle) (parts : ℕ) → first_refusal (load_checks file slots) ≡ None → slots ≡ headers → has_tables parts ≡ true
+load_after : (file : List ℕ) (headers slots : ℕ) (style : ListingStyle) (parts : ℕ) → first_refusal (load_checks file slots) ≡ None → slots ≡ headers → has_tables parts ≡ true
     → load_items file headers style parts ≡ loaded_items file style parts
-load_behind file headers slots style parts passed same tables =
+load_after file headers slots style parts passed same tables =
     load_some file headers style parts tables
     ∙ guarded-passes (load_checks file headers) (loaded_items file style parts) (ap (λ n. first_refusal (load_checks file n)) (sym same) ∙ passed)
 
@@ -50,7 +50,7 @@ pub view_alone : (file : List ℕ) (headers slots : ℕ) (style : ListingStyle) 
 unfolding loaded_items
 view_alone file headers slots style parts passed same tables fault checked refusal is other =
     let first = rw is at checked in
-    load_behind file headers slots style parts passed same tables
+    load_after file headers slots style parts passed same tables
     ∙ guarded-fault (view_checks file style parts) (table_items file style parts) refusal (first other)
 
 -- if they pass too, the tables are listed
@@ -58,7 +58,7 @@ pub load_passed : (file : List ℕ) (headers slots : ℕ) (style : ListingStyle)
     → first_refusal (view_checks file style parts) ≡ None → load_items file headers style parts ≡ table_items file style parts
 unfolding loaded_items
 load_passed file headers slots style parts passed same tables checked =
-    load_behind file headers slots style parts passed same tables
+    load_after file headers slots style parts passed same tables
     ∙ guarded-passes (view_checks file style parts) (table_items file style parts) checked
 
 -- a part of n headers
@@ -83,26 +83,35 @@ asked_same parts part items n m same = elim (cases_Bool (has parts part)) [
   | inr other ↦ rw (other, where_asked) refl
 ]
 
-kinds_of_sections : (versions : Bool) (file : List ℕ) (style : ListingStyle) (parts : ℕ) → kinds_rows (section_kinds versions) (file_sections file) file style parts
-    ≡ of_headers file style parts (symbols_part versions) (e_shnum file) ++ (of_headers file style parts (relocations_part versions) (e_shnum file)
-    ++ (of_headers file style parts (of_sections section_notes) (e_shnum file) ++ (of_headers file style parts (of_sections section_dynamic) (e_shnum file)
-    ++ (of_headers file style parts (of_sections version_definitions) (e_shnum file) ++ (of_headers file style parts (of_sections version_needs) (e_shnum file)
-    ++ (of_headers file style parts (of_sections symbol_versions) (e_shnum file) ++ []))))))
-unfolding kinds_rows symbols relocations suffixed_symbols relocations_with_versions section_notes section_dynamic version_definitions version_needs symbol_versions
-kinds_of_sections true file style parts = refl
-kinds_of_sections false file style parts = refl
+-- the rows of some kinds and of others
+kinds_append : (xs ys : List TableKind) (headers : HeaderTable) (file : List ℕ) (style : ListingStyle) (parts : ℕ)
+    → kinds_rows (xs ++ ys) headers file style parts ≡ kinds_rows xs headers file style parts ++ kinds_rows ys headers file style parts
+unfolding kinds_rows
+kinds_append [] ys headers file style parts = refl
+kinds_append (kind ∷ xs) ys headers file style parts =
+    let own : List ListingItem = where_asked parts kind.part (each (λ i. table_rows kind file style i (headers.at i)) 0 headers.count) in
+    ap (λ rest. own ++ rest) (kinds_append xs ys headers file style parts) ∙ sym (append_assoc own _ _)
+
+-- the rows of kinds of tables of sections are what these kinds list, for as many sections
+kinds_listed : (kinds : List TableKind) (file : List ℕ) (style : ListingStyle) (parts : ℕ) (store : StoreState) → store.loaded ≡ e_shnum file
+    → kinds_rows kinds (file_sections file) file style parts ≡ kinds_items parts (sections_listed kinds) store style file
+unfolding kinds_rows kinds_items sections_listed
+kinds_listed [] file style parts store count = refl
+kinds_listed (kind ∷ kinds) file style parts store count =
+    ap (λ n. of_headers file style parts (of_sections kind) n ++ kinds_rows kinds (file_sections file) file style parts) (sym count)
+    ∙ ap (λ rest. of_headers file style parts (of_sections kind) store.loaded ++ rest) (kinds_listed kinds file style parts store count)
+
+-- without sections they list nothing
+none_listed : (kinds : List TableKind) (file : List ℕ) (style : ListingStyle) (parts : ℕ) (store : StoreState) → store.loaded ≡ 0
+    → kinds_items parts (sections_listed kinds) store style file ≡ []
+unfolding kinds_items sections_listed
+none_listed [] file style parts store zero = refl
+none_listed (kind ∷ kinds) file style parts store zero = rw (none_of file style parts (of_sections kind) store.loaded zero) (none_listed kinds file style parts store zero)
 
 kinds_of_segments : (file : List ℕ) (style : ListingStyle) (parts : ℕ) → kinds_rows segment_kinds (file_segments file) file style parts
     ≡ of_headers file style parts (of_segments segment_notes) (e_phnum file) ++ (of_headers file style parts (of_segments segment_dynamic) (e_phnum file) ++ [])
 unfolding kinds_rows segment_notes segment_dynamic
 kinds_of_segments file style parts = refl
-
-sections_alone : (y r n d v w x : List ListingItem)
-    → y ++ (r ++ (n ++ (d ++ (v ++ (w ++ (x ++ [])))))) ≡ ((((y ++ r) ++ (n ++ [])) ++ (d ++ [])) ++ (v ++ w)) ++ x
-sections_alone y r n d v w x = simp (append_assoc, append-nil)
-
-segments_alone : (n d : List ListingItem) → n ++ (d ++ []) ≡ (((([] ++ []) ++ ([] ++ n)) ++ ([] ++ d)) ++ ([] ++ [])) ++ []
-segments_alone n d = simp (append_assoc, append-nil)
 
 -- if a part needs the program headers of a file without sections, they are loaded
 viewed_where : (parts : ℕ) (loaded : LoadedFile) → (loaded.header.e_shnum == 0) ≡ true → (has parts SEGMENTS || (has parts NOTES || has parts DYNAMIC)) ≡ true
@@ -115,54 +124,67 @@ viewed_none parts loaded some = rw some refl
 pub viewed_segments : (parts : ℕ) (loaded : LoadedFile) → (loaded.header.e_shnum == 0) ≡ true → has parts SEGMENTS ≡ true → viewed_headers parts loaded ≡ loaded.header.e_phnum
 viewed_segments parts loaded none asked = rw (none, asked) refl
 
--- the parts of all kinds of tables, for given numbers of section headers and program headers
-abbrev of_kinds : List ℕ → ListingStyle → ℕ → (sections segments : ℕ) → List ListingItem
-of_kinds file style parts sections segments =
-    ((((of_headers file style parts (symbols_part style.versions) sections ++ of_headers file style parts (relocations_part style.versions) sections)
-    ++ (of_headers file style parts (of_sections section_notes) sections ++ of_headers file style parts (of_segments segment_notes) segments))
-    ++ (of_headers file style parts (of_sections section_dynamic) sections ++ of_headers file style parts (of_segments segment_dynamic) segments))
-    ++ (of_headers file style parts (of_sections version_definitions) sections ++ of_headers file style parts (of_sections version_needs) sections))
-    ++ of_headers file style parts (of_sections symbol_versions) sections
+-- what program headers list, if they are those of the file
+segments_listed_are : (file : List ℕ) (style : ListingStyle) (parts : ℕ) (loaded : LoadedFile) (store : StoreState) → HoldsSectionHeaders file loaded store → store.segments ≡ viewed_headers parts loaded
+    → (e_shnum file == 0) ≡ true → kinds_rows segment_kinds (file_segments file) file style parts ≡ kinds_items parts segments_parts store style file
+unfolding segment_notes segment_dynamic kinds_items
+segments_listed_are file style parts loaded store belongs view none =
+    let all = viewed_where parts loaded (ap (λ n. n == 0) belongs.header.e_shnum ∙ none) in
+    let notes = asked_same parts NOTES (λ n. part_items (of_segments segment_notes) style n file) (e_phnum file) store.segments
+    (λ asked. sym (view ∙ (all (or_right _ _ (or_left _ _ asked)) ∙ belongs.header.e_phnum))) in
+    let dynamic = asked_same parts DYNAMIC (λ n. part_items (of_segments segment_dynamic) style n file) (e_phnum file) store.segments
+    (λ asked. sym (view ∙ (all (or_right _ _ (or_right _ _ asked)) ∙ belongs.header.e_phnum))) in
+    kinds_of_segments file style parts ∙ rw (notes, dynamic) refl
+
+no_segments : (file : List ℕ) (style : ListingStyle) (parts : ℕ) (store : StoreState) → store.segments ≡ 0 → kinds_items parts segments_parts store style file ≡ []
+unfolding kinds_items
+no_segments file style parts store zero = rw (none_of file style parts (of_segments segment_notes) store.segments zero, none_of file style parts (of_segments segment_dynamic) store.segments zero) refl
+
+-- the tables of the headers in the store, but the section headers and the program headers
+abbrev kinds_by_store : List ℕ → ListingStyle → ℕ → StoreState → List ListingItem
+kinds_by_store file style parts store =
+    kinds_items parts (sections_listed (first_kinds style.versions)) store style file
+    ++ (kinds_items parts segments_parts store style file
+    ++ (kinds_items parts (sections_listed record_kinds) store style file
+    ++ of_headers file style parts (of_sections symbol_versions) store.loaded))
+
+last_listed : (file : List ℕ) (style : ListingStyle) (parts : ℕ) (store : StoreState) → kinds_items parts (sections_listed (symbol_versions ∷ [])) store style file ≡ of_headers file style parts (of_sections symbol_versions) store.loaded
+unfolding kinds_items sections_listed
+last_listed file style parts store = append-nil _
 
 -- the tables of all kinds are those of the headers in the store
 kinds_are : (file : List ℕ) (style : ListingStyle) (parts : ℕ) (loaded : LoadedFile) (store : StoreState) → HoldsSectionHeaders file loaded store → store.segments ≡ viewed_headers parts loaded
-    → kinds_rows (table_headers style.versions file).kinds (table_headers style.versions file).headers file style parts ≡ of_kinds file style parts store.loaded store.segments
-unfolding segment_notes segment_dynamic
+    → kinds_rows (table_headers style.versions file).kinds (table_headers style.versions file).headers file style parts ≡ kinds_by_store file style parts store
 kinds_are file style parts loaded store belongs view =
     let count : store.loaded ≡ e_shnum file = belongs.count ∙ belongs.header.e_shnum in
     elim (cases_Bool (e_shnum file == 0)) [
       | inl none ↦
           let zero : store.loaded ≡ 0 = count ∙ eqb-true (e_shnum file) 0 none in
-          let all = viewed_where parts loaded (ap (λ n. n == 0) belongs.header.e_shnum ∙ none) in
-          let notes = asked_same parts NOTES (λ n. part_items (of_segments segment_notes) style n file) (e_phnum file) store.segments
-          (λ asked. sym (view ∙ (all (or_right _ _ (or_left _ _ asked)) ∙ belongs.header.e_phnum))) in
-          let dynamic = asked_same parts DYNAMIC (λ n. part_items (of_segments segment_dynamic) style n file) (e_phnum file) store.segments
-          (λ asked. sym (view ∙ (all (or_right _ _ (or_right _ _ asked)) ∙ belongs.header.e_phnum))) in
-          let none_by = λ (part : PartListed). none_of file style parts part store.loaded zero in
+          let first = none_listed (first_kinds style.versions) file style parts store zero in
+          let records = none_listed record_kinds file style parts store zero in
+          let last = none_of file style parts (of_sections symbol_versions) store.loaded zero in
           ap (λ (tables : TableHeaders). kinds_rows tables.kinds tables.headers file style parts) (headers_none style.versions file none)
-          ∙ (kinds_of_segments file style parts
-          ∙ rw (notes, dynamic, none_by (symbols_part style.versions), none_by (relocations_part style.versions), none_by (of_sections section_notes), none_by (of_sections section_dynamic), none_by (of_sections version_definitions), none_by (of_sections version_needs), none_by (of_sections symbol_versions))
-          (segments_alone (of_headers file style parts (of_segments segment_notes) store.segments) (of_headers file style parts (of_segments segment_dynamic) store.segments)))
+          ∙ (segments_listed_are file style parts loaded store belongs view none ∙ sym (rw (first, records, last) (append-nil _)))
       | inr some ↦
           let zero : store.segments ≡ 0 = view ∙ viewed_none parts loaded (ap (λ n. n == 0) belongs.header.e_shnum ∙ some) in
-          let rows = λ (part : PartListed). of_headers file style parts part (e_shnum file) in
+          let sections = file_sections file in
+          let listed = λ (kinds : List TableKind). kinds_listed kinds file style parts store count in
           ap (λ (tables : TableHeaders). kinds_rows tables.kinds tables.headers file style parts) (headers_some style.versions file some)
-          ∙ (kinds_of_sections style.versions file style parts
-          ∙ rw (count, none_of file style parts (of_segments segment_notes) store.segments zero, none_of file style parts (of_segments segment_dynamic) store.segments zero)
-          (sections_alone (rows (symbols_part style.versions)) (rows (relocations_part style.versions)) (rows (of_sections section_notes)) (rows (of_sections section_dynamic)) (rows (of_sections version_definitions)) (rows (of_sections version_needs)) (rows (of_sections symbol_versions))))
+          ∙ (kinds_append (first_kinds style.versions) (record_kinds ++ (symbol_versions ∷ [])) sections file style parts
+          ∙ (ap (λ rest. kinds_rows (first_kinds style.versions) sections file style parts ++ rest) (kinds_append record_kinds (symbol_versions ∷ []) sections file style parts)
+          ∙ rw (listed (first_kinds style.versions), listed record_kinds, listed (symbol_versions ∷ []), last_listed file style parts store, no_segments file style parts store zero) refl))
     ]
 
-behind : (a b c d e f : List ListingItem) → a ++ ((((b ++ c) ++ d) ++ e) ++ f) ≡ ((((a ++ b) ++ c) ++ d) ++ e) ++ f
-behind a b c d e f = simp append_assoc
+regrouped : (a b c d e : List ListingItem) → a ++ (b ++ (c ++ (d ++ e))) ≡ (((a ++ b) ++ c) ++ d) ++ e
+regrouped a b c d e = simp append_assoc
 
 -- the tables of the headers in the store
 abbrev pub by_store : List ℕ → ListingStyle → ℕ → StoreState → List ListingItem
 by_store file style parts store =
-    (((((of_headers file style parts section_headers_part store.loaded ++ segment_part file style parts)
-    ++ (of_headers file style parts (symbols_part style.versions) store.loaded ++ of_headers file style parts (relocations_part style.versions) store.loaded))
-    ++ (of_headers file style parts (of_sections section_notes) store.loaded ++ of_headers file style parts (of_segments segment_notes) store.segments))
-    ++ (of_headers file style parts (of_sections section_dynamic) store.loaded ++ of_headers file style parts (of_segments segment_dynamic) store.segments))
-    ++ (of_headers file style parts (of_sections version_definitions) store.loaded ++ of_headers file style parts (of_sections version_needs) store.loaded))
+    ((((of_headers file style parts section_headers_part store.loaded ++ segment_part file style parts)
+    ++ kinds_items parts (sections_listed (first_kinds style.versions)) store style file)
+    ++ kinds_items parts segments_parts store style file)
+    ++ kinds_items parts (sections_listed record_kinds) store style file)
     ++ of_headers file style parts (of_sections symbol_versions) store.loaded
 
 -- the tables of a loaded file
@@ -173,17 +195,15 @@ tables_are file style parts loaded store belongs view =
     let count : e_shnum file ≡ store.loaded = sym (belongs.count ∙ belongs.header.e_shnum) in
     let first : List ListingItem = of_headers file style parts section_headers_part store.loaded ++ segment_part file style parts in
     ap (λ n. (of_headers file style parts section_headers_part n ++ segment_part file style parts) ++ kinds_rows (table_headers style.versions file).kinds (table_headers style.versions file).headers file style parts) count
-    ∙ (ap (λ rest. first ++ rest) (kinds_are file style parts loaded store belongs view) ∙ behind first _ _ _ _ _)
+    ∙ (ap (λ rest. first ++ rest) (kinds_are file style parts loaded store belongs view) ∙ regrouped first _ _ _ _)
 
 -- if the rows of definitions and needs are listed and have no fault, they have none at all
 pub versions_none : (file : List ℕ) (style : ListingStyle) (parts : ℕ) (loaded : LoadedFile) (store : StoreState) → HoldsSectionHeaders file loaded store
-    → has parts VERSIONS ≡ true
-    → fault_of (of_headers file style parts (of_sections version_definitions) store.loaded ++ of_headers file style parts (of_sections version_needs) store.loaded) ≡ None
-    → fault_of (records_rows file style) ≡ None
-unfolding version_definitions version_needs
+    → has parts VERSIONS ≡ true → fault_of (kinds_items parts (sections_listed record_kinds) store style file) ≡ None → fault_of (records_rows file style) ≡ None
+unfolding version_definitions version_needs kinds_items sections_listed
 versions_none file style parts loaded store belongs asked none =
     let count : store.loaded ≡ e_shnum file = belongs.count ∙ belongs.header.e_shnum in
     let both = rw (asked, count, where_asked) at none in
     let first : List ListingItem = each ((of_sections version_definitions).items file style) 0 (e_shnum file) in
     let second : List ListingItem = each ((of_sections version_needs).items file style) 0 (e_shnum file) in
-    records-none file style (front-none first second both) (back-none first second both)
+    records-none file style (front-none first (second ++ []) both) (front-none second [] (back-none first (second ++ []) both))

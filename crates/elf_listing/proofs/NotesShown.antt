@@ -61,7 +61,7 @@ unread_next a b (Unread fault at) all left is before = front_of all left before
 
 cut_next : (a b : OutState) (at : ℕ) (all left : List ListingItem) → left ≡ FaultItem (record { at = at; cause = NoteCut }) ∷ [] → WrittenBefore a b all left → WroteUntilStop a b (stop_of (note_cut at)) all
 unfolding front_of
-cut_next a b at all left is before = record { front = front_of all left before; next = λ other. record { behind = []; is_next = is } }
+cut_next a b at all left is before = record { front = front_of all left before; next = λ other. record { later = []; is_next = is } }
 
 -- a step over the next note failed: at a read, or at an offset without a note
 pub before_fault : (a b : OutState) (fault : Fault) (style : ListingStyle) (index at : ℕ) (all : List ListingItem) (left : NoteScan) → StopsNote at fault → (fault ≡ note_cut at → left ≡ cut_at at)

@@ -2,7 +2,7 @@
 use Rattle.elf_options.specs.Prelude.{style_of}
 use Rattle.elf_options.specs.declared.caps.ListingStyle.{ListingStyle}
 use Rattle.std.proofs.Common.{◌≡◌, ℕ, ◌+◌, ◌-◌, ◌<◌, Bool, true, false, List, ◌++◌, Some, Result, Ok, Err, refl, sym, ap, ◌∙◌, arith, zero-add}
-use Rattle.elf_model.specs.Prelude.{ListingItem, RELOCS, SYMBOLS, each, has, relocations, relocations_with_versions, suffixed_symbols, sum_over, symbol_versions, symbols, version_definitions, version_needs}
+use Rattle.elf_model.specs.Prelude.{ListingItem, RELOCS, SYMBOLS, each, has, relocations, relocations_with_versions, suffixed_symbols, sum_over, symbol_versions, symbols}
 use Rattle.elf_model.proofs.SumLemmas.{last_cost, sums_split}
 use Rattle.elf_model.proofs.ListingLemmas.{rows_split}
 use Rattle.elf_source.specs.declared.source.Source.{Ghosts as Sources}
@@ -10,7 +10,7 @@ use Rattle.elf_source.specs.declared.sink.Sink.{Ghosts as Sinks}
 use Rattle.elf_source.proofs.GrowthLaws.{grows_then}
 use Rattle.elf_table.specs.declared.run_fault.RunFault.{RunFault}
 use Rattle.elf_table.specs.declared.file.SectionView.{SectionView}
-use Rattle.elf_listing.specs.Prelude.{AreRecordsListed, ListingCalls, ListingWrote, PartListed, asked_cost, asked_items, of_sections, relocations_part, symbols_part}
+use Rattle.elf_listing.specs.Prelude.{AreRecordsListed, ListingCalls, ListingWrote, PartListed, asked_cost, asked_items, kinds_asked, kinds_items, of_sections, record_kinds, relocations_part, sections_listed, symbols_part}
 use Rattle.elf_listing.specs.declared.listing.Listing.{Listing}
 use Rattle.elf_listing.proofs.FileShown.{versions_none}
 use Rattle.elf_listing.proofs.EachLaws.{each-more}
@@ -24,6 +24,13 @@ cost_asked parts part f style = asked_cost parts part f.loaded f.store.now style
 
 abbrev pub items_asked : ℕ → PartListed → SectionView → ListingStyle → List ℕ → List ListingItem
 items_asked parts part f style file = asked_items parts part f.store.now (style_of style) file
+
+-- what some kinds read, and their items
+abbrev pub cost_of_kinds : ℕ → List PartListed → SectionView → ListingStyle → ℕ
+cost_of_kinds parts kinds f style = kinds_asked parts kinds f.loaded f.store.now style.cap.bytes
+
+abbrev pub items_of_kinds : ℕ → List PartListed → SectionView → ListingStyle → List ℕ → List ListingItem
+items_of_kinds parts kinds f style file = kinds_items parts kinds f.store.now (style_of style) file
 
 -- the bits of the symbols and of the relocation entries
 pub symbols_bit : (versions : Bool) → (symbols_part versions).bit ≡ SYMBOLS
@@ -80,7 +87,7 @@ module _ {S W X : Type 0} {s : Sources S} {w : Sinks W} where
 
   -- the rows of definitions and needs were shown, and then the versions of symbols may be
   pub records_listed : {a b : Listing S W s w} {x : X} {n : ℕ} (parts : ℕ)
-      → ListingCalls a b (Ok x) n (ListingWrote a b (Ok x) (λ file. items_asked parts (of_sections version_definitions) a.file a.style file ++ items_asked parts (of_sections version_needs) a.file a.style file))
+      → ListingCalls a b (Ok x) n (ListingWrote a b (Ok x) (kinds_items parts (sections_listed record_kinds) a.file.store.now (style_of a.style)))
       → has parts (of_sections symbol_versions).bit ≡ true → AreRecordsListed b.src.now.seen.file (style_of b.style)
   unfolding symbol_versions
   records_listed {a = a} parts p = λ asked file held.

@@ -33,7 +33,7 @@ WrotePrefix-none a all = record { front = []; rest = all; split = refl; takes = 
 -- a refusal replaces all items
 pub Ends-first : (a : OutState) (refusal : Refusal) (all : List ListingItem) → ((IsBudgetRefusal refusal → ⊥) → all ≡ FaultItem refusal ∷ []) → WroteUntilRefusal a a refusal all
 unfolding WrotePrefix-none
-Ends-first a refusal all is = record { front = WrotePrefix-none a all; next = λ other. record { behind = []; is_next = is other } }
+Ends-first a refusal all is = record { front = WrotePrefix-none a all; next = λ other. record { later = []; is_next = is other } }
 
 -- a read fault before anything was written
 pub WroteUntilStop-first : (a : OutState) (fault : Fault) (all : List ListingItem) → ((refusal : Refusal) → fault ≡ Refused refusal → (IsBudgetRefusal refusal → ⊥) → all ≡ FaultItem refusal ∷ []) → WroteUntilStop a a (stop_of fault) all
@@ -57,9 +57,9 @@ chosen-hidden choice front at NameWhole name answer read is = rw read (rw is ref
 chosen-hidden choice front at NameCut name answer read is = rw read (rw is refl)
 
 -- the result for a name, in a style that is the same
-pub chosen-as : (style now : Shape) (name : DisplayedName) (behind : Suffix) (answer b : Bool) → now ≡ style → answer ≡ chooses (choice_of now.choice) name behind → answer ≡ b
-    → chooses (choice_of style.choice) name behind ≡ b
-chosen-as style now name behind answer b same is shows = rw (← same) (sym is ∙ shows)
+pub chosen-as : (style now : Shape) (name : DisplayedName) (after : Suffix) (answer b : Bool) → now ≡ style → answer ≡ chooses (choice_of now.choice) name after → answer ≡ b
+    → chooses (choice_of style.choice) name after ≡ b
+chosen-as style now name after answer b same is shows = rw (← same) (sym is ∙ shows)
 
 -- a name that could not be read for a row
 pub WroteUntilStop-chosen : (a : OutState) (choice : RowFilter) (front : LinePrefix) (at : ℕ) (fault : Fault) (name : List ℕ) (answer : Result DisplayedName Cause) → NameRead at (Err fault) name answer

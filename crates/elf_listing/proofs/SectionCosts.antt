@@ -1,7 +1,7 @@
 -- What the tables of a loaded file read, by the section headers in the store.
-use Rattle.elf_model.specs.Prelude.{Check, DYNAMIC, HeaderTable, ListingStyle, NOTES, PT_DYNAMIC, SECTIONS, SEGMENTS, TableKind, after_header, ceiling, cost_where, e_phnum, e_shnum, early_checks, file_segments, first_refusal, has, has_tables, header_checks, held_headers, is_loadable, is_outside, kind_by_kind, kinds_cost, known_parts, listing_cost, name_bytes, p_filesz, p_offset, p_type, pass, range_checks_of, refuse, relocations, relocations_with_versions, section_dynamic, section_kinds, section_name_checks, section_notes, sections_cost, segment_dynamic, segment_kinds, segment_notes, segments_cost, sh_offset, sh_size, style_ceiling, suffixed_symbols, suffixes_most, sum_over, symbol_versions, symbols, table_checks_of, table_cost, tables_cost, version_definitions, version_needs, viewed as view_of, whole_checks_of}
+use Rattle.elf_model.specs.Prelude.{Check, DYNAMIC, HeaderTable, ListingStyle, NOTES, PT_DYNAMIC, SECTIONS, SEGMENTS, TableKind, after_header, ceiling, cost_where, e_phnum, e_shnum, early_checks, file_segments, first_refusal, has, has_tables, header_checks, held_headers, is_loadable, is_outside, kind_by_kind, kinds_cost, known_parts, listing_cost, name_bytes, p_filesz, p_offset, p_type, pass, range_checks_of, refuse, section_kinds, section_name_checks, sections_cost, segment_dynamic, segment_kinds, segments_cost, sh_offset, sh_size, style_ceiling, suffixes_most, sum_over, symbol_versions, table_checks_of, table_cost, tables_cost, viewed as view_of, whole_checks_of}
 use Rattle.elf_model.specs.declared.causes.Cause.TheVariants.{SizeNotWhole, TableOutside}
-use Rattle.std.proofs.Common.{◌≡◌, ℕ, ◌+◌, ◌-◌, ◌*◌, ◌/◌, ◌%◌, ◌<◌, ◌≤◌, ◌==◌, ◌&&◌, ◌||◌, ◌⊎◌, inl, inr, not, if◌then◌else◌, Bool, true, false, List, [], ◌∷◌, length, Option, None, Some, Result, Ok, refl, sym, ap, ◌∙◌, arith}
+use Rattle.std.proofs.Common.{◌≡◌, ℕ, ◌+◌, ◌-◌, ◌*◌, ◌/◌, ◌%◌, ◌<◌, ◌≤◌, ◌==◌, ◌&&◌, ◌||◌, ◌⊎◌, inl, inr, not, if◌then◌else◌, Bool, true, false, List, [], ◌∷◌, ◌++◌, length, Option, None, Some, Result, Ok, refl, sym, ap, ◌∙◌, arith}
 use Rattle.std.proofs.lemmas.Bool.{cases_Bool, eqb-true}
 use Rattle.std.specs.Prelude.{is_none}
 use Rattle.elf_model.proofs.CheckSteps.{first_refusal-none, passes_front}
@@ -13,7 +13,7 @@ use Rattle.elf_record.specs.declared.ehdr.Ehdr.{Ehdr}
 use Rattle.elf_table.specs.Prelude.{HoldsSectionHeaders, HoldsSegments, IsOpened, LoadedFile, StoreState, StringTableRange, TableRange, byte_rows, checked, dynamic_of, early_of, load_cost, row, rows, segment_bytes, table_of}
 use Rattle.elf_table.specs.declared.fault.Fault.{Fault}
 use Rattle.elf_table.proofs.RelocationLaws.{passed_first}
-use Rattle.elf_listing.specs.Prelude.{name_cost, needs_segment_view, store_sections, store_segments, tables_listed, view_cost, viewed_headers}
+use Rattle.elf_listing.specs.Prelude.{asked_cost, first_kinds, kinds_asked, name_cost, needs_segment_view, of_sections, record_kinds, sections_listed, segments_parts, store_sections, store_segments, tables_listed, view_cost, viewed_headers}
 use Rattle.elf_listing.proofs.FileShown.{viewed_none}
 use Rattle.elf_table.proofs.LoadLaws.{early_is}
 
@@ -130,23 +130,43 @@ sum_of_none : (amount : ℕ → ℕ) (count : ℕ) → count ≡ 0 → sum_over 
 unfolding sum_over
 sum_of_none amount count none = rw none refl
 
+-- what some kinds of tables of sections read, and others
+kinds_cost_append : (xs ys : List TableKind) (headers : HeaderTable) (size most parts count : ℕ)
+    → kind_by_kind (xs ++ ys) headers size most parts count ≡ kind_by_kind xs headers size most parts count + kind_by_kind ys headers size most parts count
+unfolding kind_by_kind
+kinds_cost_append [] ys headers size most parts count = omega arith
+kinds_cost_append (kind ∷ xs) ys headers size most parts count = omega (arith, kinds_cost_append xs ys headers size most parts count)
+
+kinds_cost_listed : (kinds : List TableKind) (loaded : LoadedFile) (store : StoreState) (most parts : ℕ)
+    → kinds_asked parts (sections_listed kinds) loaded store most ≡ kind_by_kind kinds (store_sections store) loaded.size most parts store.loaded
+unfolding kind_by_kind kinds_asked sections_listed
+kinds_cost_listed [] loaded store most parts = refl
+kinds_cost_listed (kind ∷ kinds) loaded store most parts = omega (arith, kinds_cost_listed kinds loaded store most parts)
+
+segments_cost_listed : (loaded : LoadedFile) (store : StoreState) (most parts : ℕ)
+    → kinds_asked parts segments_parts loaded store most ≡ kind_by_kind segment_kinds (store_segments store) loaded.size most parts store.segments
+unfolding kind_by_kind kinds_asked
+segments_cost_listed loaded store most parts = refl
+
+last_cost_listed : (loaded : LoadedFile) (store : StoreState) (most parts : ℕ)
+    → asked_cost parts (of_sections symbol_versions) loaded store most ≡ kind_by_kind (symbol_versions ∷ []) (store_sections store) loaded.size most parts store.loaded
+unfolding kind_by_kind
+last_cost_listed loaded store most parts = omega arith
+
 -- what is listed reads the names, the program headers, and the tables of all kinds
 listed_parts : (versions : Bool) (loaded : LoadedFile) (store : StoreState) (most parts : ℕ)
     → view_cost parts loaded + tables_listed parts loaded store most versions
     ≤ names_asked loaded store.loaded most parts + segments_asked loaded parts + sections_sum versions loaded store most parts + segments_sum loaded store most parts
-unfolding kind_by_kind symbols relocations suffixed_symbols relocations_with_versions section_notes section_dynamic version_definitions version_needs symbol_versions segment_notes segment_dynamic
-listed_parts true loaded store most parts =
+listed_parts versions loaded store most parts =
     let names = names_listed (has parts SECTIONS) (not (loaded.header.e_shstrndx == 0)) (name_bytes most) store.loaded in
     let once = segments_once (loaded.header.e_shnum == 0) (has parts SEGMENTS) (has parts NOTES) (has parts DYNAMIC) (56 * loaded.header.e_phnum) in
-    let sections = by_kind (section_kinds true) (store_sections store) loaded.size most parts store.loaded in
+    let sections = by_kind (section_kinds versions) (store_sections store) loaded.size most parts store.loaded in
     let segments = by_kind segment_kinds (store_segments store) loaded.size most parts store.segments in
-    omega (arith, names, once, sections, segments)
-listed_parts false loaded store most parts =
-    let names = names_listed (has parts SECTIONS) (not (loaded.header.e_shstrndx == 0)) (name_bytes most) store.loaded in
-    let once = segments_once (loaded.header.e_shnum == 0) (has parts SEGMENTS) (has parts NOTES) (has parts DYNAMIC) (56 * loaded.header.e_phnum) in
-    let sections = by_kind (section_kinds false) (store_sections store) loaded.size most parts store.loaded in
-    let segments = by_kind segment_kinds (store_segments store) loaded.size most parts store.segments in
-    omega (arith, names, once, sections, segments)
+    let all = kinds_cost_append (first_kinds versions) (record_kinds ++ (symbol_versions ∷ [])) (store_sections store) loaded.size most parts store.loaded in
+    let last = kinds_cost_append record_kinds (symbol_versions ∷ []) (store_sections store) loaded.size most parts store.loaded in
+    let first = kinds_cost_listed (first_kinds versions) loaded store most parts in
+    let records = kinds_cost_listed record_kinds loaded store most parts in
+    omega (arith, names, once, sections, segments, all, last, first, records, segments_cost_listed loaded store most parts, last_cost_listed loaded store most parts)
 
 -- all program headers are in the store, or none
 viewed_is : (parts : ℕ) (loaded : LoadedFile) → (viewed_headers parts loaded ≡ 0) ⊎ (viewed_headers parts loaded ≡ loaded.header.e_phnum)

@@ -66,7 +66,7 @@ pub WroteUntilStop-more : (a b : OutState) (stop : RunFault) (xs ys : List Listi
 unfolding WrotePrefix-more
 WroteUntilStop-more a b (Refused refusal) xs ys p = record {
   front = WrotePrefix-more ys p.front;
-  next = λ other. let n = p.next other in record { behind = n.behind ++ ys; is_next = ap (λ zs. zs ++ ys) n.is_next };
+  next = λ other. let n = p.next other in record { later = n.later ++ ys; is_next = ap (λ zs. zs ++ ys) n.is_next };
 }
 WroteUntilStop-more a b (Source fault at) xs ys p = WrotePrefix-more ys p
 WroteUntilStop-more a b (Out fault) xs ys p =
@@ -116,9 +116,9 @@ SpentCredit-within a b out x y (Ok v) n k within p = (SpendsAtMost-to p.0 (omega
 SpentCredit-within a b out x y (Err stop) n k within p = (SpendsAtMost-to p.0 (omega (arith, p.0.account)), StopSays-more a b out stop (x + n) (x + k) (omega arith) p.1)
 
 -- a call after reads, in a bound on all
-pub SpentCredit-behind : {X : Type 0} (a b c : CountedState) (out : OutState) (x y : ℕ) (result : Result X RunFault) (n m k : ℕ) → n + m ≤ k → ReadsUpTo a b n → SpentCredit b c out x y result m → SpentCredit a c out x y result k
-SpentCredit-behind a b c out x y (Ok v) n m k within p q = (SpendsAtMost-to (SpendsAtMost-then (SpendsAtMost-reads x p) q.0) (omega (arith, p.at_most, q.0.account)), tt)
-SpentCredit-behind a b c out x y (Err stop) n m k within p q =
+pub SpentCredit-after : {X : Type 0} (a b c : CountedState) (out : OutState) (x y : ℕ) (result : Result X RunFault) (n m k : ℕ) → n + m ≤ k → ReadsUpTo a b n → SpentCredit b c out x y result m → SpentCredit a c out x y result k
+SpentCredit-after a b c out x y (Ok v) n m k within p q = (SpendsAtMost-to (SpendsAtMost-then (SpendsAtMost-reads x p) q.0) (omega (arith, p.at_most, q.0.account)), tt)
+SpentCredit-after a b c out x y (Err stop) n m k within p q =
     (SpendsAtMost-to (SpendsAtMost-then (SpendsAtMost-reads x p) q.0) (omega (arith, p.at_most, q.0.account)), StopSays-then a b c out stop n (x + m) (x + k) (omega (arith, p.at_most)) p q.1)
 
 -- a call after one that has its own credit, in a bound on both

@@ -59,10 +59,10 @@ less a b n k fewer within = omega arith
 less_and : (a b count each bytes k : ℕ) → b ≤ a → a + count * (each + bytes) ≤ k → b + count * each ≤ k
 less_and a b count each bytes k fewer within = let split = mul-add count each bytes in omega (arith, fewer, within, split)
 
-less_with : (a b count own name bytes behind k : ℕ) → b ≤ a → a + count * (own + name + bytes) ≤ k → bytes ≡ behind → b + count * (own + (name + behind)) ≤ k
-less_with a b count own name bytes behind k fewer within is =
-    let same : own + name + bytes ≡ own + (name + behind) = omega (arith, is) in
-    let more : a + count * (own + (name + behind)) ≤ k = subst (λ (n : ℕ). a + count * n ≤ k) same within in
+less_with : (a b count own name bytes after k : ℕ) → b ≤ a → a + count * (own + name + bytes) ≤ k → bytes ≡ after → b + count * (own + (name + after)) ≤ k
+less_with a b count own name bytes after k fewer within is =
+    let same : own + name + bytes ≡ own + (name + after) = omega (arith, is) in
+    let more : a + count * (own + (name + after)) ≤ k = subst (λ (n : ℕ). a + count * n ≤ k) same within in
     omega (arith, fewer, more)
 
 -- the version lookup of some names, alone, with rows that have none, and with rows that have them
@@ -74,8 +74,8 @@ module _ (headers : HeaderTable) (table size cap own name names count k : ℕ) (
   pub plain_within : walks_asked headers table names size + count * (own + name) ≤ k
   plain_within = less_and (walks_asked headers table count size) (walks_asked headers table names size) count (own + name) (suffix_bytes headers table cap) k fewer within
 
-  pub rows_within : (behind : ℕ) → suffix_bytes headers table cap ≡ behind → walks_asked headers table names size + count * (own + (name + behind)) ≤ k
-  rows_within behind is = less_with (walks_asked headers table count size) (walks_asked headers table names size) count own name (suffix_bytes headers table cap) behind k fewer within is
+  pub rows_within : (after : ℕ) → suffix_bytes headers table cap ≡ after → walks_asked headers table names size + count * (own + (name + after)) ≤ k
+  rows_within after is = less_with (walks_asked headers table count size) (walks_asked headers table names size) count own name (suffix_bytes headers table cap) after k fewer within is
 
 pub no_fewer : (n : ℕ) → n ≤ n
 no_fewer n = omega arith

@@ -63,20 +63,20 @@ line_is Columns key text name Cut version default =
 line_is Object key text name end version default = object_is key text name end version default
 
 -- the line of a row with its version
-pub WroteText-suffixed : (a b : OutState) (front : LinePrefix) (at : ℕ) (end behind : NameEnd) (name version : List ℕ) (answer : Result DisplayedName Cause) (default : Bool)
+pub WroteText-suffixed : (a b : OutState) (front : LinePrefix) (at : ℕ) (end after : NameEnd) (name version : List ℕ) (answer : Result DisplayedName Cause) (default : Bool)
     → NameRead at (Ok end) name answer
-    → SinkTakes a b (tailed_line front (shown_as (cut_of end) name) (before_version front.format default ++ (escaped_bytes front.format version ++ after_version front.format (cut_of behind) default)))
-    → WroteItems a b (suffixed_row EveryRow front at answer (Ok (Suffixed default (shown_by behind version))))
-WroteText-suffixed a b front at Whole behind name version answer default read takes =
-    rw read (Whole-line _ (subst (λ (line : List ℕ). SinkTakes a b line) (line_is front.format front.key front.text (shown_as false name) behind version default) takes))
-WroteText-suffixed a b front at Cut behind name version answer default read takes =
-    rw read (Whole-line _ (subst (λ (line : List ℕ). SinkTakes a b line) (line_is front.format front.key front.text (shown_as true name) behind version default) takes))
+    → SinkTakes a b (tailed_line front (shown_as (cut_of end) name) (before_version front.format default ++ (escaped_bytes front.format version ++ after_version front.format (cut_of after) default)))
+    → WroteItems a b (suffixed_row EveryRow front at answer (Ok (Suffixed default (shown_by after version))))
+WroteText-suffixed a b front at Whole after name version answer default read takes =
+    rw read (Whole-line _ (subst (λ (line : List ℕ). SinkTakes a b line) (line_is front.format front.key front.text (shown_as false name) after version default) takes))
+WroteText-suffixed a b front at Cut after name version answer default read takes =
+    rw read (Whole-line _ (subst (λ (line : List ℕ). SinkTakes a b line) (line_is front.format front.key front.text (shown_as true name) after version default) takes))
 
-pub Fronts-suffixed : (a b : OutState) (front : LinePrefix) (at : ℕ) (end behind : NameEnd) (name version : List ℕ) (answer : Result DisplayedName Cause) (default : Bool)
+pub Fronts-suffixed : (a b : OutState) (front : LinePrefix) (at : ℕ) (end after : NameEnd) (name version : List ℕ) (answer : Result DisplayedName Cause) (default : Bool)
     → NameRead at (Ok end) name answer
-    → SinkTakesPrefix a b (tailed_line front (shown_as (cut_of end) name) (before_version front.format default ++ (escaped_bytes front.format version ++ after_version front.format (cut_of behind) default)))
-    → SinkTakesPrefix a b (lines_of (suffixed_row EveryRow front at answer (Ok (Suffixed default (shown_by behind version)))))
-Fronts-suffixed a b front at Whole behind name version answer default read takes =
-    rw read (WroteUntilStop-line _ (subst (λ (line : List ℕ). SinkTakesPrefix a b line) (line_is front.format front.key front.text (shown_as false name) behind version default) takes))
-Fronts-suffixed a b front at Cut behind name version answer default read takes =
-    rw read (WroteUntilStop-line _ (subst (λ (line : List ℕ). SinkTakesPrefix a b line) (line_is front.format front.key front.text (shown_as true name) behind version default) takes))
+    → SinkTakesPrefix a b (tailed_line front (shown_as (cut_of end) name) (before_version front.format default ++ (escaped_bytes front.format version ++ after_version front.format (cut_of after) default)))
+    → SinkTakesPrefix a b (lines_of (suffixed_row EveryRow front at answer (Ok (Suffixed default (shown_by after version)))))
+Fronts-suffixed a b front at Whole after name version answer default read takes =
+    rw read (WroteUntilStop-line _ (subst (λ (line : List ℕ). SinkTakesPrefix a b line) (line_is front.format front.key front.text (shown_as false name) after version default) takes))
+Fronts-suffixed a b front at Cut after name version answer default read takes =
+    rw read (WroteUntilStop-line _ (subst (λ (line : List ℕ). SinkTakesPrefix a b line) (line_is front.format front.key front.text (shown_as true name) after version default) takes))

@@ -19,7 +19,7 @@ use Rattle.elf_listing.specs.declared.read_suffix.VersionSuffixEnd.{VersionSuffi
 use Rattle.elf_listing.specs.declared.suffixes.VersionLookup.{VersionLookup}
 use Rattle.elf_listing.proofs.ListsLaws.{SameFile-then}
 use Rattle.elf_listing.proofs.RowLaws.{Ends-first, WrotePrefix-none, relocation_is, symbol_is}
-use Rattle.elf_listing.proofs.SymbolNamed.{says_behind}
+use Rattle.elf_listing.proofs.SymbolNamed.{says_after}
 
 -- a call that reads after another, in a bound on both
 pub ListingReads-then : {S W X Y : Type 0} {s : Sources S} {w : Sinks W} (a b c : Listing S W s w) (y : Y) (result : Result X Fault) (n m k : ℕ)
@@ -30,7 +30,7 @@ ListingReads-then a b c y result n m k within p q =
       SameFile-then p.0 q.0,
       q.1 ∙ p.1,
       SpendsAtMost-to (SpendsAtMost-then p.2 q.2) (omega (arith, first, second, within)),
-      says_behind _ _ _ result _ _ _ (omega (arith, first, within)) p.2.reads q.3,
+      says_after _ _ _ result _ _ _ (omega (arith, first, within)) p.2.reads q.3,
     )
 
 -- a read, in a looser bound
@@ -54,32 +54,32 @@ read-shown at NameCut name answer read = read
 -- the version after it could not be
 pub WroteUntilStop-suffix : (a : OutState) (choice : RowFilter) (front : LinePrefix) (at : ℕ) (end : NameEnd) (fault : Fault) (name version : List ℕ) (answer : Result DisplayedName Cause) (suffix : Result Suffix Refusal)
     → NameRead at (Ok end) name answer → SuffixRead (Err fault) version suffix → WroteUntilStop a a (stop_of fault) (suffixed_row choice front at answer suffix)
-WroteUntilStop-suffix a choice front at end (Refused refusal) name version answer suffix read behind =
+WroteUntilStop-suffix a choice front at end (Refused refusal) name version answer suffix read after =
     Ends-first a refusal (suffixed_row choice front at answer suffix) (λ other.
-    let is = behind other in
+    let is = after other in
     ap (λ (n : Result DisplayedName Cause). suffixed_row choice front at n suffix) (read-shown at end name answer read)
     ∙ ap (λ (b : Result Suffix Refusal). suffixed_row choice front at (Ok (shown_by end name)) b) is)
-WroteUntilStop-suffix a choice front at end (Source fault offset) name version answer suffix read behind = WrotePrefix-none a (suffixed_row choice front at answer suffix)
+WroteUntilStop-suffix a choice front at end (Source fault offset) name version answer suffix read after = WrotePrefix-none a (suffixed_row choice front at answer suffix)
 
-read-behind : (suffix : Option VersionSuffixEnd) (version : List ℕ) (answer : Result Suffix Refusal) → SuffixRead (Ok suffix) version answer → answer ≡ Ok (suffix_read suffix version)
-read-behind None version answer read = read
-read-behind (Some suffix) version answer read = read
+read-after : (suffix : Option VersionSuffixEnd) (version : List ℕ) (answer : Result Suffix Refusal) → SuffixRead (Ok suffix) version answer → answer ≡ Ok (suffix_read suffix version)
+read-after None version answer read = read
+read-after (Some suffix) version answer read = read
 
 -- the row is its line if it is shown, otherwise nothing
-pub suffixed-shown : (choice : RowFilter) (front : LinePrefix) (at : ℕ) (end : NameEnd) (name version : List ℕ) (answer : Result DisplayedName Cause) (suffix : Option VersionSuffixEnd) (behind : Result Suffix Refusal)
-    → NameRead at (Ok end) name answer → SuffixRead (Ok suffix) version behind → chooses choice (shown_by end name) (suffix_read suffix version) ≡ true
-    → suffixed_row choice front at answer behind ≡ suffixed_row EveryRow front at answer (Ok (suffix_read suffix version))
-suffixed-shown choice front at end name version answer suffix behind read next is =
+pub suffixed-shown : (choice : RowFilter) (front : LinePrefix) (at : ℕ) (end : NameEnd) (name version : List ℕ) (answer : Result DisplayedName Cause) (suffix : Option VersionSuffixEnd) (after : Result Suffix Refusal)
+    → NameRead at (Ok end) name answer → SuffixRead (Ok suffix) version after → chooses choice (shown_by end name) (suffix_read suffix version) ≡ true
+    → suffixed_row choice front at answer after ≡ suffixed_row EveryRow front at answer (Ok (suffix_read suffix version))
+suffixed-shown choice front at end name version answer suffix after read next is =
     let named = read-shown at end name answer read in
-    let told = read-behind suffix version behind next in
+    let told = read-after suffix version after next in
     rw (named, told) (rw is refl)
 
-pub suffixed-hidden : (choice : RowFilter) (front : LinePrefix) (at : ℕ) (end : NameEnd) (name version : List ℕ) (answer : Result DisplayedName Cause) (suffix : Option VersionSuffixEnd) (behind : Result Suffix Refusal)
-    → NameRead at (Ok end) name answer → SuffixRead (Ok suffix) version behind → chooses choice (shown_by end name) (suffix_read suffix version) ≡ false
-    → suffixed_row choice front at answer behind ≡ []
-suffixed-hidden choice front at end name version answer suffix behind read next is =
+pub suffixed-hidden : (choice : RowFilter) (front : LinePrefix) (at : ℕ) (end : NameEnd) (name version : List ℕ) (answer : Result DisplayedName Cause) (suffix : Option VersionSuffixEnd) (after : Result Suffix Refusal)
+    → NameRead at (Ok end) name answer → SuffixRead (Ok suffix) version after → chooses choice (shown_by end name) (suffix_read suffix version) ≡ false
+    → suffixed_row choice front at answer after ≡ []
+suffixed-hidden choice front at end name version answer suffix after read next is =
     let named = read-shown at end name answer read in
-    let told = read-behind suffix version behind next in
+    let told = read-after suffix version after next in
     rw (named, told) (rw is refl)
 
 -- a symbol's row at its place

@@ -23,9 +23,9 @@ use Rattle.elf_listing.proofs.SectionShown.{table_passes}
 use Rattle.elf_listing.proofs.ShowLaws.{SpentCredit-then, Whole-none}
 
 -- something was read, and then rows were shown
-pub ListingCalls-behind : {S W X Y : Type 0} {s : Sources S} {w : Sinks W} (a b c : Listing S W s w) (y : Y) (result : Result X RunFault) (n m k : ℕ) (read : Type 0) {shown : Type 0}
+pub ListingCalls-after : {S W X Y : Type 0} {s : Sources S} {w : Sinks W} (a b c : Listing S W s w) (y : Y) (result : Result X RunFault) (n m k : ℕ) (read : Type 0) {shown : Type 0}
     → n + m ≤ k → ListingReads a b (Ok y) n → ListingCalls b c result m read → shown → ListingCalls a c result k shown
-ListingCalls-behind a b c y result n m k read within p q is = record {
+ListingCalls-after a b c y result n m k read within p q is = record {
   grows = rw (← p.1) q.grows;
   keeps = SameFile-then p.0 q.keeps;
   spent = SpentCredit-then _ _ _ _ _ _ _ _ _ _ _ within p.2 q.spent;

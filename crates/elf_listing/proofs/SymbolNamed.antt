@@ -1,62 +1,64 @@
 -- The symbol that a relocation entry names, by what the file's sections give.
-use Rattle.std.proofs.Common.{◌≡◌, ℕ, ◌+◌, ◌*◌, ◌<◌, ◌≤◌, ◌==◌, nat_lt, true, false, List, Result, Ok, Err, IfErr, refl, sym, ap, ◌∙◌, subst, arith}
-use Rattle.std.proofs.lemmas.Bool.{lt-ltb, le-ltb}
-use Rattle.elf_model.specs.Prelude.{DisplayedName, entry_at, entry_count, has_symbols, linked_at, no_name, sh_offset, shown, slice, st_name, strings_of, symbol_named}
-use Rattle.elf_model.specs.declared.causes.Cause.TheVariants.{BadLink, SymbolIndex}
+use Rattle.std.proofs.Common.{◌≡◌, ◌≢◌, ℕ, ◌+◌, ◌≤◌, ◌==◌, false, inl, inr, List, Option, None, Some, Result, Ok, Err, IfErr, refl, sym, ap, subst}
+use Rattle.std.proofs.lemmas.Bool.{cases_Bool, ne_eqb}
+use Rattle.elf_model.specs.Prelude.{DisplayedName, entry_at, first_refusal, linked_at, no_name, shown, st_name, strings_of, symbol_checks_of, symbol_named}
 use Rattle.elf_model.specs.declared.causes.Cause.{Cause}
+use Rattle.elf_model.specs.declared.causes.Refusal.{Refusal}
 use Rattle.elf_source.specs.Source.{CountedState, ReadsUpTo}
-use Rattle.elf_table.specs.Prelude.{AreSymbols, IsReadFault, NameRead, StringTableRange, TableRange, row_at}
+use Rattle.elf_table.specs.Prelude.{IsReadFault, NameRead, RefersToSymbol, RefusedBy, Refuses}
 use Rattle.elf_table.specs.declared.fault.Fault.{Fault}
+use Rattle.elf_table.specs.declared.fault.Fault.TheVariants.{Refused, Source}
+use Rattle.elf_table.specs.declared.linked_symbol.LinkedSymbol.{LinkedSymbol}
 use Rattle.elf_table.specs.declared.names.NameEnd.{NameEnd}
 use Rattle.elf_listing.proofs.VersionedCosts.{IsReadFault-account}
 
 -- what a fault says if there is one, after reads, in a bound on what both read
-pub says_behind : {X : Type 0} (a b c : CountedState) (result : Result X Fault) (n m k : ℕ) → b.asked + m ≤ a.asked + k → ReadsUpTo a b n → IfErr result (IsReadFault b c m) → IfErr result (IsReadFault a c k)
-says_behind a b c (Ok x) n m k within p q = tt
-says_behind a b c (Err fault) n m k within p q = IsReadFault-account a b c fault n m k within p q
-
--- what is read of a name, if another offset and name are the same
-pub read_as : (p q : ℕ × Result DisplayedName Cause) (result : Result NameEnd Fault) (name : List ℕ) → p ≡ q → NameRead q.0 result name q.1 → NameRead p.0 result name p.1
-read_as p q result name same read = let P : ℕ × Result DisplayedName Cause → Type 0 = λ s. NameRead s.0 result name s.1 in subst P (sym same) read
+pub says_after : {X : Type 0} (a b c : CountedState) (result : Result X Fault) (n m k : ℕ) → b.asked + m ≤ a.asked + k → ReadsUpTo a b n → IfErr result (IsReadFault b c m) → IfErr result (IsReadFault a c k)
+says_after a b c (Ok x) n m k within p q = tt
+says_after a b c (Err fault) n m k within p q = IsReadFault-account a b c fault n m k within p q
 
 pub named_zero : (file : List ℕ) (cap header entry symbol : ℕ) → symbol ≡ 0 → symbol_named file cap header entry symbol ≡ (entry, no_name)
 unfolding symbol_named
 named_zero file cap header entry symbol zero = rw zero refl
 
-pub named_unlinked : (file : List ℕ) (cap header entry symbol : ℕ) → (symbol == 0) ≡ false → has_symbols file header ≡ false → symbol_named file cap header entry symbol ≡ (entry, Err BadLink)
+pub named_refused : (file : List ℕ) (cap header entry symbol : ℕ) (refusal : Refusal) → first_refusal (symbol_checks_of file header entry symbol) ≡ Some refusal
+    → symbol_named file cap header entry symbol ≡ (refusal.at, Err refusal.cause)
 unfolding symbol_named
-named_unlinked file cap header entry symbol some none = rw (some, none) refl
+named_refused file cap header entry symbol refusal is = elim (cases_Bool (symbol == 0)) [
+  | inl zero ↦ let none = rw zero at is in cc
+  | inr some ↦ rw (is, some) refl
+]
 
-pub named_beyond : (file : List ℕ) (cap header entry symbol : ℕ) → (symbol == 0) ≡ false → has_symbols file header ≡ true → entry_count file (linked_at file header) 24 ≤ symbol
-    → symbol_named file cap header entry symbol ≡ (entry, Err SymbolIndex)
-unfolding symbol_named
-named_beyond file cap header entry symbol some has beyond =
-    let high : nat_lt symbol (entry_count file (linked_at file header) 24) ≡ false = le-ltb symbol (entry_count file (linked_at file header) 24) beyond in rw some (rw has (rw some (rw high refl)))
-
-pub named_there : (file : List ℕ) (cap header entry symbol : ℕ) → (symbol == 0) ≡ false → has_symbols file header ≡ true → symbol < entry_count file (linked_at file header) 24
+pub named_found : (file : List ℕ) (cap header entry symbol : ℕ) → (symbol == 0) ≡ false → first_refusal (symbol_checks_of file header entry symbol) ≡ None
     → symbol_named file cap header entry symbol
     ≡ (entry_at file (linked_at file header) 24 symbol, shown (strings_of file (linked_at file header)) (st_name file (entry_at file (linked_at file header) 24 symbol)) cap)
 unfolding symbol_named
-named_there file cap header entry symbol some has below =
-    let low : nat_lt symbol (entry_count file (linked_at file header) 24) ≡ true = lt-ltb symbol (entry_count file (linked_at file header) 24) below in rw some (rw has (rw some (rw low refl)))
+named_found file cap header entry symbol some none = rw (none, some) refl
 
 -- a refusal at an offset
 pub refuses_as : {X : Type 0} (p : ℕ × Result DisplayedName Cause) (entry : ℕ) (cause : Cause) → p ≡ (entry, Err cause) → X → (entry ≡ p.0) × (p.1 ≡ Err cause)
 refuses_as p entry cause same other = (ap (λ (s : ℕ × Result DisplayedName Cause). s.0) (sym same), ap (λ (s : ℕ × Result DisplayedName Cause). s.1) same)
 
-abbrev the_pair : ℕ → Result DisplayedName Cause → ℕ × Result DisplayedName Cause
-the_pair at name = (at, name)
+-- a fault of the symbol's checks
+pub refuses_named : (file : List ℕ) (cap header entry symbol : ℕ) (fault : Fault) → RefusedBy (symbol_checks_of file header entry symbol) fault
+    → Refuses (symbol_named file cap header entry symbol).0 fault (symbol_named file cap header entry symbol).1
+refuses_named file cap header entry symbol (Refused refusal) by = refuses_as _ _ _ (named_refused file cap header entry symbol refusal by)
+refuses_named file cap header entry symbol (Source fault offset) by = absurd by
 
--- the place of a symbol, and its name in the string table that was found
-pub found_there : (file : List ℕ) (cap header symbol index place off : ℕ) (symbols : TableRange) (names : StringTableRange) → AreSymbols file (linked_at file header) (symbols, names) → 0 < symbols.count
-    → index ≡ symbol → place ≡ row_at symbols index → off ≡ st_name file (row_at symbols index)
-    → the_pair (entry_at file (linked_at file header) 24 symbol) (shown (strings_of file (linked_at file header)) (st_name file (entry_at file (linked_at file header) 24 symbol)) cap)
-    ≡ the_pair place (shown (slice file names.at names.size) off cap)
-found_there file cap header symbol index place off symbols names to some same here named =
-    let offset : ℕ = sh_offset file (linked_at file header) in
-    let steps : index * symbols.entry ≡ 24 * symbol = rw (to.sized, same) (omega arith) in
-    let row : row_at symbols index ≡ offset + 24 * symbol = omega (arith, steps, to.placed) in
-    let strings : List ℕ = strings_of file (linked_at file header) in
-    ap (λ p. the_pair p (shown strings (st_name file p) cap)) (sym (here ∙ row))
-    ∙ (ap (λ table. the_pair place (shown table (st_name file place) cap)) (ap (λ (n : StringTableRange). slice file n.at n.size) (sym (to.named some)))
-    ∙ ap (λ n. the_pair place (shown (slice file names.at names.size) n cap)) (sym (named ∙ ap (st_name file) (sym here))))
+-- the symbol that was found is none, or one of the table
+pub zero_by : (file : List ℕ) (header entry symbol : ℕ) (found : Option LinkedSymbol) → ((one : LinkedSymbol) → found ≡ Some one → ⊥) → RefersToSymbol file header entry symbol (Ok found) → symbol ≡ 0
+zero_by file header entry symbol None none refers = refers
+zero_by file header entry symbol (Some one) none refers = absurd (none one refl)
+
+pub found_by : (file : List ℕ) (header entry symbol : ℕ) (found : Option LinkedSymbol) (one : LinkedSymbol) → found ≡ Some one → RefersToSymbol file header entry symbol (Ok found)
+    → RefersToSymbol file header entry symbol (Ok (Some one))
+found_by file header entry symbol found one is refers = subst (λ (o : Option LinkedSymbol). RefersToSymbol file header entry symbol (Ok o)) is refers
+
+-- the name of a symbol that was found, as it is read: by its place and the strings of its name
+pub read_named : (file : List ℕ) (cap header entry symbol place off : ℕ) (names : List ℕ) (result : Result NameEnd Fault) (name : List ℕ) → symbol ≢ 0
+    → first_refusal (symbol_checks_of file header entry symbol) ≡ None → place ≡ entry_at file (linked_at file header) 24 symbol → off ≡ st_name file place
+    → names ≡ strings_of file (linked_at file header) → NameRead place result name (shown names off cap)
+    → NameRead (symbol_named file cap header entry symbol).0 result name (symbol_named file cap header entry symbol).1
+read_named file cap header entry symbol place off names result name some passed here named strings read =
+    let P : ℕ × Result DisplayedName Cause → Type 0 = λ s. NameRead s.0 result name s.1 in
+    subst P (sym (named_found file cap header entry symbol (ne_eqb symbol 0 some) passed)) (rw (← here, ← named, ← strings) read)

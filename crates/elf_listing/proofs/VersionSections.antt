@@ -46,11 +46,11 @@ module _ (file : List ℕ) (at : ℕ) (some : (sh_size file at == 0) ≡ false) 
     unfolding range
     unnamed fault h =
         let names = names_at file (section_at file (sh_link file at)) in
-        rw some (behind fault (table-fails false names names (strings_checks file at) fault h).1)
+        rw some (after fault (table-fails false names names (strings_checks file at) fault h).1)
       where
-        behind : (fault : Fault) → RefusedBy (strings_checks file at) fault → RefusedBy (range ++ strings_checks file at) fault
-        behind (Refused refusal) by = first_refusal-none range (strings_checks file at) own.0 ∙ by
-        behind (Source fault offset) by = by
+        after : (fault : Fault) → RefusedBy (strings_checks file at) fault → RefusedBy (range ++ strings_checks file at) fault
+        after (Refused refusal) by = first_refusal-none range (strings_checks file at) own.0 ∙ by
+        after (Source fault offset) by = by
 
     pub found : (names : StringTableRange) → string_table_at file at ≡ Ok names
         → (first_refusal (all_checks version_table file at) ≡ None) × (strings_of file at ≡ strings_in file names) × (table ≡ rows (sh_offset file at) (sh_size file at) 1)

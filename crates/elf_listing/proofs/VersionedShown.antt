@@ -178,9 +178,9 @@ rows-are file style numbered places are no_fault section at table symbols some p
     (min (entry_count file at VERSYM_SIZE) (versioned_symbols file at)) (entry-is file style numbered places are no_fault section at))))
 
 -- a call that writes after one that reads, in a bound on both
-pub ListingCalls-behind : {S W X Y : Type 0} {s : Sources S} {w : Sinks W} (a b c : Listing S W s w) (y : Y) (result : Result X RunFault) (n m k : ℕ) (read shown : Type 0)
+pub ListingCalls-after : {S W X Y : Type 0} {s : Sources S} {w : Sinks W} (a b c : Listing S W s w) (y : Y) (result : Result X RunFault) (n m k : ℕ) (read shown : Type 0)
     → n + m ≤ k → ListingReads a b (Ok y) n → ListingCalls b c result m read → shown → ListingCalls a c result k shown
-ListingCalls-behind a b c y result n m k read shown within p q is = record {
+ListingCalls-after a b c y result n m k read shown within p q is = record {
   grows = rw (← p.1) q.grows;
   keeps = SameFile-then p.0 q.keeps;
   spent = SpentCredit-then _ _ _ _ _ _ _ _ _ _ _ within p.2 q.spent;
@@ -197,10 +197,10 @@ pub walks-whole : (file : List ℕ) → AreRecordsWhole file Definition → AreR
 walks-whole file definitions needs = or-none _ _ None definitions needs
 
 -- the refusal after rows that were written
-pub Ends-behind : (a b : OutState) (refusal : Refusal) (rows : List ListingItem) → WroteItems a b rows → WroteUntilRefusal a b refusal (rows ++ FaultItem refusal ∷ [])
-Ends-behind a b refusal rows wrote = record {
+pub Ends-after : (a b : OutState) (refusal : Refusal) (rows : List ListingItem) → WroteItems a b rows → WroteUntilRefusal a b refusal (rows ++ FaultItem refusal ∷ [])
+Ends-after a b refusal rows wrote = record {
   front = record { front = rows; rest = FaultItem refusal ∷ []; split = refl; takes = wrote.takes; no_fault = wrote.no_fault };
-  next = λ other. record { behind = []; is_next = refl };
+  next = λ other. record { later = []; is_next = refl };
 }
 
 -- those of an empty section

@@ -56,7 +56,7 @@ pub records_fault : (a b : OutState) (fault : Fault) (file : List ℕ) (style : 
 records_fault a b (Refused refusal) file style section strings all left new tells before = record {
   front = record { front = before.done; rest = versions_items file style section strings left; split = before.split; takes = before.whole.takes; no_fault = before.whole.no_fault };
   next = λ other. record {
-    behind = [];
+    later = [];
     is_next = ap (versions_items file style section strings) (tells other) ∙ none_left file style section strings (Some refusal);
   };
 }

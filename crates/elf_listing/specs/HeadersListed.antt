@@ -1,12 +1,12 @@
 -- The effect of a call that lists the tables of a file, part by part and header by header.
-use Rattle.std.specs.Prelude.{ℕ, ◌+◌, ◌++◌, List, Result}
+use Rattle.std.specs.Prelude.{ℕ, List, [], ◌∷◌, ◌++◌, Result}
 use Rattle.elf_model.specs.Prelude.{ListingItem, ListingStyle, SEGMENTS, e_phnum, each, segment_row, table_items, where_asked}
 use Rattle.elf_options.specs.Permitted.{style_of}
 use Rattle.elf_table.specs.Prelude.{StoreState}
 use Rattle.elf_table.specs.declared.run_fault.RunFault.{RunFault}
 use Rattle.elf_source.specs.declared.source.Source.{Ghosts as Sources}
 use Rattle.elf_source.specs.declared.sink.Sink.{Ghosts as Sinks}
-use Rattle.elf_listing.specs.Parts.{PartListed, asked_cost, part_cost, part_items, segments_listed, tables_listed}
+use Rattle.elf_listing.specs.Parts.{PartListed, asked_cost, kinds_asked, part_cost, part_items, segments_listed, tables_listed}
 use Rattle.elf_listing.specs.Shows.{ListingCalls, ListingWrote}
 use Rattle.elf_listing.specs.declared.listing.Listing.{Listing}
 
@@ -31,15 +31,16 @@ ListsAsked parts part old new result =
     ListingCalls old new result (asked_cost parts part old.file.loaded old.file.store.now old.style.cap.bytes)
     (ListingWrote old new result (asked_items parts part old.file.store.now (style_of old.style)))
 
--- two parts, one after the other
-abbrev pub ListsPair : {S W X : Type 0} {s : Sources S} {w : Sinks W} → ℕ → PartListed → PartListed → Listing S W s w → Listing S W s w → Result X RunFault → Type 0
-ListsPair parts first second old new result =
-    let loaded = old.file.loaded in
-    let store = old.file.store.now in
-    let cap = old.style.cap.bytes in
-    let style = style_of old.style in
-    ListingCalls old new result (asked_cost parts first loaded store cap + asked_cost parts second loaded store cap)
-    (ListingWrote old new result (λ file. asked_items parts first store style file ++ asked_items parts second store style file))
+-- the items of some kinds, one after another, those among the given parts
+unfoldable pub kinds_items : ℕ → List PartListed → StoreState → ListingStyle → List ℕ → List ListingItem
+kinds_items parts [] store style file = []
+kinds_items parts (kind ∷ kinds) store style file = asked_items parts kind store style file ++ kinds_items parts kinds store style file
+
+-- some kinds, one after another
+abbrev pub ListsKinds : {S W X : Type 0} {s : Sources S} {w : Sinks W} → ℕ → List PartListed → Listing S W s w → Listing S W s w → Result X RunFault → Type 0
+ListsKinds parts kinds old new result =
+    ListingCalls old new result (kinds_asked parts kinds old.file.loaded old.file.store.now old.style.cap.bytes)
+    (ListingWrote old new result (kinds_items parts kinds old.file.store.now (style_of old.style)))
 
 -- the program headers, if they are among the parts
 abbrev pub ListsSegments : {S W X : Type 0} {s : Sources S} {w : Sinks W} → ℕ → Listing S W s w → Listing S W s w → Result X RunFault → Type 0

@@ -1,6 +1,6 @@
 -- The parts of a listing after the file header: what is listed of each section, and how much is
 -- read.
-use Rattle.std.specs.Prelude.{ℕ, ◌+◌, ◌*◌, ◌==◌, ◌&&◌, ◌≡◌, not, Bool, true, false, List, Option, None, Some, Result}
+use Rattle.std.specs.Prelude.{ℕ, ◌+◌, ◌*◌, ◌==◌, ◌&&◌, ◌≡◌, not, Bool, true, false, List, [], ◌∷◌, Option, None, Some, Result}
 use Rattle.elf_model.specs.Prelude.{DisplayedName, HeaderTable, ListingItem, ListingStyle, SECTIONS, SEGMENTS, TableKind, cost_where, each, fault_of, has, held_headers, name_bytes, no_name, records_rows, relocations, relocations_with_versions, section_at, section_dynamic, section_notes, section_row, segment_at, segment_dynamic, segment_notes, segment_row, shown, suffixed_symbols, sum_over, symbol_versions, symbols, table_cost, table_rows, version_definitions, version_needs}
 use Rattle.elf_model.specs.declared.causes.Cause.{Cause}
 use Rattle.elf_table.specs.Prelude.{LoadedFile, StoreState, StringTableRange, row, segment_bytes, strings_in}
@@ -100,14 +100,34 @@ asked_cost parts part loaded store cap = cost_where (has parts part.bit) (part_c
 abbrev pub segments_listed : ℕ → LoadedFile → ℕ
 segments_listed parts loaded = cost_where (has parts SEGMENTS && not (loaded.header.e_shnum == 0)) (56 * loaded.header.e_phnum)
 
+-- how many bytes some kinds read at most, those among the parts
+unfoldable pub kinds_asked : ℕ → List PartListed → LoadedFile → StoreState → ℕ → ℕ
+kinds_asked parts [] loaded store cap = 0
+kinds_asked parts (kind ∷ kinds) loaded store cap = asked_cost parts kind loaded store cap + kinds_asked parts kinds loaded store cap
+
+-- the kinds of tables that section headers describe: those before the records of versions, and these
+abbrev pub first_kinds : Bool → List TableKind
+first_kinds versions = symbols_kind versions ∷ relocations_kind versions ∷ section_notes ∷ section_dynamic ∷ []
+
+abbrev pub record_kinds : List TableKind
+record_kinds = version_definitions ∷ version_needs ∷ []
+
+-- what kinds of tables list that section headers describe
+unfoldable pub sections_listed : List TableKind → List PartListed
+sections_listed [] = []
+sections_listed (kind ∷ kinds) = of_sections kind ∷ sections_listed kinds
+
+-- the kinds that program headers describe
+abbrev pub segments_parts : List PartListed
+segments_parts = of_segments segment_notes ∷ of_segments segment_dynamic ∷ []
+
 -- how many bytes the tables of a loaded file read at most, those among the parts, with or without
 -- versions after the names of symbols
 abbrev pub tables_listed : ℕ → LoadedFile → StoreState → (cap : ℕ) → (versions : Bool) → ℕ
 tables_listed parts loaded store cap versions =
     asked_cost parts section_headers_part loaded store cap
     + segments_listed parts loaded
-    + (asked_cost parts (symbols_part versions) loaded store cap + asked_cost parts (relocations_part versions) loaded store cap)
-    + (asked_cost parts (of_sections section_notes) loaded store cap + asked_cost parts (of_segments segment_notes) loaded store cap)
-    + (asked_cost parts (of_sections section_dynamic) loaded store cap + asked_cost parts (of_segments segment_dynamic) loaded store cap)
-    + (asked_cost parts (of_sections version_definitions) loaded store cap + asked_cost parts (of_sections version_needs) loaded store cap)
+    + kinds_asked parts (sections_listed (first_kinds versions)) loaded store cap
+    + kinds_asked parts segments_parts loaded store cap
+    + kinds_asked parts (sections_listed record_kinds) loaded store cap
     + asked_cost parts (of_sections symbol_versions) loaded store cap

@@ -31,8 +31,8 @@ pub record WrotePrefix (old new : OutState) (items : List ListingItem) : Type 0 
 
 -- a refusal is the fault that the items begin with
 pub record IsNext (refusal : Refusal) (items : List ListingItem) : Type 0 where
-  pub behind : List ListingItem
-  pub is_next : items ≡ Fault refusal ∷ behind
+  pub later : List ListingItem
+  pub is_next : items ≡ Fault refusal ∷ later
 
 -- the lines before the first fault were written, and this is the fault; if it is for lack of
 -- budget, the lines of a prefix

@@ -8,21 +8,21 @@ use Rattle.elf_table.specs.declared.fault.Fault.{Fault as Failure}
 use Rattle.elf_table.specs.declared.names.NameEnd.{NameEnd}
 use Rattle.elf_table.specs.declared.fault.Fault.TheVariants.{Refused}
 use Rattle.elf_listing.specs.declared.dynamic_string_table.DynamicStringTable.{DynamicStringTable}
-use Rattle.elf_listing.specs.declared.dynamic_string_table.DynamicStringTable.TheVariants.{LinkedSymbolTable, Mapped}
+use Rattle.elf_listing.specs.declared.dynamic_string_table.DynamicStringTable.TheVariants.{LinkedStringTable, Mapped}
 
 -- the string table of the entry at an offset of a file, or the refusal if there is none
 abbrev pub strings_reported : DynamicStringTable → List ℕ → ℕ → Result (List ℕ) Refusal
-strings_reported (LinkedSymbolTable names) file entry_at = Ok (strings_in file names)
+strings_reported (LinkedStringTable names) file entry_at = Ok (strings_in file names)
 strings_reported (Mapped view told) file entry_at = strings_at file entry_at told.address told.size
 
 -- the tables in which the strings are looked up lie within a source of this size
 abbrev pub AreWithin : ℕ → DynamicStringTable → Type 0
-AreWithin size (LinkedSymbolTable names) = StringsInBounds size names
+AreWithin size (LinkedStringTable names) = StringsInBounds size names
 AreWithin size (Mapped view told) = view.loaded.size ≡ size
 
 -- the tables in which the strings are looked up are of this file
 abbrev pub AreOf : List ℕ → DynamicStringTable → Type 0
-AreOf file (LinkedSymbolTable names) = Unit {0}
+AreOf file (LinkedStringTable names) = Unit {0}
 AreOf file (Mapped view told) = HoldsProgramHeaders file view.loaded view.store.now
 
 -- a string table was found as specified, or refused

@@ -33,7 +33,7 @@ ChecksView checks (Err (Source fault at)) = Unit {0}
 
 -- what holds before the program headers of a file are loaded: its section headers are in the store,
 -- which has a slot for each program header
-pub record AwaitsView (size : ℕ) (loaded : LoadedFile) (store : StoreState) : Type 0 where
+pub record MayLoadView (size : ℕ) (loaded : LoadedFile) (store : StoreState) : Type 0 where
   pub whole : store.loaded ≡ loaded.header.e_shnum
   pub none : store.segments ≡ 0
   pub room : loaded.header.e_phnum ≤ store.slots

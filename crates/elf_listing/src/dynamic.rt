@@ -13,9 +13,9 @@ use crate::row_selection::RowSelection;
 use crate::table_rows::{TableRows, list_rows};
 use elf_format::{LinePrefix, Render, dynamic_prefix};
 use elf_note::{dynamic_rows, dynamic_strings};
-use elf_record::Dyn;
 use elf_record::numbers::{PT_DYNAMIC, SHT_DYNAMIC};
 use elf_record::sizes::DYNAMIC_BYTES;
+use elf_record::{Dyn, Parts};
 use elf_source::{Sink, Source};
 use elf_table::{Row, RunFault, Table};
 
@@ -59,6 +59,11 @@ impl<'f> TableRows for DynamicEntries<'f> {
 impl ListedKind for SectionDynamic {
     ghost listed = { λ versions. of_sections section_dynamic };
 
+    #[tactic(auto, unfolding(elf_model::specs::TableKinds::section_dynamic))]
+    fn part(_versions: bool) -> Parts {
+        Parts::DYNAMIC
+    }
+
     fn count<S: Source, W: Sink>(listing: &Listing<'_, '_, '_, '_, S, W>) -> u16 {
         listing.file.sections()
     }
@@ -76,13 +81,18 @@ impl ListedKind for SectionDynamic {
         }
         let table = listing.file.table(index, DYNAMIC_BYTES)?;
         let names = listing.file.strings(index)?;
-        let strings = DynamicStringTable::LinkedSymbolTable(names);
+        let strings = DynamicStringTable::LinkedStringTable(names);
         list_rows(listing, table, &DynamicEntries { strings }, &mut NoVersions)
     }
 }
 
 impl ListedKind for SegmentDynamic {
     ghost listed = { λ versions. of_segments segment_dynamic };
+
+    #[tactic(auto, unfolding(elf_model::specs::TableKinds::segment_dynamic))]
+    fn part(_versions: bool) -> Parts {
+        Parts::DYNAMIC
+    }
 
     fn count<S: Source, W: Sink>(listing: &Listing<'_, '_, '_, '_, S, W>) -> u16 {
         listing.file.store.segments()

@@ -17,7 +17,7 @@ use elf_table::{ExecutionView, Fault, NameEnd, Names, refused};
 #[derive(Clone, Copy)]
 pub enum DynamicStringTable<'f> {
     /// In the string table that their section links to.
-    LinkedSymbolTable(Names),
+    LinkedStringTable(Names),
     /// Where a segment loads them, at the address that the entries give.
     Mapped {
         /// The file with its program headers.
@@ -54,7 +54,7 @@ fn strings_for(strings: &DynamicStringTable<'_>, at: u64) -> Result<Names, Fault
     ensures { FindsStrings strings.now at result }
 {
     match strings {
-        DynamicStringTable::LinkedSymbolTable(names) => Ok(*names),
+        DynamicStringTable::LinkedStringTable(names) => Ok(*names),
         DynamicStringTable::Mapped { view, told } => strings_mapped(view, told, at),
     }
 }

@@ -2,7 +2,7 @@
 ghost use Rattle.std.specs.Prelude.{◌≡◌, ◌<◌, ℕ, true, Bool, List, Option};
 ghost use Rattle.elf_model.specs.Prelude.{ListingStyle, has};
 ghost use Rattle.elf_options.specs.Permitted.{style_of};
-ghost use Rattle.elf_listing.specs.HeadersListed.{ListsAsked, ListsHeader, ListsPair, ListsPart};
+ghost use Rattle.elf_listing.specs.HeadersListed.{ListsAsked, ListsHeader, ListsPart};
 ghost use Rattle.elf_listing.specs.Parts.{PartListed};
 
 use crate::listing::Listing;
@@ -18,6 +18,10 @@ pub trait ListedKind {
 
     /// What holds before it is listed of a file that is known, in a style.
     ghost ready: { Option (List ℕ) → ListingStyle → Type 0 } = { λ seen style. Unit {0} };
+
+    /// Returns the part of a listing that it belongs to.
+    fn part(versions: bool) -> Parts
+        ensures { result.0 ≡ (listed versions).bit };
 
     /// Returns the number of headers that may describe one, those in the store.
     fn count<S: Source, W: Sink>(listing: &Listing<'_, '_, '_, '_, S, W>) -> u16
@@ -40,15 +44,13 @@ pub trait ListedKind {
 pub(crate) fn list_kind<K: ListedKind, S: Source, W: Sink>(
     listing: &mut Listing<'_, '_, '_, '_, S, W>,
     parts: Parts,
-    part: Parts,
 ) -> Result<(), RunFault>
-    requires part { (K.listed listing.old.style.versions).bit ≡ part.0 }
-    requires ready { has parts.0 (K.listed listing.old.style.versions).bit ≡ true →
+    requires { has parts.0 (K.listed listing.old.style.versions).bit ≡ true →
         K.ready listing.old.src.now.seen.file (style_of listing.old.style) }
     ensures { let part = K.listed listing.old.style.versions in
         ListsAsked parts.0 part listing.old listing.new result }
 {
-    if !parts.contains(part) {
+    if !parts.contains(K::part(listing.style.versions)) {
         return Ok(());
     }
     list_headers::<K, S, W>(listing)
@@ -70,23 +72,4 @@ pub(crate) fn list_headers<K: ListedKind, S: Source, W: Sink>(
         index += 1;
     }
     Ok(())
-}
-
-/// Shows the tables of two kinds of the same part, one kind after the other.
-pub(crate) fn list_pair<A: ListedKind, B: ListedKind, S: Source, W: Sink>(
-    listing: &mut Listing<'_, '_, '_, '_, S, W>,
-    parts: Parts,
-    part: Parts,
-) -> Result<(), RunFault>
-    requires first { (A.listed listing.old.style.versions).bit ≡ part.0 }
-    requires second { (B.listed listing.old.style.versions).bit ≡ part.0 }
-    requires first_ready { has parts.0 (A.listed listing.old.style.versions).bit ≡ true →
-        A.ready listing.old.src.now.seen.file (style_of listing.old.style) }
-    requires second_ready { has parts.0 (B.listed listing.old.style.versions).bit ≡ true →
-        B.ready listing.old.src.now.seen.file (style_of listing.old.style) }
-    ensures { let versions = listing.old.style.versions in
-        ListsPair parts.0 (A.listed versions) (B.listed versions) listing.old listing.new result }
-{
-    list_kind::<A, S, W>(listing, parts, part)?;
-    list_kind::<B, S, W>(listing, parts, part)
 }

@@ -11,6 +11,7 @@ use crate::name_lines::is_cut;
 use elf_format::{Columns, Json, LinePrefix, Render, note_prefix, show_note};
 use elf_model::Format;
 use elf_note::{NoteCursor, NoteRow};
+use elf_record::Parts;
 use elf_record::numbers::{PT_NOTE, SHT_NOTE};
 use elf_source::{Sink, Source};
 use elf_table::{RunFault, Table};
@@ -23,6 +24,11 @@ pub struct SegmentNotes;
 
 impl ListedKind for SectionNotes {
     ghost listed = { λ versions. of_sections section_notes };
+
+    #[tactic(auto, unfolding(elf_model::specs::TableKinds::section_notes))]
+    fn part(_versions: bool) -> Parts {
+        Parts::NOTES
+    }
 
     fn count<S: Source, W: Sink>(listing: &Listing<'_, '_, '_, '_, S, W>) -> u16 {
         listing.file.sections()
@@ -44,6 +50,11 @@ impl ListedKind for SectionNotes {
 
 impl ListedKind for SegmentNotes {
     ghost listed = { λ versions. of_segments segment_notes };
+
+    #[tactic(auto, unfolding(elf_model::specs::TableKinds::segment_notes))]
+    fn part(_versions: bool) -> Parts {
+        Parts::NOTES
+    }
 
     fn count<S: Source, W: Sink>(listing: &Listing<'_, '_, '_, '_, S, W>) -> u16 {
         listing.file.store.segments()

@@ -26,6 +26,10 @@ pub struct ProgramHeaders;
 impl ListedKind for ProgramHeaders {
     ghost listed = { λ versions. program_headers_part };
 
+    fn part(_versions: bool) -> Parts {
+        Parts::SEGMENTS
+    }
+
     fn count<S: Source, W: Sink>(listing: &Listing<'_, '_, '_, '_, S, W>) -> u16 {
         listing.file.store.segments()
     }

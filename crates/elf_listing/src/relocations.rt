@@ -19,9 +19,11 @@ use crate::table_rows::{TableRows, list_rows};
 use elf_format::{LinePrefix, Render, relocation_prefix};
 use elf_note::NameIndex;
 use elf_record::numbers::SHT_RELA;
-use elf_record::{Cause, Rela};
+use elf_record::{Parts, Rela};
 use elf_source::{Sink, Source};
-use elf_table::{Cursor, Fault, NameBuf, NameEnd, Names, Row, RunFault, Table, refused};
+use elf_table::{
+    Cursor, Fault, LinkedSymbol, LinkedSymbolTable, NameBuf, NameEnd, Row, RunFault, Table,
+};
 
 /// The relocation entries of a section, an `R` line each (gABI 4, Relocation).
 #[derive(Clone, Copy)]
@@ -29,7 +31,7 @@ pub struct Relocations {
     /// The index of the section.
     pub section: u16,
     /// The symbols that they refer to, with their names.
-    pub linked: Option<(Table, Names)>,
+    pub linked: LinkedSymbolTable,
 }
 
 /// The name of an entry's symbol, as read, and whether the symbol is defined.
@@ -70,6 +72,11 @@ impl TableRows for Relocations {
 
 impl ListedKind for Relocations {
     ghost listed = { relocations_part };
+
+    #[tactic(auto, using(crate::proofs::PartsLaws::relocations_bit))]
+    fn part(_versions: bool) -> Parts {
+        Parts::RELOCS
+    }
 
     fn count<S: Source, W: Sink>(listing: &Listing<'_, '_, '_, '_, S, W>) -> u16 {
         listing.file.sections()
@@ -145,7 +152,7 @@ impl<S: Source, W: Sink> Listing<'_, '_, '_, '_, S, W> {
     fn linked_suffixes(
         &mut self,
         table: u32,
-        linked: &Option<(Table, Names)>,
+        linked: &LinkedSymbolTable,
     ) -> Result<Option<VersionLookup>, Fault>
         ensures { FetchesOfLinked self.old self.new result table linked.now }
     {
@@ -160,33 +167,25 @@ impl<S: Source, W: Sink> Listing<'_, '_, '_, '_, S, W> {
     /// is at `at`; if the name is refused, it is at the symbol.
     fn read_linked(
         &mut self,
-        linked: Option<(Table, Names)>,
+        linked: LinkedSymbolTable,
         symbol: u32,
         at: u64,
     ) -> Result<RelocationName, Fault>
         requires { IfSome linked (SymbolTableInBounds self.old.src.now.seen.size) }
         ensures { FetchesLinked self.old self.new result linked symbol at }
     {
-        if symbol == 0 {
+        let Some(found) = LinkedSymbol::find(linked, symbol, at)? else {
             self.name.clear();
             return Ok(RelocationName {
                 end: NameEnd::Whole,
                 is_defined: false,
             });
-        }
-        let Some(found) = linked else {
-            return refused(at, Cause::BadLink);
         };
-        let (symbols, names) = found;
-        let index = u64::from(symbol);
-        if index >= symbols.len() {
-            return refused(at, Cause::SymbolIndex);
-        }
-        let entry = self.ahead.symbol(self.src, &symbols, index)?;
+        let entry = self.ahead.symbol(self.src, &found.table, found.index)?;
         let end = self.read_name(NameIndex {
-            names,
+            names: found.names,
             off: u64::from(entry.st_name),
-            at: symbols.place(index),
+            at: found.at(),
         })?;
         let is_defined = entry.st_shndx != 0;
         Ok(RelocationName { end, is_defined })

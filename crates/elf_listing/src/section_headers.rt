@@ -7,6 +7,7 @@ use crate::listed_kind::ListedKind;
 use crate::listing::Listing;
 use elf_format::{Columns, Json, LinePrefix, Render, section_prefix};
 use elf_model::Format;
+use elf_record::Parts;
 use elf_source::{Sink, Source};
 use elf_table::RunFault;
 
@@ -16,6 +17,10 @@ pub struct SectionHeaders;
 
 impl ListedKind for SectionHeaders {
     ghost listed = { λ versions. section_headers_part };
+
+    fn part(_versions: bool) -> Parts {
+        Parts::SECTIONS
+    }
 
     fn count<S: Source, W: Sink>(listing: &Listing<'_, '_, '_, '_, S, W>) -> u16 {
         listing.file.sections()

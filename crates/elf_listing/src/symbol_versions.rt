@@ -16,7 +16,7 @@ use crate::version_records::section_type;
 use elf_note::{VersionCursor, VersionNames};
 use elf_record::gnu_numbers::SHT_GNU_VERSYM;
 use elf_record::sizes::SYMBOL_VERSION_BYTES;
-use elf_record::{Cause, Refusal, VersionKind};
+use elf_record::{Cause, Parts, Refusal, VersionKind};
 use elf_source::{Sink, Source};
 use elf_table::{Fault, Names, RunFault, Table};
 
@@ -29,6 +29,11 @@ impl ListedKind for SymbolVersions {
     ghost listed = { λ versions. of_sections symbol_versions };
 
     ghost ready = { AreRecordsListed };
+
+    #[tactic(auto, unfolding(elf_model::specs::VersionRows::symbol_versions))]
+    fn part(_versions: bool) -> Parts {
+        Parts::VERSIONS
+    }
 
     fn count<S: Source, W: Sink>(listing: &Listing<'_, '_, '_, '_, S, W>) -> u16 {
         listing.file.sections()

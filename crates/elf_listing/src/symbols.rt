@@ -13,7 +13,7 @@ use crate::row_selection::RowSelection;
 use crate::table_rows::{TableRows, list_rows};
 use elf_format::{LinePrefix, Render, symbol_prefix};
 use elf_note::NameIndex;
-use elf_record::Sym;
+use elf_record::{Parts, Sym};
 use elf_source::{Sink, Source};
 use elf_table::{Cursor, NameBuf, Names, Row, RunFault, Table, holds_symbols};
 
@@ -60,6 +60,11 @@ impl TableRows for Symbols {
 
 impl ListedKind for Symbols {
     ghost listed = { symbols_part };
+
+    #[tactic(auto, using(crate::proofs::PartsLaws::symbols_bit))]
+    fn part(_versions: bool) -> Parts {
+        Parts::SYMBOLS
+    }
 
     fn count<S: Source, W: Sink>(listing: &Listing<'_, '_, '_, '_, S, W>) -> u16 {
         listing.file.sections()

@@ -4,7 +4,7 @@ ghost use Rattle.elf_model.specs.Prelude.{DYNAMIC, NOTES, SEGMENTS, e_shnum, has
 ghost use Rattle.elf_source.specs.Source.{ReadsUpTo};
 ghost use Rattle.elf_table.specs.Prelude.{ChecksDecide, HoldsSectionHeaders, HoldsSegments, IsOfCheck, IsOfRead, IsReadFault};
 ghost use Rattle.elf_options.specs.Permitted.{style_of};
-ghost use Rattle.elf_listing.specs.Viewed.{AwaitsView, ChecksView, needs_segment_view, view_cost, viewed_headers};
+ghost use Rattle.elf_listing.specs.Viewed.{MayLoadView, ChecksView, needs_segment_view, view_cost, viewed_headers};
 
 use bitflags::Flags;
 use elf_record::Parts;
@@ -25,7 +25,7 @@ pub(crate) fn load_view<S: Source>(
     style: ListingStyle,
     parts: Parts,
 ) -> Result<(), Fault>
-    requires { AwaitsView src.old.seen.size loaded.now store.old }
+    requires { MayLoadView src.old.seen.size loaded.now store.old }
     ensures slots { store.new.slots ≡ store.old.slots }
     ensures loaded { store.new.loaded ≡ store.old.loaded }
     ensures segments { OnOk result (store.new.segments ≡ viewed_headers parts.0 loaded.now) }
@@ -80,7 +80,7 @@ fn read_view<S: Source>(
     loaded: &Loaded,
     parts: Parts,
 ) -> Result<(), Fault>
-    requires { AwaitsView src.old.seen.size loaded.now store.old }
+    requires { MayLoadView src.old.seen.size loaded.now store.old }
     ensures slots { store.new.slots ≡ store.old.slots }
     ensures loaded { store.new.loaded ≡ store.old.loaded }
     ensures segments { OnOk result (store.new.segments ≡ viewed_headers parts.0 loaded.now) }

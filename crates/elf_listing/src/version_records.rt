@@ -13,8 +13,8 @@ use crate::row_selection::{AllRows, NamedRows, RowSelection};
 use elf_format::{Columns, Json, LinePrefix, Render, version_prefix};
 use elf_model::Format;
 use elf_note::{NameIndex, VersionCursor, VersionRecord};
-use elf_record::VersionKind;
 use elf_record::gnu_numbers::{SHT_GNU_VERDEF, SHT_GNU_VERNEED};
+use elf_record::{Parts, VersionKind};
 use elf_source::{Sink, Source};
 use elf_table::{Names, RunFault};
 
@@ -27,6 +27,11 @@ pub struct Needs;
 
 impl ListedKind for Definitions {
     ghost listed = { λ versions. of_sections version_definitions };
+
+    #[tactic(auto, unfolding(elf_model::specs::VersionRows::version_definitions))]
+    fn part(_versions: bool) -> Parts {
+        Parts::VERSIONS
+    }
 
     fn count<S: Source, W: Sink>(listing: &Listing<'_, '_, '_, '_, S, W>) -> u16 {
         listing.file.sections()
@@ -43,6 +48,11 @@ impl ListedKind for Definitions {
 
 impl ListedKind for Needs {
     ghost listed = { λ versions. of_sections version_needs };
+
+    #[tactic(auto, unfolding(elf_model::specs::VersionRows::version_needs))]
+    fn part(_versions: bool) -> Parts {
+        Parts::VERSIONS
+    }
 
     fn count<S: Source, W: Sink>(listing: &Listing<'_, '_, '_, '_, S, W>) -> u16 {
         listing.file.sections()

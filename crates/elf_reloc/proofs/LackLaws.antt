@@ -1,12 +1,15 @@
 -- What is missing for an entry, step by step.
-use Rattle.std.proofs.Common.{◌≡◌, ◌≢◌, ℕ, ◌/◌, ◌%◌, ◌^◌, ◌==◌, Bool, true, false, List, Option, None, Some, Result, Ok, Err, refl, sym, ap, ◌∙◌, arith}
+use Rattle.std.proofs.Common.{◌≡◌, ◌≢◌, ℕ, ◌/◌, ◌%◌, ◌^◌, List, Option, None, Some, Result, Ok, Err, refl, sym, ap, ◌∙◌, subst, arith}
 use Rattle.std.proofs.lemmas.Bool.Decides.{nat_tests}
 use Rattle.elf_model.specs.Prelude.{Layout, first_refusal, kind_of, linked_at, missing, missing_of, r_sym, r_type, strings_of, symbol_checks, wanted}
 use Rattle.elf_model.specs.declared.missing.LayoutAddress.{LayoutAddress}
 use Rattle.elf_model.specs.declared.missing.MissingAddress.{MissingAddress}
 use Rattle.elf_model.specs.declared.causes.Refusal.{Refusal}
 use Rattle.elf_model.specs.declared.relocation_types.RelocationType.{RelocationType}
-use Rattle.elf_table.specs.Tables.{StringTableRange, strings_in}
+use Rattle.elf_table.specs.Prelude.{RefersToSymbol, StringTableRange, strings_in}
+use Rattle.elf_table.specs.declared.fault.Fault.{Fault}
+use Rattle.elf_table.specs.declared.fault.Fault.TheVariants.{Refused, Source}
+use Rattle.elf_table.specs.declared.linked_symbol.LinkedSymbol.{LinkedSymbol}
 use Rattle.elf_record.specs.declared.rela.Rela.{Rela}
 use Rattle.elf_reloc.specs.Prelude.{EntryRead, LackOf, Lacks, NamesEntrySymbol}
 use Rattle.elf_reloc.specs.declared.missing_item.MissingItem.{MissingItem}
@@ -55,3 +58,20 @@ symbol_is file at entry read is = is ∙ ap (λ (n : ℕ). n / 2 ^ 32) read.r_in
 pub none_of : {X : Type 0} (o : Option X) → ((x : X) → o ≡ Some x → ⊥) → o ≡ None
 none_of None h = refl
 none_of (Some x) h = absurd (h x refl)
+
+-- an entry whose symbol is not found does not pass the checks of its symbol
+pub unfound : (file : List ℕ) (header rela symbol : ℕ) (found : Result (Option LinkedSymbol) Fault) → ((one : Option LinkedSymbol) → found ≡ Ok one → ⊥) → symbol ≡ r_sym file rela
+    → RefersToSymbol file header rela symbol found → first_refusal (symbol_checks file header rela) ≢ None
+unfound file header rela symbol (Ok one) none is refers = absurd (none one refl)
+unfound file header rela symbol (Err (Refused refusal)) none is refers = λ pass. let some = rw is at refers in cc
+unfound file header rela symbol (Err (Source fault at)) none is refers = absurd refers
+
+-- the symbol that is found is that of the entry
+pub found_is : (file : List ℕ) (header rela symbol : ℕ) {found : Result (Option LinkedSymbol) Fault} {one : Option LinkedSymbol} → found ≡ Ok one → symbol ≡ r_sym file rela
+    → RefersToSymbol file header rela symbol found → RefersToSymbol file header rela (r_sym file rela) (Ok one)
+found_is file header rela symbol {found = found} known is refers =
+    subst (RefersToSymbol file header rela (r_sym file rela)) known (subst (λ (n : ℕ). RefersToSymbol file header rela n found) is refers)
+
+pub found_one : (file : List ℕ) (header rela symbol : ℕ) {found : Option LinkedSymbol} {one : LinkedSymbol} → found ≡ Some one → RefersToSymbol file header rela symbol (Ok found)
+    → RefersToSymbol file header rela symbol (Ok (Some one))
+found_one file header rela symbol is refers = rw is at refers

@@ -8,7 +8,7 @@ use Rattle.elf_source.specs.Source.{CountedState}
 use Rattle.elf_table.specs.Prelude.{CallDid, IsOfCheck, fault_of_result, strings_in}
 use Rattle.elf_table.specs.declared.fault.Fault.{Fault}
 use Rattle.elf_table.specs.declared.fault.Fault.TheVariants.{Refused, Source}
-use Rattle.elf_reloc.specs.declared.lookup.SymbolEntry.{SymbolEntry}
+use Rattle.elf_table.specs.declared.linked_symbol.SymbolEntry.{SymbolEntry}
 
 -- a result, or a refusal at an offset for the cause, unless it is `Budget`
 abbrev ValueOrCause : {X : Type 0} → ℕ → Result X Fault → Result X Cause → Type 0

@@ -82,10 +82,9 @@ pub record NamesEntrySymbol (file : List ℕ) (header rela : ℕ) (named : Reloc
       ≡ Some (st_shndx file (symbol_at file (linked_at file header) (r_sym file rela)), st_type file (symbol_at file (linked_at file header) (r_sym file rela))))
       × (strings_in file named.names ≡ strings_of file (linked_at file header))
 
--- it was read, or is none
-abbrev pub EntrySymbolRead : List ℕ → (header rela : ℕ) → Result (Option RelocationSymbol) Fault → Type 0
-EntrySymbolRead file header rela (Ok None) = first_refusal (symbol_checks file header rela) ≢ None
-EntrySymbolRead file header rela (Ok (Some named)) = NamesEntrySymbol file header rela named
+-- it was read
+abbrev pub EntrySymbolRead : List ℕ → (header rela : ℕ) → Result RelocationSymbol Fault → Type 0
+EntrySymbolRead file header rela (Ok named) = NamesEntrySymbol file header rela named
 EntrySymbolRead file header rela (Err fault) = IsOfRead fault
 
 -- what is missing for an entry of the type of a number, by its symbol and the address that is

@@ -4,10 +4,7 @@ ghost use Rattle.elf_model.specs.Records.{section_at};
 ghost use Rattle.elf_table.specs.Load.{HoldsSectionHeaders};
 ghost use Rattle.elf_reloc.specs.Explained.{EntryWithin, FoundEntries, HasEntry, has_row};
 
-use elf_table::{Names, SectionView, Table};
-
-/// Symbols with the string table of their names.
-pub(crate) type LinkedSymbolTable = Option<(Table, Names)>;
+use elf_table::{LinkedSymbolTable, SectionView, Table};
 
 /// Returns the symbols of the first section of relocation entries for a section whose checks pass
 /// and which has an entry at the file offset `rela` (gABI 4, Relocation); `None` if there is no

@@ -10,7 +10,7 @@ ghost use Rattle.elf_reloc.specs.Entries.{Changes, DidFor, Does, IsPlacedInside}
 ghost use Rattle.elf_reloc.specs.Entries.{beside_entry_cost, taken_place, target_as, term_of};
 ghost use Rattle.elf_reloc.specs.Entries.{value_or};
 
-use crate::lookup::{SymbolEntry, base_value};
+use crate::lookup::base_value;
 use crate::patch::Patch;
 use crate::relocation_types::{relocation_type, takes_place};
 use crate::values::patch_of;
@@ -19,10 +19,7 @@ use elf_model::{Formula, RelocationBase, RelocationType};
 use elf_record::numbers::R_X86_64_NONE;
 use elf_record::{Cause, Rela};
 use elf_source::{Counted, Source};
-use elf_table::{Fault, Names, SectionView, Table, refused};
-
-/// Symbols with the string table of their names.
-pub(crate) type LinkedSymbolTable = Option<(Table, Names)>;
+use elf_table::{Fault, LinkedSymbol, LinkedSymbolTable, SectionView, refused};
 
 /// The address of a symbol that an entry uses, by its type's base.
 #[derive(Clone, Copy)]
@@ -195,24 +192,10 @@ fn named_value<S: Source>(
         (λ file. (header : ℕ) → RefersTo file header linked → symbol ≡ r_sym file at →
         ValueOrRefusal result (term_of base (target_as file target.now) header at)) }
 {
-    if symbol == 0 {
+    let Some(found) = LinkedSymbol::find(linked, symbol, at)? else {
         return unnamed_value(base, at);
-    }
-    let Some(found) = linked else {
-        return refused(at, Cause::BadLink);
     };
-    let (symbols, names) = found;
-    let index = u64::from(symbol);
-    if index >= symbols.len() {
-        return refused(at, Cause::SymbolIndex);
-    }
-    let place = symbols.place(index);
-    let fields = symbols.symbol(src, index)?;
-    let named = SymbolEntry {
-        fields,
-        names,
-        at: place,
-    };
+    let named = found.read(src)?;
     base_value(src, target.layout, &named, at, base)
 }
 

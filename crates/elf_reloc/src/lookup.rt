@@ -13,19 +13,11 @@ use elf_record::gnu_numbers::STT_GNU_IFUNC;
 use elf_record::numbers::{SHN_UNDEF, STB_WEAK, STT_LOOS};
 use elf_record::{Cause, Sym, SymbolSection};
 use elf_source::{Counted, Source};
-use elf_table::{Fault, Names, fill, refused};
+use elf_table::{Fault, SymbolEntry, fill, refused};
 
 /// The largest number of bytes of a symbol's name that are read: the longest name of a layout, and
 /// its NUL.
 const NAME_BUFFER_BYTES: usize = ITEM_NAME_BYTES + 1;
-
-/// A symbol at an offset of the file, with the string table of its name.
-#[derive(Clone, Copy)]
-pub(crate) struct SymbolEntry {
-    pub(crate) fields: Sym,
-    pub(crate) names: Names,
-    pub(crate) at: u64,
-}
 
 /// Returns the address of the first item whose name is the symbol's, if there is one: each is
 /// compared. Without items the name is not read; a refusal points to the symbol.

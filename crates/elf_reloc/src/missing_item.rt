@@ -1,11 +1,10 @@
 //! What a layout is missing for an entry.
-ghost use Rattle.std.specs.Prelude.{◌≡◌, ◌+◌, ◌≤◌, ℕ, List, IfOk, IfSome};
+ghost use Rattle.std.specs.Prelude.{◌≡◌, ◌+◌, ◌≤◌, ℕ, List, Ok, IfOk, IfSome};
 ghost use Rattle.elf_model.specs.Prelude.{missing, missing_for_type, missing_ifunc_entry, missing_place, name_wanted, r_sym, wanted};
-ghost use Rattle.elf_table.specs.Prelude.{CallDid, RefersTo, StringsInBounds, SymbolTableInBounds, fault_of_result};
+ghost use Rattle.elf_table.specs.Prelude.{CallDid, LinkedSymbolInBounds, RefersTo, RefersToSymbol, StringsInBounds, fault_of_result};
 ghost use Rattle.elf_reloc.specs.Explained.{EntryRead, EntryWithin, LackOf, LacksRead};
 ghost use Rattle.elf_reloc.specs.Explained.{EntrySymbolRead};
 
-use crate::entries::LinkedSymbolTable;
 use crate::relocation_types::{relocation_type, takes_place};
 use elf_layout::Addresses;
 use elf_model::{Formula, LayoutAddress, MissingAddress, RelocationBase, RelocationType};
@@ -13,7 +12,7 @@ use elf_record::gnu_numbers::STT_GNU_IFUNC;
 use elf_record::numbers::{SHN_LORESERVE, SHN_UNDEF};
 use elf_record::{Cause, Refusal, Rela};
 use elf_source::{Counted, Source};
-use elf_table::{Fault, Names, fill};
+use elf_table::{Fault, LinkedSymbol, LinkedSymbolTable, Names, fill};
 
 /// The symbol that an entry names: the index of its name, its section index and its type, which
 /// symbol 0 does not have, the string table of its name, and its file offset.
@@ -58,9 +57,10 @@ pub(crate) fn lacking_at<S: Source>(
     let Some(found) = relocation_type(kind) else {
         return Ok(None);
     };
-    let Some(named) = read_symbol(src, linked, entry.symbol())? else {
+    let Ok(symbol) = LinkedSymbol::find(linked, entry.symbol(), refusal.at) else {
         return Ok(None);
     };
+    let named = read_symbol(src, symbol)?;
     let wanted = wanted(refusal.cause, found, layout, section, named.symbol);
     Ok(lacking_of(kind, &named, wanted))
 }
@@ -79,46 +79,35 @@ fn read_entry<S: Source>(src: &mut Counted<S>, at: u64) -> Result<Rela, Fault>
     Ok(Rela::decode(&bytes))
 }
 
-/// Returns the symbol of an index, which an entry names: symbol 0, of which nothing is read, or one
-/// of the symbols that are linked to; `None` if there is no such symbol.
+/// Returns the symbol that an entry names; of symbol 0 nothing is read.
 ///
 /// # Errors
 /// Returns a fault of the read, or the refusal `Budget`, at the symbol's offset.
 fn read_symbol<S: Source>(
     src: &mut Counted<S>,
-    linked: LinkedSymbolTable,
-    symbol: u32,
-) -> Result<Option<RelocationSymbol>, Fault>
-    requires { IfSome linked (SymbolTableInBounds src.old.seen.size) }
+    symbol: Option<LinkedSymbol>,
+) -> Result<RelocationSymbol, Fault>
+    requires { IfSome symbol (LinkedSymbolInBounds src.old.seen.size) }
     ensures did { CallDid src.old src.new (fault_of_result result) 24
-        (λ file. (header rela : ℕ) → RefersTo file header linked → symbol ≡ r_sym file rela →
+        (λ file. (header rela : ℕ) → RefersToSymbol file header rela (r_sym file rela) (Ok symbol) →
         EntrySymbolRead file header rela result) }
-    ensures within { IfOk result (λ found.
-        IfSome found (λ named. StringsInBounds src.old.seen.size named.names)) }
+    ensures within { IfOk result (λ named. StringsInBounds src.old.seen.size named.names) }
 {
-    if symbol == 0 {
-        return Ok(Some(RelocationSymbol {
+    let Some(found) = symbol else {
+        return Ok(RelocationSymbol {
             name: 0,
             symbol: None,
             names: Names::new(0, 0),
             at: 0,
-        }));
-    }
-    let Some((symbols, names)) = linked else {
-        return Ok(None);
+        });
     };
-    let index = u64::from(symbol);
-    if index >= symbols.len() {
-        return Ok(None);
-    }
-    let at = symbols.place(index);
-    let fields = symbols.symbol(src, index)?;
-    Ok(Some(RelocationSymbol {
-        name: fields.st_name,
-        symbol: Some((fields.st_shndx, fields.kind())),
-        names,
-        at,
-    }))
+    let entry = found.read(src)?;
+    Ok(RelocationSymbol {
+        name: entry.fields.st_name,
+        symbol: Some((entry.fields.st_shndx, entry.fields.kind())),
+        names: entry.names,
+        at: entry.at,
+    })
 }
 
 /// Returns what is missing for an entry of the type of a number, which names this symbol, if an

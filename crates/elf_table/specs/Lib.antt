@@ -6,6 +6,7 @@ pub mod Store
 pub mod Cursors
 pub mod Files
 pub mod HashSections
+pub mod LinkedSymbols
 pub mod NamesRead
 pub mod Relocations
 pub mod Sections

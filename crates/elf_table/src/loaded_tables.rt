@@ -15,6 +15,7 @@ ghost use Rattle.elf_table.specs.Views.{dynamic_table_at, strings_mapped};
 use crate::checks::checked_bytes;
 use crate::fault::Fault;
 use crate::file::SectionView;
+use crate::linked_symbol::LinkedSymbolTable;
 use crate::loaded::Loaded;
 use crate::names::Names;
 use crate::segment_view::ExecutionView;
@@ -133,11 +134,7 @@ impl Loaded {
     ///
     /// # Errors
     /// Those of [`SectionView::linked`].
-    pub fn linked(
-        &self,
-        store: &HeaderStore<'_>,
-        section: u16,
-    ) -> Result<Option<(Table, Names)>, Fault>
+    pub fn linked(&self, store: &HeaderStore<'_>, section: u16) -> Result<LinkedSymbolTable, Fault>
         requires whole { store.now.loaded ≡ self.now.header.e_shnum }
         requires below { section < store.now.loaded }
         ensures held { (file : List ℕ) → HoldsSectionHeaders file self.now store.now →

@@ -15,6 +15,7 @@ ghost use Rattle.elf_table.specs.Tables.{TableInBounds, Spans, StringsInBounds, 
 use crate::checks::{checked_strings, checked_table, holds_symbols};
 use crate::fault::{Fault, refused};
 use crate::file::SectionView;
+use crate::linked_symbol::LinkedSymbolTable;
 use crate::names::Names;
 use crate::ranges::is_out_of_bounds;
 use crate::table::Table;
@@ -170,7 +171,7 @@ impl SectionView<'_> {
     ///
     /// # Errors
     /// Those of [`SectionView::symbols`] at the linked section.
-    pub fn linked(&self, section: u16) -> Result<Option<(Table, Names)>, Fault>
+    pub fn linked(&self, section: u16) -> Result<LinkedSymbolTable, Fault>
         requires below { section < self.now.store.now.loaded }
         ensures held { (file : List ℕ) →
             HoldsSectionHeaders file self.now.loaded self.now.store.now →
@@ -198,7 +199,7 @@ impl SectionView<'_> {
     /// # Errors
     /// Returns the first check that fails: those of [`SectionView::table`], then those of
     /// [`SectionView::linked`].
-    pub fn relocations(&self, section: u16) -> Result<(Table, Option<(Table, Names)>), Fault>
+    pub fn relocations(&self, section: u16) -> Result<(Table, LinkedSymbolTable), Fault>
         requires below { section < self.now.store.now.loaded }
         ensures held { (file : List ℕ) →
             HoldsSectionHeaders file self.now.loaded self.now.store.now →

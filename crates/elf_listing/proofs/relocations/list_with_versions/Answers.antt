@@ -11,7 +11,7 @@ use Rattle.elf_listing.specs.declared.suffixes.VersionLookup.{VersionLookup}
 use Rattle.elf_listing.proofs.ListsLaws.{ListingCalls-nothing, ListingCalls-unread}
 use Rattle.elf_listing.proofs.RowLaws.{WroteSome-as}
 use Rattle.elf_listing.proofs.SuffixCosts.{plain_within, rows_plain, rows_within, suffixed_within, walks_fewer, walks_within}
-use Rattle.elf_listing.proofs.SuffixTables.{ListingCalls-behind, entries_plain, entries_refused, entries_shown, linked_found, no_entries}
+use Rattle.elf_listing.proofs.SuffixTables.{ListingCalls-after, entries_plain, entries_refused, entries_shown, linked_found, no_entries}
 use Rattle.elf_listing.proofs.relocations.list_with_versions.Goals as goal
 
 pub returns-then-is_empty : goal.returns-then-is_empty
@@ -56,7 +56,7 @@ returns-in-None g c =
     let within = suffixed_within relocations_with_versions f.store.now c.args.rows.now.section (sh_link (row f.store.now c.args.rows.now.section) 0) f.loaded.size _ cap 24 (24 + (24 + name_bytes cap)) _ (eq-eqb _ _ kind) refl refl c.requires.table in
     let fetches = rw link at c.in_ok-found.ensures.fetches in
     let fewer = walks_fewer headers (sh_link (row f.store.now c.args.rows.now.section) 0) (linked_count c.args.rows.now.linked) count f.loaded.size some in
-    ListingCalls-behind {Y = Option VersionLookup} _ _ _ None _ _ _ _ _ (rw fetches.0.same_style (rows_plain _ _ _ _ _ (plain_within headers (sh_link (row f.store.now c.args.rows.now.section) 0) f.loaded.size cap 24 (24 + name_bytes cap) (linked_count c.args.rows.now.linked) count _ fewer within))) fetches c.list_rows.ensures (λ file held.
+    ListingCalls-after {Y = Option VersionLookup} _ _ _ None _ _ _ _ _ (rw fetches.0.same_style (rows_plain _ _ _ _ _ (plain_within headers (sh_link (row f.store.now c.args.rows.now.section) 0) f.loaded.size cap 24 (24 + name_bytes cap) (linked_count c.args.rows.now.linked) count _ fewer within))) fetches c.list_rows.ensures (λ file held.
     let belongs = c.args.listing.now.loaded.belongs file held in
     let stands = c.section-link.ensures.stands file belongs in
     let kind = sym stands.sh_type ∙ (c.section-link.ensures.fields.sh_type ∙ c.requires.kind) in
@@ -80,7 +80,7 @@ returns-in-Some g c =
     let fetches = rw link at c.in_ok-found.ensures.fetches in
     let fewer = walks_fewer headers (sh_link (row f.store.now c.args.rows.now.section) 0) (linked_count c.args.rows.now.linked) count f.loaded.size some in
     let pays = (rw (c.in-Some.is, link) at c.in_ok-found.ensures.pays) cap in
-    ListingCalls-behind {Y = Option VersionLookup} _ _ _ None _ _ _ _ _ (rw fetches.0.same_style (rows_within headers (sh_link (row f.store.now c.args.rows.now.section) 0) f.loaded.size cap 24 (24 + name_bytes cap) (linked_count c.args.rows.now.linked) count _ fewer within (2 + name_bytes cap) pays)) fetches c.list_rows-in-Some.ensures (λ file held.
+    ListingCalls-after {Y = Option VersionLookup} _ _ _ None _ _ _ _ _ (rw fetches.0.same_style (rows_within headers (sh_link (row f.store.now c.args.rows.now.section) 0) f.loaded.size cap 24 (24 + name_bytes cap) (linked_count c.args.rows.now.linked) count _ fewer within (2 + name_bytes cap) pays)) fetches c.list_rows-in-Some.ensures (λ file held.
     let belongs = c.args.listing.now.loaded.belongs file held in
     let stands = c.section-link.ensures.stands file belongs in
     let kind = sym stands.sh_type ∙ (c.section-link.ensures.fields.sh_type ∙ c.requires.kind) in

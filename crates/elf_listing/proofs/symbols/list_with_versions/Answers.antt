@@ -10,7 +10,7 @@ use Rattle.elf_listing.specs.declared.suffixes.VersionLookup.{VersionLookup}
 use Rattle.elf_listing.proofs.ListsLaws.{ListingCalls-unread}
 use Rattle.elf_listing.proofs.RowLaws.{WroteSome-as}
 use Rattle.elf_listing.proofs.SuffixCosts.{no_fewer, plain_within, rows_plain, rows_within, suffixed_within, walks_within}
-use Rattle.elf_listing.proofs.SuffixTables.{ListingCalls-behind, symbols_plain, symbols_refused, symbols_shown}
+use Rattle.elf_listing.proofs.SuffixTables.{ListingCalls-after, symbols_plain, symbols_refused, symbols_shown}
 use Rattle.elf_listing.proofs.symbols.list_with_versions.Goals as goal
 
 pub returns-in_err-found : goal.returns-in_err-found
@@ -44,7 +44,7 @@ returns-in-None g c =
     let section = c.from.ensures in
     let fetches = rw (same, section) at c.in_ok-found.ensures.fetches in
     let cost = plain_within (store_sections f.store.now) c.args.rows.now.section f.loaded.size cap 24 (name_bytes cap) c.args.table.count c.args.table.count _ (no_fewer _) within in
-    ListingCalls-behind {Y = Option VersionLookup} _ _ _ None _ _ _ _ _ (rw fetches.0.same_style (rows_plain _ _ _ _ _ cost)) fetches c.list_rows.ensures (λ file held.
+    ListingCalls-after {Y = Option VersionLookup} _ _ _ None _ _ _ _ _ (rw fetches.0.same_style (rows_plain _ _ _ _ _ cost)) fetches c.list_rows.ensures (λ file held.
     let belongs = c.args.listing.now.loaded.belongs file held in
     let at = section_at file c.args.rows.now.section in
     let kind = c.requires.typed file belongs in
@@ -65,7 +65,7 @@ returns-in-Some g c =
     let fetches = rw (same, section) at c.in_ok-found.ensures.fetches in
     let pays = (rw (c.in-Some.is, section) at c.in_ok-found.ensures.pays) cap in
     let cost = rows_within (store_sections f.store.now) c.args.rows.now.section f.loaded.size cap 24 (name_bytes cap) c.args.table.count c.args.table.count _ (no_fewer _) within (2 + name_bytes cap) pays in
-    ListingCalls-behind {Y = Option VersionLookup} _ _ _ None _ _ _ _ _ (rw fetches.0.same_style cost) fetches c.list_rows-in-Some.ensures (λ file held.
+    ListingCalls-after {Y = Option VersionLookup} _ _ _ None _ _ _ _ _ (rw fetches.0.same_style cost) fetches c.list_rows-in-Some.ensures (λ file held.
     let belongs = c.args.listing.now.loaded.belongs file held in
     let at = section_at file c.args.rows.now.section in
     let kind = c.requires.typed file belongs in

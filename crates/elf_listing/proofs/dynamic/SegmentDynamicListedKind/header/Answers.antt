@@ -11,7 +11,7 @@ use Rattle.elf_listing.proofs.RowLaws.{WroteSome-as, WroteUntilStop-unread-first
 use Rattle.elf_listing.proofs.SectionCosts.{segment_within}
 use Rattle.elf_listing.proofs.SectionShown.{no_table, segment_passes, table_fails, table_passes, whole_fails}
 use Rattle.elf_listing.proofs.SegmentShown.{views}
-use Rattle.elf_listing.proofs.ShowLaws.{SpentCredit-behind, SpentCredit-fault}
+use Rattle.elf_listing.proofs.ShowLaws.{SpentCredit-after, SpentCredit-fault}
 use Rattle.elf_listing.proofs.ViewedLaws.{still_viewed}
 use Rattle.elf_source.proofs.GrowthLaws.{grows_not}
 use Rattle.elf_listing.proofs.ListsLaws.{ListingCalls-nothing, ListingCalls-refused}
@@ -78,7 +78,7 @@ returns g c = record {
       let value = rw (c.view-view.ensures.store, c.view-view.ensures.loaded) at c.in_ok-table.ensures.value in
       let within = segment_within f.store.now c.args.index f.loaded.size _ c.args.listing.now.style.cap.bytes _ (eq-eqb _ _ kind) value in
       let bytes : size_of c.in_ok-table.table ≡ c.in_ok-table.table.count * 16 = ap (λ n. c.in_ok-table.table.count * n) c.in_ok-table.ensures.lies.entry in
-      SpentCredit-behind _ _ _ _ _ _ _ _ _ _ (omega (arith, within, bytes)) c.in_ok-told.ensures.did.costs.reads c.list_rows.ensures.spent;
+      SpentCredit-after _ _ _ _ _ _ _ _ _ _ (omega (arith, within, bytes)) c.in_ok-told.ensures.did.costs.reads c.list_rows.ensures.spent;
   shows = λ file held.
       let viewed = views file _ _ _ (c.args.listing.now.loaded.belongs file held) c.args.listing.now.viewed held (omega (arith, c.requires.below)) in
       let view : HoldsProgramHeaders file c.view-view.result.loaded c.view-view.result.store.now = rw (c.view-view.ensures.loaded, c.view-view.ensures.store) viewed in

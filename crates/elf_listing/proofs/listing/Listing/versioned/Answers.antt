@@ -8,7 +8,7 @@ use Rattle.elf_table.specs.Tables.{TableRange}
 use Rattle.elf_listing.specs.SymbolVersions.{versioned_items}
 use Rattle.elf_listing.proofs.ListsLaws.{ListingCalls-within}
 use Rattle.elf_listing.proofs.ShowLaws.{WroteUntilStop-more}
-use Rattle.elf_listing.proofs.VersionedShown.{Ends-behind}
+use Rattle.elf_listing.proofs.VersionedShown.{Ends-after}
 use Rattle.elf_listing.proofs.listing.Listing.versioned.Goals as goal
 
 pub returns-in_err-list_rows : goal.returns-in_err-list_rows
@@ -32,7 +32,7 @@ returns-then-len-symbols g c =
       grows = done.grows;
       keeps = record { same_src = done.keeps.same_src; same_out = done.keeps.same_out; same_file = done.keeps.same_file; same_style = done.keeps.same_style };
       spent = (SpendsAtMost-to done.spent.0 (omega (arith, account, cost)), λ budget. cc);
-      shows = λ file held. rw (fewer, c.place-at.ensures.value) (Ends-behind _ _ _ _ (rw shape at (done.shows file held (λ some. tt))));
+      shows = λ file held. rw (fewer, c.place-at.ensures.value) (Ends-after _ _ _ _ (rw shape at (done.shows file held (λ some. tt))));
     }
 
 pub returns : goal.returns

@@ -37,9 +37,9 @@ returns-in_err-suffix-clause-lists g c =
     let symbol = c.symbol-symbol.ensures ∙ ap (λ n. n / 2 ^ 32) decoded.r_info in
     let read = c.in_ok-read.ensures.read file at held of_kind.0 in
     let defined = c.in_ok-read.ensures.defined file at held of_kind.0 in
-    let behind = rw same at (c.in_err-suffix.ensures.reads.read file (first.2.reads.keeps.same_file ∙ held) (sh_link file at) (entry_at file (linked_at file at) 24 c.symbol-symbol.result) of_kind.2 defined) in
+    let after = rw same at (c.in_err-suffix.ensures.reads.read file (first.2.reads.keeps.same_file ∙ held) (sh_link file at) (entry_at file (linked_at file at) 24 c.symbol-symbol.result) of_kind.2 defined) in
     rw (relocation_row_is (g.V.NameVersions.lookup c.args.versions.now) file _ (style_of c.args.listing.now.style) c.args.self.now.section at c.args.row.now.at _ c.args.row.now.index here refl symbol, both.1)
-    (WroteUntilStop-suffix _ _ _ _ c.in_ok-read.read.end _ _ _ _ _ read behind)))
+    (WroteUntilStop-suffix _ _ _ _ c.in_ok-read.read.end _ _ _ _ _ read after)))
 
 pub returns-then-not-is_versioned_row_shown-clause-lists : goal.returns-then-not-is_versioned_row_shown-clause-lists
 returns-then-not-is_versioned_row_shown-clause-lists g c =
@@ -54,12 +54,12 @@ returns-then-not-is_versioned_row_shown-clause-lists g c =
     let symbol = c.symbol-symbol.ensures ∙ ap (λ n. n / 2 ^ 32) decoded.r_info in
     let read = c.in_ok-read.ensures.read file at held of_kind.0 in
     let defined = c.in_ok-read.ensures.defined file at held of_kind.0 in
-    let behind = rw same at (c.in_ok-suffix.ensures.reads.read file (first.2.reads.keeps.same_file ∙ held) (sh_link file at) (entry_at file (linked_at file at) 24 c.symbol-symbol.result) of_kind.2 defined) in
+    let after = rw same at (c.in_ok-suffix.ensures.reads.read file (first.2.reads.keeps.same_file ∙ held) (sh_link file at) (entry_at file (linked_at file at) 24 c.symbol-symbol.result) of_kind.2 defined) in
     let hidden = rw c.in_ok-suffix.ensures.reads.kept at (chosen-as c.args.listing.now.style _ _ _ _ _ both.0.same_style (rw c.bytes.ensures.value at c.is_versioned_row_shown.ensures) c.if-not-is_versioned_row_shown.true) in
     rw both.1
     (WroteSome-as {X = Unit {0}} _ _ (Ok tt)
     (relocation_row_is (g.V.NameVersions.lookup c.args.versions.now) file _ (style_of c.args.listing.now.style) c.args.self.now.section at c.args.row.now.at _ c.args.row.now.index here refl symbol
-    ∙ suffixed-hidden _ _ _ c.in_ok-read.read.end _ _ _ c.in_ok-suffix.suffix _ read behind hidden)
+    ∙ suffixed-hidden _ _ _ c.in_ok-read.read.end _ _ _ c.in_ok-suffix.suffix _ read after hidden)
     (Whole-none _)))
 
 pub returns-clause-lists : goal.returns-clause-lists
@@ -76,9 +76,9 @@ returns-clause-lists g c =
     let read = c.in_ok-read.ensures.read file at held of_kind.0 in
     let defined = c.in_ok-read.ensures.defined file at held of_kind.0 in
     let front = rw (c.requires.format, c.naming-naming.ensures.gnu, c.naming-naming.ensures.machine file held) at (c.relocation_prefix.ensures.front file c.args.row.now.at decoded) in
-    let behind = rw same at (c.in_ok-suffix.ensures.reads.read file (first.2.reads.keeps.same_file ∙ held) (sh_link file at) (entry_at file (linked_at file at) 24 c.symbol-symbol.result) of_kind.2 defined) in
+    let after = rw same at (c.in_ok-suffix.ensures.reads.read file (first.2.reads.keeps.same_file ∙ held) (sh_link file at) (entry_at file (linked_at file at) 24 c.symbol-symbol.result) of_kind.2 defined) in
     let shown = rw c.in_ok-suffix.ensures.reads.kept at (chosen-as c.args.listing.now.style _ _ _ _ _ both.0.same_style (rw c.bytes.ensures.value at c.is_versioned_row_shown.ensures) c.if-not-is_versioned_row_shown.false) in
     let now = rw (sym c.in_ok-suffix.ensures.reads.kept) at read in
     rw (← both.1)
-    (WroteSome-as _ _ _ (relocation_row_is (g.V.NameVersions.lookup c.args.versions.now) file _ (style_of c.args.listing.now.style) c.args.self.now.section at c.args.row.now.at _ c.args.row.now.index here front symbol ∙ suffixed-shown _ _ _ c.in_ok-read.read.end _ _ _ c.in_ok-suffix.suffix _ read behind shown)
+    (WroteSome-as _ _ _ (relocation_row_is (g.V.NameVersions.lookup c.args.versions.now) file _ (style_of c.args.listing.now.style) c.args.self.now.section at c.args.row.now.at _ c.args.row.now.index here front symbol ∙ suffixed-shown _ _ _ c.in_ok-read.read.end _ _ _ c.in_ok-suffix.suffix _ read after shown)
     ((rw c.bytes-2.ensures.value at c.suffixed_line.ensures).shows _ _ now)))

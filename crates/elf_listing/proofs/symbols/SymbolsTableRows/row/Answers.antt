@@ -32,9 +32,9 @@ returns-in_err-suffix-clause-lists g c =
     let here : c.args.row.now.at ≡ sh_offset file (section_at file c.args.self.now.section) + c.args.row.now.index * 24 = omega (arith, of_kind.1, row.here) in
     let defined = ap (λ (n : ℕ). not (n == 0)) decoded.st_shndx in
     let read = c.in_ok-end.ensures.read file held in
-    let behind = rw same at (c.in_err-suffix.ensures.reads.read file (first.2.reads.keeps.same_file ∙ held) c.args.self.now.section c.args.row.now.at of_kind.2 defined) in
+    let after = rw same at (c.in_err-suffix.ensures.reads.read file (first.2.reads.keeps.same_file ∙ held) c.args.self.now.section c.args.row.now.at of_kind.2 defined) in
     rw (symbol_row_is (g.V.NameVersions.lookup c.args.versions.now) file (style_of c.args.listing.now.style) _ _ _ _ _ _ refl of_kind.0 (c.from-off.ensures ∙ decoded.st_name) here, both.1)
-    (WroteUntilStop-suffix _ _ _ _ c.in_ok-end.end _ _ _ _ _ read behind)))
+    (WroteUntilStop-suffix _ _ _ _ c.in_ok-end.end _ _ _ _ _ read after)))
 
 pub returns-then-not-is_versioned_row_shown-clause-lists : goal.returns-then-not-is_versioned_row_shown-clause-lists
 returns-then-not-is_versioned_row_shown-clause-lists g c =
@@ -47,12 +47,12 @@ returns-then-not-is_versioned_row_shown-clause-lists g c =
     let here : c.args.row.now.at ≡ sh_offset file (section_at file c.args.self.now.section) + c.args.row.now.index * 24 = omega (arith, of_kind.1, row.here) in
     let defined = ap (λ (n : ℕ). not (n == 0)) decoded.st_shndx in
     let read = c.in_ok-end.ensures.read file held in
-    let behind = rw same at (c.in_ok-suffix.ensures.reads.read file (first.2.reads.keeps.same_file ∙ held) c.args.self.now.section c.args.row.now.at of_kind.2 defined) in
+    let after = rw same at (c.in_ok-suffix.ensures.reads.read file (first.2.reads.keeps.same_file ∙ held) c.args.self.now.section c.args.row.now.at of_kind.2 defined) in
     let hidden = rw c.in_ok-suffix.ensures.reads.kept at (chosen-as c.args.listing.now.style _ _ _ _ _ both.0.same_style (rw c.bytes.ensures.value at c.is_versioned_row_shown.ensures) c.if-not-is_versioned_row_shown.true) in
     rw both.1
     (WroteSome-as {X = Unit {0}} _ _ (Ok tt)
     (symbol_row_is (g.V.NameVersions.lookup c.args.versions.now) file (style_of c.args.listing.now.style) _ _ _ _ _ _ refl of_kind.0 (c.from-off.ensures ∙ decoded.st_name) here
-    ∙ suffixed-hidden _ _ _ c.in_ok-end.end _ _ _ c.in_ok-suffix.suffix _ read behind hidden)
+    ∙ suffixed-hidden _ _ _ c.in_ok-end.end _ _ _ c.in_ok-suffix.suffix _ read after hidden)
     (Whole-none _)))
 
 pub returns-clause-lists : goal.returns-clause-lists
@@ -67,9 +67,9 @@ returns-clause-lists g c =
     let defined = ap (λ (n : ℕ). not (n == 0)) decoded.st_shndx in
     let front = rw (c.requires.format, c.naming-naming.ensures.gnu, c.naming-naming.ensures.machine file held) at (c.symbol_prefix.ensures.front file c.args.row.now.at decoded) in
     let read = c.in_ok-end.ensures.read file held in
-    let behind = rw same at (c.in_ok-suffix.ensures.reads.read file (first.2.reads.keeps.same_file ∙ held) c.args.self.now.section c.args.row.now.at of_kind.2 defined) in
+    let after = rw same at (c.in_ok-suffix.ensures.reads.read file (first.2.reads.keeps.same_file ∙ held) c.args.self.now.section c.args.row.now.at of_kind.2 defined) in
     let shown = rw c.in_ok-suffix.ensures.reads.kept at (chosen-as c.args.listing.now.style _ _ _ _ _ both.0.same_style (rw c.bytes.ensures.value at c.is_versioned_row_shown.ensures) c.if-not-is_versioned_row_shown.false) in
     let now = rw (sym c.in_ok-suffix.ensures.reads.kept) at read in
     rw (← both.1)
-    (WroteSome-as _ _ _ (symbol_row_is (g.V.NameVersions.lookup c.args.versions.now) file (style_of c.args.listing.now.style) _ _ _ _ _ _ front of_kind.0 (c.from-off.ensures ∙ decoded.st_name) here ∙ suffixed-shown _ _ _ c.in_ok-end.end _ _ _ c.in_ok-suffix.suffix _ read behind shown)
+    (WroteSome-as _ _ _ (symbol_row_is (g.V.NameVersions.lookup c.args.versions.now) file (style_of c.args.listing.now.style) _ _ _ _ _ _ front of_kind.0 (c.from-off.ensures ∙ decoded.st_name) here ∙ suffixed-shown _ _ _ c.in_ok-end.end _ _ _ c.in_ok-suffix.suffix _ read after shown)
     ((rw c.bytes-2.ensures.value at c.suffixed_line.ensures).shows _ _ now)))
