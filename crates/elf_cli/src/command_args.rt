@@ -67,7 +67,7 @@ pub struct CommandArgs<'a> {
     pub members: bool,
     /// How many headers are allowed, how many bytes may be read, and how rows are shown, before any
     /// is selected by name.
-    pub caps: Caps<'a>,
+    pub caps: Caps<'static>,
     /// Whether a limit on the shown bytes of a name is given.
     pub limits_names: bool,
     /// The parts of a listing.
@@ -194,7 +194,7 @@ fn has_no_cache(options: &Options<'_, '_>) -> bool
 }
 
 /// Returns the limits and the style that the options set.
-fn caps_of<'a>(options: &Options<'_, 'a>) -> Caps<'a>
+fn caps_of(options: &Options<'_, '_>) -> Caps<'static>
     ensures { AreCapOptions options.now result }
 {
     Caps {
