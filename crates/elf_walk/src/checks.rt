@@ -17,9 +17,9 @@ use std::marker::Model;
 
 /// How files are checked.
 #[derive(Clone, Copy)]
-pub struct CheckOptions<'a> {
+pub struct CheckOptions {
     /// How much of the file may be read, and how rows of its listing are shown.
-    pub caps: Caps<'a>,
+    pub caps: Caps<'static>,
     /// The parts of its listing that count.
     pub parts: Parts,
     /// Whether the state of an archive includes its members' listings.
@@ -31,7 +31,7 @@ pub struct CheckOptions<'a> {
 #[derive(Drop)]
 pub struct CheckFiles<'a> {
     store: HeaderStore<'a>,
-    rule: CheckOptions<'a>,
+    rule: CheckOptions,
 }
 
 impl<'a> Model for CheckFiles<'a> {
@@ -48,7 +48,7 @@ impl<'a> Model for CheckFiles<'a> {
 impl<'a> CheckFiles<'a> {
     /// Creates a check with a rule and a store, which has a slot for each header that the rule
     /// allows.
-    pub fn new(store: HeaderStore<'a>, rule: CheckOptions<'a>) -> Self
+    pub fn new(store: HeaderStore<'a>, rule: CheckOptions) -> Self
         requires { store.slots ≡ rule.caps.limits.headers }
         ensures { result ≡ rule }
     {
@@ -57,7 +57,7 @@ impl<'a> CheckFiles<'a> {
 }
 
 impl<'a> FileVisitor for CheckFiles<'a> {
-    type Rule = CheckOptions<'a>;
+    type Rule = CheckOptions;
 
     ghost use Rattle.elf_walk.specs.ToldChecks.{ReturnsState};
 
@@ -82,7 +82,7 @@ impl<'a> FileVisitor for CheckFiles<'a> {
 fn find_state<S: Source>(
     src: &mut Counted<RangeSource<S>>,
     store: &mut HeaderStore,
-    rule: &CheckOptions<'_>,
+    rule: &CheckOptions,
 ) -> FileStatus
     requires small { (store.old.slots ≡ rule.now.caps.limits.headers) × (src.old.asked ≤ 2 ^ 126) }
     requires whole { IsAll src.old }

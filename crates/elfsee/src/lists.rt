@@ -44,7 +44,7 @@ where
 }
 
 /// Returns the list rule of a request.
-fn rule_of<'a>(asked: &CommandArgs<'a>) -> ListOptions<'a>
+fn rule_of(asked: &CommandArgs<'_>) -> ListOptions<'static>
     ensures caps { result.caps ≡ asked.now.caps }
     ensures parts { result.parts ≡ asked.now.parts }
     ensures members { result.members ≡ asked.now.members }

@@ -79,7 +79,7 @@ where
 }
 
 /// Creates a check for a request.
-fn new_checks<'a>(asked: &CommandArgs<'a>, store: HeaderStore<'a>) -> CheckFiles<'a>
+fn new_checks<'a>(asked: &CommandArgs<'_>, store: HeaderStore<'a>) -> CheckFiles<'a>
     requires { store.slots ≡ asked.now.caps.limits.headers }
     ensures caps { result.caps ≡ asked.now.caps }
     ensures parts { result.parts ≡ asked.now.parts }
