@@ -3,7 +3,7 @@ ghost use Rattle.std.specs.Prelude.{◌≡◌, ◌≤◌, ◌⊎◌, IfErr, IfOk
 
 use crate::exit_lines::{CANNOT_OPEN, ExitLine, OUT_OF_MEMORY, READ_FAULT};
 use crate::outputs::OUTPUT_BYTES;
-use elf_source::{FileReader, PageCache, StreamSource, opened_path};
+use elf_source::{CachedSource, FileReader, PageCache, StreamSource, opened_path};
 use elf_table::HeaderBuffer;
 use std::alloc::Global;
 use std::fs;
@@ -80,5 +80,26 @@ where
     match StreamSource::over(FileReader::new(file)) {
         Ok(source) => Ok(source),
         Err(_) => Err(READ_FAULT),
+    }
+}
+
+/// Opens a file as [`open`] does; what is read of it is cached in `pages`.
+///
+/// # Errors
+/// Those of [`open`].
+pub fn open_by_pages<R: Files>(
+    rt: &R,
+    path: &str,
+    pages: PageCache,
+) -> Result<CachedSource<StreamSource<FileReader<R::File>>>, ExitLine>
+where
+    R::File: FileExt,
+    ensures { IfErr result (λ ending. (ending.0 ≡ 3)
+        × ((ending.1.now ≡ codes "elfsee: cannot open")
+        ⊎ (ending.1.now ≡ codes "elfsee: read fault"))) }
+{
+    match open(rt, path) {
+        Ok(source) => Ok(CachedSource::new(source, pages)),
+        Err(ending) => Err(ending),
     }
 }

@@ -31,7 +31,7 @@ pub use exit_lines::{
     CANNOT_OPEN, ExitLine, OUT_OF_MEMORY, READ_FAULT, WRITE_FAULT, exit, outcome,
 };
 pub use faults::RequestFault;
-pub use files::{allocate, allocate_pages, open};
+pub use files::{allocate, allocate_pages, open, open_by_pages};
 pub use line_sink::LineSink;
 pub use listings::parse_show;
 pub use outputs::{

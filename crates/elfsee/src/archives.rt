@@ -5,10 +5,12 @@ ghost use Rattle.elfsee.specs.Naming.{EndsWithoutNames};
 
 use crate::names::{caps_by_names, read_list, sorted_names};
 use elf_archive::show_archive;
-use elf_cli::{CANNOT_OPEN, CommandArgs, ExitLine, allocate, allocate_pages, end_answer, open};
+use elf_cli::{
+    CANNOT_OPEN, CommandArgs, ExitLine, allocate, allocate_pages, end_answer, open_by_pages,
+};
 use elf_record::Parts;
 use elf_requests::archive_status;
-use elf_source::{CachedSource, Counted, DeferredSink, Out, RangeSource, Source, WriteSink};
+use elf_source::{Counted, DeferredSink, Out, RangeSource, Source, WriteSink};
 use elf_table::{Caps, HeaderStore};
 use std::io::{self, BufWriter, Write};
 use std::os::unix::fs::FileExt;
@@ -68,9 +70,8 @@ where
         Ok(pages) => pages,
         Err(ending) => return Err(ending),
     };
-    match open(rt, file) {
+    match open_by_pages(rt, file, pages) {
         Ok(source) => {
-            let source = CachedSource::new(source, pages);
             let held = Vec::new(rt.alloc());
             let store = room.store();
             let (ending, _output) = write_archive(*caps, parts, source, store, output, held);

@@ -19,14 +19,14 @@ ghost use Rattle.elfsee.specs.Ends.{AnswersFile, EndsRunOver, EndsWithoutFile, E
 
 use archives::list_archive;
 use elf_cli::{
-    ExitLine, OUT_OF_MEMORY, allocate, allocate_pages, end_answer, exit, open, read_words,
+    ExitLine, OUT_OF_MEMORY, allocate, allocate_pages, end_answer, exit, open_by_pages, read_words,
     report_refused, report_version,
 };
 use elf_fixtures::sample;
 use elf_layout::Layout;
 use elf_record::Refusal;
 use elf_requests::{ParsedCommand, Request, request, run};
-use elf_source::{CachedSource, Counted, MemorySource, Out, PageCache, Sink, Source, WriteSink};
+use elf_source::{Counted, MemorySource, Out, PageCache, Sink, Source, WriteSink};
 use elf_table::{HeaderStore, RunFault};
 use layouts::apply_laid;
 use lists::list_files;
@@ -154,11 +154,8 @@ where
 {
     let alloc = rt.alloc();
     match request.file {
-        Some(path) => match open(rt, path) {
-            Ok(source) => {
-                let source = CachedSource::new(source, pages);
-                Ok(write_answer(alloc, request, source, store, output, errors))
-            }
+        Some(path) => match open_by_pages(rt, path, pages) {
+            Ok(source) => Ok(write_answer(alloc, request, source, store, output, errors)),
             Err(ending) => Err(ending),
         },
         None => {

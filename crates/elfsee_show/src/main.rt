@@ -5,12 +5,12 @@
 ghost use Rattle.std.specs.Prelude.{◌≡◌};
 
 use elf_cli::{
-    CommandArgs, CommandName, ExitLine, allocate, allocate_pages, end_answer, exit, open,
+    CommandArgs, CommandName, ExitLine, allocate, allocate_pages, end_answer, exit, open_by_pages,
     parse_show, read_words, report_refused, report_version,
 };
 use elf_fixtures::sample;
 use elf_listing::show;
-use elf_source::{CachedSource, Counted, MemorySource, Out, Source, WriteSink};
+use elf_source::{Counted, MemorySource, Out, Source, WriteSink};
 use elf_table::HeaderStore;
 use std::io::{self, BufWriter, Stderr, Write};
 use std::os::unix::fs::FileExt;
@@ -37,16 +37,13 @@ where
     let (mut room, output) = allocate(rt.alloc(), args.caps.limits.headers, io::writer(rt))?;
     let pages = allocate_pages(rt.alloc(), args.caps.limits.budget)?;
     match args.file {
-        Some(path) => {
-            let source = CachedSource::new(open(rt, path)?, pages);
-            Ok(list(&args, source, room.store(), output))
-        }
+        Some(path) => Ok(list(&args, open_by_pages(rt, path, pages)?, room.store(), output)),
         None => Ok(list(&args, MemorySource::new(sample()), room.store(), output)),
     }
 }
 
-/// Lists a file and writes the rest of the output. It is not inlined: the stack of its caller would
-/// hold the buffers of a listing twice, once for each type of source.
+/// Lists a file and writes the rest of the output. It is not inlined: its caller's stack would hold
+/// the buffers of a listing twice, once for each type of source.
 #[inline(never)]
 fn list<S: Source + Drop, W: Write + Drop>(
     args: &CommandArgs<'_>,
