@@ -1,5 +1,4 @@
-//! The listings of elfsee alone, proved and built long before the whole program: the commands
-//! `show`, `sample` and `version`, with the same command line and the same output.
+//! The commands `show`, `sample` and `version` of elfsee alone, built before the whole program.
 #![tactic(auto)]
 
 ghost use Rattle.std.specs.Prelude.{◌≡◌};
