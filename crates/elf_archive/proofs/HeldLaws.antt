@@ -93,7 +93,7 @@ module _ (began mid old new : OutState) (line : List ℕ) (held : DeferredLine) 
   held_writes (Err (Refused refusal)) result items clean is q =
       rw is (record {
         front = held_front items q.front;
-        next = λ other. absurd (no_next items q.front.front q.front.rest (q.next other).behind refusal clean q.front.split q.front.no_fault (q.next other).is_next);
+        next = λ other. absurd (no_next items q.front.front q.front.rest (q.next other).later refusal clean q.front.split q.front.no_fault (q.next other).is_next);
       })
   held_writes (Err (Source fault at)) result items clean is q = rw is (held_front items q)
   held_writes (Err (Out fault)) result items clean is q =

@@ -78,8 +78,8 @@ ended : {a b : OutState} (refusal : Refusal) (all : List ListingItem) (ends : Wr
     → (lines_of all ≡ lines_of ends.front.front) × (fault_of all ≡ Some refusal)
 ended refusal all ends next =
     let front = ends.front.front in
-    let whole : all ≡ front ++ (FaultItem refusal ∷ next.behind) = ends.front.split ∙ ap (λ rest. front ++ rest) next.is_next in
-    let both = listings_append front (FaultItem refusal ∷ next.behind) ends.front.no_fault in
+    let whole : all ≡ front ++ (FaultItem refusal ∷ next.later) = ends.front.split ∙ ap (λ rest. front ++ rest) next.is_next in
+    let both = listings_append front (FaultItem refusal ∷ next.later) ends.front.no_fault in
     (ap lines_of whole ∙ both.0 ∙ append-nil (lines_of front), ap fault_of whole ∙ both.1)
 
 -- if a call had no room for a read that it costs, its budget is below its cost

@@ -53,7 +53,7 @@ pub part_fault : {a b : OutState} (items : List ListingItem) (refusal : Refusal)
 part_fault items refusal other p =
     let next = p.next other in
     let front = p.front in
-    ap fault_of (front.split ∙ ap (λ rest. front.front ++ rest) next.is_next) ∙ (listings_append front.front (Fault refusal ∷ next.behind) front.no_fault).1
+    ap fault_of (front.split ∙ ap (λ rest. front.front ++ rest) next.is_next) ∙ (listings_append front.front (Fault refusal ∷ next.later) front.no_fault).1
 
 module _ (format : Format) where
   -- without a fault nothing changes
@@ -101,11 +101,11 @@ module _ (format : Format) where
 
   -- a listing that ended in a refusal, whose line was written
   module _ (a b c : OutState) (items : List ListingItem) (refusal : Refusal) (other : IsBudgetRefusal refusal → ⊥) (p : WroteUntilRefusal a b refusal items) where
-    behind : items ≡ p.front.front ++ (Fault refusal ∷ (p.next other).behind)
-    behind = p.front.split ∙ ap (λ rest. p.front.front ++ rest) (p.next other).is_next
+    whole : items ≡ p.front.front ++ (Fault refusal ∷ (p.next other).later)
+    whole = p.front.split ∙ ap (λ rest. p.front.front ++ rest) (p.next other).is_next
 
     is_told : told format items ≡ p.front.front ++ (Line (refusal_line format refusal) ∷ [])
-    is_told = told_split items p.front.front (Fault refusal ∷ (p.next other).behind) behind p.front.no_fault
+    is_told = told_split items p.front.front (Fault refusal ∷ (p.next other).later) whole p.front.no_fault
 
     lines : lines_of (told format items) ≡ lines_of p.front.front ++ refusal_line format refusal
     lines = ap lines_of is_told ∙ ((listings_append p.front.front (Line (refusal_line format refusal) ∷ []) p.front.no_fault).0 ∙ ap (λ line. lines_of p.front.front ++ line) (append-nil (refusal_line format refusal)))

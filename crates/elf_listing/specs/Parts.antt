@@ -105,7 +105,7 @@ unfoldable pub kinds_asked : ℕ → List PartListed → LoadedFile → StoreSta
 kinds_asked parts [] loaded store cap = 0
 kinds_asked parts (kind ∷ kinds) loaded store cap = asked_cost parts kind loaded store cap + kinds_asked parts kinds loaded store cap
 
--- the kinds of tables that section headers describe: those before the records of versions, and these
+-- the kinds of tables of section headers that are listed before the records of versions, and these
 abbrev pub first_kinds : Bool → List TableKind
 first_kinds versions = symbols_kind versions ∷ relocations_kind versions ∷ section_notes ∷ section_dynamic ∷ []
 

@@ -5,7 +5,7 @@ use Rattle.elf_model.specs.Prelude.{Check, e_shnum, first_refusal, has_symbols, 
 use Rattle.elf_model.specs.declared.causes.Cause.TheVariants.{EntrySize}
 use Rattle.elf_model.specs.declared.causes.Refusal.{Refusal}
 use Rattle.elf_model.proofs.CheckSteps.{first_refusal-some, first_refusal-none, first_refusal-back}
-use Rattle.elf_table.specs.Prelude.{AreRelocations, AreSymbols, Links, RefersTo, RefusedBy, StringTableRange, TableRange, answered, checked, names_at, rows, string_table_at, strings, symbols_at, table_at, table_of}
+use Rattle.elf_table.specs.Prelude.{AreRelocations, AreSymbols, Links, RefusedBy, StringTableRange, TableRange, answered, checked, names_at, rows, string_table_at, strings, symbols_at, table_at, table_of}
 use Rattle.elf_table.specs.declared.fault.Fault.{Fault}
 use Rattle.elf_table.specs.declared.fault.Fault.TheVariants.{Refused, Source}
 
@@ -72,15 +72,15 @@ module _ (file : List ℕ) (at : ℕ) where
     passes_empty back none = rw (no_rows none) refl
 
     -- if there are rows, the later checks decide
-    behind : (back : List Check) → (table.count ≡ 0 → ⊥) → first_refusal (unless_empty (sh_size file at) (table_checks file at 24 ++ back)) ≡ first_refusal back
-    behind back rows = elim (cases_Bool (sh_size file at == 0)) [
+    later : (back : List Check) → (table.count ≡ 0 → ⊥) → first_refusal (unless_empty (sh_size file at) (table_checks file at 24 ++ back)) ≡ first_refusal back
+    later back rows = elim (cases_Bool (sh_size file at == 0)) [
       | inl empty ↦ absurd (rows (ap (λ (t : TableRange). t.count) table_is ∙ rw (eqb-true (sh_size file at) 0 empty) refl))
       | inr some ↦ rw some (first_refusal-none (table_checks file at 24) back (passed_first _ _ _ (rw (some, table_at, table_of) at held)).0)
     ]
 
     pub back_refused : (back : List Check) (fault : Fault) → (table.count ≡ 0 → ⊥) → RefusedBy back fault
         → RefusedBy (unless_empty (sh_size file at) (table_checks file at 24 ++ back)) fault
-    back_refused back (Refused refusal) rows h = behind back rows ∙ h
+    back_refused back (Refused refusal) rows h = later back rows ∙ h
     back_refused back (Source fault offset) rows h = h
 
     pub strings_refused : (fault : Fault) → (table.count ≡ 0 → ⊥) → string_table_at file at ≡ Err fault → RefusedBy (symbol_table_checks file at) fault
@@ -112,7 +112,7 @@ module _ (file : List ℕ) (at : ℕ) where
 
     pub relocations_some : (linked : Option (TableRange × StringTableRange)) → (table.count ≡ 0 → ⊥) → Links file at (Ok linked) → AreRelocations file at table linked
     relocations_some linked rows links = record {
-      pass = behind (linked_table_checks file at) rows ∙ links.0;
+      pass = later (linked_table_checks file at) rows ∙ links.0;
       counted = ap (λ (t : TableRange). t.count) table_is;
       placed = ap (λ (t : TableRange). t.at) table_is;
       refers = λ _. links.1;
@@ -160,10 +160,3 @@ module _ (file : List ℕ) (at link : ℕ) (is : link ≡ sh_link file at) (has 
   linked-some symbols h =
       let p = symbols-pass file (linked_at file at) symbols (ap (λ k. symbols_at file (section_at file k)) (sym is) ∙ h) in
       (rw has p.0, (has, p.1))
-
--- linked symbols, if there are any
-pub refers : (file : List ℕ) (header : ℕ) (linked : Option (TableRange × StringTableRange)) (symbols : TableRange × StringTableRange) → linked ≡ Some symbols → RefersTo file header linked → RefersTo file header (Some symbols)
-refers file header linked symbols is h = subst (RefersTo file header) is h
-
-pub refers-nowhere : (file : List ℕ) (header : ℕ) (linked : Option (TableRange × StringTableRange)) → linked ≡ None → RefersTo file header linked → has_symbols file header ≡ false
-refers-nowhere file header linked is h = subst (RefersTo file header) is h

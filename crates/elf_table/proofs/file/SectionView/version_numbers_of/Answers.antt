@@ -1,5 +1,5 @@
 -- The first section of symbol versions that link there is the first one that is found.
-use Rattle.std.proofs.Common.{◌≡◌, ◌==◌, ◌&&◌, ℕ, Bool, true, false, inl, inr, ap, ap₂, sym, ◌∙◌, arith}
+use Rattle.std.proofs.Common.{◌≡◌, ◌==◌, ◌&&◌, ℕ, Bool, inl, inr, ap, ap₂, sym, ◌∙◌, arith}
 use Rattle.std.proofs.lemmas.Bool.{cases_eq}
 use Rattle.elf_model.specs.Prelude.{SHT_GNU_VERSYM, e_shnum, file_sections, header_field, sh_link, sh_type}
 use Rattle.elf_model.proofs.LookupSteps.{first_that-none, first_that-some}
