@@ -8,7 +8,7 @@ use crate::page_cache::PageCache;
 use crate::source::Source;
 use std::marker::Model;
 
-/// A source over another of which the last 32 pages read are cached, 4,096 bytes each. Its file,
+/// A source over another of which the last 64 pages read are cached, 4,096 bytes each. Its file,
 /// its length and its failures are the other's.
 #[derive(Drop)]
 pub struct CachedSource<S: Source> {

@@ -9,12 +9,12 @@ use std::alloc::{AllocError, Global};
 use std::marker::Model;
 
 /// How many pages are cached.
-const PAGES: usize = 32;
+const PAGES: usize = 64;
 
 /// How many pages, by their numbers in the file, have an index of their own.
 const INDEXES: usize = 256;
 
-/// The pages of a file that were read last, at most 32.
+/// The pages of a file that were read last, at most 64.
 #[derive(Drop)]
 pub struct PageCache {
     pages: Vec<Page>,
@@ -43,12 +43,12 @@ impl PageCache {
         PageCache::over(Vec::new(alloc), keeps)
     }
 
-    /// Creates an empty cache with room for all its pages: 32 of 4,096 bytes.
+    /// Creates an empty cache with room for all its pages: 64 of 4,096 bytes.
     ///
     /// # Errors
     /// Out of memory.
     pub fn with_room(alloc: Global) -> Result<PageCache, AllocError>
-        ensures { IfOk result (λ cache. cache.now ≡ []) }
+        ensures { IfOk result (λ cache. cache ≡ []) }
     {
         Ok(PageCache::over(Vec::with_capacity(alloc, PAGES)?, true))
     }
@@ -100,7 +100,7 @@ impl PageCache {
 
     /// Returns the index of the page that is read next: a new one, or the one that was read first.
     fn next_index(&mut self) -> usize
-        ensures few { result < 32 }
+        ensures few { result < 64 }
         ensures held { KeepsPages self.old self.new }
     {
         let count = self.pages.len();
