@@ -36,3 +36,4 @@ pub mod NeedWalks
 pub mod Providers
 pub mod VersionLines
 pub mod Prelude
+pub mod Limited
