@@ -21,7 +21,7 @@ use Rattle.elf_needs.specs.Filters.{FilterWords, IsFilterOf, KeepsFilter, filter
 use Rattle.elf_needs.specs.Indices.{AreIndicesOf, KnowsIndices}
 use Rattle.elf_needs.specs.Looks.{FindsDefiner, LooksInObject, Prepares, ReadsReady}
 use Rattle.elf_needs.specs.Ready.{IsReadyIf, ready_bytes}
-use Rattle.elf_needs.specs.NeedWalks.{FindsVersionState, GoesOnIf, IsNeedsOf, ReadsNeed, ReadsRecord, StepsNeedsOf, need_bytes, needed_of}
+use Rattle.elf_needs.specs.NeedWalks.{FindsVersionState, GoesOnIf, IsNeedsOf, ReadsNeed, ReadsNextNeed, StepsNeedsOf, need_bytes, needed_of}
 use Rattle.elf_needs.specs.Sought.{CountsHashed, LooksForVersion, ReadsFileName, ReturnsAs, ReturnsSought, ReturnsWhole, Seeks, SeeksOf, reference_bytes}
 use Rattle.elf_needs.specs.VersionNames.{HaveVersionNames, KnowsNames}
 use Rattle.elf_needs.specs.VersionTables.{AreVersionsOf}
@@ -55,7 +55,7 @@ module _ {a b c d : CountedState} {left left_new : Option ℕ} {headers : ℕ} (
         known = λ file held. let known = knows.known file held in rw known.1 (did.known file (rw set.seen held) known.0);
       }
 
-  pub reads_need_within : {old new : NeedsWalk} {result : Result (Option Bool) Fault} → ReadsRecord old new b c result → ReadsNeed old new (object_of a headers) (object_of d headers) left left_new result
+  pub reads_need_within : {old new : NeedsWalk} {result : Result (Option Bool) Fault} → ReadsNextNeed old new b c result → ReadsNeed old new (object_of a headers) (object_of d headers) left left_new result
   reads_need_within {old} {new} {result} step =
       let kept = reads_kept (λ n. need_bytes) step.did.costs in
       let size = sym (ap (λ (s : SourceState). s.size) free.seen ∙ step.did.costs.reads.keeps.same_size) in

@@ -75,7 +75,7 @@ abbrev pub need_bytes : ℕ
 need_bytes = 28 + name_bytes SOUGHT_BYTES
 
 -- WHAT READING ONE RECORD DID to a source
-pub record ReadsRecord (walk_old walk_new : NeedsWalk) (old new : CountedState) (result : Result (Option Bool) Fault) : Type 0 where
+pub record ReadsNextNeed (walk_old walk_new : NeedsWalk) (old new : CountedState) (result : Result (Option Bool) Fault) : Type 0 where
   pub did : CallDid old new (fault_of_result result) need_bytes (λ file. (told : IsTableOf) → IsNeedsOf file told walk_old → StepsNeedsOf file told walk_old walk_new result)
   pub goes : GoesOnIf old.seen.size walk_old walk_new result
 
