@@ -36,4 +36,3 @@ pub mod NeedWalks
 pub mod Providers
 pub mod VersionLines
 pub mod Prelude
-pub mod Limited

@@ -30,7 +30,6 @@ mod known_interpreter;
 mod known_object;
 mod library_files;
 mod library_search;
-mod limited;
 mod line_options;
 mod link_reader;
 mod linked_file;

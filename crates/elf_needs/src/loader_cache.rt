@@ -6,12 +6,11 @@ ghost use Rattle.elf_needs.specs.Budget.{AsksClosed};
 ghost use Rattle.elf_needs.specs.Caches.{PaysAccount};
 
 use crate::candidates::{FileSource, SearchEnd, opened_at};
-use crate::limited::Limited;
 use crate::object_file::{ObjectFile, ReadAccount};
 use crate::paths::{CandidatePath, named_path};
 use crate::walk::NeedsFault;
 use elf_cache::read_path_in_cache;
-use elf_source::{Counted, Source};
+use elf_source::{Counted, Limited, Source};
 use elf_table::{Fault, NameBuf};
 use std::marker::Model;
 use std::os::unix::fs::FileExt;

@@ -22,7 +22,6 @@ use crate::hashed::hashed_symbols;
 use crate::kept_filter::KeptFilter;
 use crate::kept_indices::KeptIndices;
 use crate::kept_version_names::KeptVersionNames;
-use crate::limited::Limited;
 use crate::missing_version::lacks_version;
 use crate::needed_versions::NeedsWalk;
 use crate::ready::ready_with_filter;
@@ -33,7 +32,7 @@ use elf_hash::{HashTable, LookupTables, VersionRecordTable};
 use elf_model::VersionState;
 use elf_note::VersionRecord;
 use elf_options::SymbolQuery;
-use elf_source::{Counted, Source};
+use elf_source::{Counted, Limited, Source};
 use elf_table::{Fault, HeaderStore, NameBuf, Names};
 use std::marker::Model;
 

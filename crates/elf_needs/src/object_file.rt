@@ -10,10 +10,9 @@ ghost use Rattle.elf_source.specs.Source.{counted};
 use crate::file_identity::FileAttributes;
 use crate::interpreter::{is_interpreter, read_interpreter};
 use crate::library_files::{LibraryFit, library_fit};
-use crate::limited::Limited;
 use crate::link_reader::{machine_of, read_library_links, read_link_info};
 use crate::links::{LinkInfo, LinkInfoStore};
-use elf_source::{Counted, Source};
+use elf_source::{Counted, Limited, Source};
 use elf_table::{Fault, HeaderStore, NameBuf};
 use std::marker::Model;
 

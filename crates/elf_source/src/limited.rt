@@ -1,9 +1,10 @@
 //! Calls that read within a limit.
 ghost use Rattle.std.specs.Prelude.{◌≡◌, ◌-◌, option_map};
-ghost use Rattle.elf_needs.specs.Limited.{MayReadWithin, ReadsWithin};
+ghost use Rattle.elf_source.specs.Limited.{MayReadWithin, ReadsWithin};
 ghost use Rattle.elf_source.specs.Source.{CountedState, SetsLimit};
 
-use elf_source::{Counted, Source};
+use crate::counted::Counted;
+use crate::source::Source;
 
 /// A source with a limit on the number of bytes that may be requested: a [`Counted`].
 pub trait Limited {
