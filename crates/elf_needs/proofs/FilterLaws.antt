@@ -95,10 +95,10 @@ looks_excluded wanted object left excludes = record {
 
 -- WHAT IS KEPT stays so after a call between two limits, the second of which is none
 module _ {a b c d : CountedState} {left : Option ℕ} (set : SetsLimit a b left) (keeps : KeepsSource b.seen c.seen) (free : SetsLimit c d None) where
-  same_size : d.seen.size ≡ a.seen.size
+  pub same_size : d.seen.size ≡ a.seen.size
   same_size = ap (λ (s : SourceState). s.size) free.seen ∙ keeps.same_size ∙ ap (λ (s : SourceState). s.size) set.seen
 
-  same_file : d.seen.file ≡ a.seen.file
+  pub same_file : d.seen.file ≡ a.seen.file
   same_file = ap (λ (s : SourceState). s.file) free.seen ∙ keeps.same_file ∙ ap (λ (s : SourceState). s.file) set.seen
 
   -- the filter, as it was read or before

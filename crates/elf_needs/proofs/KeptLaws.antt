@@ -49,15 +49,6 @@ kept_with first second = first ∙ second
 pub did_anyway : {a b : CountedState} {stop : Option Fault} {n : ℕ} {P : List ℕ → Type 0} → CallDid a b stop n P → CallDid a b None n P
 did_anyway p = record { costs = record { reads = p.costs.reads; says = tt }; known = p.known }
 
--- the same, of which the first alone is known
-pub did_first : {a b c : CountedState} {stop : Option Fault} {n m : ℕ} {P Q : List ℕ → Type 0} → CallDid a b stop n P → CallDid b c None m Q → CallDid a c None (n + m) P
-did_first p q = let did = CallDid-then (did_anyway p) q in record { costs = did.costs; known = λ file held. (did.known file held).0 }
-
--- what is known of the versions stays so after a call between two limits
-pub knows_between :
-    {a b c d : CountedState} {left : Option ℕ} {stop : Option Fault} {n : ℕ} {P : List ℕ → Type 0} {versions : FileVersions} → KnowsVersions a.seen versions → SetsLimit a b left
-    → CallDid b c stop n P → SetsLimit c d None → KnowsVersions d.seen versions
-knows_between {a} {b} {c} {d} {versions = versions} knows set did free =
-    let size : d.seen.size ≡ a.seen.size = ap (λ (s : SourceState). s.size) free.seen ∙ did.costs.reads.keeps.same_size ∙ ap (λ (s : SourceState). s.size) set.seen in
-    let file : d.seen.file ≡ a.seen.file = ap (λ (s : SourceState). s.file) free.seen ∙ did.costs.reads.keeps.same_file ∙ ap (λ (s : SourceState). s.file) set.seen in
-    record { lies = subst (λ (n : ℕ). FileVersionsInBounds n versions) (sym size) knows.lies; known = λ bytes held. knows.known bytes (sym file ∙ held) }
+-- the same, with what is known of both
+pub did_both : {a b c : CountedState} {stop : Option Fault} {n m : ℕ} {P Q : List ℕ → Type 0} → CallDid a b stop n P → CallDid b c None m Q → CallDid a c None (n + m) (λ file. P file × Q file)
+did_both p q = CallDid-then (did_anyway p) q

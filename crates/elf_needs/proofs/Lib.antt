@@ -26,6 +26,7 @@ pub mod OpenLaws
 pub mod ReadyLaws
 pub mod SoughtLaws
 pub mod SpendLaws
+pub mod ChargeLaws
 pub mod IndexLaws
 pub mod NameLaws
 pub mod FilterLaws

@@ -110,35 +110,12 @@ kept_ready old new headers scope before ready kept size file placed told = recor
   ready_in = λ bytes held. told bytes (sym file ∙ held);
 }
 
--- THE LAW: what lookups have in common is read
-pub prepares_as : (a d : CountedState) (headers : ℕ) (left left_new : Option ℕ) (stop : Option Fault) (n : ℕ) → n ≡ ready_bytes a.seen.size + filter_bytes → SpendsAtMost a d left stop n → SpendsBudget left left_new a.asked d.asked
-    → Prepares (record { src = a; headers = headers }) (record { src = d; headers = headers }) left left_new
-prepares_as a d headers left left_new stop n is spends pays =
-    let most = spends.at_most in
-    record {
-      costs = record { keeps = spends.keeps; view = spends.view; grows = spends.grows; at_most = omega (arith, most, is); free = spends.free; says = tt };
-      same_headers = refl;
-      pays = pays;
-    }
-
-placed_of : (scope : LookupTables) (result : Result (Option HashTable) Fault) → IfOk result (λ ready. IfSome ready (λ table. place_of_table table ≡ scope.hash))
+-- a fault of the table is skipped
+pub placed_of : (scope : LookupTables) (result : Result (Option HashTable) Fault) → IfOk result (λ ready. IfSome ready (λ table. place_of_table table ≡ scope.hash))
     → IfSome (result_unwrap_or result None) (λ table. place_of_table table ≡ scope.hash)
 placed_of scope (Ok ready) placed = placed
 placed_of scope (Err fault) placed = tt
 
-ready_of : (file : List ℕ) (told : IsScopeOf) (result : Result (Option HashTable) Fault) → ReturnsReady file told result → IsReadyIf file told (result_unwrap_or result None)
+pub ready_of : (file : List ℕ) (told : IsScopeOf) (result : Result (Option HashTable) Fault) → ReturnsReady file told result → IsReadyIf file told (result_unwrap_or result None)
 ready_of file told (Ok ready) tells = tells
 ready_of file told (Err fault) tells = tt
-
--- THE LAW: what is kept remains so, with the table that was read
-pub kept_prepared :
-    {a b c d : CountedState} {left : Option ℕ} {stop : Option Fault} {n : ℕ} (headers : ℕ) (scope : LookupTables) (before : Option HashTable) (result : Result (Option HashTable) Fault)
-    → IsKept a.seen headers scope before → SetsLimit a b left
-    → CallDid b c stop n (λ file. (told : IsScopeOf) → IsLookupTables file told scope → ReturnsReady file told result)
-    → IfOk result (λ ready. IfSome ready (λ table. place_of_table table ≡ scope.hash)) → SetsLimit c d None → IsKept d.seen headers scope (result_unwrap_or result None)
-kept_prepared {a} {b} {c} {d} headers scope before result kept set did placed free =
-    kept_ready a.seen d.seen headers scope before (result_unwrap_or result None) kept
-    (ap (λ (s : SourceState). s.size) free.seen ∙ did.costs.reads.keeps.same_size ∙ ap (λ (s : SourceState). s.size) set.seen)
-    (ap (λ (s : SourceState). s.file) free.seen ∙ did.costs.reads.keeps.same_file ∙ ap (λ (s : SourceState). s.file) set.seen)
-    (placed_of scope result placed)
-    (λ file held told is. ready_of file told result (did.known file (ap (λ (s : SourceState). s.file) set.seen ∙ held) told is))

@@ -1,15 +1,20 @@
 -- The effect of a lookup in one file of several, with a shared budget.
 use Rattle.std.specs.Prelude.{ℕ, ◌≡◌, ◌+◌, ◌<◌, ◌≤◌, List, Option, None, Some, Result, Ok, IfSome}
-use Rattle.elf_model.specs.Prelude.{IsBudgetRefusal, SymbolQuery, definition_cost, definition_lookup}
+use Rattle.elf_model.specs.Prelude.{IsBudgetRefusal, SymbolQuery, definition_cost, definition_in, definition_lookup}
 use Rattle.elf_source.specs.Source.{CountedState, IsSourceFault, KeepsSource, SameView, counted}
-use Rattle.elf_table.specs.Prelude.{fault_of_result}
+use Rattle.elf_table.specs.Prelude.{CallDid, fault_of_result}
 use Rattle.elf_table.specs.declared.fault.Fault.{Fault}
 use Rattle.elf_table.specs.declared.fault.Fault.TheVariants.{Refused, Source}
 use Rattle.elf_loader.specs.Lookups.{lookup_bytes}
-use Rattle.elf_needs.specs.Definers.{ReturnsDefiner}
-use Rattle.elf_needs.specs.Filters.{filter_bytes}
-use Rattle.elf_needs.specs.Kept.{LookupObjectState}
-use Rattle.elf_needs.specs.Ready.{ready_bytes}
+use Rattle.elf_hash.specs.Prelude.{place_of_table}
+use Rattle.elf_hash.specs.declared.table.HashTable.{HashTable}
+use Rattle.elf_hash.specs.declared.lookup_tables.LookupTables.{LookupTables}
+use Rattle.elf_needs.specs.Definers.{DefinesOn, ReturnsDefiner}
+use Rattle.elf_needs.specs.Filters.{FilterWords, IsFilterOf, filter_bytes}
+use Rattle.elf_needs.specs.Indices.{AreIndicesOf}
+use Rattle.elf_needs.specs.Kept.{IsReadyIn, LookupObjectState}
+use Rattle.elf_needs.specs.Ready.{IsReadyIf, ready_bytes}
+use Rattle.elf_needs.specs.declared.kept_indices.VersionIndices.{VersionIndices}
 
 -- what is left of a budget decreases by what is requested
 abbrev pub SpendsBudget : (left_old left_new : Option ℕ) → (asked_old asked_new : ℕ) → Type 0
@@ -57,6 +62,10 @@ pub record ExcludesName (wanted : SymbolQuery) (object : LookupObjectState) : Ty
   pub free : object.src.most ≡ None
   pub known : (file : List ℕ) → object.src.seen.file ≡ Some file → (definition_lookup file object.headers wanted).answer ≡ Ok None
 
+-- WHAT FINDING A DEFINITION DID to a source, by lookup tables and what is kept of them
+pub record FindsDefiner (scope : LookupTables) (ready : Option HashTable) (wanted : SymbolQuery) (places : List (Option VersionIndices)) (old new : CountedState) (result : Result (Option ℕ) Fault) : Type 0 where
+  pub did : DefinesOn old new scope wanted result 28 (lookup_bytes 28 old.seen.size wanted) (λ file told leaves. IsReadyIf file told ready → AreIndicesOf file told places → leaves 0 (definition_in file told wanted))
+
 -- THE EFFECT OF A LOOKUP IN ONE FILE
 pub record LooksInObject (wanted : SymbolQuery) (old new : LookupObjectState) (left_old left_new : Option ℕ) (result : Result (Option ℕ) Fault) : Type 0 where
   pub costs : SpendsAtMost old.src new.src left_old (fault_of_result result) (lookup_bytes 28 old.src.seen.size wanted)
@@ -69,6 +78,12 @@ pub record FailsIn (wanted : SymbolQuery) (old new : LookupObjectState) (left_ne
   pub left : Option ℕ
   pub pays : SpendsBudget left left_new old.src.asked new.src.asked
   pub says : FaultLeaves old.src new.src left (lookup_bytes 28 old.src.seen.size wanted) fault
+
+-- WHAT READING ONCE WHAT LOOKUPS HAVE IN COMMON DID to a source: this hash table is ready, if one
+-- is, and these words of the filter are kept
+pub record ReadsReady (scope : LookupTables) (ready : Option HashTable) (filter : FilterWords) (old new : CountedState) : Type 0 where
+  pub did : CallDid old new None (ready_bytes old.seen.size + filter_bytes) (λ file. IsReadyIn file scope ready × IsFilterOf file scope.hash filter)
+  pub placed : IfSome ready (λ table. place_of_table table ≡ scope.hash)
 
 -- THE EFFECT OF READING ONCE WHAT LOOKUPS HAVE IN COMMON: at most that is read, and the words of
 -- the filter that are kept, and what is left of the budget decreases by it

@@ -4,7 +4,8 @@ use Rattle.elf_model.specs.Prelude.{NeedRefused, IsBudgetRefusal, NeededVersion,
 use Rattle.elf_model.specs.declared.causes.Refusal.{Refusal}
 use Rattle.elf_model.specs.declared.states.VersionState.{VersionState}
 use Rattle.elf_model.specs.declared.versions.VersionKind.TheVariants.{Definition}
-use Rattle.elf_table.specs.Prelude.{fault_of_result}
+use Rattle.elf_source.specs.Source.{CountedState}
+use Rattle.elf_table.specs.Prelude.{CallDid, fault_of_result}
 use Rattle.elf_table.specs.declared.fault.Fault.{Fault}
 use Rattle.elf_table.specs.declared.fault.Fault.TheVariants.{Refused, Source}
 use Rattle.elf_hash.specs.Prelude.{IsVersionRecordTable, VersionRecordsInBounds}
@@ -72,6 +73,11 @@ pub record StepsNeedsOf (file : List ℕ) (told : IsTableOf) (old new : NeedsWal
 -- how many bytes a step may read: the record, and its name
 abbrev pub need_bytes : ℕ
 need_bytes = 28 + name_bytes SOUGHT_BYTES
+
+-- WHAT READING ONE RECORD DID to a source
+pub record ReadsNextNeed (walk_old walk_new : NeedsWalk) (old new : CountedState) (result : Result (Option Bool) Fault) : Type 0 where
+  pub did : CallDid old new (fault_of_result result) need_bytes (λ file. (told : IsTableOf) → IsNeedsOf file told walk_old → StepsNeedsOf file told walk_old walk_new result)
+  pub goes : GoesOnIf old.seen.size walk_old walk_new result
 
 -- THE EFFECT OF READING ONE RECORD of what a file needs
 pub record ReadsNeed (walk_old walk_new : NeedsWalk) (old new : LookupObjectState) (left_old left_new : Option ℕ) (result : Result (Option Bool) Fault) : Type 0 where

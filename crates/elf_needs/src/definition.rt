@@ -1,5 +1,6 @@
 //! The symbol of a file that defines a name.
 ghost use Rattle.std.specs.Prelude.{◌≡◌, ℕ, ◌+◌, ◌*◌, ◌/◌, ◌≤◌, length, IfSome};
+ghost use Rattle.elf_needs.specs.Looks.{FindsDefiner};
 ghost use Rattle.elf_needs.specs.Definers.{DefinesOn, SaysDefines, definer_with, the_defined};
 ghost use Rattle.elf_needs.specs.Indices.{AreIndicesOf, KeepsIndices};
 ghost use Rattle.elf_needs.specs.Ready.{HasNoNul, IsReadyTable, IsReadyIf};
@@ -77,10 +78,8 @@ pub(crate) fn find_definer<S: Source>(
 ) -> Result<Option<u64>, Fault>
     requires may { MayLookOn src.old scope.now (query_of wanted.now) }
     requires place { IfSome ready.now (λ table. place_of_table table ≡ scope.now.hash) }
-    ensures did { DefinesOn src.old src.new scope.now (query_of wanted.now) result 28
-        (lookup_bytes 28 src.old.seen.size (query_of wanted.now)) (λ file told leaves.
-        IsReadyIf file told ready.now → AreIndicesOf file told kept.old.places →
-        leaves 0 (definition_in file told (query_of wanted.now))) }
+    ensures finds { FindsDefiner scope.now ready.now (query_of wanted.now) kept.old.places
+        src.old src.new result }
     ensures kept { KeepsIndices src.old.seen scope.now kept.old.places kept.new.places }
 {
     match ready {

@@ -5,13 +5,12 @@ ghost use Rattle.elf_model.specs.Prelude.{path_in_cache};
 ghost use Rattle.elf_needs.specs.Budget.{AsksClosed};
 ghost use Rattle.elf_needs.specs.Caches.{PaysAccount};
 
-use crate::budget::spend_budget;
 use crate::candidates::{FileSource, SearchEnd, opened_at};
 use crate::object_file::{ObjectFile, ReadAccount};
 use crate::paths::{CandidatePath, named_path};
 use crate::walk::NeedsFault;
 use elf_cache::read_path_in_cache;
-use elf_source::{Counted, Source};
+use elf_source::{Counted, Limited, Source};
 use elf_table::{Fault, NameBuf};
 use std::marker::Model;
 use std::os::unix::fs::FileExt;
@@ -64,13 +63,12 @@ impl<S: Source + Drop> LibraryCache<S> {
         ensures known { (file : List ℕ) → self.old.seen.file ≡ Some file →
             ReturnsCacheText (path_in_cache file name.now) path.new result }
     {
-        let asked = self.source.asked();
-        self.source.limit(account.left);
-        let found = read_path_in_cache(&mut self.source, name, path);
-        self.source.limit(None);
-        let spent = self.source.asked() - asked;
-        spend_budget(&mut account.left, spent);
-        account.spent = account.spent.saturating_add(spent);
+        let before = self.source.asked();
+        let found = self.source.charge(
+            &mut account.left,
+            &mut |src| { read_path_in_cache(src, name, path) },
+        );
+        account.spent = account.spent.saturating_add(self.source.asked() - before);
         found
     }
 }

@@ -4,7 +4,7 @@ ghost use Rattle.elf_table.specs.Prelude.{CallDid, StringsInBounds, fault_of_res
 ghost use Rattle.elf_model.specs.Prelude.{Meets, SOUGHT_BYTES, VersionRecordRead, VersionRecordTable as IsTableOf, VisitedRecord, name_bytes, needed_versions, readings_of};
 ghost use Rattle.elf_hash.specs.Prelude.{IsVersionRecordTable, VersionRecordsInBounds};
 ghost use Rattle.elf_note.specs.Reading.{IsVersion};
-ghost use Rattle.elf_needs.specs.NeedWalks.{GoesOnIf, IsNeedsOf, ReturnsNeed, StepsNeeds, StepsNeedsOf, need_bytes, needs_left};
+ghost use Rattle.elf_needs.specs.NeedWalks.{ReadsNextNeed, GoesOnIf, IsNeedsOf, ReturnsNeed, StepsNeeds, StepsNeedsOf, need_bytes, needs_left};
 
 use crate::reference::whole_name;
 use elf_hash::VersionRecordTable;
@@ -61,10 +61,7 @@ impl NeedsWalk {
     /// a refusal for lack of budget.
     pub(crate) fn advance<S: Source>(&mut self, src: &mut Counted<S>) -> Result<Option<bool>, Fault>
         requires { StepsNeeds src.old.seen.size self.old }
-        ensures did { CallDid src.old src.new (fault_of_result result) need_bytes
-            (λ file. (told : IsTableOf) → IsNeedsOf file told self.old →
-            StepsNeedsOf file told self.old self.new result) }
-        ensures goes { GoesOnIf src.old.seen.size self.old self.new result }
+        ensures { ReadsNextNeed self.old self.new src.old src.new result }
     {
         let Some(given) = self.cursor.advance(src)? else {
             return Ok(None);

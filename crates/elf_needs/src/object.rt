@@ -14,7 +14,6 @@ ghost use Rattle.elf_needs.specs.Sought.{CountsHashed, LooksForVersion, ReadsFil
 ghost use Rattle.elf_loader.specs.Lookups.{AreShort};
 ghost use Rattle.elf_options.specs.Wants.{query_of};
 
-use crate::budget::spend_budget;
 use crate::copied_symbols::{copied_at, dynamic_relocations, named_symbol};
 use crate::defined_versions::state_in;
 use crate::definition::find_definer;
@@ -25,7 +24,7 @@ use crate::kept_indices::KeptIndices;
 use crate::kept_version_names::KeptVersionNames;
 use crate::missing_version::lacks_version;
 use crate::needed_versions::NeedsWalk;
-use crate::ready::ready_table;
+use crate::ready::ready_with_filter;
 use crate::reference::{SymbolReference, reference_of, whole_name};
 use crate::reference_names::ReferenceNames;
 use crate::version_tables::FileVersions;
@@ -33,7 +32,7 @@ use elf_hash::{HashTable, LookupTables, VersionRecordTable};
 use elf_model::VersionState;
 use elf_note::VersionRecord;
 use elf_options::SymbolQuery;
-use elf_source::{Counted, Source};
+use elf_source::{Counted, Limited, Source};
 use elf_table::{Fault, HeaderStore, NameBuf, Names};
 use std::marker::Model;
 
@@ -114,17 +113,16 @@ impl<S: Source> LookupObject<S> {
     pub fn prepare(&mut self, left: &mut Option<u64>)
         ensures { Prepares self.old self.new left.old left.new }
     {
-        let asked = self.source.asked();
-        self.source.limit(*left);
-        let ready = ready_table(&mut self.source, &self.scope);
         let keeps = left.is_none();
-        self.filter
-            .load_if(keeps, &mut self.source, &self.scope.hash);
         self.indices.keep_if(keeps);
         self.names.keep_if(keeps);
-        self.source.limit(None);
-        spend_budget(left, self.source.asked() - asked);
-        self.ready = ready.unwrap_or(None);
+        let scope = &self.scope;
+        let filter = &mut self.filter;
+        let ready = self.source.charge(
+            left,
+            &mut |src| { ready_with_filter(src, scope, keeps, filter) },
+        );
+        self.ready = ready;
     }
 
     /// Returns the number of bytes that were requested from its source.
@@ -156,13 +154,13 @@ impl<S: Source> LookupObject<S> {
         if self.excludes(hash) {
             return Ok(None);
         }
-        let asked = self.source.asked();
-        self.source.limit(*left);
+        let scope = &self.scope;
+        let ready = &self.ready;
         let kept = &mut self.indices;
-        let found = find_definer(&mut self.source, &self.scope, &self.ready, wanted, kept);
-        self.source.limit(None);
-        spend_budget(left, self.source.asked() - asked);
-        found
+        self.source.charge(
+            left,
+            &mut |src| find_definer(src, scope, ready, wanted, kept),
+        )
     }
 
     /// Returns `true` if no lookup is refused before its walk, and the words that are kept of the
@@ -188,12 +186,9 @@ impl<S: Source> LookupObject<S> {
     pub fn symbol_count(&mut self, left: &mut Option<u64>) -> Result<u64, Fault>
         ensures { CountsHashed self.old self.new left.old left.new result }
     {
-        let asked = self.source.asked();
-        self.source.limit(*left);
-        let count = hashed_symbols(&mut self.source, &self.scope);
-        self.source.limit(None);
-        spend_budget(left, self.source.asked() - asked);
-        count
+        let scope = &self.scope;
+        self.source
+            .charge(left, &mut |src| hashed_symbols(src, scope))
     }
 
     /// Reads what the symbol at an index references: its name, into `name`, and the version that it
@@ -214,14 +209,12 @@ impl<S: Source> LookupObject<S> {
     ) -> Result<Option<SymbolReference>, Fault>
         ensures { Seeks index name.new version.new self.old self.new left.old left.new result }
     {
-        let asked = self.source.asked();
-        self.source.limit(*left);
         let symbols = &self.scope.symbols;
         let kept = &mut self.names;
-        let sought = reference_of(&mut self.source, symbols, index, name, version, kept);
-        self.source.limit(None);
-        spend_budget(left, self.source.asked() - asked);
-        sought
+        self.source.charge(
+            left,
+            &mut |src| reference_of(src, symbols, index, name, version, kept),
+        )
     }
 
     /// Reads the name of the needed file whose record is returned by [`LookupObject::sought`].
@@ -242,14 +235,11 @@ impl<S: Source> LookupObject<S> {
         ensures { ReadsFileName file.now.name file.now.named_at name.new self.old self.new left.old
             left.new result }
     {
-        let asked = self.source.asked();
-        self.source.limit(*left);
         let off = u64::from(file.name);
+        let at = file.named_at;
         let names = self.scope.symbols.names;
-        let read = whole_name(&mut self.source, names, off, file.named_at, name);
-        self.source.limit(None);
-        spend_budget(left, self.source.asked() - asked);
-        read
+        self.source
+            .charge(left, &mut |src| whole_name(src, names, off, at, name))
     }
 
     /// Checks whether it defines versions, and none with a name of at most 4,096 bytes.
@@ -264,12 +254,9 @@ impl<S: Source> LookupObject<S> {
         requires { length version.now ≤ 4096 }
         ensures { LooksForVersion version.now self.old self.new left.old left.new result }
     {
-        let asked = self.source.asked();
-        self.source.limit(*left);
-        let lacks = lacks_version(&mut self.source, &self.scope.symbols, version);
-        self.source.limit(None);
-        spend_budget(left, self.source.asked() - asked);
-        lacks
+        let symbols = &self.scope.symbols;
+        self.source
+            .charge(left, &mut |src| lacks_version(src, symbols, version))
     }
 
     /// Returns the table of the versions that it needs, if there is one.
@@ -299,12 +286,8 @@ impl<S: Source> LookupObject<S> {
         requires { StepsNeeds self.old.src.seen.size walk.old }
         ensures { ReadsNeed walk.old walk.new self.old self.new left.old left.new result }
     {
-        let asked = self.source.asked();
-        self.source.limit(*left);
-        let step = walk.advance(&mut self.source);
-        self.source.limit(None);
-        spend_budget(left, self.source.asked() - asked);
-        step
+        self.source
+            .charge(left, &mut |src| NeedsWalk::advance(walk, src))
     }
 
     /// Returns the state of a version that it should have, or `None` if that is not listed, as
@@ -320,12 +303,9 @@ impl<S: Source> LookupObject<S> {
     ) -> Result<Option<VersionState>, Fault>
         ensures { FindsVersionState needed.now self.old self.new left.old left.new result }
     {
-        let asked = self.source.asked();
-        self.source.limit(*left);
-        let state = state_in(&mut self.source, &self.versions, needed);
-        self.source.limit(None);
-        spend_budget(left, self.source.asked() - asked);
-        state
+        let versions = &self.versions;
+        self.source
+            .charge(left, &mut |src| state_in(src, versions, needed))
     }
 
     /// Returns where its relocation entries are in its bytes, as [`dynamic_relocations`] does. The
@@ -344,12 +324,8 @@ impl<S: Source> LookupObject<S> {
             (64 + store.old.slots * 56 + self.old.src.seen.size) }
         ensures slots { store.new.slots ≡ store.old.slots }
     {
-        let asked = self.source.asked();
-        self.source.limit(*left);
-        let found = dynamic_relocations(&mut self.source, store);
-        self.source.limit(None);
-        spend_budget(left, self.source.asked() - asked);
-        found
+        self.source
+            .charge(left, &mut |src| dynamic_relocations(src, store))
     }
 
     /// Returns the index of the symbol whose data the relocation entry at a file offset copies, as
@@ -363,12 +339,7 @@ impl<S: Source> LookupObject<S> {
         ensures known { (file : List ℕ) → self.old.src.seen.file ≡ Some file →
             IfOk result (λ copied. copied ≡ copied_symbol file at) }
     {
-        let asked = self.source.asked();
-        self.source.limit(*left);
-        let copied = copied_at(&mut self.source, at);
-        self.source.limit(None);
-        spend_budget(left, self.source.asked() - asked);
-        copied
+        self.source.charge(left, &mut |src| copied_at(src, at))
     }
 
     /// Reads the name of the symbol at an index, and the version that it needs, into `names`,
@@ -386,12 +357,11 @@ impl<S: Source> LookupObject<S> {
         ensures { ReadsKept self.old self.new left.old left.new (fault_of_result result)
             (reference_bytes self.old.src.seen.size) }
     {
-        let asked = self.source.asked();
-        self.source.limit(*left);
         let symbols = &self.scope.symbols;
-        let named = named_symbol(&mut self.source, symbols, index, names, &mut self.names);
-        self.source.limit(None);
-        spend_budget(left, self.source.asked() - asked);
-        named
+        let kept = &mut self.names;
+        self.source.charge(
+            left,
+            &mut |src| named_symbol(src, symbols, index, names, kept),
+        )
     }
 }

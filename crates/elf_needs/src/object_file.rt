@@ -7,13 +7,12 @@ ghost use Rattle.elf_needs.specs.Interpreting.{ReturnsInterpreter, ReturnsIsInte
 ghost use Rattle.elf_needs.specs.Reading.{ReturnsMachineWithin};
 ghost use Rattle.elf_source.specs.Source.{counted};
 
-use crate::budget::spend_budget;
 use crate::file_identity::FileAttributes;
 use crate::interpreter::{is_interpreter, read_interpreter};
 use crate::library_files::{LibraryFit, library_fit};
 use crate::link_reader::{machine_of, read_library_links, read_link_info};
 use crate::links::{LinkInfo, LinkInfoStore};
-use elf_source::{Counted, Source};
+use elf_source::{Counted, Limited, Source};
 use elf_table::{Fault, HeaderStore, NameBuf};
 use std::marker::Model;
 
@@ -77,12 +76,8 @@ impl<S: Source> ObjectFile<S> {
         ensures known { (file : List ℕ) → self.old.seen.file ≡ Some file →
             ReturnsMachineWithin account.old.left file result }
     {
-        let asked = self.source.asked();
-        self.source.limit(account.left);
-        let machine = machine_of(&mut self.source);
-        self.source.limit(None);
-        spend_budget(&mut account.left, self.source.asked() - asked);
-        machine
+        self.source
+            .charge(&mut account.left, &mut |src| machine_of(src))
     }
 
     /// Returns whether it ends a search for a library, as [`library_fit`] does. Requests at most the
@@ -99,12 +94,8 @@ impl<S: Source> ObjectFile<S> {
         ensures known { (file : List ℕ) → self.old.seen.file ≡ Some file →
             ReturnsLibraryWithin (library_file machine file) account.old.left result }
     {
-        let asked = self.source.asked();
-        self.source.limit(account.left);
-        let fit = library_fit(&mut self.source, machine);
-        self.source.limit(None);
-        spend_budget(&mut account.left, self.source.asked() - asked);
-        fit
+        self.source
+            .charge(&mut account.left, &mut |src| library_fit(src, machine))
     }
 
     /// Reads how it is linked, as [`read_link_info`] or [`read_library_links`] does. Requests at most
@@ -121,15 +112,13 @@ impl<S: Source> ObjectFile<S> {
     ) -> Result<LinkInfo, Fault>
         ensures { AsksFile self.old self.new account.old account.new }
     {
-        let asked = self.source.asked();
-        self.source.limit(account.left);
-        let found = match role {
-            ObjectRole::Program => read_link_info(&mut self.source, store, links),
-            ObjectRole::Library => read_library_links(&mut self.source, store, links),
-        };
-        self.source.limit(None);
-        spend_budget(&mut account.left, self.source.asked() - asked);
-        found
+        self.source.charge(
+            &mut account.left,
+            &mut |src| match role {
+                ObjectRole::Program => read_link_info(src, store, links),
+                ObjectRole::Library => read_library_links(src, store, links),
+            },
+        )
     }
 
     /// Reads the path of the interpreter that it names, as [`read_interpreter`] does. Requests at
@@ -147,12 +136,10 @@ impl<S: Source> ObjectFile<S> {
         ensures known { (file : List ℕ) → self.old.seen.file ≡ Some file →
             ReturnsInterpreter (interpreter_of file store.old.slots) path.new result }
     {
-        let asked = self.source.asked();
-        self.source.limit(account.left);
-        let named = read_interpreter(&mut self.source, store, path);
-        self.source.limit(None);
-        spend_budget(&mut account.left, self.source.asked() - asked);
-        named
+        self.source.charge(
+            &mut account.left,
+            &mut |src| { read_interpreter(src, store, path) },
+        )
     }
 
     /// Returns whether it can be the interpreter of a program of a machine, as [`is_interpreter`]
@@ -170,12 +157,8 @@ impl<S: Source> ObjectFile<S> {
         ensures known { (file : List ℕ) → self.old.seen.file ≡ Some file →
             ReturnsIsInterpreter (is_interpreter machine file) result }
     {
-        let asked = self.source.asked();
-        self.source.limit(account.left);
-        let interprets = is_interpreter(&mut self.source, machine);
-        self.source.limit(None);
-        spend_budget(&mut account.left, self.source.asked() - asked);
-        interprets
+        self.source
+            .charge(&mut account.left, &mut |src| is_interpreter(src, machine))
     }
 
     /// Returns the source of a file from which nothing was requested.

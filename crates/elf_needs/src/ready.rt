@@ -1,16 +1,34 @@
 //! What the lookups in a file have in common, read once.
 ghost use Rattle.std.specs.Prelude.{◌≡◌, ⊤, IfOk, IfSome, IsTrue, MatchBool};
+ghost use Rattle.elf_needs.specs.Looks.{ReadsReady};
 ghost use Rattle.elf_needs.specs.Ready.{HasNoNul, NamesEnd, ReturnsReady, ready_bytes, table_where};
 ghost use Rattle.elf_hash.specs.Prelude.{IsLookupTables, LookupTablesInBounds, VersionRecordsInBounds, place_of_table};
 ghost use Rattle.elf_table.specs.Ledger.{CallDid, fault_of_result};
 ghost use Rattle.elf_model.specs.LoaderScope.{LookupTables as IsScopeOf};
 ghost use Rattle.elf_options.specs.Wants.{asked_of};
 
+use crate::kept_filter::KeptFilter;
 use elf_hash::{HashTable, LookupTables, VersionRecordTable, counts};
 use elf_loader::version_indices;
 use elf_options::VersionQuery;
 use elf_source::{Counted, Source};
 use elf_table::Fault;
+
+/// Returns the hash table as [`ready_table`] does, and reads the first words of its filter if they
+/// are kept. What is refused or fails is skipped.
+pub(crate) fn ready_with_filter<S: Source>(
+    src: &mut Counted<S>,
+    scope: &LookupTables,
+    keeps: bool,
+    filter: &mut KeptFilter,
+) -> Option<HashTable>
+    requires { LookupTablesInBounds src.old.seen.size scope.now }
+    ensures { ReadsReady scope.now result filter.new src.old src.new }
+{
+    let ready = ready_table(src, scope);
+    filter.load_if(keeps, src, &scope.hash);
+    ready.unwrap_or(None)
+}
 
 /// Returns the hash table with its counts, if these and the file's records of versions are such
 /// that no lookup is refused before its walk: each record can be read, and its string table ends in
