@@ -28,8 +28,7 @@ impl<S: Source> Model for CachedSource<S> {
 }
 
 impl<S: Source> CachedSource<S> {
-    /// Creates a source over another, whose pages are cached in `pages`; what that holds is
-    /// dropped.
+    /// Creates a source over another that caches its pages in `pages`, which is emptied first.
     pub fn new(source: S, mut pages: PageCache) -> Self
         ensures { result ≡ S.seen source }
     {

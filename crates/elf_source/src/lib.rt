@@ -1,9 +1,11 @@
 //! Sources that are read at an offset, sinks that are written in order, and counters for both.
 //!
-//! A [`Source`] is read through a [`Counted`], which counts bytes and may limit them; a [`Sink`] is
-//! written through an [`Out`]. Sources are [`MemorySource`], [`StreamSource`] over a [`ReadAt`],
-//! and [`RangeSource`]; sinks are [`SliceSink`], [`WriteSink`], [`NullSink`] and [`DeferredSink`].
-//! [`FailSource`] and [`TurnSource`] show what a caller does at faults and changes of a file.
+//! A [`Source`] is read through a [`Counted`], which counts bytes and may limit them, and by
+//! [`Limited::charge`] takes them off a budget; a [`Sink`] is written through an [`Out`]. Sources
+//! are [`MemorySource`], [`StreamSource`] over a [`ReadAt`], [`RangeSource`] and [`CachedSource`],
+//! which keeps the pages that were read last; sinks are [`SliceSink`], [`WriteSink`], [`NullSink`]
+//! and [`DeferredSink`]. [`FailSource`] and [`TurnSource`] show what a caller does at faults and
+//! changes of a file.
 #![tactic(auto)]
 
 mod cached_source;

@@ -43,7 +43,7 @@ impl PageCache {
         PageCache::over(Vec::new(alloc), keeps)
     }
 
-    /// Creates an empty cache with room for all its pages: 64 of 4,096 bytes.
+    /// Creates an empty cache, and allocates the memory of all its pages: 64 of 4,096 bytes.
     ///
     /// # Errors
     /// Out of memory.
@@ -53,7 +53,7 @@ impl PageCache {
         Ok(PageCache::over(Vec::with_capacity(alloc, PAGES)?, true))
     }
 
-    /// Drops all pages; their room stays.
+    /// Drops all pages and keeps their memory.
     pub(crate) fn clear(&mut self)
         ensures { self.new ≡ [] }
     {
