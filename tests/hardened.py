@@ -261,8 +261,7 @@ def told(path, content, most=4096, required=()):
         return "C %-12s %016x %s %s\n" % ("refused", *refusal.args, shown((path, True))), 1
     text = line(words, path)
     of_columns = dict(zip(COLUMNS, words))
+    lacking = []
     if words[0] in HARDENED_KINDS:
-        for column, word in required:
-            if of_columns[column] != word:
-                return text + "! %s=%s\n" % (column, of_columns[column]), 1
-    return text, 0
+        lacking = [column for column, word in required if of_columns[column] != word]
+    return text + "".join(f"! {column}={of_columns[column]}\n" for column in lacking), int(bool(lacking))

@@ -30,8 +30,8 @@ nx = record { column = column.Stack; word = codes "nx" }
 abbrev rpath : Required
 rpath = record { column = column.Path; word = codes "rpath" }
 
--- a program that lacks no word has only its line; otherwise the first word that it lacks has a
--- line, and the status is 1
+-- a program that lacks no word has only its line; otherwise each word that it lacks has a line, in
+-- the order of the words, and the status is 1
 abbrev pub RequiredRows : Type 0
 RequiredRows =
     (traits_text Columns (weak kind.Pie) [] (codes "p") ≡ codes "T pie    partial exec  w^x   fixed -         -      fortify rpath   p\n")
@@ -39,10 +39,10 @@ RequiredRows =
     × (traits_text Columns (weak kind.Pie) (rpath ∷ []) (codes "p") ≡ codes "T pie    partial exec  w^x   fixed -         -      fortify rpath   p\n")
     × (traits_status (weak kind.Pie) (rpath ∷ []) ≡ 0)
     × (traits_text Columns (weak kind.Pie) (rpath ∷ full ∷ nx ∷ []) (codes "p")
-    ≡ codes "T pie    partial exec  w^x   fixed -         -      fortify rpath   p\n! relro=partial\n")
+    ≡ codes "T pie    partial exec  w^x   fixed -         -      fortify rpath   p\n! relro=partial\n! stack=exec\n")
     × (traits_status (weak kind.Pie) (rpath ∷ full ∷ nx ∷ []) ≡ 1)
     × (traits_text Columns (weak kind.Pie) (nx ∷ full ∷ []) (codes "p")
-    ≡ codes "T pie    partial exec  w^x   fixed -         -      fortify rpath   p\n! stack=exec\n")
+    ≡ codes "T pie    partial exec  w^x   fixed -         -      fortify rpath   p\n! stack=exec\n! relro=partial\n")
 
 -- nothing is required of files that are neither programs nor libraries
 abbrev pub NothingRequired : Type 0

@@ -144,15 +144,15 @@ is_program kind.Object = false
 is_program kind.Core = false
 is_program kind.Other = false
 
--- the column of the first of some words that a file lacks
-unfoldable pub first_lacking : Hardening → List Required → Option TraitColumn
-first_lacking t [] = None
-first_lacking t (required ∷ others) =
-    elim (has_word t required) [ true ↦ first_lacking t others | false ↦ Some required.column ]
+-- the columns of those of some words that a file lacks, in order
+unfoldable pub lacking_columns : Hardening → List Required → List TraitColumn
+lacking_columns t [] = []
+lacking_columns t (required ∷ others) =
+    elim (has_word t required) [ true ↦ lacking_columns t others | false ↦ required.column ∷ lacking_columns t others ]
 
 -- what a file lacks of what is required
-unfoldable pub lacking : Hardening → List Required → Option TraitColumn
-lacking t required = elim (is_program t.kind) [ true ↦ first_lacking t required | false ↦ None ]
+unfoldable pub lacking : Hardening → List Required → List TraitColumn
+lacking t required = elim (is_program t.kind) [ true ↦ lacking_columns t required | false ↦ [] ]
 
 -- the line of what a file lacks: the column's name, and the word that it has
 abbrev pub lacking_text : Hardening → TraitColumn → List ℕ
@@ -162,11 +162,19 @@ unfoldable pub lacking_line : Format → Hardening → TraitColumn → List ℕ
 lacking_line format t its_column =
     closed_line format (record { letter = codes "!"; fields = [] }) (ArgSpec (codes "trait") 0 (lacking_text t its_column))
 
+-- the lines of all that a file lacks
+unfoldable pub lacking_lines : Format → Hardening → List TraitColumn → List ℕ
+lacking_lines format t [] = []
+lacking_lines format t (its_column ∷ columns) = lacking_line format t its_column ++ lacking_lines format t columns
+
 -- the lines of a file
 unfoldable pub traits_text : Format → Hardening → List Required → List ℕ → List ℕ
-traits_text format t required its_path =
-    trait_line format t its_path ++ elim (lacking t required) [ None ↦ [] | Some its_column ↦ lacking_line format t its_column ]
+traits_text format t required its_path = trait_line format t its_path ++ lacking_lines format t (lacking t required)
 
--- the exit status by a file's traits: 1 if it lacks a word
+-- the exit status by what a file lacks: 1 if it lacks a word
+abbrev pub lacking_status : List TraitColumn → ℕ
+lacking_status [] = 0
+lacking_status (its_column ∷ columns) = 1
+
 unfoldable pub traits_status : Hardening → List Required → ℕ
-traits_status t required = elim (lacking t required) [ None ↦ 0 | Some its_column ↦ 1 ]
+traits_status t required = lacking_status (lacking t required)

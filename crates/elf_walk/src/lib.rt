@@ -58,7 +58,6 @@ pub use options::ListOptions;
 pub use path::{PATH_BYTES, PathText, join};
 pub use path_lines::HELD_BYTES;
 pub use paths::visit_path;
-pub use required::lacking;
 pub use short::{UNDECIDED, read_short_file_status, refused_state, short_file_status};
 pub use sorted::check_sorted;
 pub use sorts::list_by_type;

@@ -1,31 +1,14 @@
-//! Which required traits a file lacks.
+//! What is required of a file.
 ghost use Rattle.std.specs.Prelude.{◌≡◌};
-ghost use Rattle.elf_model.specs.TraitWords.{has_word, is_program, lacking};
-ghost use Rattle.elf_options.specs.Required.{required_word, required_words};
+ghost use Rattle.elf_model.specs.TraitWords.{has_word, is_program};
+ghost use Rattle.elf_options.specs.Required.{required_word};
 
 use elf_format::column_word;
-use elf_model::{Hardening, ProgramKind, TraitColumn};
+use elf_model::{Hardening, ProgramKind};
 use elf_options::RequiredTrait;
 
-/// Returns the column of the first required trait that a file lacks, if it lacks one. None is
-/// required of a file that is neither a program nor a library.
-#[tactic(auto, unfolding(elf_model::specs::TraitWords::lacking, elf_model::specs::TraitWords::first_lacking))]
-pub fn lacking(traits: Hardening, required: &[RequiredTrait<'_>]) -> Option<TraitColumn>
-    ensures { result ≡ lacking traits (required_words required.now) }
-{
-    if !is_program(traits.kind) {
-        return None;
-    }
-    for wanted in required {
-        if !has_word(traits, wanted) {
-            return Some(wanted.column);
-        }
-    }
-    None
-}
-
 /// Returns `true` if a file has the word that is required for a column.
-fn has_word(traits: Hardening, wanted: &RequiredTrait<'_>) -> bool
+pub(crate) fn has_word(traits: Hardening, wanted: &RequiredTrait<'_>) -> bool
     ensures { result ≡ has_word traits (required_word wanted.now) }
 {
     let word = column_word(traits, wanted.column).as_bytes();
@@ -35,7 +18,7 @@ fn has_word(traits: Hardening, wanted: &RequiredTrait<'_>) -> bool
 
 /// Returns `true` if traits are required of a file of this kind.
 #[tactic(auto, unfolding(elf_model::specs::TraitWords::is_program))]
-fn is_program(kind: ProgramKind) -> bool
+pub(crate) fn is_program(kind: ProgramKind) -> bool
     ensures { result ≡ is_program kind }
 {
     match kind {

@@ -1,12 +1,12 @@
 //! The trait lines of each of many files.
-ghost use Rattle.std.specs.Prelude.{◌≡◌, IfOk};
+ghost use Rattle.std.specs.Prelude.{◌≡◌, false, IfOk};
 ghost use Rattle.elf_source.specs.Output.{OutPuts};
-ghost use Rattle.elf_model.specs.TraitWords.{traits_status, traits_text};
+ghost use Rattle.elf_model.specs.TraitWords.{lacking, lacking_lines, traits_status, traits_text};
 ghost use Rattle.elf_options.specs.Required.{required_words};
 
 use crate::each_file::FileVisitor;
 use crate::file_traits::traits_within;
-use crate::required::lacking;
+use crate::required::{has_word, is_program};
 use crate::statuses::status;
 use elf_format::{show_check, show_missing_trait, show_traits};
 use elf_model::{FileStatus, Format, Hardening};
@@ -81,12 +81,12 @@ impl<'a> FileVisitor for TraitReport<'a> {
     }
 }
 
-/// Writes the line of a file's traits, and that of what it lacks, and returns the exit status that
+/// Writes the line of a file's traits, and those of what it lacks, and returns the exit status that
 /// this requires.
 ///
 /// # Errors
 /// A fault of the output, with a prefix of the lines written.
-#[tactic(auto, unfolding(elf_model::specs::TraitWords::traits_text, elf_model::specs::TraitWords::traits_status))]
+#[tactic(auto, unfolding(elf_model::specs::TraitWords::traits_text))]
 fn show_lines<W: Sink>(
     traits: Hardening,
     rule: &TraitOptions<'_>,
@@ -99,11 +99,34 @@ fn show_lines<W: Sink>(
         (λ status. status ≡ traits_status traits (required_words rule.now.required.now)) }
 {
     show_traits(traits, path, rule.format, out)?;
-    match lacking(traits, rule.required) {
-        None => Ok(0),
-        Some(column) => match show_missing_trait(traits, column, rule.format, out) {
-            Ok(()) => Ok(1),
-            Err(fault) => Err(fault),
-        },
+    show_lacking(traits, rule, out)
+}
+
+/// Writes the lines of the required traits that a file lacks, in the order in which they are
+/// required, and returns the exit status: 1 if it lacks one. None is required of a file that is
+/// neither a program nor a library.
+///
+/// # Errors
+/// A fault of the output, with a prefix of the lines written.
+fn show_lacking<W: Sink>(
+    traits: Hardening,
+    rule: &TraitOptions<'_>,
+    out: &mut Out<W>,
+) -> Result<u8, OutFault>
+    requires { out.old.failed ≡ false }
+    ensures puts { OutPuts out.old out.new result (lacking_lines rule.now.format traits
+        (lacking traits (required_words rule.now.required.now))) }
+    ensures status { IfOk result
+        (λ status. status ≡ traits_status traits (required_words rule.now.required.now)) }
+{
+    let mut status = 0;
+    if is_program(traits.kind) {
+        for wanted in rule.required {
+            if !has_word(traits, wanted) {
+                show_missing_trait(traits, wanted.column, rule.format, out)?;
+                status = 1;
+            }
+        }
     }
+    Ok(status)
 }
