@@ -95,8 +95,8 @@ _elfsee() {
         esac
     fi
     case $command in
-    '') mapfile -t COMPREPLY < <(compgen -W 'show sample find apply check list traits needs archive version help' -- "$current") ;;
-    help) [[ $files != 0 ]] || mapfile -t COMPREPLY < <(compgen -W 'show sample find apply check list traits needs archive version' -- "$current") ;;
+    '') mapfile -t COMPREPLY < <(compgen -W 'show sample find apply check list traits needs archive explain version help' -- "$current") ;;
+    help) [[ $files != 0 ]] || mapfile -t COMPREPLY < <(compgen -W 'show sample find apply check list traits needs archive explain version' -- "$current") ;;
     show | find | archive) [[ $files != 0 ]] || _elfsee_files ;;
     check | list | traits | needs) _elfsee_files ;;
     apply)

@@ -1,6 +1,6 @@
 # Completion of elfsee for fish.
 
-set -l commands show sample find apply check list traits needs archive version help
+set -l commands show sample find apply check list traits needs archive explain version help
 set -l listing '__fish_seen_subcommand_from show sample check list archive'
 set -l parts 'header\t"the file header"
 sections\t"the section headers"
@@ -66,9 +66,10 @@ complete -c elfsee -n "not __fish_seen_subcommand_from $commands" -a list -d 'li
 complete -c elfsee -n "not __fish_seen_subcommand_from $commands" -a traits -d 'print how each of many files is hardened'
 complete -c elfsee -n "not __fish_seen_subcommand_from $commands" -a needs -d 'print which libraries programs need, and where they are'
 complete -c elfsee -n "not __fish_seen_subcommand_from $commands" -a archive -d 'list the members of an archive, and their contents'
+complete -c elfsee -n "not __fish_seen_subcommand_from $commands" -a explain -d 'print what causes and states mean'
 complete -c elfsee -n "not __fish_seen_subcommand_from $commands" -a version -d 'print the version of the program'
 complete -c elfsee -n "not __fish_seen_subcommand_from $commands" -a help -d 'print the commands and options'
-complete -c elfsee -n '__fish_seen_subcommand_from help; and test (count (commandline -opc)) -eq 2' -a 'show sample find apply check list traits needs archive version'
+complete -c elfsee -n '__fish_seen_subcommand_from help; and test (count (commandline -opc)) -eq 2' -a 'show sample find apply check list traits needs archive explain version'
 complete -c elfsee -n __elfsee_wants_file -F
 complete -c elfsee -n __elfsee_wants_item -a at: -d 'the address of a section, at:INDEX=ADDR'
 complete -c elfsee -n __elfsee_wants_item -a def: -d 'the address of an undefined or common symbol, def:NAME=ADDR'

@@ -45,6 +45,7 @@ pub record AreOptions (rows : List Row) (args : CommandArgs) : Type 0 where
   pub layout : option_map (λ path. path.now) args.layout ≡ first_of (codes "layout") rows
   pub explain : args.explain ≡ is_option_set (first_of (codes "explain") rows)
   pub paths : texts args.paths.items ≡ values_of (codes "PATH") rows
+  pub causes : texts args.causes.items ≡ values_of (codes "CAUSE") rows
   pub list : option_map (λ path. path.now) args.list ≡ first_of (codes "files0-from") rows
   pub members : args.members ≡ is_option_set (first_of (codes "members") rows)
   pub caps : AreCapOptions rows args.caps

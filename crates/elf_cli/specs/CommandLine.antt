@@ -10,7 +10,7 @@ use Rattle.clap.specs.declared.builder.value_parser.ValueParser.{ValueParser}
 use Rattle.clap.specs.declared.builder.value_parser.ValueParser.TheVariants.{Names, Signed, Unsigned}
 use Rattle.elf_cli.specs.declared.command_args.CommandName.{CommandName}
 use Rattle.elf_cli.specs.declared.command_args.CommandName.TheVariants as command
-use Rattle.elf_cli.specs.declared.command_sets.TheConstants.{SHOW, SAMPLE, FIND, APPLY, CHECK, LIST, TRAITS, NEEDS, ARCHIVE, VERSION}
+use Rattle.elf_cli.specs.declared.command_sets.TheConstants.{SHOW, SAMPLE, FIND, APPLY, CHECK, LIST, TRAITS, NEEDS, ARCHIVE, EXPLAIN, VERSION}
 use Rattle.elf_cli.specs.declared.part_names.PartNames.{PartNames}
 
 -- an option without a value, which is set if it is given
@@ -97,6 +97,7 @@ argument_rows parts =
     ∷ (APPLY, indexed (codes "SECTION") (Signed (pos 0) (pos 65535)))
     ∷ (APPLY, any_words (codes "ITEM"))
     ∷ (many_files, any_words (codes "PATH"))
+    ∷ (EXPLAIN, any_words (codes "CAUSE"))
     ∷ []
 
 -- a command's name, with what it is called here and its bit
@@ -115,6 +116,7 @@ command_rows =
     ∷ (codes "traits", command.Traits, TRAITS)
     ∷ (codes "needs", command.Needs, NEEDS)
     ∷ (codes "archive", command.Archive, ARCHIVE)
+    ∷ (codes "explain", command.Explain, EXPLAIN)
     ∷ (codes "version", command.Version, VERSION)
     ∷ []
 

@@ -6,12 +6,12 @@ ghost use Rattle.elf_cli.specs.declared.part_names.PartNames.{PartNames};
 
 use crate::arg_specs::{ArgKind, ArgSpec};
 use crate::command_sets::{
-    APPLY, ARCHIVE, CHECK, FIND, LINES, LIST, LISTING, MANY_FILES, NEEDS, ONE_FILE, READING,
-    SAMPLE, SELECTING, SHOW, TRAITS,
+    APPLY, ARCHIVE, CHECK, EXPLAIN, FIND, LINES, LIST, LISTING, MANY_FILES, NEEDS, ONE_FILE,
+    READING, SAMPLE, SELECTING, SHOW, TRAITS,
 };
 use clap::builder::ValueParser;
 
-static ARGUMENTS: [ArgSpec; 32] = [
+static ARGUMENTS: [ArgSpec; 33] = [
     ArgSpec {
         name: "headers",
         kind: ArgKind::Count(ValueParser::Signed(1, 65279), "4096"),
@@ -207,6 +207,12 @@ static ARGUMENTS: [ArgSpec; 32] = [
         kind: ArgKind::Any,
         help: "A file or a directory; - is the file on standard input",
         commands: MANY_FILES,
+    },
+    ArgSpec {
+        name: "CAUSE",
+        kind: ArgKind::Any,
+        help: "A cause or a state that a line has, such as table-outside; without any, all",
+        commands: EXPLAIN,
     },
 ];
 

@@ -37,6 +37,8 @@ pub enum CommandName {
     Needs,
     /// Lists an archive.
     Archive,
+    /// Prints what causes and states mean.
+    Explain,
     /// Prints the version of the program.
     Version,
 }
@@ -61,6 +63,8 @@ pub struct CommandArgs<'a> {
     pub explain: bool,
     /// The paths of files and directories.
     pub paths: Vec<&'a str>,
+    /// The causes and states to explain.
+    pub causes: Vec<&'a str>,
     /// The path of a file with more paths, each ended by NUL; `-` is standard input.
     pub list: Option<&'a str>,
     /// Whether the members of archives are read too.
@@ -164,6 +168,7 @@ fn read<'a>(
         layout: options.text("layout"),
         explain: options.is_set("explain"),
         paths: options.values(alloc, "PATH")?,
+        causes: options.values(alloc, "CAUSE")?,
         list: options.text("files0-from"),
         members: options.is_set("members"),
         caps: caps_of(options),

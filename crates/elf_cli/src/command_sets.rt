@@ -18,7 +18,9 @@ pub(crate) const NEEDS: u16 = 128;
 
 pub(crate) const ARCHIVE: u16 = 256;
 
-pub(crate) const VERSION: u16 = 512;
+pub(crate) const EXPLAIN: u16 = 512;
+
+pub(crate) const VERSION: u16 = 1024;
 
 /// Those that read the file that an argument names.
 pub(crate) const ONE_FILE: u16 = SHOW | FIND | APPLY | ARCHIVE;

@@ -8,15 +8,17 @@ ghost use Rattle.elf_cli.specs.Args.{command_named};
 use crate::builder::{CommandSpec, clap_command_of, new_command, with_command};
 use crate::command_args::CommandName;
 use crate::command_sets::{
-    APPLY, ARCHIVE, CHECK, FIND, LIST, NEEDS, SAMPLE, SHOW, TRAITS, VERSION,
+    APPLY, ARCHIVE, CHECK, EXPLAIN, FIND, LIST, NEEDS, SAMPLE, SHOW, TRAITS, VERSION,
 };
 use crate::part_names::{PartNames, known_parts};
-use crate::texts::{ABOUT, CHECKED, FOUND, HARDENED, ITEMS, LISTED, MEMBERS, MORE, NEEDED, SHOWN};
+use crate::texts::{
+    ABOUT, CHECKED, EXPLAINED, FOUND, HARDENED, ITEMS, LISTED, MEMBERS, MORE, NEEDED, SHOWN,
+};
 use clap::Command;
 use std::alloc::{AllocError, Global};
 
 // In the order of `CommandName`, which is that of help.
-static COMMANDS: [CommandSpec; 10] = [
+static COMMANDS: [CommandSpec; 11] = [
     CommandSpec {
         name: "show",
         command: CommandName::Show,
@@ -81,6 +83,13 @@ static COMMANDS: [CommandSpec; 10] = [
         more: MEMBERS,
     },
     CommandSpec {
+        name: "explain",
+        command: CommandName::Explain,
+        bit: EXPLAIN,
+        about: "Print what causes and states mean, and what to do about them",
+        more: EXPLAINED,
+    },
+    CommandSpec {
         name: "version",
         command: CommandName::Version,
         bit: VERSION,
@@ -120,7 +129,9 @@ fn program<'a>(alloc: Global) -> Result<Command<'a>, AllocError>
     ensures { IfOk result (λ command. app_of command ≡ without_command) }
 {
     let program = new_command(alloc, "elfsee", ABOUT, MORE)
-        .subcommand_value_name("show|sample|find|apply|check|list|traits|needs|archive|version")
+        .subcommand_value_name(
+            "show|sample|find|apply|check|list|traits|needs|archive|explain|version",
+        )
         .no_binary_name(true)
         .subcommand_required(true)
         .arg_required_else_help(true);

@@ -8,10 +8,12 @@
 mod arg_specs;
 mod arguments;
 mod builder;
+mod cause_texts;
 mod command_args;
 mod command_sets;
 mod commands;
 mod exit_lines;
+mod explain;
 mod faults;
 mod files;
 mod line_sink;
@@ -21,6 +23,7 @@ mod outputs;
 mod parser;
 mod part_names;
 mod program_arguments;
+mod state_texts;
 mod texts;
 mod usage_errors;
 mod usage_faults;
@@ -30,6 +33,7 @@ pub use command_args::{CommandArgs, CommandName, read_args};
 pub use exit_lines::{
     CANNOT_OPEN, ExitLine, OUT_OF_MEMORY, READ_FAULT, WRITE_FAULT, exit, outcome,
 };
+pub use explain::report_explanations;
 pub use faults::RequestFault;
 pub use files::{allocate, allocate_pages, open, open_by_pages};
 pub use line_sink::LineSink;

@@ -18,6 +18,7 @@ Examples:
   elfsee traits --require relro=full,stack=nx,pages=w^x /usr/bin
   elfsee needs /bin/ls
   elfsee archive --only symbols /usr/lib/x86_64-linux-gnu/libc.a
+  elfsee explain table-outside
   elfsee version
 
 Options, before or after FILE; 'elfsee help COMMAND' prints those of one command:
@@ -181,7 +182,7 @@ are read as by 'check'. Nothing is printed for other files, except a line C for 
 refused, unread or without memory.
 
 With --require WORDS, as in relro=full,stack=nx, a file of kind exec, pie, static or lib that
-lacks a word has a second line: !, the column, = and the word that the file has there.
+lacks words has a line for each of them: !, the column, = and the word that the file has there.
 
 Exit status: 0 if no file is refused or lacks a word, 1 if some are or do, 3 if some are unread,
 memory or unnamed.
@@ -228,6 +229,12 @@ Examples:
   elfsee needs --symbols /bin/ls
   elfsee needs --root /srv/other /srv/other/bin/ls
   elfsee needs --problems /usr/bin";
+
+pub(crate) const EXPLAINED: &str = "\
+Each cause is that of a line !, each state that of a line C, F, L, I, U or B. An unknown word ends
+it with exit status 2 and the cause or state most like it.
+
+Example: elfsee explain table-outside";
 
 pub(crate) const MEMBERS: &str = "\
 Prints one line for each member: A, its index, the offset and the size of its data, and its name.

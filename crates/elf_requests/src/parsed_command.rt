@@ -22,6 +22,8 @@ pub enum ParsedCommand<'a> {
     Needs(CommandArgs<'a>),
     /// List the members of an archive.
     Archive(CommandArgs<'a>),
+    /// Print what causes and states mean.
+    Explain(CommandArgs<'a>),
     /// Print the version of the program.
     Version,
 }

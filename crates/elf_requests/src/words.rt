@@ -99,6 +99,7 @@ fn made_of<'a>(
         CommandName::Traits => Ok(ParsedCommand::Traits(TraitsRequest { args, required })),
         CommandName::Needs => Ok(ParsedCommand::Needs(args)),
         CommandName::Archive => Ok(ParsedCommand::Archive(args)),
+        CommandName::Explain => Ok(ParsedCommand::Explain(args)),
         CommandName::Version => Ok(ParsedCommand::Version),
     }
 }

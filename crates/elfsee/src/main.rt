@@ -20,7 +20,7 @@ ghost use Rattle.elfsee.specs.Ends.{AnswersFile, EndsRunOver, EndsWithoutFile, E
 use archives::list_archive;
 use elf_cli::{
     ExitLine, OUT_OF_MEMORY, allocate, allocate_pages, end_answer, exit, open_by_pages, read_words,
-    report_refused, report_version,
+    report_explanations, report_refused, report_version,
 };
 use elf_fixtures::sample;
 use elf_layout::Layout;
@@ -92,6 +92,7 @@ where
         ParsedCommand::Traits(traits) => report_traits(rt, traits, terminal),
         ParsedCommand::Needs(asked) => report_needs(rt, asked, terminal),
         ParsedCommand::Archive(archiving) => list_archive(rt, archiving),
+        ParsedCommand::Explain(asked) => report_explanations(rt, &asked.causes, errors),
         ParsedCommand::Version => report_version(rt),
     }
 }

@@ -1,0 +1,113 @@
+//! What the states in lines mean.
+use crate::explain::Explanation;
+
+/// What each state means, by the lines that have it.
+pub(crate) static STATES: [Explanation; 16] = [
+    Explanation {
+        word: "ok",
+        text: "    Line C: elfsee show with these options exits with status 0.
+",
+    },
+    Explanation {
+        word: "refused",
+        text: "    Line C: the file is malformed at this offset, for this cause. Line L: so
+    is this object, or it is no library. Line U: the records of versions of
+    the object that should define it are malformed. Line B: the lookup ends at
+    a fault of this object.
+    What to do: elfsee explain CAUSE says what a cause means.
+",
+    },
+    Explanation {
+        word: "no-elf",
+        text: "    Line C: the file does not begin with 7f 45 4c 46.
+",
+    },
+    Explanation {
+        word: "unread",
+        text: "    Line C: the file cannot be opened or read, or is more than 64 directories
+    deep.
+    What to do: look at its permissions; elfsee's exit status is 3.
+",
+    },
+    Explanation {
+        word: "memory",
+        text: "    Line C: there was no memory for the file.
+    What to do: allow fewer headers: --headers.
+",
+    },
+    Explanation {
+        word: "unnamed",
+        text: "    Line C: so many names in directories are not UTF-8 or too long.
+    What to do: rename these files.
+",
+    },
+    Explanation {
+        word: "found",
+        text: "    Lines L and I: the file was found and read. Line F: the name was found.
+",
+    },
+    Explanation {
+        word: "missing",
+        text: "    Line L: no directory that is searched has the library; its name is
+    printed. Line I: the program interpreter is not there, or is not for this
+    machine: the shell says 'No such file or directory' of a program that
+    exists.
+    What to do: install the package that has it, or set LD_LIBRARY_PATH or a
+    RUNPATH to its directory.
+",
+    },
+    Explanation {
+        word: "unused",
+        text: "    Line L: the program needs this library itself and uses no symbol of it.
+    What to do: link without it, or with --as-needed.
+",
+    },
+    Explanation {
+        word: "nofile",
+        text: "    Line U: no object is the file that should have this version. A loader ends
+    here.
+    What to do: link again: the library was renamed after the program was
+    linked.
+",
+    },
+    Explanation {
+        word: "bare",
+        text: "    Line U: the library that should have this version has no versions at all.
+    A loader ends at the first symbol that it takes from there.
+    What to do: install the version of the library that the program was linked
+    with.
+",
+    },
+    Explanation {
+        word: "nover",
+        text: "    Line U: the library has versions, and not this one. A loader says: version
+    not found. Line B: the symbol's version is not there.
+    What to do: install a newer version of the library, or build the program
+    where it runs.
+",
+    },
+    Explanation {
+        word: "bound",
+        text: "    Line B: a loader finds the symbol in this object.
+",
+    },
+    Explanation {
+        word: "weak",
+        text: "    Line B: no object defines the symbol, and none has to: it is weak.
+",
+    },
+    Explanation {
+        word: "unbound",
+        text: "    Line B: no object defines the symbol.
+    What to do: link with the library that defines it: elfsee list --name NAME
+    finds it.
+",
+    },
+    Explanation {
+        word: "absent",
+        text: "    Line F: no symbol has this name in the hash table.
+    What to do: elfsee show --name NAME also looks into the table of all
+    symbols.
+",
+    },
+];
