@@ -5,7 +5,7 @@
 
 It reads the lines of `elfsee check`, prints a row with a number for each state and for each cause, and draws the
 same as bars. The length of a bar is the logarithm of its number, so that one file is visible next to thousands.
-Other lines are skipped. It needs only Python 3; docs/SCANNED.md has a picture that it drew."""
+Other lines are skipped. It needs only Python 3; docs/PERFORMANCE.md has a picture that it drew."""
 
 import math
 import re
