@@ -64,40 +64,40 @@ of_other t required is = rw (is, lacking) refl
 
 -- the lines of what is lacking of the required traits before an index were written, and the status
 -- is theirs
-pub record Shows (format : Format) (t : Hardening) (words : List RequiredTrait) (i : ℕ) (old new : OutState) (said : ℕ) : Type 0 where
+pub record LinesWritten (format : Format) (t : Hardening) (words : List RequiredTrait) (i : ℕ) (old new : OutState) (said : ℕ) : Type 0 where
   pub before : List TraitColumn
   pub split : lacking_columns t (required_words words) ≡ before ++ lacking_columns t (required_words (drop i words))
   pub took : SinkTakes old new (lacking_lines format t before)
-  pub stands : new.failed ≡ false
+  pub works : new.failed ≡ false
   pub status : said ≡ lacking_status before
 
 pub shows_had : (format : Format) (t : Hardening) (words : List RequiredTrait) (i j : ℕ) (d : RequiredTrait) (old new : OutState) (status : ℕ) → i < length words → j ≡ suc i
-    → has_word t (required_word (slice_index_or words i d)) ≡ true → Shows format t words i old new status → Shows format t words j old new status
+    → has_word t (required_word (slice_index_or words i d)) ≡ true → LinesWritten format t words i old new status → LinesWritten format t words j old new status
 shows_had format t words i j d old new status low next is so = record {
   before = so.before;
   split = so.split ∙ ap (λ l. so.before ++ l) (had t words i j d low next is);
   took = so.took;
-  stands = so.stands;
+  works = so.works;
   status = so.status;
 }
 
 pub shows_lacked : (format : Format) (t : Hardening) (words : List RequiredTrait) (i j : ℕ) (d : RequiredTrait) (old mid new : OutState) (status : ℕ) → i < length words → j ≡ suc i
-    → has_word t (required_word (slice_index_or words i d)) ≡ false → Shows format t words i old mid status
-    → SinkTakes mid new (lacking_line format t (slice_index_or words i d).column) → new.failed ≡ false → Shows format t words j old new 1
-shows_lacked format t words i j d old mid new status low next is so puts stands = record {
+    → has_word t (required_word (slice_index_or words i d)) ≡ false → LinesWritten format t words i old mid status
+    → SinkTakes mid new (lacking_line format t (slice_index_or words i d).column) → new.failed ≡ false → LinesWritten format t words j old new 1
+shows_lacked format t words i j d old mid new status low next is so puts works = record {
   before = so.before ++ (slice_index_or words i d).column ∷ [];
   split = so.split ∙ ap (λ l. so.before ++ l) (lacked t words i j d low next is) ∙ sym (append_assoc so.before ((slice_index_or words i d).column ∷ []) (lacking_columns t (required_words (drop j words))));
   took = subst (SinkTakes old new) (lines_then format t so.before (slice_index_or words i d).column) (SinkTakes-then _ _ so.took puts);
-  stands = stands;
+  works = works;
   status = status_then so.before (slice_index_or words i d).column;
 }
 
-pub shows_none : (format : Format) (t : Hardening) (words : List RequiredTrait) (out : OutState) → out.failed ≡ false → Shows format t words 0 out out 0
+pub shows_none : (format : Format) (t : Hardening) (words : List RequiredTrait) (out : OutState) → out.failed ≡ false → LinesWritten format t words 0 out out 0
 unfolding lacking_lines
-shows_none format t words out stands = record { before = []; split = refl; took = SinkTakes-nothing out; stands = stands; status = refl }
+shows_none format t words out works = record { before = []; split = refl; took = SinkTakes-nothing out; works = works; status = refl }
 
 pub shows_failed : (format : Format) (t : Hardening) (words : List RequiredTrait) (i : ℕ) (d : RequiredTrait) (old mid new : OutState) (status : ℕ) → i < length words
-    → is_program t.kind ≡ true → has_word t (required_word (slice_index_or words i d)) ≡ false → Shows format t words i old mid status
+    → is_program t.kind ≡ true → has_word t (required_word (slice_index_or words i d)) ≡ false → LinesWritten format t words i old mid status
     → SinkTakesPrefix mid new (lacking_line format t (slice_index_or words i d).column)
     → SinkTakesPrefix old new (lacking_lines format t (lacking t (required_words words)))
 unfolding lacking_lines
@@ -121,19 +121,19 @@ unfolding lacking_columns
 nothing t = refl
 
 all_shown : (format : Format) (t : Hardening) (words : List RequiredTrait) (i : ℕ) (old new : OutState) (status : ℕ) → length words ≤ i → is_program t.kind ≡ true
-    → (so : Shows format t words i old new status) → so.before ≡ lacking t (required_words words)
+    → (so : LinesWritten format t words i old new status) → so.before ≡ lacking t (required_words words)
 all_shown format t words i old new status low kind so =
     sym (append-nil so.before)
     ∙ ap (λ l. so.before ++ l) (sym (ap (λ l. lacking_columns t (required_words l)) (dropped words i low) ∙ nothing t))
     ∙ sym so.split ∙ sym (of_program t (required_words words) kind)
 
 pub shows_all : (format : Format) (t : Hardening) (words : List RequiredTrait) (i : ℕ) (old new : OutState) (status : ℕ) → length words ≤ i → is_program t.kind ≡ true
-    → Shows format t words i old new status → SinkTakes old new (lacking_lines format t (lacking t (required_words words))) × new.failed ≡ false
+    → LinesWritten format t words i old new status → SinkTakes old new (lacking_lines format t (lacking t (required_words words))) × new.failed ≡ false
 shows_all format t words i old new status low kind so =
-    (subst (λ l. SinkTakes old new (lacking_lines format t l)) (all_shown format t words i old new status low kind so) so.took, so.stands)
+    (subst (λ l. SinkTakes old new (lacking_lines format t l)) (all_shown format t words i old new status low kind so) so.took, so.works)
 
 pub status_of_all : (format : Format) (t : Hardening) (words : List RequiredTrait) (i : ℕ) (old new : OutState) (status : ℕ) → length words ≤ i → is_program t.kind ≡ true
-    → Shows format t words i old new status → status ≡ traits_status t (required_words words)
+    → LinesWritten format t words i old new status → status ≡ traits_status t (required_words words)
 unfolding traits_status
 status_of_all format t words i old new status low kind so =
     so.status ∙ ap lacking_status (all_shown format t words i old new status low kind so)
@@ -142,7 +142,7 @@ status_of_all format t words i old new status low kind so =
 pub shows_nothing : (format : Format) (t : Hardening) (required : List Required) (out : OutState) → is_program t.kind ≡ false → out.failed ≡ false
     → SinkTakes out out (lacking_lines format t (lacking t required)) × out.failed ≡ false
 unfolding lacking_lines
-shows_nothing format t required out kind stands = (subst (λ l. SinkTakes out out (lacking_lines format t l)) (sym (of_other t required kind)) (SinkTakes-nothing out), stands)
+shows_nothing format t required out kind works = (subst (λ l. SinkTakes out out (lacking_lines format t l)) (sym (of_other t required kind)) (SinkTakes-nothing out), works)
 
 pub status_of_nothing : (t : Hardening) (required : List Required) → is_program t.kind ≡ false → 0 ≡ traits_status t required
 unfolding traits_status

@@ -99,7 +99,7 @@ fn show_lines<W: Sink>(
         (λ status. status ≡ traits_status traits (required_words rule.now.required.now)) }
 {
     show_traits(traits, path, rule.format, out)?;
-    show_lacking(traits, rule, out)
+    show_missing_traits(traits, rule, out)
 }
 
 /// Writes the lines of the required traits that a file lacks, in the order in which they are
@@ -108,7 +108,7 @@ fn show_lines<W: Sink>(
 ///
 /// # Errors
 /// A fault of the output, with a prefix of the lines written.
-fn show_lacking<W: Sink>(
+fn show_missing_traits<W: Sink>(
     traits: Hardening,
     rule: &TraitOptions<'_>,
     out: &mut Out<W>,

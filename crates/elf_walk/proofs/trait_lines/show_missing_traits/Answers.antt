@@ -2,8 +2,8 @@
 use Rattle.std.proofs.Common.{◌∙◌, ◌+◌, arith, refl, sym}
 use Rattle.std.proofs.lemmas.Result.{err_from_is_err_and}
 use Rattle.elf_walk.proofs.LackingLaws.{shows_all, shows_failed, shows_had, shows_lacked, shows_none, shows_nothing, status_of_all, status_of_nothing}
-use Rattle.elf_walk.proofs.trait_lines.show_lacking.Goals as goal
-use Rattle.elf_walk.proofs.trait_lines.show_lacking.Goals.{then-not-has_word+in_ok-show_missing_trait, else-not-has_word}
+use Rattle.elf_walk.proofs.trait_lines.show_missing_traits.Goals as goal
+use Rattle.elf_walk.proofs.trait_lines.show_missing_traits.Goals.{then-not-has_word+in_ok-show_missing_trait, else-not-has_word}
 
 pub loop-wanted-init : goal.loop-wanted-init
 loop-wanted-init g c = shows_none _ _ _ _ c.requires
