@@ -90,3 +90,10 @@ pub table_plain : (count own name k : ℕ) → count * (own + name) ≤ k → co
 table_plain count own name k within =
     let same : name + 0 ≡ name = omega arith in
     rw same within
+
+-- and rows without a lookup
+pub plain_alone : (headers : HeaderTable) (table size cap own name count k : ℕ)
+    → walks_asked headers table count size + count * (own + name + suffix_bytes headers table cap) ≤ k → count * (own + (name + 0)) ≤ k
+plain_alone headers table size cap own name count k within =
+    let plain = plain_within headers table size cap own name count count k (no_fewer (walks_asked headers table count size)) within in
+    table_plain count own name k (omega (arith, plain))

@@ -1,6 +1,7 @@
 -- The version lookup of a table's symbols, by the checks of its section of version indices and the
 -- walks.
 use Rattle.std.proofs.Common.{◌≡◌, ℕ, ◌+◌, ◌==◌, if◌then◌else◌, Bool, true, false, List, Option, None, Some, Ok, Err, inl, inr, refl, ap, ◌∙◌}
+use Rattle.std.specs.Prelude.{is_some, not}
 use Rattle.elf_model.specs.Prelude.{HeaderTable, all_checks, entry_count, first_numbers, first_refusal, name_bytes, or_refusal, section_at, suffixes_refusal, symbol_versions, version_numbers_of, walks_cost}
 use Rattle.elf_model.specs.declared.causes.Refusal.{Refusal}
 use Rattle.elf_table.specs.Prelude.{AreVersioned, RefusedBy}
@@ -67,3 +68,9 @@ walks_of headers table symbols size section some found =
 
 pub bytes_of : (headers : HeaderTable) (table cap section : ℕ) → first_numbers headers table ≡ Some section → suffix_bytes headers table cap ≡ 2 + name_bytes cap
 bytes_of headers table cap section found = ap (λ (first : Option ℕ). elim first as (λ _. ℕ) [ None ↦ 0 | Some i ↦ 2 + name_bytes cap ]) found
+
+-- no section is found
+pub none_found : (found : Option ℕ) (none : Bool) → is_some found ≡ not none → none ≡ true → found ≡ None
+none_found None none e is = refl
+none_found (Some i) true e is = absurd cc
+none_found (Some i) false e is = absurd cc

@@ -144,12 +144,12 @@ module _ (file : List ℕ) (style : ListingStyle) (section : ℕ) (kind : (sh_ty
       (linked_none (has_symbols file (section_at file section)) (table.count == 0) (suffixes_refusal file (sh_link file (section_at file section))) none)
 
   -- of one whose symbols have none, or which refers to no symbols
-  found_plain : (linked : Option (TableRange × StringTableRange)) → AreRelocations file (section_at file section) table linked
+  pub entries_unnumbered : (linked : Option (TableRange × StringTableRange)) → AreRelocations file (section_at file section) table linked
       → SuffixesOr file (sh_link file (section_at file section)) (Ok None)
       → table_rows relocations_with_versions file style section (section_at file section) ≡ each (relocation_row file style section (section_at file section)) 0 table.count
   unfolding relocations_with_versions relocations
-  found_plain linked are (none, inl empty) = entries_shown linked are none ∙ each_same _ _ 0 table.count (λ i. unnamed_entry file style section (section_at file section) i (inr empty))
-  found_plain linked are (none, inr unnumbered) =
+  entries_unnumbered linked are (none, inl empty) = entries_shown linked are none ∙ each_same _ _ 0 table.count (λ i. unnamed_entry file style section (section_at file section) i (inr empty))
+  entries_unnumbered linked are (none, inr unnumbered) =
       table_passes relocations_with_versions file style section (section_at file section) kind are.pass
       ∙ (unversioned_entries file style section (section_at file section) unnumbered ∙ ap (each (relocation_row file style section (section_at file section)) 0) (sym are.counted))
 
@@ -163,7 +163,7 @@ module _ (file : List ℕ) (style : ListingStyle) (section : ℕ) (kind : (sh_ty
       entries_are None are
       ∙ (ap (λ (has : Bool). after_refusal (linked_refusal has (table.count == 0) (suffixes_refusal file (sh_link file at))) rows) unlinked
       ∙ each_same _ _ 0 table.count (λ i. unnamed_entry file style section at i (inl unlinked)))
-  entries_plain (Some found) some are or = let linked = are.refers some in found_plain (Some found) are (or linked.1.counted)
+  entries_plain (Some found) some are or = let linked = are.refers some in entries_unnumbered (Some found) are (or linked.1.counted)
 
   -- and of one whose versions are refused
   pub entries_refused : (a : OutState) (linked : Option (TableRange × StringTableRange)) → 0 < table.count → AreRelocations file (section_at file section) table linked

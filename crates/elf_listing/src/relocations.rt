@@ -1,5 +1,5 @@
 //! The relocation entries of sections.
-ghost use Rattle.std.specs.Prelude.{◌≡◌, true, IfSome};
+ghost use Rattle.std.specs.Prelude.{◌≡◌, ◌<◌, true, IfSome};
 ghost use Rattle.elf_table.specs.Tables.{SymbolTableInBounds};
 ghost use Rattle.elf_listing.specs.Fetched.{FetchesLinked};
 ghost use Rattle.elf_listing.specs.HeadersListed.{ListsHeader};
@@ -102,10 +102,8 @@ impl ListedKind for Relocations {
     }
 }
 
-/// Shows the relocation entries of a section with the versions of their symbols, or the refusal of
-/// the version lookup. The lookup is on the stack only for sections that hold entries, and only if
-/// versions are shown.
-#[inline(never)]
+/// Shows the relocation entries of a section with the versions of their symbols, if a section of
+/// version indices links to the symbols.
 fn list_with_versions<S: Source, W: Sink>(
     listing: &mut Listing<'_, '_, '_, '_, S, W>,
     table: Table,
@@ -118,6 +116,26 @@ fn list_with_versions<S: Source, W: Sink>(
     if table.is_empty() {
         return Ok(());
     }
+    if listing.file.version_numbers_of(link).is_none() {
+        return list_rows(listing, table, rows, &mut NoVersions);
+    }
+    list_versioned(listing, table, rows)
+}
+
+/// Shows the relocation entries of a section with the versions of their symbols, or the refusal of
+/// the version lookup. The lookup is on the stack only for a section whose symbols have versions:
+/// it is larger than most tables.
+#[inline(never)]
+fn list_versioned<S: Source, W: Sink>(
+    listing: &mut Listing<'_, '_, '_, '_, S, W>,
+    table: Table,
+    rows: &Relocations,
+) -> Result<(), RunFault>
+    requires entries { AreEntriesOf listing.old.file table rows.now }
+    requires filled { 0 < table.count }
+    ensures { ListsHeader (relocations_part true) listing.old listing.new result rows.now.section }
+{
+    let link = listing.file.section(rows.section).sh_link;
     let found = listing.linked_suffixes(link, &rows.linked)?;
     match &found {
         None => list_rows(listing, table, rows, &mut NoVersions),

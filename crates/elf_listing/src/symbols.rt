@@ -90,10 +90,26 @@ impl ListedKind for Symbols {
     }
 }
 
-/// Shows the symbols of a section with their versions, or the refusal of the version lookup. The
-/// lookup is on the stack only for sections that hold symbols, and only if versions are shown.
-#[inline(never)]
+/// Shows the symbols of a section with their versions, if a section of version indices links to it.
 fn list_with_versions<S: Source, W: Sink>(
+    listing: &mut Listing<'_, '_, '_, '_, S, W>,
+    table: Table,
+    rows: &Symbols,
+) -> Result<(), RunFault>
+    requires { AreSymbolsOf listing.old.file table rows.now }
+    ensures { ListsHeader (symbols_part true) listing.old listing.new result rows.now.section }
+{
+    let section = u32::from(rows.section);
+    if listing.file.version_numbers_of(section).is_none() {
+        return list_rows(listing, table, rows, &mut NoVersions);
+    }
+    list_versioned(listing, table, rows)
+}
+
+/// Shows the symbols of a section with their versions, or the refusal of the version lookup. The
+/// lookup is on the stack only for a section that has versions: it is larger than most tables.
+#[inline(never)]
+fn list_versioned<S: Source, W: Sink>(
     listing: &mut Listing<'_, '_, '_, '_, S, W>,
     table: Table,
     rows: &Symbols,

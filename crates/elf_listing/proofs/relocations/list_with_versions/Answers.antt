@@ -1,17 +1,15 @@
--- The table's checks, those of the symbols that it refers to, and then the version lookup come
--- before its rows.
-use Rattle.std.proofs.Common.{◌≡◌, ◌+◌, ◌<◌, ◌==◌, false, Option, None, refl, sym, ◌∙◌, arith}
+-- Without a section of version indices the rows are those of entries alone.
+use Rattle.std.proofs.Common.{rules, ◌≡◌, ◌+◌, ◌<◌, ◌==◌, false, None, refl, sym, ◌∙◌, arith}
 use Rattle.std.proofs.lemmas.Bool.{eq-eqb, false≢true, ne_eqb}
-use Rattle.std.proofs.lemmas.Result.{err_from_is_err_and}
 use Rattle.elf_options.specs.Permitted.{style_of}
 use Rattle.elf_table.specs.Store.{row}
 use Rattle.elf_model.specs.Prelude.{name_bytes, relocations, relocations_with_versions, sh_link}
-use Rattle.elf_listing.specs.Prelude.{linked_count, store_sections}
-use Rattle.elf_listing.specs.declared.suffixes.VersionLookup.{VersionLookup}
-use Rattle.elf_listing.proofs.ListsLaws.{ListingCalls-nothing, ListingCalls-unread}
+use Rattle.elf_listing.specs.Prelude.{store_sections}
+use Rattle.elf_listing.proofs.ListsLaws.{ListingCalls-nothing, ListingCalls-within}
 use Rattle.elf_listing.proofs.RowLaws.{WroteSome-as}
-use Rattle.elf_listing.proofs.SuffixCosts.{plain_within, rows_plain, rows_within, suffixed_within, walks_fewer, walks_within}
-use Rattle.elf_listing.proofs.SuffixTables.{ListingCalls-after, entries_plain, entries_refused, entries_shown, linked_found, no_entries}
+use Rattle.elf_listing.proofs.SuffixCosts.{plain_alone, suffixed_within}
+use Rattle.elf_listing.proofs.SuffixFound.{none_found, unnumbered}
+use Rattle.elf_listing.proofs.SuffixTables.{entries_unnumbered, no_entries}
 use Rattle.elf_listing.proofs.relocations.list_with_versions.Goals as goal
 
 pub returns-then-is_empty : goal.returns-then-is_empty
@@ -21,71 +19,21 @@ returns-then-is_empty g c = ListingCalls-nothing _ _ _ _ (λ file held.
     let none = c.is_empty.ensures.0 c.if-is_empty.true in
     no_entries file _ _ (eq-eqb _ _ kind) _ _ _ none (c.requires.held file belongs))
 
-pub returns-in_err-found : goal.returns-in_err-found
+pub returns-then-is_none : goal.returns-then-is_none
 unfolding relocations_with_versions relocations
-returns-in_err-found g c =
-    let p = err_from_is_err_and c.from_residual.result c.from_residual.ensures.1 in
+returns-then-is_none g c =
     let f = c.args.listing.now.file in
     let cap = c.args.listing.now.style.cap.bytes in
-    let kind = c.requires.kind in
     let link = c.section-link.ensures.fields.sh_link in
-    let headers = store_sections f.store.now in
-    let count = c.args.table.count in
-    let some : (count == 0) ≡ false = ne_eqb _ 0 (λ zero. false≢true (sym c.if-is_empty.false ∙ c.is_empty.ensures.1 zero)) in
-    let within = suffixed_within relocations_with_versions f.store.now c.args.rows.now.section (sh_link (row f.store.now c.args.rows.now.section) 0) f.loaded.size _ cap 24 (24 + (24 + name_bytes cap)) _ (eq-eqb _ _ kind) refl refl c.requires.table in
-    let fetches = rw link at c.in_err-found.ensures.fetches in
-    let fewer = walks_fewer headers (sh_link (row f.store.now c.args.rows.now.section) 0) (linked_count c.args.rows.now.linked) count f.loaded.size some in
-    rw (p.1, p.2) (ListingCalls-unread _ _ _ _ _ _ (walks_within headers (sh_link (row f.store.now c.args.rows.now.section) 0) f.loaded.size cap 24 (24 + name_bytes cap) (linked_count c.args.rows.now.linked) count _ fewer within) fetches (λ file held.
+    let within = suffixed_within relocations_with_versions f.store.now c.args.rows.now.section (sh_link (row f.store.now c.args.rows.now.section) 0) f.loaded.size _ cap 24 (24 + (24 + name_bytes cap)) _ (eq-eqb _ _ c.requires.kind) refl refl c.requires.table in
+    let cost = plain_alone (store_sections f.store.now) (sh_link (row f.store.now c.args.rows.now.section) 0) f.loaded.size cap 24 (24 + name_bytes cap) c.args.table.count _ within in
+    ListingCalls-within _ _ _ _ _ _ _ cost c.list_rows.ensures (λ file held.
     let belongs = c.args.listing.now.loaded.belongs file held in
     let stands = c.section-link.ensures.stands file belongs in
     let kind = sym stands.sh_type ∙ (c.section-link.ensures.fields.sh_type ∙ c.requires.kind) in
-    let filled : 0 < count = grind (arith, some) in
-    rw fetches.1
-    (entries_refused file (style_of c.args.listing.now.style) c.args.rows.now.section (eq-eqb _ _ kind) _ _ _ filled (c.requires.held file belongs) _ (rw stands.sh_link at (c.in_err-found.ensures.read file held)))))
-
-pub returns-in-None : goal.returns-in-None
-unfolding relocations_with_versions relocations
-returns-in-None g c =
-    let f = c.args.listing.now.file in
-    let cap = c.args.listing.now.style.cap.bytes in
-    let kind = c.requires.kind in
-    let link = c.section-link.ensures.fields.sh_link in
-    let headers = store_sections f.store.now in
-    let count = c.args.table.count in
-    let some : (count == 0) ≡ false = ne_eqb _ 0 (λ zero. false≢true (sym c.if-is_empty.false ∙ c.is_empty.ensures.1 zero)) in
-    let within = suffixed_within relocations_with_versions f.store.now c.args.rows.now.section (sh_link (row f.store.now c.args.rows.now.section) 0) f.loaded.size _ cap 24 (24 + (24 + name_bytes cap)) _ (eq-eqb _ _ kind) refl refl c.requires.table in
-    let fetches = rw link at c.in_ok-found.ensures.fetches in
-    let fewer = walks_fewer headers (sh_link (row f.store.now c.args.rows.now.section) 0) (linked_count c.args.rows.now.linked) count f.loaded.size some in
-    ListingCalls-after {Y = Option VersionLookup} _ _ _ None _ _ _ _ _ (rw fetches.0.same_style (rows_plain _ _ _ _ _ (plain_within headers (sh_link (row f.store.now c.args.rows.now.section) 0) f.loaded.size cap 24 (24 + name_bytes cap) (linked_count c.args.rows.now.linked) count _ fewer within))) fetches c.list_rows.ensures (λ file held.
-    let belongs = c.args.listing.now.loaded.belongs file held in
-    let stands = c.section-link.ensures.stands file belongs in
-    let kind = sym stands.sh_type ∙ (c.section-link.ensures.fields.sh_type ∙ c.requires.kind) in
-    let filled : 0 < count = grind (arith, some) in
+    let filled = ne_eqb _ 0 (λ zero. false≢true (sym c.if-is_empty.false ∙ c.is_empty.ensures.1 zero)) in
+    let some : 0 < c.args.table.count = grind (arith, filled) in
     let found = c.requires.held file belongs in
-    let none = rw (c.in-None.is, stands.sh_link) at (c.in_ok-found.ensures.read file held) in
-    let shown = rw (fetches.0.same_style, fetches.1) at (c.list_rows.ensures.shows file (fetches.2.reads.keeps.same_file ∙ held) (λ rows. (found.refers rows, found.placed, tt))) in
-    WroteSome-as _ _ _ (entries_plain file (style_of c.args.listing.now.style) c.args.rows.now.section (eq-eqb _ _ kind) _ _ filled found none) shown)
-
-pub returns-in-Some : goal.returns-in-Some
-unfolding relocations_with_versions relocations
-returns-in-Some g c =
-    let f = c.args.listing.now.file in
-    let cap = c.args.listing.now.style.cap.bytes in
-    let kind = c.requires.kind in
-    let link = c.section-link.ensures.fields.sh_link in
-    let headers = store_sections f.store.now in
-    let count = c.args.table.count in
-    let some : (count == 0) ≡ false = ne_eqb _ 0 (λ zero. false≢true (sym c.if-is_empty.false ∙ c.is_empty.ensures.1 zero)) in
-    let within = suffixed_within relocations_with_versions f.store.now c.args.rows.now.section (sh_link (row f.store.now c.args.rows.now.section) 0) f.loaded.size _ cap 24 (24 + (24 + name_bytes cap)) _ (eq-eqb _ _ kind) refl refl c.requires.table in
-    let fetches = rw link at c.in_ok-found.ensures.fetches in
-    let fewer = walks_fewer headers (sh_link (row f.store.now c.args.rows.now.section) 0) (linked_count c.args.rows.now.linked) count f.loaded.size some in
-    let pays = (rw (c.in-Some.is, link) at c.in_ok-found.ensures.pays) cap in
-    ListingCalls-after {Y = Option VersionLookup} _ _ _ None _ _ _ _ _ (rw fetches.0.same_style (rows_within headers (sh_link (row f.store.now c.args.rows.now.section) 0) f.loaded.size cap 24 (24 + name_bytes cap) (linked_count c.args.rows.now.linked) count _ fewer within (2 + name_bytes cap) pays)) fetches c.list_rows-in-Some.ensures (λ file held.
-    let belongs = c.args.listing.now.loaded.belongs file held in
-    let stands = c.section-link.ensures.stands file belongs in
-    let kind = sym stands.sh_type ∙ (c.section-link.ensures.fields.sh_type ∙ c.requires.kind) in
-    let filled : 0 < count = grind (arith, some) in
-    let found = c.requires.held file belongs in
-    let some = linked_found _ _ _ (found.refers filled) (rw (c.in-Some.is, stands.sh_link) at (c.in_ok-found.ensures.read file held)) in
-    let shown = rw (fetches.0.same_style, fetches.1) at (c.list_rows-in-Some.ensures.shows file (fetches.2.reads.keeps.same_file ∙ held) (λ rows. (found.refers rows, found.placed, some.1))) in
-    WroteSome-as _ _ _ (entries_shown file (style_of c.args.listing.now.style) c.args.rows.now.section (eq-eqb _ _ kind) _ _ found some.0) shown)
+    let none = sym (rw stands.sh_link at (c.version_numbers_of.ensures.held file belongs)) ∙ none_found _ _ c.is_none.ensures c.if-is_none.true in
+    WroteSome-as _ _ _ (entries_unnumbered file (style_of c.args.listing.now.style) c.args.rows.now.section (eq-eqb _ _ kind) _ _ found (unnumbered file _ none))
+    (c.list_rows.ensures.shows file held (λ rows. (found.refers rows, found.placed, tt))))

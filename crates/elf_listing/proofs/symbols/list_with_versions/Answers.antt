@@ -1,75 +1,29 @@
--- The table's checks and its string table's, and then the version lookup, come before its rows.
-use Rattle.std.proofs.Common.{ℕ, ◌+◌, Option, None, Some, Ok, Err, refl, sym, ap, ◌∙◌, subst}
-use Rattle.std.proofs.lemmas.Result.{err_from_is_err_and}
+-- Without a section of version indices the rows are those of symbols alone.
+use Rattle.std.proofs.Common.{rules, ℕ, ◌+◌, None, refl, sym, ap, ◌∙◌, arith}
 use Rattle.elf_options.specs.Permitted.{style_of}
 use Rattle.elf_table.specs.Prelude.{StringTableRange}
 use Rattle.elf_model.specs.Prelude.{name_bytes, section_at, slice, suffixed_symbols, symbols}
 use Rattle.elf_table.proofs.RelocationLaws.{symbols-pass}
-use Rattle.elf_listing.specs.Prelude.{SuffixesOr, store_sections}
-use Rattle.elf_listing.specs.declared.suffixes.VersionLookup.{VersionLookup}
-use Rattle.elf_listing.proofs.ListsLaws.{ListingCalls-unread}
+use Rattle.elf_listing.specs.Prelude.{store_sections}
+use Rattle.elf_listing.proofs.ListsLaws.{ListingCalls-within}
 use Rattle.elf_listing.proofs.RowLaws.{WroteSome-as}
-use Rattle.elf_listing.proofs.SuffixCosts.{no_fewer, plain_within, rows_plain, rows_within, suffixed_within, walks_within}
-use Rattle.elf_listing.proofs.SuffixTables.{ListingCalls-after, symbols_plain, symbols_refused, symbols_shown}
+use Rattle.elf_listing.proofs.SuffixCosts.{no_fewer, plain_alone, suffixed_within}
+use Rattle.elf_listing.proofs.SuffixFound.{none_found, unnumbered}
+use Rattle.elf_listing.proofs.SuffixTables.{symbols_plain}
 use Rattle.elf_listing.proofs.symbols.list_with_versions.Goals as goal
 
-pub returns-in_err-found : goal.returns-in_err-found
+pub returns-then-is_none : goal.returns-then-is_none
 unfolding suffixed_symbols symbols
-returns-in_err-found g c =
-    let p = err_from_is_err_and c.from_residual.result c.from_residual.ensures.1 in
+returns-then-is_none g c =
     let f = c.args.listing.now.file in
-    let kind = c.requires.kind in
     let cap = c.args.listing.now.style.cap.bytes in
-    let within = suffixed_within suffixed_symbols f.store.now c.args.rows.now.section c.args.rows.now.section f.loaded.size _ cap 24 (24 + name_bytes cap) _ kind refl refl c.requires.table in
-    let same = c.len.ensures in
-    let section = c.from.ensures in
-    let fetches = rw (same, section) at c.in_err-found.ensures.fetches in
-    let cost = walks_within (store_sections f.store.now) c.args.rows.now.section f.loaded.size cap 24 (name_bytes cap) c.args.table.count c.args.table.count _ (no_fewer _) within in
-    rw (p.1, p.2) (ListingCalls-unread _ _ _ _ _ _ cost fetches (λ file held.
+    let within = suffixed_within suffixed_symbols f.store.now c.args.rows.now.section c.args.rows.now.section f.loaded.size _ cap 24 (24 + name_bytes cap) _ c.requires.kind refl refl c.requires.table in
+    let cost = plain_alone (store_sections f.store.now) c.args.rows.now.section f.loaded.size cap 24 (name_bytes cap) c.args.table.count _ within in
+    ListingCalls-within _ _ _ _ _ _ _ cost c.list_rows.ensures (λ file held.
     let belongs = c.args.listing.now.loaded.belongs file held in
     let at = section_at file c.args.rows.now.section in
     let kind = c.requires.typed file belongs in
     let found = symbols-pass file at _ (sym (c.requires.held file belongs)) in
-    rw fetches.1
-    (symbols_refused _ file (style_of c.args.listing.now.style) c.args.rows.now.section kind found.0 _ (subst (λ (t : ℕ). SuffixesOr file t (Err c.in_err-found.field-0.0)) section (c.in_err-found.ensures.read file held (rw section (same ∙ found.1.counted)))))))
-
-pub returns-in-None : goal.returns-in-None
-unfolding suffixed_symbols symbols
-returns-in-None g c =
-    let f = c.args.listing.now.file in
-    let kind = c.requires.kind in
-    let cap = c.args.listing.now.style.cap.bytes in
-    let within = suffixed_within suffixed_symbols f.store.now c.args.rows.now.section c.args.rows.now.section f.loaded.size _ cap 24 (24 + name_bytes cap) _ kind refl refl c.requires.table in
-    let same = c.len.ensures in
-    let section = c.from.ensures in
-    let fetches = rw (same, section) at c.in_ok-found.ensures.fetches in
-    let cost = plain_within (store_sections f.store.now) c.args.rows.now.section f.loaded.size cap 24 (name_bytes cap) c.args.table.count c.args.table.count _ (no_fewer _) within in
-    ListingCalls-after {Y = Option VersionLookup} _ _ _ None _ _ _ _ _ (rw fetches.0.same_style (rows_plain _ _ _ _ _ cost)) fetches c.list_rows.ensures (λ file held.
-    let belongs = c.args.listing.now.loaded.belongs file held in
-    let at = section_at file c.args.rows.now.section in
-    let kind = c.requires.typed file belongs in
-    let found = symbols-pass file at _ (sym (c.requires.held file belongs)) in
-    let none = subst (λ (t : ℕ). SuffixesOr file t (Ok None)) section (rw c.in-None.is at (c.in_ok-found.ensures.read file held (rw section (same ∙ found.1.counted)))) in
-    let shown = rw (fetches.0.same_style, fetches.1) at (c.list_rows.ensures.shows file (fetches.2.reads.keeps.same_file ∙ held) (λ some. (ap (λ (n : StringTableRange). slice file n.at n.size) (found.1.named some), found.1.placed, tt))) in
-    WroteSome-as _ _ _ (symbols_plain file (style_of c.args.listing.now.style) c.args.rows.now.section kind found.0 _ found.1.counted none) shown)
-
-pub returns-in-Some : goal.returns-in-Some
-unfolding suffixed_symbols symbols
-returns-in-Some g c =
-    let f = c.args.listing.now.file in
-    let kind = c.requires.kind in
-    let cap = c.args.listing.now.style.cap.bytes in
-    let within = suffixed_within suffixed_symbols f.store.now c.args.rows.now.section c.args.rows.now.section f.loaded.size _ cap 24 (24 + name_bytes cap) _ kind refl refl c.requires.table in
-    let same = c.len.ensures in
-    let section = c.from.ensures in
-    let fetches = rw (same, section) at c.in_ok-found.ensures.fetches in
-    let pays = (rw (c.in-Some.is, section) at c.in_ok-found.ensures.pays) cap in
-    let cost = rows_within (store_sections f.store.now) c.args.rows.now.section f.loaded.size cap 24 (name_bytes cap) c.args.table.count c.args.table.count _ (no_fewer _) within (2 + name_bytes cap) pays in
-    ListingCalls-after {Y = Option VersionLookup} _ _ _ None _ _ _ _ _ (rw fetches.0.same_style cost) fetches c.list_rows-in-Some.ensures (λ file held.
-    let belongs = c.args.listing.now.loaded.belongs file held in
-    let at = section_at file c.args.rows.now.section in
-    let kind = c.requires.typed file belongs in
-    let found = symbols-pass file at _ (sym (c.requires.held file belongs)) in
-    let some = subst (λ (t : ℕ). SuffixesOr file t (Ok (Some c.in-Some.lookup))) section (rw c.in-Some.is at (c.in_ok-found.ensures.read file held (rw section (same ∙ found.1.counted)))) in
-    let shown = rw (fetches.0.same_style, fetches.1) at (c.list_rows-in-Some.ensures.shows file (fetches.2.reads.keeps.same_file ∙ held) (λ rows. (ap (λ (n : StringTableRange). slice file n.at n.size) (found.1.named rows), found.1.placed, some.1))) in
-    WroteSome-as _ _ _ (symbols_shown file (style_of c.args.listing.now.style) c.args.rows.now.section kind found.0 _ found.1.counted some.0) shown)
+    let none = unnumbered file c.args.rows.now.section (sym (rw c.from-section.ensures at (c.version_numbers_of.ensures.held file belongs)) ∙ none_found _ _ c.is_none.ensures c.if-is_none.true) in
+    WroteSome-as _ _ _ (symbols_plain file (style_of c.args.listing.now.style) c.args.rows.now.section kind found.0 _ found.1.counted none)
+    (c.list_rows.ensures.shows file held (λ some. (ap (λ (n : StringTableRange). slice file n.at n.size) (found.1.named some), found.1.placed, tt))))
