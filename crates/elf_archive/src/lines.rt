@@ -6,7 +6,7 @@ ghost use Rattle.elf_archive.specs.Listed.{AnswersAfter, HoldsOrBreaks};
 ghost use Rattle.elf_archive.specs.Members.{member_of};
 
 use crate::member::{FileRange, Member};
-use elf_format::{Columns, Json, LinePrefix, member_prefix, show_named};
+use elf_format::{Columns, Json, LinePrefix, Tabular, member_prefix, show_named};
 use elf_model::Format;
 use elf_source::{DeferredLine, DeferredSink, Out, OutFault, Sink, SliceSink};
 use elf_table::{NameBuf, RunFault};
@@ -33,6 +33,7 @@ pub(crate) fn show_member<W: Sink>(
     match format {
         Format::Columns => member_prefix::<Columns>(&mut front, member.index, at, size),
         Format::Object => member_prefix::<Json>(&mut front, member.index, at, size),
+        Format::Table => member_prefix::<Tabular>(&mut front, member.index, at, size),
     }
     show_named(&mut front, name.bytes(), member.is_cut, out)
 }

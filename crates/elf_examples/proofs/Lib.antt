@@ -6,3 +6,4 @@ pub mod OtherTexts
 pub mod OnTableExamples
 pub mod OnTraits
 pub mod OnApplyExamples
+pub mod OnTables

@@ -13,6 +13,7 @@ pub mod ListedParts
 pub mod ListedSections
 pub mod ListedSegments
 pub mod ListedSymbols
+pub mod ListedTables
 pub mod ListedTags
 pub mod ListedFiles
 pub mod ExamplesAllowed

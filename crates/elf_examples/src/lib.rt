@@ -37,6 +37,7 @@ mod listed_relocations;
 mod listed_sections;
 mod listed_segments;
 mod listed_symbols;
+mod listed_tables;
 mod listed_tags;
 mod lookup_rows;
 mod name_rows;

@@ -10,4 +10,6 @@ pub mod Names
 pub mod NoteText
 pub mod PutsSteps
 pub mod TagBits
+pub mod ShortDigits
+pub mod TableLaws
 pub mod RequestLaws

@@ -6,7 +6,7 @@ use Rattle.std.proofs.lemmas.Bool.{cases_lt}
 use Rattle.std.proofs.lemmas.List.{drop_all, get_or-drop, get_or-take}
 use Rattle.std.proofs.lemmas.Bool.Decides.{nat_tests}
 use Rattle.elf_model.specs.Prelude.{DisplayedName, digit, escaped, hex, member_key, name_byte_text, name_text, quoted, string_byte, string_text}
-use Rattle.elf_model.specs.declared.formats.Format.TheVariants.{Columns, Object}
+use Rattle.elf_model.specs.declared.formats.Format.TheVariants.{Columns, Object, Table}
 use Rattle.elf_model.specs.declared.formats.Format.{Format}
 use Rattle.elf_source.specs.Output.{OutState}
 use Rattle.elf_format.specs.Prelude.{TakesBefore, byte_text, escaped_bytes, line_tailed, name_closing, name_start, shown_as, spelt}
@@ -112,9 +112,15 @@ object_plain byte low high mark other =
     let no : (byte == 92) ≡ false = grind (arith, nat_tests) in
     let in_it : (nat_le 0x20 byte && nat_le byte 0x7e) ≡ true = grind (arith, nat_tests) in rw (no, in_it) (rw (string_plain byte mark other) refl)
 
--- so it is in both
+-- a name is escaped in a table as in columns
+table_plain : (byte : ℕ) → 32 ≤ byte → byte ≤ 126 → byte ≢ 92 → byte_text Table byte ≡ byte ∷ []
+unfolding byte_text
+table_plain byte low high other = name_plain byte low high other
+
+-- so it is in all
 pub plain : (format : Format) (byte : ℕ) → 32 ≤ byte → byte ≤ 126 → byte ≢ 34 → byte ≢ 92 → byte_text format byte ≡ byte ∷ []
 plain Columns byte low high mark other = name_plain byte low high other
+plain Table byte low high mark other = table_plain byte low high other
 plain Object byte low high mark other = object_plain byte low high mark other
 
 -- sixteen more bytes that are unchanged
@@ -149,6 +155,12 @@ unfolding spelt escaped byte_text
 spelt-columns [] = refl
 spelt-columns (byte ∷ name) = ap (λ xs. name_byte_text byte ++ xs) (spelt-columns name)
 
+-- and so it is in a table
+pub spelt-table : (name : List ℕ) → spelt Table name ≡ escaped name
+unfolding spelt escaped byte_text
+spelt-table [] = refl
+spelt-table (byte ∷ name) = ap (λ xs. name_byte_text byte ++ xs) (spelt-table name)
+
 -- in an object the escaped name is a string
 pub spelt-object : (name : List ℕ) → spelt Object name ≡ string_text (escaped name)
 unfolding spelt escaped byte_text string_text
@@ -161,6 +173,7 @@ spelt-object (byte ∷ name) =
 pub spelt-all : (format : Format) (name : List ℕ) → spelt format name ≡ escaped_bytes format name
 unfolding escaped_bytes
 spelt-all Columns name = spelt-columns name
+spelt-all Table name = spelt-table name
 spelt-all Object name = spelt-object name
 
 -- a member with a string, between the texts before and after it
@@ -176,6 +189,8 @@ pub named-pieces : (format : Format) (key line name : List ℕ) (is_cut : Bool)
 unfolding line_tailed name_text name_start name_closing quoted member_key
 named-pieces Columns key line name true = rw (spelt-columns name) (simp (append_assoc, append-nil))
 named-pieces Columns key line name false = rw (spelt-columns name) (simp (append_assoc, append-nil))
+named-pieces Table key line name true = rw (spelt-table name) (simp (append_assoc, append-nil))
+named-pieces Table key line name false = rw (spelt-table name) (simp (append_assoc, append-nil))
 named-pieces Object key line name true =
     rw (spelt-object name) (member-cut line (member_key key) (codes "\"") (string_text (escaped name)) (codes ",\"cut\":true"))
 named-pieces Object key line name false =
@@ -186,6 +201,7 @@ pub tailed-more : (format : Format) (key line : List ℕ) (name : DisplayedName)
     → line_tailed format key line name tail ++ more ≡ line_tailed format key line name (tail ++ more)
 unfolding line_tailed
 tailed-more Columns key line name tail more = simp append_assoc
+tailed-more Table key line name tail more = simp append_assoc
 tailed-more Object key line name tail more = simp append_assoc
 
 -- so does a text

@@ -5,7 +5,7 @@ use Rattle.elf_model.specs.Prelude.{closing, escaped, member_key, name_member, n
 use Rattle.elf_model.specs.BindingLines.{line_requested}
 use Rattle.elf_model.specs.Names.DisplayedName.{Whole}
 use Rattle.elf_model.specs.declared.formats.Format.{Format}
-use Rattle.elf_model.specs.declared.formats.Format.TheVariants.{Columns, Object}
+use Rattle.elf_model.specs.declared.formats.Format.TheVariants.{Columns, Object, Table}
 use Rattle.elf_format.specs.Named.{escaped_bytes, line_tailed}
 use Rattle.elf_format.specs.Requests.{after_request, before_request}
 
@@ -21,6 +21,8 @@ pub requested_is : (format : Format) (key text name version : List ℕ)
     ≡ line_requested format key text name version
 unfolding line_tailed line_requested escaped_bytes name_text version_member closing member_key quoted before_request after_request
 requested_is Columns key text name version =
+    ap (λ (rest : List ℕ). text ++ rest) (tail_is (escaped name) (codes "@") (escaped version) (codes "\n"))
+requested_is Table key text name version =
     ap (λ (rest : List ℕ). text ++ rest) (tail_is (escaped name) (codes "@") (escaped version) (codes "\n"))
 requested_is Object key text name version =
     ap (λ (rest : List ℕ). text ++ rest)

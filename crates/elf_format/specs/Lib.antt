@@ -6,6 +6,7 @@ pub mod Told
 pub mod Notes
 pub mod Rows
 pub mod Tables
+pub mod TableWriters
 pub mod NeededObjects
 pub mod Requests
 pub mod Prelude

@@ -1,9 +1,10 @@
 -- The lines of the objects that a program needs.
 use Rattle.std.specs.Prelude.{ℕ, [], ◌∷◌, List, codes, Option, None, Some}
-use Rattle.elf_model.specs.Prelude.{ArgSpec, Decimal, Field, Fields, Hexadecimal, LinePrefix, NameOrDecimal, closed_line, fault_fields, front, named_line, with_fields}
+use Rattle.elf_model.specs.Prelude.{ArgSpec, Decimal, Field, Fields, LinePrefix, NameOrDecimal, fault_fields, front, named_line, with_fields}
 use Rattle.elf_model.specs.declared.states.FileStatus.{FileStatus}
 use Rattle.elf_model.specs.declared.formats.Format.{Format}
-use Rattle.elf_model.specs.declared.formats.Format.TheVariants.{Columns, Object}
+use Rattle.elf_model.specs.declared.formats.Format.TheVariants.{Columns, Object, Table}
+use Rattle.elf_model.specs.Lines.{fault_line, told_line}
 use Rattle.elf_model.specs.Names.DisplayedName.{Whole}
 use Rattle.elf_model.specs.declared.states.FileStatus.TheVariants as file
 use Rattle.elf_format.specs.declared.needed_objects.FoundBy.{FoundBy}
@@ -44,14 +45,15 @@ found_by_name by.Default = codes "default"
 -- how an object was found: only an object of JSON has it
 abbrev pub found_by_fields : Format → Option FoundBy → List Field
 found_by_fields Columns found_by = []
+found_by_fields Table found_by = []
 found_by_fields Object None = []
 found_by_fields Object (Some found_by) = ArgSpec (codes "by") 0 (found_by_name found_by) ∷ []
 
 -- an object: its index, the one that first needed it, its state, and its refusal
-abbrev pub object_fields : ObjectRow → Fields
-object_fields row = record {
+abbrev pub object_fields : Format → ObjectRow → Fields
+object_fields format row = record {
   letter = codes "L";
-  fields = Decimal (codes "index") 5 row.index ∷ needer_field row.needer ∷ ArgSpec (codes "state") 8 (object_state_name row.state) ∷ fault_fields (file_state row.state);
+  fields = Decimal (codes "index") 5 row.index ∷ needer_field row.needer ∷ ArgSpec (codes "state") 8 (object_state_name row.state) ∷ fault_fields format (file_state row.state);
 }
 
 -- an object's line up to its path
@@ -59,22 +61,24 @@ unfoldable pub object_front : Format → ObjectRow → LinePrefix
 object_front format row = record {
   format = format;
   key = codes "path";
-  text = with_fields format (front format (codes "path") (object_fields row)).text (found_by_fields format row.found_by);
+  text = with_fields format (front format (codes "path") (object_fields format row)).text (found_by_fields format row.found_by);
 }
 
 -- THE LINE OF AN OBJECT, with its path, or the name of one that is missing
 abbrev pub object_line : Format → ObjectRow → List ℕ → List ℕ
 object_line format row path = named_line (object_front format row) (Whole path)
 
--- the line that ends the objects: the offset of the dynamic entry that leads to it, and why
-unfoldable pub objects_end_line : Format → ℕ → (cause : List ℕ) → List ℕ
-objects_end_line format place cause =
-    closed_line format (record { letter = codes "!"; fields = Hexadecimal (codes "place") 16 place ∷ [] }) (ArgSpec (codes "cause") 0 cause)
+-- the line that ends the objects: the offset of the dynamic entry that leads to it, and why, in a
+-- table in plain words
+unfoldable pub objects_end_line : Format → ℕ → (cause meaning : List ℕ) → List ℕ
+objects_end_line Table place cause meaning = told_line place meaning
+objects_end_line format place cause meaning = fault_line format place cause
 
 -- one more is needed than are listed
 abbrev pub too_many_line : Format → ℕ → List ℕ
-too_many_line format place = objects_end_line format place (codes "too-many-objects")
+too_many_line format place = objects_end_line format place (codes "too-many-objects") (codes "more objects are needed than are listed")
 
 -- one more path is to be tried than may be
 abbrev pub too_many_paths_line : Format → ℕ → List ℕ
-too_many_paths_line format place = objects_end_line format place (codes "too-many-paths")
+too_many_paths_line format place =
+    objects_end_line format place (codes "too-many-paths") (codes "more paths would be tried than --max-tries allows")

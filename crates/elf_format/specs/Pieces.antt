@@ -1,7 +1,7 @@
 -- A text that is written in pieces, each built in a line first.
 use Rattle.std.specs.Prelude.{ℕ, ◌≡◌, if◌then◌else◌, Bool, List, [], ◌∷◌, ◌++◌, codes, Result, Ok, Err}
 use Rattle.elf_model.specs.Prelude.{cut_mark, member_key, name_byte_text, string_text}
-use Rattle.elf_model.specs.declared.formats.Format.TheVariants.{Columns, Object}
+use Rattle.elf_model.specs.declared.formats.Format.TheVariants.{Columns, Object, Table}
 use Rattle.elf_model.specs.declared.formats.Format.{Format}
 use Rattle.elf_source.specs.Prelude.{IsOutFault, OutState, SinkTakes, SinkTakesPrefix}
 use Rattle.elf_source.specs.declared.faults.OutFault.{OutFault}
@@ -21,11 +21,13 @@ PutsBefore old new (Err fault) text rest = SinkTakesPrefix old new text × IsOut
 -- the text before a name with a key
 unfoldable pub name_start : Format → List ℕ → List ℕ
 name_start Columns key = []
+name_start Table key = []
 name_start Object key = member_key key ++ 34 ∷ []
 
 -- a byte of a name
 unfoldable pub byte_text : Format → ℕ → List ℕ
 byte_text Columns byte = name_byte_text byte
+byte_text Table byte = name_byte_text byte
 byte_text Object byte = string_text (name_byte_text byte)
 
 -- the bytes of a name
@@ -36,4 +38,5 @@ spelt format (byte ∷ bytes) = byte_text format byte ++ spelt format bytes
 -- the text that ends a name, by whether it was truncated
 unfoldable pub name_closing : Format → Bool → List ℕ
 name_closing Columns is_cut = if is_cut then cut_mark else []
+name_closing Table is_cut = if is_cut then cut_mark else []
 name_closing Object is_cut = codes "\"" ++ (if is_cut then codes ",\"cut\":true" else [])

@@ -12,7 +12,7 @@ ghost use Rattle.elf_options.specs.Wants.{query_of};
 use crate::columns::LineBuf;
 use crate::fields::{LinePrefix, begin_named, put_decimal, put_name_or_decimal, put_text};
 use crate::named::{SecondName, show_joined, show_named};
-use crate::render::{Columns, Json, Render};
+use crate::render::{Columns, Json, Render, Tabular};
 use elf_model::{BindingState, Format};
 use elf_options::SymbolQuery;
 use elf_source::{Out, OutFault, Sink};
@@ -98,6 +98,7 @@ pub fn show_binding<W: Sink>(
     match format {
         Format::Columns => binding_row::<Columns>(&mut front, object, symbol, state),
         Format::Object => binding_row::<Json>(&mut front, object, symbol, state),
+        Format::Table => binding_row::<Tabular>(&mut front, object, symbol, state),
     }
     match wanted.asked.name() {
         None => show_named(&mut front, wanted.name, false, out),
@@ -142,7 +143,7 @@ fn before_request(format: Format) -> &'static [u8]
     ensures short { length result.now ≤ 16 }
 {
     match format {
-        Format::Columns => b"@",
+        Format::Columns | Format::Table => b"@",
         Format::Object => b",\"version\":\"",
     }
 }
@@ -154,7 +155,7 @@ fn after_request(format: Format) -> &'static [u8]
     ensures short { length result.now ≤ 16 }
 {
     match format {
-        Format::Columns => b"\n",
+        Format::Columns | Format::Table => b"\n",
         Format::Object => b"\"}\n",
     }
 }

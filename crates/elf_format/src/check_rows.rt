@@ -1,7 +1,7 @@
 //! The lines of a check of many files.
 ghost use Rattle.std.specs.Prelude.{◌≡◌, ◌+◌, ◌++◌, ◌≤◌, length};
 ghost use Rattle.arrayvec.specs.ArrayVec.{array_vec_len};
-ghost use Rattle.elf_model.specs.Prelude.{check_front, check_line, fault_fields, file_status_name, unnamed_line, with_fields};
+ghost use Rattle.elf_model.specs.Prelude.{cause_width, check_front, check_line, fault_fields, file_status_name, unnamed_line, with_fields};
 ghost use Rattle.elf_source.specs.Output.{OutPuts};
 ghost use Rattle.elf_format.specs.Fronts.{front_of};
 
@@ -10,7 +10,7 @@ use crate::fields::{
     LinePrefix, begin, begin_named, put_closing, put_decimal, put_hex_field, put_text,
 };
 use crate::named::show_named;
-use crate::render::{Columns, Json, Render};
+use crate::render::{Columns, Json, Render, Tabular};
 use crate::rows::cause_word;
 use elf_model::{FileStatus, Format};
 use elf_source::{Out, OutFault, Sink};
@@ -33,20 +33,21 @@ fn check_row<R: Render>(front: &mut LinePrefix, state: FileStatus)
     put_fault::<R>(&mut front.line, state);
 }
 
-/// Appends the offset and the cause of a file's refusal; in columns a hyphen for a file that is not
-/// refused. The line has at most 150 bytes before.
-#[tactic(auto, unfolding(elf_model::specs::Fields::with_field))]
+/// Appends the offset and the cause of a file's refusal; for a file that is not refused in columns
+/// a hyphen, and in a table one in each column. The line has at most 150 bytes before.
+#[tactic(auto, unfolding(elf_model::specs::Fields::with_field, elf_model::specs::Text::left_in, elf_model::specs::Text::right_in))]
 pub fn put_fault<R: Render>(line: &mut LineBuf, state: FileStatus)
     requires { array_vec_len line.old ≤ 150 }
-    ensures items { line.new.items ≡ with_fields R.FORMAT line.old.items (fault_fields state) }
+    ensures items { line.new.items
+        ≡ with_fields R.FORMAT line.old.items (fault_fields R.FORMAT state) }
     ensures len { array_vec_len line.new ≤ array_vec_len line.old + 90 }
 {
     if let FileStatus::Refused(refusal) = state {
-        put_hex_field::<R>(line, b"place", 16, refusal.at, b' ');
+        put_hex_field::<R>(line, b"place", 16, 9, refusal.at, b' ');
         put_text::<R>(
             line,
             b"cause",
-            0,
+            cause_width::<R>(),
             cause_word(refusal.cause).as_bytes(),
             b' ',
         );
@@ -54,7 +55,19 @@ pub fn put_fault<R: Render>(line: &mut LineBuf, state: FileStatus)
     }
     match R::FORMAT {
         Format::Columns => put(line, b"- "),
+        Format::Table => put(line, b"        - -              "),
         Format::Object => {}
+    }
+}
+
+/// Returns the width of the column of a cause.
+fn cause_width<R: Render>() -> usize
+    ensures width { result ≡ cause_width R.FORMAT }
+    ensures few { result ≤ 14 }
+{
+    match R::FORMAT {
+        Format::Columns | Format::Object => 0,
+        Format::Table => 14,
     }
 }
 
@@ -90,6 +103,7 @@ pub fn show_check<W: Sink>(
     match format {
         Format::Columns => check_row::<Columns>(&mut front, state),
         Format::Object => check_row::<Json>(&mut front, state),
+        Format::Table => check_row::<Tabular>(&mut front, state),
     }
     show_named(&mut front, path, false, out)
 }
@@ -104,6 +118,7 @@ pub fn show_unnamed<W: Sink>(count: u64, format: Format, out: &mut Out<W>) -> Re
     match format {
         Format::Columns => out.put(&unnamed_row::<Columns>(count)),
         Format::Object => out.put(&unnamed_row::<Json>(count)),
+        Format::Table => out.put(&unnamed_row::<Tabular>(count)),
     }
 }
 

@@ -36,7 +36,7 @@ pub fn dynamic_prefix<R: Render>(front: &mut LinePrefix, index: u64, entry: &Dyn
     let line = &mut front.line;
     put_decimal::<R>(line, b"index", 5, index, b' ');
     put_name_or_hex::<R>(line, b"tag", 16, 16, tag_name(tag, gnu), tag);
-    put_hex_field::<R>(line, b"value", 16, entry.d_un, b' ');
+    put_hex_field::<R>(line, b"value", 16, 12, entry.d_un, b' ');
 }
 
 /// Returns the name of a dynamic array tag.

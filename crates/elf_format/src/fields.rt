@@ -1,4 +1,4 @@
-//! The fields of a line, in columns or as the members of a JSON object.
+//! The fields of a line, in columns, in a table, or as the members of a JSON object.
 ghost use Rattle.std.specs.Prelude.{◌≡◌, ◌+◌, ◌≤◌, ◌++◌, ◌∷◌, [], length, max, IfSome};
 ghost use Rattle.std.specs.Prelude.{option_copied};
 ghost use Rattle.arrayvec.specs.ArrayVec.{array_vec_len};
@@ -9,7 +9,11 @@ ghost use Rattle.elf_format.specs.Rooms.{half_room, number_room, text_room};
 use crate::columns::{LineBuf, number_sign, put, put_left, put_right, put_spaces, write_hex};
 use crate::objects::{put_key, put_name_or_number, put_number, put_quoted};
 use crate::render::Render;
+use crate::short_hexadecimal::put_short_hex;
 use elf_model::Format;
+
+/// The width of the column of a number with its sign in a table.
+const ADDEND_WIDTH: usize = 9;
 
 /// The part of a line before its name, the line's format, and the key of the name.
 #[derive(Drop)]
@@ -55,7 +59,7 @@ pub fn begin<R: Render>(line: &mut LineBuf, letter: &[u8])
 {
     line.clear();
     match R::FORMAT {
-        Format::Columns => {
+        Format::Columns | Format::Table => {
             put(line, letter);
             line.push(b' ');
         }
@@ -79,7 +83,7 @@ pub fn put_decimal<R: Render>(line: &mut LineBuf, key: &[u8], width: usize, numb
     ensures len { array_vec_len line.new ≤ array_vec_len line.old + number_room (length key.now) }
 {
     match R::FORMAT {
-        Format::Columns => put_right(line, width, number, end),
+        Format::Columns | Format::Table => put_right(line, width, number, end),
         Format::Object => put_number(line, key, number),
     }
 }
@@ -95,19 +99,28 @@ pub fn put_half<R: Render>(line: &mut LineBuf, key: &[u8], number: u16, end: u8)
     ensures len { array_vec_len line.new ≤ array_vec_len line.old + half_room (length key.now) }
 {
     match R::FORMAT {
-        Format::Columns => put_right(line, 5, u64::from(number), end),
+        Format::Columns | Format::Table => put_right(line, 5, u64::from(number), end),
         Format::Object => put_number(line, key, number),
     }
 }
 
-/// Appends a number in a given count of hexadecimal digits, and the byte that ends the column.
+/// Appends a number in a given count of hexadecimal digits, in a table without leading zeros and
+/// right-aligned in a column of the width, and the byte that ends the column.
 #[tactic(auto, unfolding(elf_model::specs::Fields::with_field))]
 #[inline(always)]
-pub fn put_hex_field<R: Render>(line: &mut LineBuf, key: &[u8], digits: u32, number: u64, end: u8)
+pub fn put_hex_field<R: Render>(
+    line: &mut LineBuf,
+    key: &[u8],
+    digits: u32,
+    width: usize,
+    number: u64,
+    end: u8,
+)
     requires room { array_vec_len line.old + number_room (length key.now) ≤ 256 }
     requires digits { digits ≤ 16 }
+    requires width { width ≤ 16 }
     ensures items { line.new.items
-        ≡ with_field R.FORMAT line.old.items (Hexadecimal key.now digits number) (end ∷ []) }
+        ≡ with_field R.FORMAT line.old.items (Hexadecimal key.now digits width number) (end ∷ []) }
     ensures len { array_vec_len line.new ≤ array_vec_len line.old + number_room (length key.now) }
 {
     match R::FORMAT {
@@ -115,12 +128,13 @@ pub fn put_hex_field<R: Render>(line: &mut LineBuf, key: &[u8], digits: u32, num
             write_hex(line, digits, number);
             line.push(end);
         }
+        Format::Table => put_short_hex(line, width, b"", number, end),
         Format::Object => put_number(line, key, number),
     }
 }
 
-/// Appends a number with its sign, and its absolute value in sixteen hexadecimal digits, and a
-/// space.
+/// Appends a number with its sign, and its absolute value in sixteen hexadecimal digits, in a table
+/// without leading zeros and right-aligned, and a space.
 #[tactic(auto, unfolding(elf_model::specs::Fields::with_field, elf_model::specs::Fields::signed_text))]
 #[inline(always)]
 pub fn put_signed<R: Render>(line: &mut LineBuf, key: &[u8], number: i64)
@@ -134,6 +148,10 @@ pub fn put_signed<R: Render>(line: &mut LineBuf, key: &[u8], number: i64)
             line.push(if number < 0 { b'-' } else { b'+' });
             write_hex(line, 16, number.unsigned_abs());
             line.push(b' ');
+        }
+        Format::Table => {
+            let sign: &[u8] = if number < 0 { b"-" } else { b"+" };
+            put_short_hex(line, ADDEND_WIDTH, sign, number.unsigned_abs(), b' ');
         }
         Format::Object => put_number(line, key, number),
     }
@@ -151,7 +169,7 @@ pub fn put_text<R: Render>(line: &mut LineBuf, key: &[u8], width: usize, text: &
         ≤ array_vec_len line.old + text_room (length key.now) (max width (length text.now)) }
 {
     match R::FORMAT {
-        Format::Columns => put_left(line, width, text, end),
+        Format::Columns | Format::Table => put_left(line, width, text, end),
         Format::Object => {
             put_key(line, key);
             put_quoted(line, text);
@@ -179,7 +197,7 @@ pub fn put_name_or_decimal<R: Render>(
         ≤ array_vec_len line.old + text_room (length key.now) 10 }
 {
     match R::FORMAT {
-        Format::Columns => match name {
+        Format::Columns | Format::Table => match name {
             Some(name) => put_left(line, width, name.as_bytes(), b' '),
             None => put_right(line, width, number, b' '),
         },
@@ -208,7 +226,7 @@ pub fn put_name_or_hex<R: Render>(
         ≤ array_vec_len line.old + text_room (length key.now) (max width 10) }
 {
     match R::FORMAT {
-        Format::Columns => match name {
+        Format::Columns | Format::Table => match name {
             Some(name) => put_left(line, width, name.as_bytes(), b' '),
             None => {
                 write_hex(line, digits, number);
@@ -220,26 +238,28 @@ pub fn put_name_or_hex<R: Render>(
     }
 }
 
-/// Appends a name, left-aligned in a column of ten, or `#` and a number that has no name, and a
-/// space.
+/// Appends a name, left-aligned in a column of this width, or `#` and a number that has no name,
+/// and a space.
 #[tactic(auto, unfolding(elf_model::specs::Fields::with_field))]
 pub fn put_name_or_sign<R: Render>(
     line: &mut LineBuf,
     key: &[u8],
+    width: usize,
     name: Option<&'static str>,
     number: u32,
 )
-    requires room { array_vec_len line.old + text_room (length key.now) 10 ≤ 256 }
-    requires short { IfSome name (λ name. length name.now ≤ 10) }
+    requires room { array_vec_len line.old + text_room (length key.now) 40 ≤ 256 }
+    requires width { width ≤ 40 }
+    requires short { IfSome name (λ name. length name.now ≤ 40) }
     ensures items { line.new.items ≡ with_field R.FORMAT line.old.items
-        (NameOrNumber key.now 10 (option_copied name.entry) number) space }
+        (NameOrNumber key.now width (option_copied name.entry) number) space }
     ensures len { array_vec_len line.new
-        ≤ array_vec_len line.old + text_room (length key.now) 10 }
+        ≤ array_vec_len line.old + text_room (length key.now) 40 }
 {
     match R::FORMAT {
-        Format::Columns => match name {
-            Some(name) => put_left(line, 10, name.as_bytes(), b' '),
-            None => put_left(line, 10, &number_sign(number), b' '),
+        Format::Columns | Format::Table => match name {
+            Some(name) => put_left(line, width, name.as_bytes(), b' '),
+            None => put_left(line, width, &number_sign(number), b' '),
         },
         Format::Object => put_name_or_number(line, key, name, u64::from(number)),
     }
@@ -253,7 +273,7 @@ pub fn put_closing<R: Render>(line: &mut LineBuf)
     ensures len { array_vec_len line.new ≤ array_vec_len line.old + 2 }
 {
     match R::FORMAT {
-        Format::Columns => {}
+        Format::Columns | Format::Table => {}
         Format::Object => put(line, b"}\n"),
     }
 }

@@ -6,7 +6,7 @@ ghost use Rattle.elf_model.specs.Prelude.{interpreter_front, interpreter_line, i
 
 use crate::fields::{LinePrefix, begin_named, put_text};
 use crate::named::show_named;
-use crate::render::{Columns, Json, Render};
+use crate::render::{Columns, Json, Render, Tabular};
 use elf_model::Format;
 use elf_source::{Out, OutFault, Sink};
 
@@ -46,6 +46,7 @@ pub fn show_interpreter<W: Sink>(
     match format {
         Format::Columns => interpreter_row::<Columns>(&mut front, is_found),
         Format::Object => interpreter_row::<Json>(&mut front, is_found),
+        Format::Table => interpreter_row::<Tabular>(&mut front, is_found),
     }
     show_named(&mut front, path, false, out)
 }

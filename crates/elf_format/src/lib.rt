@@ -1,4 +1,4 @@
-//! The lines of a listing, each built from its record or result, in columns or as a JSON object:
+//! The lines of a listing, each built from its record or result, in columns, in a table or as a JSON object:
 //! [`LinePrefix`] is what precedes a name of any length, the calls `show_..` write a line to an
 //! `Out`, and [`Render`] writes the fields with their keys. No file is read here.
 #![tactic(auto)]
@@ -23,12 +23,15 @@ mod needed_version_rows;
 mod note_rows;
 mod objects;
 mod path_rows;
+mod relocation_names;
 mod relocation_rows;
 mod render;
 mod rows;
 mod section_rows;
 mod segment_rows;
+mod short_hexadecimal;
 mod symbol_rows;
+mod table_writer;
 mod told;
 mod trait_rows;
 mod version_rows;
@@ -54,11 +57,12 @@ pub use needed_version_rows::show_needed_version;
 pub use note_rows::{note_prefix, show_note};
 pub use path_rows::show_path;
 pub use relocation_rows::relocation_prefix;
-pub use render::{Columns, Json, Render};
+pub use render::{Columns, Json, Render, Tabular};
 pub use rows::{cause_word, header_row, show_refusal};
 pub use section_rows::section_prefix;
 pub use segment_rows::segment_row;
 pub use symbol_rows::{show_symbol, symbol_front_in, symbol_prefix};
+pub use table_writer::TableWriter;
 pub use told::show_escaped_text;
 pub use trait_rows::{column_word, show_missing_trait, show_traits};
 pub use version_rows::{symbol_version_front_in, symbol_version_prefix, version_prefix};

@@ -5,7 +5,7 @@ ghost use Rattle.elf_source.specs.Output.{OutPuts};
 
 use crate::columns::LineBuf;
 use crate::fields::{begin, put_closing, put_decimal, put_text};
-use crate::render::{Columns, Json, Render};
+use crate::render::{Columns, Json, Render, Tabular};
 use elf_model::Format;
 use elf_source::{Out, OutFault, Sink};
 
@@ -40,5 +40,6 @@ pub fn show_steps<W: Sink>(
     match format {
         Format::Columns => out.put(&steps_row::<Columns>(found, steps)),
         Format::Object => out.put(&steps_row::<Json>(found, steps)),
+        Format::Table => out.put(&steps_row::<Tabular>(found, steps)),
     }
 }

@@ -16,6 +16,6 @@ pub fn member_prefix<R: Render>(front: &mut LinePrefix, index: u64, at: u64, siz
     begin_named::<R>(front, b"A", b"name");
     let line = &mut front.line;
     put_decimal::<R>(line, b"index", 5, index, b' ');
-    put_hex_field::<R>(line, b"offset", 16, at, b' ');
-    put_hex_field::<R>(line, b"size", 16, size, b' ');
+    put_hex_field::<R>(line, b"offset", 16, 9, at, b' ');
+    put_hex_field::<R>(line, b"size", 16, 9, size, b' ');
 }

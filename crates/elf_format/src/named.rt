@@ -31,7 +31,7 @@ pub fn show_named<W: Sink>(
         (named_line (front_of front.old) (shown_as is_cut name.now)) }
 {
     match front.format {
-        Format::Columns => show_tailed(front, name, is_cut, b"\n", out),
+        Format::Columns | Format::Table => show_tailed(front, name, is_cut, b"\n", out),
         Format::Object => show_tailed(front, name, is_cut, b"}\n", out),
     }
 }
@@ -163,7 +163,7 @@ fn begin_name<W: Sink>(front: &mut LinePrefix, out: &mut Out<W>) -> Result<(), O
     ensures format { front.new.format ≡ front.old.format }
 {
     match front.format {
-        Format::Columns => Ok(()),
+        Format::Columns | Format::Table => Ok(()),
         Format::Object => {
             make_room(&mut front.line, 21, out)?;
             put_key(&mut front.line, front.key);
@@ -181,8 +181,8 @@ fn name_closing(format: Format, is_cut: bool) -> &'static [u8]
     ensures short { length result.now ≤ 12 }
 {
     match (format, is_cut) {
-        (Format::Columns, false) => b"",
-        (Format::Columns, true) => b"\\+",
+        (Format::Columns | Format::Table, false) => b"",
+        (Format::Columns | Format::Table, true) => b"\\+",
         (Format::Object, false) => b"\"",
         (Format::Object, true) => b"\",\"cut\":true",
     }
@@ -310,7 +310,7 @@ fn put_byte(line: &mut LineBuf, format: Format, byte: u8)
     ensures len { array_vec_len line.new ≤ array_vec_len line.old + 5 }
 {
     match format {
-        Format::Columns => put_name_byte(line, byte),
+        Format::Columns | Format::Table => put_name_byte(line, byte),
         Format::Object => put_quoted_byte(line, byte),
     }
 }

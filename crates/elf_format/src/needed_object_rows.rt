@@ -8,13 +8,11 @@ ghost use Rattle.elf_format.specs.NeededObjects.{file_state, found_by_fields, fo
 
 use crate::check_rows::put_fault;
 use crate::columns::LineBuf;
-use crate::fields::{
-    LinePrefix, begin, begin_named, put_closing, put_decimal, put_hex_field, put_name_or_decimal,
-    put_text,
-};
+use crate::fields::{LinePrefix, begin_named, put_decimal, put_name_or_decimal, put_text};
 use crate::named::show_named;
 use crate::needed_objects::{FoundBy, ObjectRow, ObjectState};
-use crate::render::{Columns, Json, Render};
+use crate::render::{Columns, Json, Render, Tabular};
+use crate::rows::{fault_row, meaning_row};
 use elf_model::{FileStatus, Format};
 use elf_source::{Out, OutFault, Sink};
 
@@ -49,7 +47,7 @@ fn put_found_by<R: Render>(line: &mut LineBuf, found_by: Option<FoundBy>)
         return;
     };
     match R::FORMAT {
-        Format::Columns => {}
+        Format::Columns | Format::Table => {}
         Format::Object => {
             put_text::<R>(line, b"by", 0, found_by_name(found_by).as_bytes(), b' ');
         }
@@ -117,6 +115,7 @@ pub fn show_object<W: Sink>(
     match format {
         Format::Columns => object_row::<Columns>(&mut front, row),
         Format::Object => object_row::<Json>(&mut front, row),
+        Format::Table => object_row::<Tabular>(&mut front, row),
     }
     show_named(&mut front, path, false, out)
 }
@@ -129,7 +128,8 @@ pub fn show_object<W: Sink>(
 pub fn show_too_many<W: Sink>(place: u64, format: Format, out: &mut Out<W>) -> Result<(), OutFault>
     ensures puts { OutPuts out.old out.new result (too_many_line format place) }
 {
-    show_end(place, "too-many-objects", format, out)
+    let meaning = "more objects are needed than are listed";
+    show_end(place, "too-many-objects", meaning, format, out)
 }
 
 /// Writes the line that ends the objects if one more path would be tried than may be: the file
@@ -144,38 +144,30 @@ pub fn show_too_many_paths<W: Sink>(
 ) -> Result<(), OutFault>
     ensures puts { OutPuts out.old out.new result (too_many_paths_line format place) }
 {
-    show_end(place, "too-many-paths", format, out)
+    let meaning = "more paths would be tried than --max-tries allows";
+    show_end(place, "too-many-paths", meaning, format, out)
 }
 
 /// Writes the line that ends the objects.
 ///
 /// # Errors
 /// A fault of the output, with a prefix of the line written.
+#[tactic(auto, unfolding(crate::specs::NeededObjects::objects_end_line))]
 fn show_end<W: Sink>(
     place: u64,
     cause: &'static str,
+    meaning: &'static str,
     format: Format,
     out: &mut Out<W>,
 ) -> Result<(), OutFault>
     requires short { length cause.now ≤ 16 }
-    ensures puts { OutPuts out.old out.new result (objects_end_line format place cause.now) }
+    requires meaning { length meaning.now ≤ 80 }
+    ensures puts { OutPuts out.old out.new result
+        (objects_end_line format place cause.now meaning.now) }
 {
     match format {
-        Format::Columns => out.put(&end_row::<Columns>(place, cause)),
-        Format::Object => out.put(&end_row::<Json>(place, cause)),
+        Format::Columns => out.put(&fault_row::<Columns>(place, cause)),
+        Format::Object => out.put(&fault_row::<Json>(place, cause)),
+        Format::Table => out.put(&meaning_row(place, meaning)),
     }
-}
-
-/// Returns the line that ends the objects.
-#[tactic(auto, unfolding(crate::specs::NeededObjects::objects_end_line))]
-fn end_row<R: Render>(place: u64, cause: &str) -> LineBuf
-    requires short { length cause.now ≤ 16 }
-    ensures { result.items ≡ objects_end_line R.FORMAT place cause.now }
-{
-    let mut line = LineBuf::new();
-    begin::<R>(&mut line, b"!");
-    put_hex_field::<R>(&mut line, b"place", 16, place, b' ');
-    put_text::<R>(&mut line, b"cause", 0, cause.as_bytes(), b'\n');
-    put_closing::<R>(&mut line);
-    line
 }

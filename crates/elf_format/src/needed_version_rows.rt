@@ -6,7 +6,7 @@ ghost use Rattle.elf_format.specs.Fronts.{front_of};
 
 use crate::fields::{LinePrefix, begin_named, put_decimal, put_name_or_decimal, put_text};
 use crate::named::show_named;
-use crate::render::{Columns, Json, Render};
+use crate::render::{Columns, Json, Render, Tabular};
 use elf_model::{Format, VersionState};
 use elf_source::{Out, OutFault, Sink};
 
@@ -76,6 +76,7 @@ pub fn show_needed_version<W: Sink>(
     match format {
         Format::Columns => needed_version_row::<Columns>(&mut front, object, provider, state),
         Format::Object => needed_version_row::<Json>(&mut front, object, provider, state),
+        Format::Table => needed_version_row::<Tabular>(&mut front, object, provider, state),
     }
     show_named(&mut front, name, false, out)
 }

@@ -30,9 +30,9 @@ pub fn note_prefix<R: Render>(front: &mut LinePrefix, index: u16, head: &NoteHea
     begin_named::<R>(front, b"N", b"name");
     let line = &mut front.line;
     put_half::<R>(line, b"index", index, b' ');
-    put_hex_field::<R>(line, b"type", 8, u64::from(head.kind), b' ');
-    put_hex_field::<R>(line, b"namesz", 8, u64::from(head.namesz), b' ');
-    put_hex_field::<R>(line, b"descsz", 8, u64::from(head.descsz), b' ');
+    put_hex_field::<R>(line, b"type", 8, 8, u64::from(head.kind), b' ');
+    put_hex_field::<R>(line, b"namesz", 8, 6, u64::from(head.namesz), b' ');
+    put_hex_field::<R>(line, b"descsz", 8, 6, u64::from(head.descsz), b' ');
 }
 
 /// Writes the `N` line of a note after its prefix, with its name, which `is_cut` if it has more
@@ -74,7 +74,7 @@ fn note_end(format: Format, digits: &[u8], has_more: bool) -> LineBuf
 {
     let mut line = LineBuf::new();
     match format {
-        Format::Columns => {
+        Format::Columns | Format::Table => {
             put(&mut line, b" ");
             put(&mut line, digits);
             put_where(&mut line, has_more, b"\\+");

@@ -6,7 +6,7 @@ ghost use Rattle.elf_source.specs.Output.{OutPuts};
 
 use crate::fields::{LinePrefix, begin_named};
 use crate::named::show_named;
-use crate::render::{Columns, Json, Render};
+use crate::render::{Columns, Json, Render, Tabular};
 use elf_model::Format;
 use elf_source::{Out, OutFault, Sink};
 
@@ -30,6 +30,7 @@ pub fn show_path<W: Sink>(path: &[u8], format: Format, out: &mut Out<W>) -> Resu
     match format {
         Format::Columns => path_row::<Columns>(&mut front),
         Format::Object => path_row::<Json>(&mut front),
+        Format::Table => path_row::<Tabular>(&mut front),
     }
     show_named(&mut front, path, false, out)
 }

@@ -1,6 +1,6 @@
 //! The lines of relocation entries.
 ghost use Rattle.std.specs.Prelude.{◌≡◌, ◌≤◌, ℕ, List, length, IfSome, option_copied};
-ghost use Rattle.elf_model.specs.Prelude.{name_of, relocation_names, relocation_prefix, relocation_types};
+ghost use Rattle.elf_model.specs.Prelude.{name_of, names_of_types, type_width, relocation_names, relocation_prefix, relocation_types};
 ghost use Rattle.elf_record.specs.Rela.{IsRela};
 ghost use Rattle.elf_format.specs.Fronts.{front_of};
 
@@ -9,7 +9,9 @@ use crate::fields::{
     LinePrefix, begin_named, put_half, put_hex_field, put_name_or_sign, put_signed,
 };
 use crate::name_tables::name_in_either_table;
+use crate::relocation_names::psabi_name;
 use crate::render::Render;
+use elf_model::Format;
 use elf_record::Rela;
 use elf_record::gnu_numbers::{
     R_X86_64_DTPMOD64, R_X86_64_DTPOFF32, R_X86_64_DTPOFF64, R_X86_64_GNU_VTENTRY,
@@ -43,10 +45,40 @@ pub fn relocation_prefix<R: Render>(
     begin_named::<R>(front, b"R", b"name");
     let line = &mut front.line;
     put_half::<R>(line, b"table", section, b' ');
-    put_hex_field::<R>(line, b"offset", 16, entry.r_offset, b' ');
-    put_name_or_sign::<R>(line, b"type", name_on_machine(kind, naming), kind);
-    put_hex_field::<R>(line, b"symbol", 8, u64::from(entry.symbol()), b' ');
+    put_hex_field::<R>(line, b"offset", 16, 9, entry.r_offset, b' ');
+    put_name_or_sign::<R>(
+        line,
+        b"type",
+        type_width::<R>(),
+        name_of_type::<R>(kind, naming),
+        kind,
+    );
+    put_hex_field::<R>(line, b"symbol", 8, 6, u64::from(entry.symbol()), b' ');
     put_signed::<R>(line, b"addend", entry.r_addend);
+}
+
+/// Returns the width of the column of a relocation type.
+fn type_width<R: Render>() -> usize
+    ensures width { result ≡ type_width R.FORMAT }
+    ensures few { result ≤ 22 }
+{
+    match R::FORMAT {
+        Format::Columns | Format::Object => 10,
+        Format::Table => 22,
+    }
+}
+
+/// Returns the name of a relocation type in a format: in a table that of the machine's processor
+/// supplement, else that of a listing.
+fn name_of_type<R: Render>(kind: u32, naming: ConstantNames) -> Option<&'static str>
+    ensures name { option_copied result
+        ≡ name_of (names_of_types R.FORMAT naming.gnu naming.machine) kind }
+    ensures short { IfSome result (λ name. length name.now ≤ 40) }
+{
+    match R::FORMAT {
+        Format::Columns | Format::Object => name_on_machine(kind, naming),
+        Format::Table => psabi_name(kind, naming.machine),
+    }
 }
 
 /// Returns the name of a relocation type on the machine. Names are known for x86-64 alone.

@@ -1,5 +1,5 @@
-//! The two renderings of a line.
-ghost use Rattle.elf_model.specs.declared.formats.Format.TheVariants.{Columns as InColumns, Object as AsObject};
+//! The three renderings of a line.
+ghost use Rattle.elf_model.specs.declared.formats.Format.TheVariants.{Columns as InColumns, Object as AsObject, Table as InTable};
 ghost use Rattle.elf_model.specs.declared.formats.Format.{Format as Spec};
 
 use elf_model::Format;
@@ -30,4 +30,13 @@ impl Render for Json {
     const FORMAT: Format = Format::Object;
 
     ghost FORMAT = { AsObject };
+}
+
+/// Lines in a table.
+pub struct Tabular;
+
+impl Render for Tabular {
+    const FORMAT: Format = Format::Table;
+
+    ghost FORMAT = { InTable };
 }

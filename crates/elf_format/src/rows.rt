@@ -1,13 +1,15 @@
 //! The lines of a file header and of a refusal.
 ghost use Rattle.std.specs.Prelude.{◌≡◌, ℕ, ◌≤◌, List, length, IfSome, option_copied};
-ghost use Rattle.elf_model.specs.Prelude.{cause_word, file_types, header_line, name_of, refusal_line};
+ghost use Rattle.elf_model.specs.Prelude.{cause_meaning, cause_word, file_types, header_line, name_of, refusal_line, told_line};
+ghost use Rattle.elf_model.specs.Lines.{fault_line};
 ghost use Rattle.elf_record.specs.Ehdr.{IsEhdr};
 ghost use Rattle.elf_source.specs.Output.{OutPuts};
 
-use crate::columns::LineBuf;
+use crate::columns::{LineBuf, line_of, put};
 use crate::fields::{begin, put_closing, put_half, put_hex_field, put_name_or_hex, put_text};
 use crate::name_tables::name_of;
 use crate::render::{Columns, Json, Render};
+use crate::short_hexadecimal::put_short_hex;
 use elf_model::Format;
 use elf_record::numbers::{ET_CORE, ET_DYN, ET_EXEC, ET_NONE, ET_REL};
 use elf_record::{Cause, Ehdr, Refusal};
@@ -26,10 +28,10 @@ pub fn header_row<R: Render>(header: &Ehdr) -> LineBuf
     begin::<R>(&mut line, b"H");
     put_name_or_hex::<R>(&mut line, b"type", 4, 4, file_type_name(kind), kind);
     put_half::<R>(&mut line, b"machine", header.e_machine, b' ');
-    put_hex_field::<R>(&mut line, b"entry", 16, header.e_entry, b' ');
-    put_hex_field::<R>(&mut line, b"phoff", 16, header.e_phoff, b' ');
-    put_hex_field::<R>(&mut line, b"shoff", 16, header.e_shoff, b' ');
-    put_hex_field::<R>(&mut line, b"flags", 8, u64::from(header.e_flags), b' ');
+    put_hex_field::<R>(&mut line, b"entry", 16, 12, header.e_entry, b' ');
+    put_hex_field::<R>(&mut line, b"phoff", 16, 9, header.e_phoff, b' ');
+    put_hex_field::<R>(&mut line, b"shoff", 16, 9, header.e_shoff, b' ');
+    put_hex_field::<R>(&mut line, b"flags", 8, 8, u64::from(header.e_flags), b' ');
     put_half::<R>(&mut line, b"phnum", header.e_phnum, b' ');
     put_half::<R>(&mut line, b"shnum", header.e_shnum, b' ');
     put_half::<R>(&mut line, b"shstrndx", header.e_shstrndx, b'\n');
@@ -37,30 +39,40 @@ pub fn header_row<R: Render>(header: &Ehdr) -> LineBuf
     line
 }
 
-/// Returns the `!` line of a refusal: the file offset that it points to, and its cause.
-#[tactic(auto, unfolding(elf_model::specs::Lines::refusal_line))]
-fn refusal_row<R: Render>(refusal: Refusal) -> LineBuf
-    ensures { result.items ≡ refusal_line R.FORMAT refusal }
+/// Returns the `!` line of a fault: the file offset that it points to, and the word for its cause.
+pub(crate) fn fault_row<R: Render>(at: u64, cause: &str) -> LineBuf
+    requires { length cause.now ≤ 18 }
+    ensures { result.items ≡ fault_line R.FORMAT at cause.now }
 {
     let mut line = LineBuf::new();
     begin::<R>(&mut line, b"!");
-    put_hex_field::<R>(&mut line, b"place", 16, refusal.at, b' ');
-    put_text::<R>(
-        &mut line,
-        b"cause",
-        0,
-        cause_word(refusal.cause).as_bytes(),
-        b'\n',
-    );
+    put_hex_field::<R>(&mut line, b"place", 16, 9, at, b' ');
+    put_text::<R>(&mut line, b"cause", 0, cause.as_bytes(), b'\n');
     put_closing::<R>(&mut line);
     line
 }
 
+/// Returns the `!` line of a fault in a table: the file offset that it points to, and what its
+/// cause means.
+#[tactic(auto, unfolding(elf_model::specs::Lines::told_line, elf_model::specs::Text::right_in))]
+pub(crate) fn meaning_row(at: u64, meaning: &str) -> LineBuf
+    requires { length meaning.now ≤ 80 }
+    ensures { result.items ≡ told_line at meaning.now }
+{
+    let mut line = line_of(b"! 0x");
+    put_short_hex(&mut line, 0, b"", at, b':');
+    put(&mut line, b" ");
+    put(&mut line, meaning.as_bytes());
+    put(&mut line, b"\n");
+    line
+}
+
 /// Writes the line of a refusal: `!`, the file offset that it points to in 16 hexadecimal digits,
-/// and the word for its cause; or these as an object.
+/// and the word for its cause; or these as an object; or in a table what the cause means.
 ///
 /// # Errors
 /// Returns a fault of the output; a prefix of the line was written.
+#[tactic(auto, unfolding(elf_model::specs::Lines::refusal_line))]
 pub fn show_refusal<W: Sink>(
     refusal: Refusal,
     format: Format,
@@ -69,8 +81,9 @@ pub fn show_refusal<W: Sink>(
     ensures puts { OutPuts out.old out.new result (refusal_line format refusal) }
 {
     match format {
-        Format::Columns => out.put(&refusal_row::<Columns>(refusal)),
-        Format::Object => out.put(&refusal_row::<Json>(refusal)),
+        Format::Columns => out.put(&fault_row::<Columns>(refusal.at, cause_word(refusal.cause))),
+        Format::Object => out.put(&fault_row::<Json>(refusal.at, cause_word(refusal.cause))),
+        Format::Table => out.put(&meaning_row(refusal.at, cause_meaning(refusal.cause))),
     }
 }
 
@@ -120,6 +133,54 @@ const CAUSE_WORDS: [&str; 35] = [
     "version-cut",
     "version-index",
     "load-overlap",
+];
+
+/// Returns what a cause means, in plain words.
+#[tactic(auto, unfolding(elf_model::specs::Causes::cause_meaning))]
+fn cause_meaning(cause: Cause) -> &'static str
+    ensures meaning { result.now ≡ cause_meaning cause }
+    ensures short { length result.now ≤ 80 }
+{
+    CAUSE_MEANINGS[cause as usize]
+}
+
+/// What the causes mean, in the order of `Cause`.
+const CAUSE_MEANINGS: [&str; 35] = [
+    "the file is shorter than a file header",
+    "not an ELF file",
+    "not a 64-bit file",
+    "not a little-endian file",
+    "the version is not 1",
+    "a count is stored in section 0, which is not read",
+    "more headers than --headers allows",
+    "the entries of the table do not have the standard's size",
+    "the table extends past the end of the file",
+    "the index names no section, or none of the type needed",
+    "the section is not a string table",
+    "the size of the table is not a multiple of its entries' size",
+    "the name begins after the end of its string table",
+    "the name does not end before the end of its string table",
+    "the table of notes ends within a note",
+    "the file has no hash table",
+    "the hash table has no room for what its counts say",
+    "the hash table names no symbol",
+    "a chain of the hash table does not end",
+    "the type is not supported",
+    "the value does not fit (relocation truncated to fit)",
+    "not a relocatable file for x86-64",
+    "the section of the symbol has no address",
+    "the symbol has no value (undefined reference)",
+    "the place is not in the section",
+    "the symbol table has no such symbol",
+    "the file has 2^63 bytes or more",
+    "--max-read does not suffice",
+    "no LOAD segment contains the table",
+    "a thin archive: the members are in other files",
+    "not an archive",
+    "there is no member of an archive",
+    "the table of versions ends before the record",
+    "no record names the version",
+    "a LOAD segment begins on a page of the previous one, or below it",
 ];
 
 /// Returns the name of an object file type.

@@ -42,11 +42,11 @@ pub fn section_prefix<R: Render>(
     put_half::<R>(line, b"index", index, b' ');
     put_name_or_hex::<R>(line, b"type", 13, 8, section_type_name(kind, naming), kind);
     put_text::<R>(line, b"flags", 12, &letters, b' ');
-    put_hex_field::<R>(line, b"address", 16, header.sh_addr, b' ');
-    put_hex_field::<R>(line, b"offset", 16, header.sh_offset, b' ');
-    put_hex_field::<R>(line, b"size", 16, header.sh_size, b' ');
-    put_hex_field::<R>(line, b"link", 8, u64::from(header.sh_link), b' ');
-    put_hex_field::<R>(line, b"info", 8, u64::from(header.sh_info), b' ');
+    put_hex_field::<R>(line, b"address", 16, 12, header.sh_addr, b' ');
+    put_hex_field::<R>(line, b"offset", 16, 9, header.sh_offset, b' ');
+    put_hex_field::<R>(line, b"size", 16, 9, header.sh_size, b' ');
+    put_hex_field::<R>(line, b"link", 8, 4, u64::from(header.sh_link), b' ');
+    put_hex_field::<R>(line, b"info", 8, 5, u64::from(header.sh_info), b' ');
 }
 
 /// The largest number of letters of flags that are shown.

@@ -34,12 +34,12 @@ pub fn segment_row<R: Render>(index: u16, header: &Phdr, gnu: bool) -> LineBuf
     put_half::<R>(&mut line, b"index", index, b' ');
     put_name_or_hex::<R>(&mut line, b"type", 8, 8, segment_type_name(kind, gnu), kind);
     put_text::<R>(&mut line, b"permissions", 3, &letters, b' ');
-    put_hex_field::<R>(&mut line, b"offset", 16, header.p_offset, b' ');
-    put_hex_field::<R>(&mut line, b"vaddr", 16, header.p_vaddr, b' ');
-    put_hex_field::<R>(&mut line, b"paddr", 16, header.p_paddr, b' ');
-    put_hex_field::<R>(&mut line, b"filesz", 16, header.p_filesz, b' ');
-    put_hex_field::<R>(&mut line, b"memsz", 16, header.p_memsz, b' ');
-    put_hex_field::<R>(&mut line, b"align", 16, header.p_align, b'\n');
+    put_hex_field::<R>(&mut line, b"offset", 16, 9, header.p_offset, b' ');
+    put_hex_field::<R>(&mut line, b"vaddr", 16, 12, header.p_vaddr, b' ');
+    put_hex_field::<R>(&mut line, b"paddr", 16, 12, header.p_paddr, b' ');
+    put_hex_field::<R>(&mut line, b"filesz", 16, 9, header.p_filesz, b' ');
+    put_hex_field::<R>(&mut line, b"memsz", 16, 9, header.p_memsz, b' ');
+    put_hex_field::<R>(&mut line, b"align", 16, 5, header.p_align, b'\n');
     put_closing::<R>(&mut line);
     line
 }

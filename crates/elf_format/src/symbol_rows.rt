@@ -12,7 +12,7 @@ use crate::fields::{
 };
 use crate::name_tables::{name_in_either_table, name_of};
 use crate::named::show_named;
-use crate::render::{Columns, Json, Render};
+use crate::render::{Columns, Json, Render, Tabular};
 use elf_model::Format;
 use elf_record::Sym;
 use elf_record::gnu_numbers::{SHN_X86_64_LCOMMON, STB_GNU_UNIQUE, STT_GNU_IFUNC};
@@ -45,8 +45,8 @@ pub fn symbol_prefix<R: Render>(
     let line = &mut front.line;
     put_half::<R>(line, b"table", section, b' ');
     put_decimal::<R>(line, b"index", 10, index, b' ');
-    put_hex_field::<R>(line, b"value", 16, symbol.st_value, b' ');
-    put_hex_field::<R>(line, b"size", 16, symbol.st_size, b' ');
+    put_hex_field::<R>(line, b"value", 16, 12, symbol.st_value, b' ');
+    put_hex_field::<R>(line, b"size", 16, 9, symbol.st_size, b' ');
     put_name_or_decimal::<R>(line, b"type", 7, symbol_type_name(kind, naming.gnu), kind);
     put_name_or_decimal::<R>(
         line,
@@ -81,6 +81,7 @@ pub fn symbol_front_in(
     match format {
         Format::Columns => symbol_prefix::<Columns>(front, section, index, symbol, naming),
         Format::Object => symbol_prefix::<Json>(front, section, index, symbol, naming),
+        Format::Table => symbol_prefix::<Tabular>(front, section, index, symbol, naming),
     }
 }
 

@@ -9,7 +9,7 @@ ghost use Rattle.elf_source.specs.Output.{OutPuts};
 use crate::columns::{LineBuf, line_of, put};
 use crate::fields::{LinePrefix, begin, begin_named, put_closing, put_text};
 use crate::named::show_named;
-use crate::render::{Columns, Json, Render};
+use crate::render::{Columns, Json, Render, Tabular};
 use elf_model::{Format, Hardening, ProgramKind, Relro, SearchPath, SegmentTraits, TraitColumn};
 use elf_source::{Out, OutFault, Sink};
 
@@ -29,6 +29,7 @@ pub fn show_traits<W: Sink>(
     match format {
         Format::Columns => traits_row::<Columns>(&mut front, traits),
         Format::Object => traits_row::<Json>(&mut front, traits),
+        Format::Table => traits_row::<Tabular>(&mut front, traits),
     }
     show_named(&mut front, path, false, out)
 }
@@ -48,6 +49,7 @@ pub fn show_missing_trait<W: Sink>(
     match format {
         Format::Columns => out.put(&lacking_row::<Columns>(traits, column)),
         Format::Object => out.put(&lacking_row::<Json>(traits, column)),
+        Format::Table => out.put(&lacking_row::<Tabular>(traits, column)),
     }
 }
 

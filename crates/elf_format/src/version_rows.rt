@@ -4,7 +4,7 @@ ghost use Rattle.elf_format.specs.Fronts.{front_of};
 ghost use Rattle.elf_model.specs.VersionRows.{kind_text, version_prefix, symbol_version_prefix};
 
 use crate::fields::{LinePrefix, begin_named, put_decimal, put_half, put_hex_field, put_text};
-use crate::render::{Columns, Json, Render};
+use crate::render::{Columns, Json, Render, Tabular};
 use elf_model::Format;
 use elf_record::{VersionKind, version_number};
 
@@ -28,8 +28,8 @@ pub fn version_prefix<R: Render>(
     put_half::<R>(line, b"index", section, b' ');
     put_text::<R>(line, b"kind", 4, kind_name(kind).as_bytes(), b' ');
     put_half::<R>(line, b"number", number, b' ');
-    put_hex_field::<R>(line, b"flags", 4, u64::from(flags), b' ');
-    put_hex_field::<R>(line, b"hash", 8, u64::from(hash), b' ');
+    put_hex_field::<R>(line, b"flags", 4, 5, u64::from(flags), b' ');
+    put_hex_field::<R>(line, b"hash", 8, 8, u64::from(hash), b' ');
 }
 
 /// Fills the prefix with the `X` line of a symbol's version up to its name: the index of the
@@ -63,6 +63,7 @@ pub fn symbol_version_front_in(
     match format {
         Format::Columns => symbol_version_prefix::<Columns>(front, section, index, word),
         Format::Object => symbol_version_prefix::<Json>(front, section, index, word),
+        Format::Table => symbol_version_prefix::<Tabular>(front, section, index, word),
     }
 }
 

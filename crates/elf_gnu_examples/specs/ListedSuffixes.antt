@@ -30,8 +30,8 @@ hidden_line = codes "Y     2          3 00000000000002a8 0000000000000001 FUNC  
 abbrev pub default_line : List ℕ
 default_line = codes "Y     2          4 00000000000002a9 0000000000000001 FUNC    GLOBAL DEFAULT       7 f@@V2\n"
 
-abbrev pub before_line : List ℕ
-before_line =
+abbrev pub before_hidden : List ℕ
+before_hidden =
     codes "Y     2          0 0000000000000000 0000000000000000 NOTYPE  LOCAL  DEFAULT   UND   \n" ++ puts_line
     ++ codes "Y     2          2 00000000000002a0 0000000000000008 OBJECT  UNIQUE DEFAULT       7 g\n"
 
@@ -40,7 +40,7 @@ before_line =
 abbrev pub SymbolsHaveVersions : Type 0
 SymbolsHaveVersions =
     symbols_listed versioned_library
-    ≡ before_line ++ hidden_line ++ default_line ++ codes "Y     2          5 00000000000002aa 0000000000000001 IFUNC   GLOBAL DEFAULT       7 h@@V2\n"
+    ≡ before_hidden ++ hidden_line ++ default_line ++ codes "Y     2          5 00000000000002aa 0000000000000001 IFUNC   GLOBAL DEFAULT       7 h@@V2\n"
 
 -- a text with a version selects it, and with two signs the default one; a name alone selects every
 -- version
@@ -73,9 +73,9 @@ SignsPartTexts = asked_listed (codes "f@V1" ∷ []) (with_bytes 0x171 (codes "f@
 -- name outside its table, at the record
 abbrev pub RowsAreRefused : Type 0
 RowsAreRefused =
-    (symbols_listed (with_bytes 0x1a8 (little 2 9) versioned_library) ≡ before_line ++ hidden_line ++ codes "! 00000000000001a8 version-index\n")
-    × (symbols_listed (with_bytes 0x410 (little 8 8) versioned_library) ≡ before_line ++ hidden_line ++ codes "! 00000000000003f0 version-cut\n")
-    × (symbols_listed (with_bytes 0x1fc (little 4 48) versioned_library) ≡ before_line ++ hidden_line ++ codes "! 00000000000001fc name-outside\n")
+    (symbols_listed (with_bytes 0x1a8 (little 2 9) versioned_library) ≡ before_hidden ++ hidden_line ++ codes "! 00000000000001a8 version-index\n")
+    × (symbols_listed (with_bytes 0x410 (little 8 8) versioned_library) ≡ before_hidden ++ hidden_line ++ codes "! 00000000000003f0 version-cut\n")
+    × (symbols_listed (with_bytes 0x1fc (little 4 48) versioned_library) ≡ before_hidden ++ hidden_line ++ codes "! 00000000000001fc name-outside\n")
 
 -- before the first row: the versym section, a definition, a need
 abbrev pub TablesAreRefused : Type 0

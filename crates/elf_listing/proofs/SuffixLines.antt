@@ -3,7 +3,7 @@ use Rattle.std.proofs.Common.{◌≡◌, ℕ, Bool, true, false, List, ◌++◌,
 use Rattle.std.specs.Prelude.{codes, if◌then◌else◌}
 use Rattle.elf_model.specs.Prelude.{DisplayedName, EveryRow, LinePrefix, Suffixed, closing, cut_mark, escaped, line_suffixed, lines_of, member_key, name_member, name_text, newline, quoted, string_text, suffix_members, suffix_text, suffixed_row, version_member, version_sign}
 use Rattle.elf_model.specs.declared.causes.Cause.{Cause}
-use Rattle.elf_model.specs.declared.formats.Format.TheVariants.{Columns, Object}
+use Rattle.elf_model.specs.declared.formats.Format.TheVariants.{Columns, Object, Table}
 use Rattle.elf_model.specs.declared.formats.Format.{Format}
 use Rattle.elf_format.specs.Prelude.{escaped_bytes, line_tailed, shown_as, tailed_line}
 use Rattle.elf_table.specs.Prelude.{NameRead, shown_by}
@@ -27,6 +27,11 @@ sign_is : (default : Bool) → before_version Columns default ≡ version_sign d
 unfolding before_version
 sign_is true = refl
 sign_is false = refl
+
+sign_is_in_a_table : (default : Bool) → before_version Table default ≡ version_sign default
+unfolding before_version
+sign_is_in_a_table true = refl
+sign_is_in_a_table false = refl
 
 -- the lines of an object
 abbrev default_member : Bool → List ℕ
@@ -58,6 +63,13 @@ line_is Columns key text name Whole version default =
 line_is Columns key text name Cut version default =
     ap (λ (rest : List ℕ). text ++ rest)
     (rw (sign_is default)
+    (ap (λ (rest : List ℕ). name_text name ++ (version_sign default ++ rest)) (sym (append_assoc (escaped version) cut_mark newline))
+    ∙ three_is (name_text name) (version_sign default) (escaped version ++ cut_mark) newline))
+line_is Table key text name Whole version default =
+    ap (λ (rest : List ℕ). text ++ rest) (rw (sign_is_in_a_table default) (three_is (name_text name) (version_sign default) (escaped version) newline))
+line_is Table key text name Cut version default =
+    ap (λ (rest : List ℕ). text ++ rest)
+    (rw (sign_is_in_a_table default)
     (ap (λ (rest : List ℕ). name_text name ++ (version_sign default ++ rest)) (sym (append_assoc (escaped version) cut_mark newline))
     ∙ three_is (name_text name) (version_sign default) (escaped version ++ cut_mark) newline))
 line_is Object key text name end version default = object_is key text name end version default

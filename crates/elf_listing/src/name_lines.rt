@@ -92,8 +92,8 @@ fn before_version(format: Format, is_default: bool) -> &'static [u8]
     ensures short { length result.now ≤ 16 }
 {
     match (format, is_default) {
-        (Format::Columns, false) => b"@",
-        (Format::Columns, true) => b"@@",
+        (Format::Columns | Format::Table, false) => b"@",
+        (Format::Columns | Format::Table, true) => b"@@",
         (Format::Object, _) => b",\"version\":\"",
     }
 }
@@ -105,8 +105,8 @@ fn after_version(format: Format, is_cut: bool, is_default: bool) -> &'static [u8
     ensures short { length result.now ≤ 64 }
 {
     match (format, is_cut, is_default) {
-        (Format::Columns, false, _) => b"\n",
-        (Format::Columns, true, _) => b"\\+\n",
+        (Format::Columns | Format::Table, false, _) => b"\n",
+        (Format::Columns | Format::Table, true, _) => b"\\+\n",
         (Format::Object, false, false) => b"\",\"default\":false}\n",
         (Format::Object, false, true) => b"\",\"default\":true}\n",
         (Format::Object, true, false) => b"\",\"version_cut\":true,\"default\":false}\n",

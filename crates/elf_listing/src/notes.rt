@@ -8,7 +8,7 @@ ghost use Rattle.elf_listing.specs.Parts.{of_sections, of_segments};
 use crate::listed_kind::ListedKind;
 use crate::listing::Listing;
 use crate::name_lines::is_cut;
-use elf_format::{Columns, Json, LinePrefix, Render, note_prefix, show_note};
+use elf_format::{Columns, Json, LinePrefix, Render, Tabular, note_prefix, show_note};
 use elf_model::Format;
 use elf_note::{NoteCursor, NoteRow};
 use elf_record::Parts;
@@ -99,6 +99,7 @@ impl<S: Source, W: Sink> Listing<'_, '_, '_, '_, S, W> {
         match self.style.format {
             Format::Columns => self.note_line::<Columns>(row, index),
             Format::Object => self.note_line::<Json>(row, index),
+            Format::Table => self.note_line::<Tabular>(row, index),
         }
     }
 

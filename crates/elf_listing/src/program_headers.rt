@@ -12,7 +12,7 @@ use crate::row_cursor::RowCursor;
 use crate::row_selection::RowSelection;
 use crate::table_rows::{TableRows, list_rows};
 use bitflags::Flags;
-use elf_format::{Columns, Json, LinePrefix, Render, segment_row};
+use elf_format::{Columns, Json, LinePrefix, Render, Tabular, segment_row};
 use elf_model::Format;
 use elf_record::{Parts, Phdr};
 use elf_source::{Sink, Source};
@@ -41,6 +41,7 @@ impl ListedKind for ProgramHeaders {
         match listing.style.format {
             Format::Columns => listing.segment_line::<Columns>(index),
             Format::Object => listing.segment_line::<Json>(index),
+            Format::Table => listing.segment_line::<Tabular>(index),
         }
     }
 }

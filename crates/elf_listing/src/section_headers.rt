@@ -5,7 +5,7 @@ ghost use Rattle.elf_listing.specs.Parts.{section_headers_part};
 
 use crate::listed_kind::ListedKind;
 use crate::listing::Listing;
-use elf_format::{Columns, Json, LinePrefix, Render, section_prefix};
+use elf_format::{Columns, Json, LinePrefix, Render, Tabular, section_prefix};
 use elf_model::Format;
 use elf_record::Parts;
 use elf_source::{Sink, Source};
@@ -33,6 +33,7 @@ impl ListedKind for SectionHeaders {
         match listing.style.format {
             Format::Columns => listing.section_line::<Columns>(index),
             Format::Object => listing.section_line::<Json>(index),
+            Format::Table => listing.section_line::<Tabular>(index),
         }
     }
 }

@@ -16,7 +16,7 @@ use crate::fault_line::show_stop;
 use crate::listing::Listing;
 use crate::table_view::load_view;
 use bitflags::Flags;
-use elf_format::{Columns, Json, header_row};
+use elf_format::{Columns, Json, Tabular, header_row};
 use elf_model::Format;
 use elf_note::ReadAhead;
 use elf_record::{Ehdr, Parts};
@@ -129,6 +129,7 @@ fn list_header<W: Sink>(
     let line = match format {
         Format::Columns => header_row::<Columns>(header),
         Format::Object => header_row::<Json>(header),
+        Format::Table => header_row::<Tabular>(header),
     };
     out.put(&line)?;
     Ok(())

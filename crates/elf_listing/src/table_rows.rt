@@ -7,7 +7,7 @@ use crate::listing::Listing;
 use crate::name_versions::NameVersions;
 use crate::row_cursor::RowCursor;
 use crate::row_selection::{AllRows, NamedRows, RowSelection};
-use elf_format::{Columns, Json, LinePrefix, Render};
+use elf_format::{Columns, Json, LinePrefix, Render, Tabular};
 use elf_model::Format;
 use elf_source::{Sink, Source};
 use elf_table::{Row, RunFault, Table};
@@ -55,6 +55,7 @@ pub(crate) fn list_rows<K: TableRows, V: NameVersions, S: Source, W: Sink>(
     match listing.style.format {
         Format::Columns => rows_of::<Columns, K, V, S, W>(listing, table, rows, versions),
         Format::Object => rows_of::<Json, K, V, S, W>(listing, table, rows, versions),
+        Format::Table => rows_of::<Tabular, K, V, S, W>(listing, table, rows, versions),
     }
 }
 

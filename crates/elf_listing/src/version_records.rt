@@ -10,7 +10,7 @@ ghost use Rattle.elf_listing.specs.Versions.{ListsRecord, ListsRecords, ListsVer
 use crate::listed_kind::ListedKind;
 use crate::listing::Listing;
 use crate::row_selection::{AllRows, NamedRows, RowSelection};
-use elf_format::{Columns, Json, LinePrefix, Render, version_prefix};
+use elf_format::{Columns, Json, LinePrefix, Render, Tabular, version_prefix};
 use elf_model::Format;
 use elf_note::{NameIndex, VersionCursor, VersionRecord};
 use elf_record::gnu_numbers::{SHT_GNU_VERDEF, SHT_GNU_VERNEED};
@@ -143,6 +143,7 @@ impl<S: Source, W: Sink> Listing<'_, '_, '_, '_, S, W> {
         match self.style.format {
             Format::Columns => self.version_line::<Columns, C>(given, section, names),
             Format::Object => self.version_line::<Json, C>(given, section, names),
+            Format::Table => self.version_line::<Tabular, C>(given, section, names),
         }
     }
 

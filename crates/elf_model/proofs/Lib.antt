@@ -49,4 +49,5 @@ pub mod VersionRowLaws
 pub mod VersionSteps
 pub mod WalkLaws
 pub mod SysvWalkLaws
+pub mod TableLaws
 pub mod Walks

@@ -2,7 +2,7 @@
 use Rattle.std.proofs.Common.{◌≡◌, ℕ, zero, suc, ◌==◌, ◌&&◌, nat_lt, not, if◌then◌else◌, Bool, true, false, List, [], ◌∷◌, Option, None, Some, Result, Ok, Err, refl, sym, ap, ◌∙◌, append-nil}
 use Rattle.elf_model.specs.Prelude.{DisplayedName, Line, LinePrefix, ListingItem, ListingStyle, NoSuffix, RowFilter, SHT_GNU_VERDEF, SHT_GNU_VERNEED, Suffix, Suffixed, UndefinedHaveNoDefault, UnversionedEntriesArePlain, UnversionedSymbolsArePlain, VisitedRecord, after_refusal, all_checks, chooses, chosen_row, e_machine, each, entry_at, entry_count, first_refusal, has_symbols, is_default as is_default_of, line_named, line_suffixed, linked_at, name_index, name_member, name_text, named_at, named_line, number_in, or_refusal, r_sym, relocation_prefix, relocation_row, relocation_row_with_version, relocations, relocations_with_versions, section_at, sh_link, shown, st_name, st_shndx, strings_of, suffix_at, suffix_members, suffix_of, suffix_text, suffixed_line, suffixed_relocation_rows, suffixed_row, suffixed_symbol_rows, suffixed_symbols, suffixes_refusal, symbol_named, symbol_prefix, symbol_row, symbol_row_with_version, symbol_suffix, symbol_versions, symbols, version_named, version_numbers_of, version_strings, versym, walk_refusal, word_suffix}
 use Rattle.elf_model.specs.declared.causes.Cause.{Cause}
-use Rattle.elf_model.specs.declared.formats.Format.TheVariants.{Columns, Object}
+use Rattle.elf_model.specs.declared.formats.Format.TheVariants.{Columns, Object, Table}
 use Rattle.elf_model.specs.declared.versions.VersionKind.TheVariants.{Definition, File}
 use Rattle.elf_model.specs.declared.formats.Format.{Format}
 use Rattle.elf_model.specs.declared.causes.Refusal.{Refusal}
@@ -15,6 +15,7 @@ unsuffixed_line front name = by_format front.format
   where
     by_format : (format : Format) → line_suffixed format front.key front.text name NoSuffix ≡ line_named format front.key front.text name
     by_format Columns = rw (append-nil (name_text name)) refl
+    by_format Table = rw (append-nil (name_text name)) refl
     by_format Object = rw (append-nil (name_member front.key name)) refl
 
 -- a row with nothing after its name

@@ -281,7 +281,7 @@ members_of file cap = members_from (length file) file cap before_members
 abbrev member_fields : ℕ → ℕ → ℕ → Fields
 member_fields index at size = record {
   letter = codes "A";
-  fields = Decimal (codes "index") 5 index ∷ Hexadecimal (codes "offset") 16 at ∷ Hexadecimal (codes "size") 16 size ∷ [];
+  fields = Decimal (codes "index") 5 index ∷ Hexadecimal (codes "offset") 16 9 at ∷ Hexadecimal (codes "size") 16 9 size ∷ [];
 }
 
 unfoldable pub member_prefix : Format → ℕ → ℕ → ℕ → LinePrefix

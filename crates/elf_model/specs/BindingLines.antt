@@ -7,7 +7,7 @@ use Rattle.elf_model.specs.Names.DisplayedName.{Whole}
 use Rattle.elf_model.specs.Suffixes.{version_member}
 use Rattle.elf_model.specs.Text.{newline}
 use Rattle.elf_model.specs.declared.formats.Format.{Format}
-use Rattle.elf_model.specs.declared.formats.Format.TheVariants.{Columns, Object}
+use Rattle.elf_model.specs.declared.formats.Format.TheVariants.{Object}
 use Rattle.elf_model.specs.declared.states.BindingState.{BindingState}
 use Rattle.elf_model.specs.declared.states.BindingState.TheVariants as state
 
@@ -61,8 +61,8 @@ binding_front format object symbol found = front format (codes "name") (binding_
 -- a line that ends in a name, followed by `@` and the requested version; in an object that is a
 -- member of its own
 unfoldable pub line_requested : Format → (key text name version : List ℕ) → List ℕ
-line_requested Columns key text name version = text ++ (escaped name ++ codes "@" ++ escaped version ++ newline)
 line_requested Object key text name version = text ++ (name_member key (Whole name) ++ version_member (Whole version) ++ closing Object)
+line_requested _ key text name version = text ++ (escaped name ++ codes "@" ++ escaped version ++ newline)
 
 abbrev pub requested_line : LinePrefix → (name : List ℕ) → (version : Option (List ℕ)) → List ℕ
 requested_line front name None = named_line front (Whole name)

@@ -1,4 +1,4 @@
--- The word of each cause in a listing.
+-- The word of each cause in a listing, and in a table what it means.
 use Rattle.std.specs.Prelude.{ℕ, List, codes}
 use Rattle.elf_model.specs.declared.causes.Cause.{Cause}
 use Rattle.elf_model.specs.declared.causes.Cause.TheVariants.{Short, NotElf, BadClass, BadData, BadVersion, ExtendedNumbering, TooManyHeaders, EntrySize, TableOutside, BadLink, NotStrings, SizeNotWhole, NameOutside, NameUnended, NoteCut, NoHash, HashShape, HashIndex, HashCycle, Unsupported, Overflow, NotRel, Unplaced, Undefined, PlaceOutside, SymbolIndex, TooLong, Budget, Unmapped, Thin, NotArchive, MemberCut, VersionCut, VersionIndex, LoadOverlap}
@@ -40,3 +40,41 @@ cause_word MemberCut = codes "member-cut"
 cause_word VersionCut = codes "version-cut"
 cause_word VersionIndex = codes "version-index"
 cause_word LoadOverlap = codes "load-overlap"
+
+-- what a cause means, in plain words
+unfoldable pub cause_meaning : Cause → List ℕ
+cause_meaning Short = codes "the file is shorter than a file header"
+cause_meaning NotElf = codes "not an ELF file"
+cause_meaning BadClass = codes "not a 64-bit file"
+cause_meaning BadData = codes "not a little-endian file"
+cause_meaning BadVersion = codes "the version is not 1"
+cause_meaning ExtendedNumbering = codes "a count is stored in section 0, which is not read"
+cause_meaning TooManyHeaders = codes "more headers than --headers allows"
+cause_meaning EntrySize = codes "the entries of the table do not have the standard's size"
+cause_meaning TableOutside = codes "the table extends past the end of the file"
+cause_meaning BadLink = codes "the index names no section, or none of the type needed"
+cause_meaning NotStrings = codes "the section is not a string table"
+cause_meaning SizeNotWhole = codes "the size of the table is not a multiple of its entries' size"
+cause_meaning NameOutside = codes "the name begins after the end of its string table"
+cause_meaning NameUnended = codes "the name does not end before the end of its string table"
+cause_meaning NoteCut = codes "the table of notes ends within a note"
+cause_meaning NoHash = codes "the file has no hash table"
+cause_meaning HashShape = codes "the hash table has no room for what its counts say"
+cause_meaning HashIndex = codes "the hash table names no symbol"
+cause_meaning HashCycle = codes "a chain of the hash table does not end"
+cause_meaning Unsupported = codes "the type is not supported"
+cause_meaning Overflow = codes "the value does not fit (relocation truncated to fit)"
+cause_meaning NotRel = codes "not a relocatable file for x86-64"
+cause_meaning Unplaced = codes "the section of the symbol has no address"
+cause_meaning Undefined = codes "the symbol has no value (undefined reference)"
+cause_meaning PlaceOutside = codes "the place is not in the section"
+cause_meaning SymbolIndex = codes "the symbol table has no such symbol"
+cause_meaning TooLong = codes "the file has 2^63 bytes or more"
+cause_meaning Budget = codes "--max-read does not suffice"
+cause_meaning Unmapped = codes "no LOAD segment contains the table"
+cause_meaning Thin = codes "a thin archive: the members are in other files"
+cause_meaning NotArchive = codes "not an archive"
+cause_meaning MemberCut = codes "there is no member of an archive"
+cause_meaning VersionCut = codes "the table of versions ends before the record"
+cause_meaning VersionIndex = codes "no record names the version"
+cause_meaning LoadOverlap = codes "a LOAD segment begins on a page of the previous one, or below it"

@@ -2,7 +2,7 @@
 use Rattle.std.specs.Prelude.{[], ◌∷◌, ℕ, ◌≡◌, nat_lt, Bool, true, false, if◌then◌else◌, List, length, codes, Option, None, Some}
 use Rattle.elf_model.specs.Budget.{IsBudgeted}
 use Rattle.elf_model.specs.Causes.{cause_word}
-use Rattle.elf_model.specs.Fields.{Field, Fields, LinePrefix, closed_line, front}
+use Rattle.elf_model.specs.Fields.{CAUSE_WIDTH, Field, Fields, LinePrefix, closed_line, front}
 use Rattle.elf_model.specs.Fields.Field.{Decimal, Hexadecimal, Hyphen, ArgSpec}
 use Rattle.elf_model.specs.FileLists.{file_magic, undecided}
 use Rattle.elf_model.specs.Lines.{named_line}
@@ -13,6 +13,7 @@ use Rattle.elf_model.specs.declared.causes.Cause.{Cause}
 use Rattle.elf_model.specs.declared.causes.Cause.TheVariants.{NotElf, Short}
 use Rattle.elf_model.specs.declared.causes.Refusal.{Refusal}
 use Rattle.elf_model.specs.declared.formats.Format.{Format}
+use Rattle.elf_model.specs.declared.formats.Format.TheVariants.{Columns, Object, Table}
 use Rattle.elf_model.specs.declared.states.FileMagic.{FileMagic}
 use Rattle.elf_model.specs.declared.states.FileMagic.TheVariants as sort
 use Rattle.elf_model.specs.declared.states.FileStatus.{FileStatus}
@@ -54,19 +55,25 @@ file_status_name state.NoElf = codes "no-elf"
 file_status_name state.Unread = codes "unread"
 file_status_name state.Memory = codes "memory"
 
+-- the width of the column of a cause: none, except in a table
+abbrev pub cause_width : Format → ℕ
+cause_width Table = CAUSE_WIDTH
+cause_width Columns = 0
+cause_width Object = 0
+
 -- whether a file is malformed and why, or a hyphen
-abbrev pub fault_fields : FileStatus → List Field
-fault_fields (state.Refused refusal) =
-    Hexadecimal (codes "place") 16 refusal.at ∷ ArgSpec (codes "cause") 0 (cause_word refusal.cause) ∷ []
-fault_fields _ = Hyphen ∷ []
+abbrev pub fault_fields : Format → FileStatus → List Field
+fault_fields format (state.Refused refusal) =
+    Hexadecimal (codes "place") 16 9 refusal.at ∷ ArgSpec (codes "cause") (cause_width format) (cause_word refusal.cause) ∷ []
+fault_fields format _ = Hyphen ∷ []
 
 -- a file's state, and its fault
-abbrev check_fields : FileStatus → Fields
-check_fields found = record { letter = codes "C"; fields = ArgSpec (codes "state") 12 (file_status_name found) ∷ fault_fields found }
+abbrev check_fields : Format → FileStatus → Fields
+check_fields format found = record { letter = codes "C"; fields = ArgSpec (codes "state") 12 (file_status_name found) ∷ fault_fields format found }
 
 -- a file's line up to its path
 unfoldable pub check_front : Format → FileStatus → LinePrefix
-check_front format found = front format (codes "path") (check_fields found)
+check_front format found = front format (codes "path") (check_fields format found)
 
 -- the line of a file: its state, whether it is malformed and why, and its path
 abbrev pub check_line : Format → FileStatus → List ℕ → List ℕ

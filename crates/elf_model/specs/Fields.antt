@@ -1,21 +1,21 @@
 -- A line as data: its letter and its fields, each with its key, its form, and its number or text;
--- and for most lines a name. Its columns and its JSON object (RFC 8259) are two ways to write the
--- same fields.
+-- and for most lines a name. Its columns, its JSON object (RFC 8259) and its row in a table are
+-- three ways to write the same fields.
 use Rattle.std.specs.Prelude.{ℕ, ℤ, pos, int_lt, nat_abs, ◌==◌, if◌then◌else◌, List, [], ◌∷◌, ◌++◌, Option, None, Some, unwrap_or, codes, decimal}
 use Rattle.std.specs.Fmt.{signed_decimal}
-use Rattle.elf_model.specs.Text.{hex, left_in, right_decimal, space, newline}
+use Rattle.elf_model.specs.Text.{hex, left_in, right_decimal, right_in, short_hex, space, newline}
 use Rattle.elf_model.specs.NameTables.{name_or_decimal, number_sign}
 use Rattle.elf_model.specs.declared.formats.Format.{Format}
-use Rattle.elf_model.specs.declared.formats.Format.TheVariants.{Columns, Object}
+use Rattle.elf_model.specs.declared.formats.Format.TheVariants.{Columns, Object, Table}
 
 -- a field, by its key: a decimal number at the right of a column; a number in this many hexadecimal
--- digits; a number with its sign; a text at the left of a column; a name at the left of a column,
+-- digits, and in a table at the right of a column of this width; a number with its sign; a text at the left of a column; a name at the left of a column,
 -- or if the number has none the number itself, in decimal at the right, in hexadecimal digits at
 -- the left, or in decimal after a sign of one at the left; and a hyphen in place of fields that a
 -- line does not have
 pub data Field : Type 0 where
   Decimal : (key : List ℕ) (width n : ℕ) → Field
-  Hexadecimal : (key : List ℕ) (digits n : ℕ) → Field
+  Hexadecimal : (key : List ℕ) (digits width n : ℕ) → Field
   Signed : (key : List ℕ) (n : ℤ) → Field
   ArgSpec : (key : List ℕ) (width : ℕ) (text : List ℕ) → Field
   NameOrDecimal : (key : List ℕ) (width : ℕ) (name : Option (List ℕ)) (n : ℕ) → Field
@@ -30,7 +30,7 @@ pub record Fields : Type 0 where
 
 abbrev key_of : Field → List ℕ
 key_of (Decimal key width n) = key
-key_of (Hexadecimal key digits n) = key
+key_of (Hexadecimal key digits width n) = key
 key_of (Signed key n) = key
 key_of (ArgSpec key width text) = key
 key_of (NameOrDecimal key width name n) = key
@@ -39,19 +39,42 @@ key_of (NameOrNumber key width name n) = key
 key_of Hyphen = []
 
 -- a number with its sign, and its absolute value in sixteen digits
+abbrev pub sign_of : ℤ → List ℕ
+sign_of n = if int_lt n (pos 0) then codes "-" else codes "+"
+
 unfoldable pub signed_text : ℤ → List ℕ
-signed_text n = (if int_lt n (pos 0) then codes "-" else codes "+") ++ hex 16 (nat_abs n)
+signed_text n = sign_of n ++ hex 16 (nat_abs n)
 
 -- a field in its column
 abbrev pub column : Field → List ℕ
 column (Decimal key width n) = right_decimal width n
-column (Hexadecimal key digits n) = hex digits n
+column (Hexadecimal key digits width n) = hex digits n
 column (Signed key n) = signed_text n
 column (ArgSpec key width text) = left_in width text
 column (NameOrDecimal key width name n) = name_or_decimal width name n
 column (NameOrHexadecimal key width digits name n) = left_in width (unwrap_or name (hex digits n))
 column (NameOrNumber key width name n) = left_in width (unwrap_or name (number_sign n))
 column Hyphen = codes "-"
+
+-- the widths of two columns of a table: of a number with its sign, and of the word of a cause
+abbrev pub ADDEND_WIDTH : ℕ
+ADDEND_WIDTH = 9
+
+abbrev pub CAUSE_WIDTH : ℕ
+CAUSE_WIDTH = 14
+
+-- a field in its column of a table: a hexadecimal number and a number with its sign are at the
+-- right, without leading zeros; a hyphen is in each of the columns of the place and the cause; all
+-- else is as in columns
+abbrev pub cell : Field → List ℕ
+cell (Hexadecimal key digits width n) = right_in width (short_hex n)
+cell (Signed key n) = right_in ADDEND_WIDTH (sign_of n ++ short_hex (nat_abs n))
+cell Hyphen = right_in 9 (codes "-") ++ space ++ left_in CAUSE_WIDTH (codes "-")
+cell (Decimal key width n) = right_decimal width n
+cell (ArgSpec key width text) = left_in width text
+cell (NameOrDecimal key width name n) = name_or_decimal width name n
+cell (NameOrHexadecimal key width digits name n) = left_in width (unwrap_or name (hex digits n))
+cell (NameOrNumber key width name n) = left_in width (unwrap_or name (number_sign n))
 
 -- a byte of a string: a quotation mark and a backslash have a backslash before them (RFC 8259,
 -- Strings)
@@ -78,7 +101,7 @@ name_or_value None n = decimal n
 -- a field as the value of a member: each number in decimal, and each text as a string
 abbrev member_value : Field → List ℕ
 member_value (Decimal key width n) = decimal n
-member_value (Hexadecimal key digits n) = decimal n
+member_value (Hexadecimal key digits width n) = decimal n
 member_value (Signed key n) = signed_decimal n
 member_value (ArgSpec key width text) = quoted text
 member_value (NameOrDecimal key width name n) = name_or_value name n
@@ -93,11 +116,13 @@ member_key key = codes ",\"" ++ key ++ codes "\":"
 -- the beginning of a line, with its letter
 unfoldable pub begun : Format → List ℕ → List ℕ
 begun Columns letter = letter ++ space
+begun Table letter = letter ++ space
 begun Object letter = codes "{\"line\":\"" ++ letter ++ codes "\""
 
 -- a line with one more field, and what follows it in a column
 unfoldable pub with_field : Format → List ℕ → Field → List ℕ → List ℕ
 with_field Columns line field behind = line ++ column field ++ behind
+with_field Table line field behind = line ++ cell field ++ behind
 with_field Object line Hyphen behind = line
 with_field Object line field behind = line ++ member_key (key_of field) ++ member_value field
 
@@ -122,6 +147,7 @@ front format key row = record { format = format; key = key; text = fields_text f
 -- what ends a line after its last field
 unfoldable pub closing : Format → List ℕ
 closing Columns = []
+closing Table = []
 closing Object = codes "}\n"
 
 -- a line without a name: its letter and its fields, and the last of them

@@ -11,6 +11,7 @@ pub mod Dynamic
 pub mod Text
 pub mod Causes
 pub mod NameTables
+pub mod RelocationNames
 pub mod Fields
 pub mod LineFronts
 pub mod Lines
@@ -27,6 +28,7 @@ pub mod Suffixes
 pub mod TableKinds
 pub mod SuffixLaws
 pub mod Report
+pub mod TableTexts
 pub mod ListingLaws
 pub mod StyleLaws
 pub mod ChoiceLaws

@@ -2,15 +2,15 @@
 use Rattle.std.specs.Prelude.{ℕ, ◌==◌, ◌&&◌, nat_le, nat_lt, if◌then◌else◌, Bool, List, [], ◌∷◌, ◌++◌, codes, take, length}
 use Rattle.elf_model.specs.Fields.{Fields, LinePrefix, member_key, quoted, closed_line, closing}
 use Rattle.elf_model.specs.Fields.Field.{Decimal, Hexadecimal, ArgSpec, NameOrHexadecimal}
-use Rattle.elf_model.specs.Text.{hex, space, newline, name_of}
+use Rattle.elf_model.specs.Text.{hex, short_hex, space, newline, name_of}
 use Rattle.elf_model.specs.Records.{e_type, e_machine, e_entry, e_phoff, e_shoff, e_flags, e_phnum, e_shnum, e_shstrndx, p_type, p_flags, p_offset, p_vaddr, p_paddr, p_filesz, p_memsz, p_align}
 use Rattle.elf_model.specs.NameTables.{file_types, segment_types, segment_flags_text}
 use Rattle.elf_model.specs.Names.{DisplayedName}
 use Rattle.elf_model.specs.Names.DisplayedName.{Whole, Cut}
-use Rattle.elf_model.specs.Causes.{cause_word}
+use Rattle.elf_model.specs.Causes.{cause_meaning, cause_word}
 use Rattle.elf_model.specs.declared.causes.Refusal.{Refusal}
 use Rattle.elf_model.specs.declared.formats.Format.{Format}
-use Rattle.elf_model.specs.declared.formats.Format.TheVariants.{Columns, Object}
+use Rattle.elf_model.specs.declared.formats.Format.TheVariants.{Columns, Object, Table}
 
 -- the file header: type, machine, entry point, the offsets of the program headers and the section
 -- headers, flags, and how many of them there are
@@ -20,10 +20,10 @@ header_fields file = record {
   fields =
       NameOrHexadecimal (codes "type") 4 4 (name_of file_types (e_type file)) (e_type file)
       ∷ Decimal (codes "machine") 5 (e_machine file)
-      ∷ Hexadecimal (codes "entry") 16 (e_entry file)
-      ∷ Hexadecimal (codes "phoff") 16 (e_phoff file)
-      ∷ Hexadecimal (codes "shoff") 16 (e_shoff file)
-      ∷ Hexadecimal (codes "flags") 8 (e_flags file)
+      ∷ Hexadecimal (codes "entry") 16 12 (e_entry file)
+      ∷ Hexadecimal (codes "phoff") 16 9 (e_phoff file)
+      ∷ Hexadecimal (codes "shoff") 16 9 (e_shoff file)
+      ∷ Hexadecimal (codes "flags") 8 8 (e_flags file)
       ∷ Decimal (codes "phnum") 5 (e_phnum file)
       ∷ Decimal (codes "shnum") 5 (e_shnum file)
       ∷ [];
@@ -42,18 +42,18 @@ segment_fields gnu bytes at index = record {
       Decimal (codes "index") 5 index
       ∷ NameOrHexadecimal (codes "type") 8 8 (name_of (segment_types gnu) (p_type bytes at)) (p_type bytes at)
       ∷ ArgSpec (codes "permissions") 3 (segment_flags_text (p_flags bytes at))
-      ∷ Hexadecimal (codes "offset") 16 (p_offset bytes at)
-      ∷ Hexadecimal (codes "vaddr") 16 (p_vaddr bytes at)
-      ∷ Hexadecimal (codes "paddr") 16 (p_paddr bytes at)
-      ∷ Hexadecimal (codes "filesz") 16 (p_filesz bytes at)
-      ∷ Hexadecimal (codes "memsz") 16 (p_memsz bytes at)
+      ∷ Hexadecimal (codes "offset") 16 9 (p_offset bytes at)
+      ∷ Hexadecimal (codes "vaddr") 16 12 (p_vaddr bytes at)
+      ∷ Hexadecimal (codes "paddr") 16 12 (p_paddr bytes at)
+      ∷ Hexadecimal (codes "filesz") 16 9 (p_filesz bytes at)
+      ∷ Hexadecimal (codes "memsz") 16 9 (p_memsz bytes at)
       ∷ [];
 }
 
 -- its line, which ends with its alignment
 unfoldable pub segment_line : Format → Bool → List ℕ → ℕ → ℕ → List ℕ
 segment_line format gnu bytes at index =
-    closed_line format (segment_fields gnu bytes at index) (Hexadecimal (codes "align") 16 (p_align bytes at))
+    closed_line format (segment_fields gnu bytes at index) (Hexadecimal (codes "align") 16 5 (p_align bytes at))
 
 -- the line that ends a lookup: whether the name was found, and how many symbols were compared
 unfoldable pub steps_line : Format → Bool → ℕ → List ℕ
@@ -61,11 +61,21 @@ steps_line format found steps =
     let answer = ArgSpec (codes "answer") 6 (if found then codes "found" else codes "absent") in
     closed_line format (record { letter = codes "F"; fields = answer ∷ [] }) (Decimal (codes "steps") 10 steps)
 
--- the line of a refusal: the file offset that it points to, and the word of its cause
+-- the file offset of a fault and a cause, by its word
+abbrev pub fault_line : Format → (at : ℕ) → (cause : List ℕ) → List ℕ
+fault_line format at cause =
+    let place = Hexadecimal (codes "place") 16 9 at in
+    closed_line format (record { letter = codes "!"; fields = place ∷ [] }) (ArgSpec (codes "cause") 0 cause)
+
+-- the same in plain words, in a table
+unfoldable pub told_line : (at : ℕ) → (meaning : List ℕ) → List ℕ
+told_line at meaning = codes "! 0x" ++ short_hex at ++ codes ": " ++ meaning ++ newline
+
+-- the line of a refusal: the file offset that it points to, and the word of its cause, or in a
+-- table what it means
 unfoldable pub refusal_line : Format → Refusal → List ℕ
-refusal_line format r =
-    let place = Hexadecimal (codes "place") 16 r.at in
-    closed_line format (record { letter = codes "!"; fields = place ∷ [] }) (ArgSpec (codes "cause") 0 (cause_word r.cause))
+refusal_line Table r = told_line r.at (cause_meaning r.cause)
+refusal_line format r = fault_line format r.at (cause_word r.cause)
 
 -- a byte of a name: a backslash is doubled, any other printing ASCII character is unchanged, any
 -- other byte is escaped in two digits
@@ -96,8 +106,8 @@ name_member key (Cut front) = member_key key ++ quoted (escaped front) ++ (membe
 
 -- a line that ends in a name
 unfoldable pub line_named : Format → (key text : List ℕ) → DisplayedName → List ℕ
-line_named Columns key text name = text ++ (name_text name ++ newline)
 line_named Object key text name = text ++ (name_member key name ++ closing Object)
+line_named _ key text name = text ++ (name_text name ++ newline)
 
 abbrev pub named_line : LinePrefix → DisplayedName → List ℕ
 named_line front name = line_named front.format front.key front.text name
@@ -124,10 +134,10 @@ note_tail descriptor = space ++ descriptor_text descriptor ++ newline
 -- a line that ends in a name and a descriptor: in an object the descriptor has only the bytes that
 -- are shown
 unfoldable pub line_described : Format → (key text : List ℕ) → DisplayedName → List ℕ → List ℕ
-line_described Columns key text name descriptor = text ++ (name_text name ++ note_tail descriptor)
 line_described Object key text name descriptor =
     text ++ (name_member key name
     ++ (member_key (codes "descriptor") ++ quoted (hex_bytes (take SHOWN_DESCRIPTOR descriptor)) ++ closing Object))
+line_described _ key text name descriptor = text ++ (name_text name ++ note_tail descriptor)
 
 -- the line of a note
 abbrev pub note_line : LinePrefix → DisplayedName → List ℕ → List ℕ

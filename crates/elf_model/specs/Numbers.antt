@@ -9,6 +9,13 @@ ET_REL = 1
 abbrev pub EM_X86_64 : ℕ
 EM_X86_64 = 62
 
+-- the machine numbers of AArch64 and RISC-V (their ELF specifications, Machine Information)
+abbrev pub EM_AARCH64 : ℕ
+EM_AARCH64 = 183
+
+abbrev pub EM_RISCV : ℕ
+EM_RISCV = 243
+
 -- the machine number of Alpha, as GNU files have it
 abbrev pub EM_ALPHA : ℕ
 EM_ALPHA = 0x9026

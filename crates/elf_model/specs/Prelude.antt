@@ -20,9 +20,9 @@ unfoldable pub use Rattle.elf_model.specs.BoundSymbols.{bound_item, counted_item
 pub use Rattle.elf_model.specs.Budget.{IsBudgetRefusal, IsBudgeted, IsCut, IsReport}
 pub use Rattle.elf_model.specs.Bytes.{IsBytes, slice}
 unfoldable pub use Rattle.elf_model.specs.Bytes.{field, little, number}
-unfoldable pub use Rattle.elf_model.specs.Causes.{cause_word}
+unfoldable pub use Rattle.elf_model.specs.Causes.{cause_meaning, cause_word}
 pub use Rattle.elf_model.specs.Chains.{Answers, ChainResult, HashTable, Last, NotThere, Untried, WalkEnd, end_of_match, nothing_tried, refused_walk}
-pub use Rattle.elf_model.specs.Checking.{IsStateOf, check_line, fault_fields, is_not_elf, state_of}
+pub use Rattle.elf_model.specs.Checking.{IsStateOf, cause_width, check_line, fault_fields, is_not_elf, state_of}
 unfoldable pub use Rattle.elf_model.specs.Checking.{check_front, file_status_name, unnamed_line}
 pub use Rattle.elf_model.specs.Checks.{Check, HeaderCounts, before_headers, early_checks, early_checks_of, first_refusal, has_section_names, header_checks, ident_checks, is_outside, is_section_outside, is_symbol_table, length_checks, load_checks, pass, range_checks, range_checks_of, refuse, section_name_checks, strings_checks, table_checks, table_checks_of, unless_empty, whole_checks_of}
 pub use Rattle.elf_model.specs.Choice.{EveryRow, NoSuffix, RowFilter, RowsOf, Suffix, Suffixed, chooses, is_named, is_whole, suits, wanted_text}
@@ -38,7 +38,7 @@ pub use Rattle.elf_model.specs.Explain.{ITEM_NAME_SIZE, MissingEntry, lack_with}
 pub use Rattle.elf_model.specs.ExplainLine.{explanation, item_text, where_named}
 unfoldable pub use Rattle.elf_model.specs.ExplainLine.{entry_item_text, entry_text, help_text, items_text, missing_line, place_text, type_prefix}
 unfoldable pub use Rattle.elf_model.specs.Explain.{explained, has_entry, lack_of, missing, missing_for_type, missing_ifunc_entry, missing_of, missing_place, name_wanted, refused_in, relocates_at, resolved_symbol_name, symbol_place, wanted}
-pub use Rattle.elf_model.specs.Fields.{Field, Fields, LinePrefix, closed_line, front, name_or_value, with_fields}
+pub use Rattle.elf_model.specs.Fields.{ADDEND_WIDTH, CAUSE_WIDTH, Field, Fields, LinePrefix, cell, closed_line, front, name_or_value, sign_of, with_fields}
 pub use Rattle.elf_model.specs.Fields.Field.{ArgSpec, Decimal, Hexadecimal, NameOrDecimal, NameOrHexadecimal, NameOrNumber}
 unfoldable pub use Rattle.elf_model.specs.Fields.{begun, closing, member_key, quoted, signed_text, string_byte, string_text, with_field}
 pub use Rattle.elf_model.specs.FileLists.{budget_after, front_size, headed, list_status, may_read_bytes, member_fault, members_alone, path_line, placed_after}
@@ -66,6 +66,11 @@ pub use Rattle.elf_model.specs.LibraryFiles.{Accepted, DF_1_NODEFLIB, LibraryFil
 unfoldable pub use Rattle.elf_model.specs.LibraryFiles.{flags_1_by_segments, is_program_file, library_file, library_links}
 unfoldable pub use Rattle.elf_model.specs.LineFronts.{dynamic_prefix, note_prefix, relocation_prefix, section_prefix, symbol_prefix}
 pub use Rattle.elf_model.specs.Lines.{SHOWN_DESCRIPTOR, cut_mark, name_member, named_line, note_line}
+pub use Rattle.elf_model.specs.LineFronts.{names_of_types, type_width}
+unfoldable pub use Rattle.elf_model.specs.RelocationNames.{aarch64_relocation_types, psabi_relocation_types, riscv_relocation_types, x86_64_relocation_types}
+pub use Rattle.elf_model.specs.TableTexts.{TableIsInPieces, before_line, names_line, place_after, table_start, table_text}
+unfoldable pub use Rattle.elf_model.specs.TableTexts.{byte_in_table, headings, state_after, state_at_end, table_from}
+unfoldable pub use Rattle.elf_model.specs.Lines.{told_line}
 unfoldable pub use Rattle.elf_model.specs.Lines.{descriptor_text, escaped, header_line, hex_bytes, line_described, line_named, name_byte_text, name_text, note_tail, refusal_line, segment_line, steps_line}
 pub use Rattle.elf_model.specs.Links.{LINK_TEXT_BYTES, LinkState, NeededName, TextRoom, first_text, has_room, is_link, no_link_info, room_after}
 unfoldable pub use Rattle.elf_model.specs.Links.{link_text, linked_by, linked_from, linked_in, linked_with, links_by_segments, links_ceiling, links_of, loaded_links, lookup_refusal, machine_in}
@@ -124,7 +129,7 @@ pub use Rattle.elf_model.specs.TableKinds.{TableHeaders, by_sections, by_segment
 unfoldable pub use Rattle.elf_model.specs.TableKinds.{relocations, relocations_with_versions, section_dynamic, section_notes, segment_dynamic, segment_notes, suffixed_symbols, suffixes_cost, symbols, table_headers}
 pub use Rattle.elf_model.specs.Tables.{DYNAMIC_SIZE, RELA_SIZE, SYMBOL_SIZE, all_checks, dynamic_table_checks, entry_at, entry_count, has_symbols, linked_at, linked_table_checks, relocation_table_checks, segment_dynamic_checks, strings_of, symbol_checks_of, symbol_table, symbol_table_checks}
 pub use Rattle.elf_model.specs.Text.{newline, space, spaces}
-unfoldable pub use Rattle.elf_model.specs.Text.{digit, hex, left_in, name_of, right_decimal, right_in}
+unfoldable pub use Rattle.elf_model.specs.Text.{digit, hex, left_in, name_of, right_decimal, right_in, short_hex, without_zeros}
 unfoldable pub use Rattle.elf_model.specs.TraitCost.{hash_words_asked, properties_asked, segment_traits_cost, symbols_asked, trait_entries_asked, traits_ceiling, traits_cost}
 pub use Rattle.elf_model.specs.TraitNumbers.{DT_BIND_NOW, DT_FLAGS, DT_FLAGS_1, DT_TEXTREL, has_bits}
 pub use Rattle.elf_model.specs.TraitWords.{Required, either_word, has_word, lacking_status, lacking_text, segments_word, trait_line}

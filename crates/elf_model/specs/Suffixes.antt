@@ -22,7 +22,7 @@ use Rattle.elf_model.specs.declared.causes.Cause.{Cause}
 use Rattle.elf_model.specs.declared.causes.Cause.TheVariants.{VersionCut, VersionIndex}
 use Rattle.elf_model.specs.declared.causes.Refusal.{Refusal}
 use Rattle.elf_model.specs.declared.formats.Format.{Format}
-use Rattle.elf_model.specs.declared.formats.Format.TheVariants.{Columns, Object}
+use Rattle.elf_model.specs.declared.formats.Format.TheVariants.{Object}
 use Rattle.elf_model.specs.declared.versions.VersionKind.{VersionKind}
 use Rattle.elf_model.specs.declared.versions.VersionKind.TheVariants.{Definition, File}
 
@@ -112,8 +112,8 @@ suffix_members (Suffixed default name) =
 
 -- a line that ends in a name with its version
 unfoldable pub line_suffixed : Format → (key text : List ℕ) → DisplayedName → Suffix → List ℕ
-line_suffixed Columns key text name suffix = text ++ (name_text name ++ suffix_text suffix ++ newline)
 line_suffixed Object key text name suffix = text ++ (name_member key name ++ suffix_members suffix ++ closing Object)
+line_suffixed _ key text name suffix = text ++ (name_text name ++ suffix_text suffix ++ newline)
 
 abbrev pub suffixed_line : LinePrefix → DisplayedName → Suffix → List ℕ
 suffixed_line front name suffix = line_suffixed front.format front.key front.text name suffix

@@ -10,6 +10,16 @@ unfoldable pub hex : ℕ → ℕ → List ℕ
 hex zero n = []
 hex (suc k) n = digit (n / 16 ^ k % 16) ∷ hex k n
 
+-- digits without the zeros before the first other digit; the last digit stays
+unfoldable pub without_zeros : List ℕ → List ℕ
+without_zeros [] = []
+without_zeros (first ∷ []) = first ∷ []
+without_zeros (first ∷ next ∷ rest) = if first == 48 then without_zeros (next ∷ rest) else first ∷ next ∷ rest
+
+-- a number of 64 bits in hexadecimal, without leading zeros
+unfoldable pub short_hex : ℕ → List ℕ
+short_hex n = without_zeros (hex 16 n)
+
 -- this many spaces
 abbrev pub spaces : ℕ → List ℕ
 spaces n = replicate n 32

@@ -34,8 +34,8 @@ version_fields kind section number flags hash = record {
       Decimal (codes "index") 5 section
       ∷ ArgSpec (codes "kind") 4 (kind_text kind)
       ∷ Decimal (codes "number") 5 number
-      ∷ Hexadecimal (codes "flags") 4 flags
-      ∷ Hexadecimal (codes "hash") 8 hash
+      ∷ Hexadecimal (codes "flags") 4 5 flags
+      ∷ Hexadecimal (codes "hash") 8 8 hash
       ∷ [];
 }
 

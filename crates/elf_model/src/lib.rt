@@ -27,13 +27,14 @@ mod states;
 mod style_laws;
 mod suffix_laws;
 mod sysv_walk_laws;
+mod table_laws;
 mod traits;
 mod value_laws;
 mod version_laws;
 mod versions;
 
 pub use causes::{Cause, Refusal};
-pub use formats::Format;
+pub use formats::{Format, LinePlace, TableState};
 pub use missing::{LayoutAddress, MissingAddress};
 pub use relocation_types::{Formula, RelocationBase, RelocationType, ValueRange};
 pub use states::{BindingState, FileMagic, FileStatus, VersionState};
