@@ -86,8 +86,7 @@ impl<S: Source + Drop> OpenObjects<CachedSource<S>> {
         if self.objects.len() >= self.most {
             return Ok(());
         }
-        let keeps = left.is_none();
-        let pages = PageCache::new(*self.objects.allocator(), keeps);
+        let pages = pages_for(*self.objects.allocator(), left.is_none());
         let mut source = Counted::new(CachedSource::new(source, pages));
         source.mask_section_headers(true);
         source.limit(*left);
@@ -105,6 +104,17 @@ impl<S: Source + Drop> OpenObjects<CachedSource<S>> {
             }
         }
     }
+}
+
+/// Returns a cache for the pages of a file: with the memory of all its pages, or, if none is kept or
+/// there is no memory, one that stays empty.
+fn pages_for(alloc: Global, keeps: bool) -> PageCache {
+    if keeps {
+        if let Ok(pages) = PageCache::with_room(alloc) {
+            return pages;
+        }
+    }
+    PageCache::new(alloc, false)
 }
 
 /// Reads what the lookups in an object have in common, if symbols are looked up.
