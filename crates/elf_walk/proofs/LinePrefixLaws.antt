@@ -23,30 +23,21 @@ front_word file bytes is = ap (λ b. field b 0 4) is ∙ field-slice file 0 8 0 
 pub front_words : (file bytes : List ℕ) → bytes ≡ take 8 (drop 0 file) → field bytes 0 8 ≡ field file 0 8
 front_words file bytes is = ap (λ b. field b 0 8) is ∙ field-slice file 0 8 0 8 (omega arith)
 
--- how many bytes decide, by whether the file has as many as a magic string
-eight_wide : (t : Bool) → ◌≡◌ {A = ℕ} (if t then 4 else 8) 8 → t ≡ false
-eight_wide true is = absurd (cc)
-eight_wide false is = refl
+-- what a file is, if eight bytes decide it
+pub eight_decide : (budget : Option ℕ) (file : List ℕ) → 8 ≤ length file → may_read_bytes budget 8 ≡ true
+    → (if has_elf_magic file then sort.Elf else if field file 0 8 == ARCHIVE_MAGIC then sort.Archive else if field file 0 8 == THIN_MAGIC then sort.Thin else sort.Foreign) ≡ file_magic true budget file
+unfolding file_magic
+eight_decide budget file long may =
+    let few : nat_lt (length file) 4 ≡ false = grind (arith, nat_tests) in
+    let below : nat_lt (length file) 8 ≡ false = grind (arith, nat_tests) in
+    let room : nat_le 8 (length file) ≡ true = grind (arith, nat_tests) in
+    rw (few, below, may, room) refl
 
+-- and if four do
 four_narrow : (t : Bool) → ◌≡◌ {A = ℕ} (if t then 4 else 8) 4 → t ≡ true
 four_narrow true is = refl
 four_narrow false is = absurd (cc)
 
--- what a file is, if eight bytes decide it
-pub eight_front : (size : ℕ) → 8 ≤ size → front_size true size ≡ 8
-eight_front size long = let more : nat_lt size 8 ≡ false = grind (arith, nat_tests) in rw more refl
-
-pub eight_decide : (members : Bool) (budget : Option ℕ) (file : List ℕ) → 4 ≤ length file → may_read_bytes budget 8 ≡ true → front_size members (length file) ≡ 8
-    → (if has_elf_magic file then sort.Elf else if field file 0 8 == ARCHIVE_MAGIC then sort.Archive else if field file 0 8 == THIN_MAGIC then sort.Thin else sort.Foreign) ≡ file_magic members budget file
-unfolding file_magic
-eight_decide true budget file long may front =
-    let few : nat_lt (length file) 4 ≡ false = grind (arith, nat_tests) in
-    let below : nat_lt (length file) 8 ≡ false = eight_wide _ front in
-    let room : nat_le 8 (length file) ≡ true = grind (arith, nat_tests) in
-    rw (few, front, may, room) refl
-eight_decide false budget file long may front = absurd (cc)
-
--- and if four do
 pub four_front : (members : Bool) (size : ℕ) → size < 8 → front_size members size ≡ 4
 four_front true size short = let less : nat_lt size 8 ≡ true = grind (arith, nat_tests) in rw less refl
 four_front false size short = refl
@@ -75,13 +66,9 @@ unfolding file_magic
 short_type members s short =
     let few : nat_lt s.seen.size 4 ≡ true = grind (arith, nat_tests) in
     record {
-      reads = record {
-        keeps = record { same_size = refl; no_fewer = omega arith; same_file = refl; same_whole = refl };
-        grows = omega arith;
-        at_most = omega arith;
-        same_limit = refl;
-        view = record { keeps = record { same_size = refl; no_fewer = omega arith; same_file = refl; same_whole = refl }; hides = refl };
-      };
+      keeps = record { same_size = refl; no_fewer = omega arith; same_file = refl; same_whole = refl };
+      shows = refl;
+      same_limit = refl;
       asks = rw few (omega arith);
       fails = tt;
       finds = λ file held. let sized = s.seen.sized file held in rw (sized, few) refl;
@@ -106,42 +93,38 @@ forbids old new n some over =
     rw (over.is_set, fewer) refl
 
 module _ (members : Bool) (old new : CountedState) (n : ℕ) (long : 4 ≤ old.seen.size) (small : old.asked ≤ 2 ^ 127) (front : front_size members old.seen.size ≡ n) (some : 4 ≤ n) (few : n ≤ 8) (reads : ReadsUpTo old new n) where
-  asked_all : new.asked ≡ counted old.asked n → new.asked ≡ old.asked + front_asked members (left old) old.seen.size
-  asked_all asks =
-      let more : nat_lt old.seen.size 4 ≡ false = grind (arith, nat_tests) in
-      let may = permits old new n small few reads.same_limit asks in
-      rw (more, front, may) (omega (arith, asks, small, few))
-
-  asked_none : may_read_bytes (left old) n ≡ false → new.asked ≡ old.asked → new.asked ≡ old.asked + front_asked members (left old) old.seen.size
-  asked_none not_may asks =
-      let more : nat_lt old.seen.size 4 ≡ false = grind (arith, nat_tests) in
-      rw (more, front, not_may) (omega (arith, asks))
-
-  reads_front : ReadsUpTo old new 8
-  reads_front = record { keeps = reads.keeps; grows = reads.grows; at_most = omega (arith, reads.at_most, few); same_limit = reads.same_limit; view = reads.view }
+  asked_front : (may : Bool) → may_read_bytes (left old) n ≡ may → new.asked ≡ old.asked + (if may then n else 0) → new.asked ≡ old.asked + front_asked members (left old) old.seen.size
+  asked_front may is asks = let more : nat_lt old.seen.size 4 ≡ false = grind (arith, nat_tests) in rw (more, front, is) asks
 
   pub front_type : (result : Result FileMagic AskFault) → CountsRead old new n result → IfErr result (IsAskFault old new n)
-      → ((file : List ℕ) → old.seen.file ≡ Some file → may_read_bytes (left old) n ≡ true → IfOk result (λ kind. kind ≡ file_magic members (left old) file))
+      → (by : List ℕ → FileMagic) → ((file : List ℕ) → old.seen.file ≡ Some file → IfOk result (λ kind. kind ≡ by file))
+      → ((file : List ℕ) → length file ≡ old.seen.size → may_read_bytes (left old) n ≡ true → by file ≡ file_magic members (left old) file)
       → (result ≡ Ok sort.Archive → BeginsArchive old.seen) → ReadsFileType members old new (file_type_of result)
-  front_type (Ok kind) asks fails finds begins = record {
-    reads = reads_front;
-    asks = asked_all asks;
+  front_type (Ok kind) asks fails by finds decide begins = record {
+    keeps = reads.keeps;
+    shows = reads.view.hides;
+    same_limit = reads.same_limit;
+    asks = asked_front true (permits old new n small few reads.same_limit asks) (omega (arith, asks, small, few));
     fails = tt;
-    finds = λ file held. finds file held (permits old new n small few reads.same_limit asks);
+    finds = λ file held. finds file held ∙ decide file (old.seen.sized file held) (permits old new n small few reads.same_limit asks);
     begins = λ is. begins (cc);
   }
-  front_type (Err (Source fault)) asks fails finds begins = record {
-    reads = reads_front;
-    asks = asked_all asks;
+  front_type (Err (Source fault)) asks fails by finds decide begins = record {
+    keeps = reads.keeps;
+    shows = reads.view.hides;
+    same_limit = reads.same_limit;
+    asks = asked_front true (permits old new n small few reads.same_limit asks) (omega (arith, asks, small, few));
     fails = fails;
     finds = λ file held. tt;
     begins = λ is. absurd (cc);
   }
-  front_type (Err Budget) asks fails finds begins =
+  front_type (Err Budget) asks fails by finds decide begins =
       let not_may = forbids old new n some fails in
       record {
-        reads = reads_front;
-        asks = asked_none not_may asks;
+        keeps = reads.keeps;
+        shows = reads.view.hides;
+        same_limit = reads.same_limit;
+        asks = asked_front false not_may (omega (arith, asks));
         fails = tt;
         finds = λ file held. undecided_is members (left old) file (let sized = old.seen.sized file held in omega (arith, sized, long)) (let sized = old.seen.sized file held in rw (sized, front) not_may);
         begins = λ is. absurd (cc);
@@ -163,7 +146,7 @@ module _ (members : Bool) {a b c d : CountedState} {budget : Option ℕ} {result
   type_found file held = rw (left_set budget a b small set) at (type_read.finds file (rw set.seen held))
 
   pub type_within : IfSome budget (λ bytes. d.asked ≤ a.asked + bytes)
-  type_within = rw free.asked (within_budget budget a b c set type_read.reads.same_limit)
+  type_within = rw free.asked (within_budget budget a b c set type_read.same_limit)
 
   pub type_asked : d.asked ≡ a.asked + front_asked members budget a.seen.size
   type_asked = let asks = rw (left_set budget a b small set, set.seen) at type_read.asks in omega (arith, asks, set.asked, free.asked)

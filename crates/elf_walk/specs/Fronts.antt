@@ -5,7 +5,7 @@ use Rattle.elf_model.specs.declared.states.FileMagic.{FileMagic}
 use Rattle.elf_model.specs.declared.states.FileMagic.TheVariants.{Archive, Undecided}
 use Rattle.elf_archive.specs.FirstFault.{BeginsArchive}
 use Rattle.elf_options.specs.declared.caps.Limits.{Limits}
-use Rattle.elf_source.specs.Source.{CountedState, IsSourceFault, ReadsUpTo, left}
+use Rattle.elf_source.specs.Source.{CountedState, IsSourceFault, KeepsSource, left}
 use Rattle.elf_source.specs.declared.faults.AskFault.{AskFault}
 use Rattle.elf_source.specs.declared.faults.AskFault.TheVariants.{Budget, Source}
 use Rattle.elf_source.specs.declared.faults.SourceFault.{SourceFault}
@@ -34,7 +34,9 @@ file_type_of (Err (Source fault)) = Err fault
 
 -- a read of the type of a file, within the limit that is set
 pub record ReadsFileType (members : Bool) (old new : CountedState) (result : Result FileMagic SourceFault) : Type 0 where
-  pub reads : ReadsUpTo old new 8
+  pub keeps : KeepsSource old.seen new.seen
+  pub shows : new.hides ≡ old.hides
+  pub same_limit : new.most ≡ old.most
   pub asks : new.asked ≡ old.asked + front_asked members (left old) old.seen.size
   pub fails : IfErr result (IsSourceFault old.seen new.seen)
   pub finds : (file : List ℕ) → old.seen.file ≡ Some file → IfOk result (λ sort. sort ≡ file_magic members (left old) file)
