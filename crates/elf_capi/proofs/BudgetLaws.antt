@@ -1,28 +1,27 @@
--- A read budget, from a source from which nothing was requested before.
-use Rattle.std.proofs.Common.{◌≡◌, ℕ, ◌+◌, ◌-◌, ◌<◌, ◌≤◌, Option, None, Some, option_map, refl, sym, ◌∙◌, arith}
+-- A read budget, and a source with the limit that it sets, from which nothing was requested before.
+use Rattle.std.proofs.Common.{◌≡◌, ℕ, ◌+◌, ◌-◌, ◌<◌, ◌≤◌, Option, None, Some, option_map, refl, sym, ap, ◌∙◌, arith}
 use Rattle.std.specs.Prelude.{IfSome}
 use Rattle.elf_model.specs.declared.causes.Refusal.{Refusal}
 use Rattle.elf_source.specs.Source.{CountedState, SetsLimit, counted}
-use Rattle.elf_source.proofs.LimitLaws.{budget_below, spent_within, within_budget}
 use Rattle.elf_capi.specs.Wants.{IsWanting}
 
--- a limit that n more bytes would exceed is a budget of fewer
-pub wanting : (budget : Option ℕ) (s0 s1 : CountedState) (cost size most : ℕ) (refusal : Refusal) → SetsLimit s0 s1 budget → s0.asked ≡ 0 → s1.most ≡ Some most → most < s1.asked + cost → refusal.at < size
-    → IsWanting budget cost size refusal
-wanting None s0 s1 cost size most refusal set first some above inside = let none = set.most in cc
-wanting (Some bytes) s0 s1 cost size most refusal set first some above inside =
-    let limit : Some (counted s0.asked bytes) ≡ Some most = sym set.most ∙ some in
-    let same : counted s0.asked bytes ≡ most = cc in
-    (bytes, refl, budget_below bytes s0.asked most cost (omega (arith, first)) (sym same) (set.small bytes refl) (omega (arith, above, set.asked)), inside)
+-- the first limit of a source is the budget
+pub first_limit : (budget : Option ℕ) (s0 s1 : CountedState) → SetsLimit s0 s1 budget → s0.asked ≡ 0 → s1.most ≡ budget
+first_limit None s0 s1 set first = set.most
+first_limit (Some bytes) s0 s1 set first =
+    let fits = set.small bytes refl in
+    let same : counted s0.asked bytes ≡ bytes = omega (arith, first, fits) in
+    set.most ∙ ap (λ n. Some n) same
 
-no_more : (budget : Option ℕ) (first asked now : ℕ) → first ≡ 0 → now ≡ asked → IfSome budget (λ bytes. asked ≤ first + bytes) → IfSome budget (λ bytes. now ≤ bytes)
-no_more None first asked now none is within = tt
-no_more (Some bytes) first asked now none is within = omega (arith, none, is, within)
+-- a limit that n more bytes would exceed is a budget of fewer
+pub wanting : (budget : Option ℕ) (s : CountedState) (cost size most : ℕ) (refusal : Refusal) → s.most ≡ budget → s.asked ≡ 0 → s.most ≡ Some most → most < s.asked + cost → refusal.at < size
+    → IsWanting budget cost size refusal
+wanting budget s cost size most refusal limit first some above inside = (most, sym limit ∙ some, omega (arith, first, above), inside)
 
 -- no more is read than the budget has
-pub spent : (budget : Option ℕ) (s0 s1 s2 : CountedState) (asked : ℕ) → SetsLimit s0 s1 budget → s0.asked ≡ 0 → asked ≡ s2.asked → ((most : ℕ) → s1.most ≡ Some most → s2.asked ≤ most)
-    → IfSome budget (λ bytes. asked ≤ bytes)
-spent budget s0 s1 s2 asked set first is within = no_more budget s0.asked s2.asked asked first is (spent_within budget s0 s1 s2 set within)
+pub spent : (budget : Option ℕ) (s t : CountedState) (asked : ℕ) → s.most ≡ budget → asked ≡ t.asked → ((most : ℕ) → s.most ≡ Some most → t.asked ≤ most) → IfSome budget (λ bytes. asked ≤ bytes)
+spent None s t asked limit is within = tt
+spent (Some bytes) s t asked limit is within = let most = within bytes limit in omega (arith, is, most)
 
 -- a budget of which n bytes are left
 pub rest_wanting : (budget : Option ℕ) (asked cost size : ℕ) (refusal : Refusal) → IsWanting (option_map (λ bytes. bytes - asked) budget) cost size refusal
@@ -33,13 +32,8 @@ rest_wanting (Some bytes) asked cost size refusal wants =
     let same : bytes - asked ≡ wants.0 = cc in
     (bytes, refl, omega (arith, same, wants.2))
 
-pub rest_within : (budget : Option ℕ) (asked more first : ℕ) → first ≡ 0 → IfSome budget (λ bytes. asked ≤ bytes) → IfSome (option_map (λ bytes. bytes - asked) budget) (λ bytes. more ≤ first + bytes)
-    → IfSome budget (λ bytes. asked + more ≤ bytes)
-rest_within None asked more first none before within = tt
-rest_within (Some bytes) asked more first none before within = omega (arith, none, before, within)
-
 -- after n bytes, no more is read than the budget has
-pub rest_spent : (budget : Option ℕ) (asked more : ℕ) (s0 s1 s2 : CountedState) → SetsLimit s0 s1 (option_map (λ bytes. bytes - asked) budget) → s0.asked ≡ 0 → more ≡ s2.asked
-    → s2.most ≡ s1.most → IfSome budget (λ bytes. asked ≤ bytes) → IfSome budget (λ bytes. asked + more ≤ bytes)
-rest_spent budget asked more s0 s1 s2 set first is limit before =
-    rw (is) (rest_within budget asked s2.asked s0.asked first before (within_budget (option_map (λ bytes. bytes - asked) budget) s0 s1 s2 set limit))
+pub rest_spent : (budget : Option ℕ) (asked more : ℕ) (s t : CountedState) → s.most ≡ option_map (λ bytes. bytes - asked) budget → more ≡ t.asked → t.most ≡ s.most
+    → IfSome budget (λ bytes. asked ≤ bytes) → IfSome budget (λ bytes. asked + more ≤ bytes)
+rest_spent None asked more s t limit is same before = tt
+rest_spent (Some bytes) asked more s t limit is same before = let most = (t.within (bytes - asked) (same ∙ limit)).0 in omega (arith, is, most, before)

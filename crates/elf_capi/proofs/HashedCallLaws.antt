@@ -3,7 +3,7 @@
 use Rattle.std.proofs.Common.{◌≡◌, ℕ, Bool, true, false, List, Option, Some, Err, refl, ap, ◌∙◌, arith}
 use Rattle.elf_model.specs.Prelude.{looked_at}
 use Rattle.elf_model.specs.declared.causes.Refusal.{Refusal}
-use Rattle.elf_source.specs.Source.{CountedState, SourceState, SetsLimit, file_by, honest}
+use Rattle.elf_source.specs.Source.{CountedState, SourceState, file_by, honest}
 use Rattle.elf_table.specs.declared.fault.Fault.TheVariants.{Refused as Refuses}
 use Rattle.elf_capi.specs.Prelude.{FindsHashed, ReadsHashed, hashed_cost}
 use Rattle.elf_capi.proofs.BudgetLaws.{wanting}
@@ -19,11 +19,11 @@ shown_in hides file src hidden source =
     (rw (hidden, source) at by) ∙ shown hides file
 
 -- a refusal is the file's own, or the budget is less than finding the symbols costs
-pub refused_hashed : (file : List ℕ) (headers size : ℕ) (budget : Option ℕ) (s0 s1 s2 : CountedState) (refusal : Refusal) → SetsLimit s0 s1 budget → s0.asked ≡ 0 → size ≡ s1.seen.size
+pub refused_hashed : (file : List ℕ) (headers size : ℕ) (budget : Option ℕ) (s1 s2 : CountedState) (refusal : Refusal) → s1.most ≡ budget → s1.asked ≡ 0 → size ≡ s1.seen.size
     → FindsHashed file headers s1 s2 (Err (Refuses refusal)) → ReadsHashed file headers budget size (Err refusal)
-refused_hashed file headers size budget s0 s1 s2 refusal set first sized finds = (
+refused_hashed file headers size budget s1 s2 refusal limit first sized finds = (
   finds.tells,
   λ is.
       let says = finds.costs.says is in
-      wanting budget s0 s1 (hashed_cost file headers) size says.1.most refusal set first says.1.is_set says.1.above (omega (arith, sized, says.0)),
+      wanting budget s1 (hashed_cost file headers) size says.1.most refusal limit first says.1.is_set says.1.above (omega (arith, sized, says.0)),
 )

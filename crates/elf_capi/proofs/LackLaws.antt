@@ -6,7 +6,7 @@ use Rattle.elf_model.specs.declared.missing.MissingAddress.{MissingAddress}
 use Rattle.elf_model.specs.declared.causes.Refusal.{Refusal}
 use Rattle.elf_model.specs.Names.DisplayedName.{Whole}
 use Rattle.elf_model.proofs.NameLaws.{shown_cut, shown_whole}
-use Rattle.elf_source.specs.Source.{CountedState, SetsLimit}
+use Rattle.elf_source.specs.Source.{CountedState}
 use Rattle.elf_table.specs.Prelude.{IsReadRefusal, shown_by}
 use Rattle.elf_table.specs.declared.names.NameEnd.TheVariants.{Cut as IsCut, Whole as IsWhole}
 use Rattle.elf_table.specs.declared.names.NameEnd.{NameEnd}
@@ -85,14 +85,14 @@ tells_symbol missing IsCut name is cut = (is, cut)
 
 -- why nothing can be known: the refusal is the file's own, or the rest of the budget is less than
 -- finding out costs
-pub cannot_be_known : (file : List ℕ) (headers : ℕ) (budget : Option ℕ) (asked : ℕ) (s0 s1 s2 : CountedState) (refusal : Refusal) → SetsLimit s0 s1 (option_map (λ bytes. bytes - asked) budget) → s0.asked ≡ 0
+pub cannot_be_known : (file : List ℕ) (headers : ℕ) (budget : Option ℕ) (asked : ℕ) (s1 s2 : CountedState) (refusal : Refusal) → s1.most ≡ option_map (λ bytes. bytes - asked) budget → s1.asked ≡ 0
     → length file ≡ s1.seen.size → IsReadRefusal s1 s2 (explain_bytes headers) refusal
     → ((IsBudgetRefusal refusal → ⊥) → first_refusal (header_checks file ++ load_checks file headers) ≡ Some refusal) → CannotBeKnown file headers budget asked
-cannot_be_known file headers budget asked s0 s1 s2 refusal set first sized says checks = (
+cannot_be_known file headers budget asked s1 s2 refusal limit first sized says checks = (
   refusal,
   checks,
   λ is.
       let wants = says is in
       rest_wanting budget asked (explain_bytes headers) (length file) refusal
-      (wanting (option_map (λ bytes. bytes - asked) budget) s0 s1 (explain_bytes headers) (length file) wants.1.most refusal set first wants.1.is_set wants.1.above (omega (arith, sized, wants.0))),
+      (wanting (option_map (λ bytes. bytes - asked) budget) s1 (explain_bytes headers) (length file) wants.1.most refusal limit first wants.1.is_set wants.1.above (omega (arith, sized, wants.0))),
 )

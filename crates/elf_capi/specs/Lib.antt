@@ -12,6 +12,7 @@ pub mod Symbols
 pub mod VersionRecords
 pub mod Applied
 pub mod Asked
+pub mod Budgeted
 pub mod Costs
 pub mod Found
 pub mod HashedRows

@@ -4,11 +4,12 @@ ghost use Rattle.elf_model.specs.ApplyCost.{apply_cost_by_order};
 ghost use Rattle.elf_capi.specs.Applied.{AppliesIn};
 
 use crate::call_status::status_from;
+use crate::file_source::file_within;
 use crate::lent_sink::ProbeSink;
 use crate::listing::CallOutcome;
 use elf_layout::Addresses;
 use elf_reloc::apply_with;
-use elf_source::{Counted, MemorySource, Out};
+use elf_source::Out;
 use elf_table::HeaderStore;
 
 /// A section to write, the addresses for which it is written, and how many bytes may be read, if
@@ -63,8 +64,7 @@ fn write_to_sink<'a>(
         wanted.now.section wanted.now.layout.now }
     ensures budget { IfSome wanted.now.budget (λ bytes. outcome.new.asked ≤ bytes) }
 {
-    let mut src = Counted::new(MemorySource::new(file));
-    src.limit(wanted.budget);
+    let mut src = file_within(file, wanted.budget);
     let mut out = Out::new(ProbeSink::new(out));
     let applied = apply_with(&mut src, store, wanted.section, wanted.layout, &mut out);
     outcome.asked = src.asked();

@@ -5,10 +5,10 @@ ghost use Rattle.elf_capi.specs.Hashed.{hashed_cost};
 ghost use Rattle.elf_capi.specs.HashedRows.{ReadsHashed};
 
 use crate::counts::short;
+use crate::file_source::file_within;
 use crate::hashed_symbols::hashed_rows;
 use crate::rows::RowPosition;
 use elf_record::Refusal;
-use elf_source::{Counted, MemorySource};
 use elf_table::{Fault, HeaderStore};
 
 /// Finds them within a read budget, if there is one: with `by_segments` by the program headers even
@@ -28,9 +28,8 @@ pub fn open_hashed(
     ensures cost { asked.new ≤ hashed_cost (looked_at by_segments file.now) store.old.slots }
     ensures budget { IfSome budget (λ bytes. asked.new ≤ bytes) }
 {
-    let mut src = Counted::new(MemorySource::new(file));
+    let mut src = file_within(file, budget);
     src.mask_section_headers(by_segments);
-    src.limit(budget);
     let found = hashed_rows(&mut src, store);
     *asked = short(src.asked());
     let _ = src.into_inner();

@@ -13,6 +13,7 @@ mod counts;
 mod dynamic;
 mod dynamic_table;
 mod end;
+mod file_source;
 mod found;
 mod hashed_call;
 mod hashed_symbols;

@@ -7,11 +7,11 @@ ghost use Rattle.elf_capi.specs.Resolved.{ResolvesIn, ReturnsResolved, file_of, 
 
 use crate::counts::short;
 use crate::end::CallEnd;
+use crate::file_source::file_within;
 use crate::query::Query;
 use crate::resolved::Resolved;
 use elf_loader::{SymbolLookup, look_up};
 use elf_record::Refusal;
-use elf_source::{Counted, MemorySource};
 use elf_table::{Fault, HeaderStore, NameBuf};
 
 /// Looks it up within a read budget, if there is one.
@@ -34,8 +34,7 @@ pub fn resolve_in(
     ensures budget { IfSome budget (λ bytes. asked.new ≤ bytes) }
 {
     let wanted = query.wanted();
-    let mut src = Counted::new(MemorySource::new(file));
-    src.limit(budget);
+    let mut src = file_within(file, budget);
     let found = look_up(&mut src, store, &wanted, query.by_segments(), told);
     *asked = short(src.asked());
     let _ = src.into_inner();

@@ -6,11 +6,11 @@ ghost use Rattle.elf_capi.specs.Found.{LooksIn, ReturnsLooked, nothing_after};
 
 use crate::counts::short;
 use crate::end::CallEnd;
+use crate::file_source::file_within;
 use crate::found::LookupFields;
 use crate::symbol::Symbol;
 use elf_hash::{Lookup, find};
 use elf_record::Refusal;
-use elf_source::{Counted, MemorySource};
 use elf_table::{Fault, HeaderStore};
 
 /// Looks up a name of at most 4,096 bytes within a read budget, if there is one.
@@ -29,8 +29,7 @@ pub fn look_in(
     ensures cost { asked.new ≤ find_cost file.now store.old.slots name.now }
     ensures budget { IfSome budget (λ bytes. asked.new ≤ bytes) }
 {
-    let mut src = Counted::new(MemorySource::new(file));
-    src.limit(budget);
+    let mut src = file_within(file, budget);
     let found = find(&mut src, store, name);
     *asked = short(src.asked());
     let _ = src.into_inner();

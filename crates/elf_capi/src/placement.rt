@@ -10,11 +10,11 @@ use crate::applied::{ApplyInput, write_section};
 use crate::call_status::CallStatus;
 use crate::counts::short;
 use crate::end::CallEnd;
+use crate::file_source::file_within;
 use crate::listing::CallOutcome;
 use crate::missing::CallerMissing;
 use elf_record::Refusal;
 use elf_reloc::explain;
-use elf_source::{Counted, MemorySource};
 use elf_table::{Fault, HeaderStore, NameBuf};
 
 /// Writes a section to the start of a buffer, sets in `missing` what its layout lacks if it is
@@ -73,8 +73,7 @@ fn report_missing(
     ensures budget { IfSome wanted.now.budget (λ bytes. asked + result ≤ bytes) }
 {
     missing.clear();
-    let mut src = Counted::new(MemorySource::new(file));
-    src.limit(rest_of(wanted.budget, asked));
+    let mut src = file_within(file, rest_of(wanted.budget, asked));
     let mut name = NameBuf::new();
     let found = explain(
         &mut src,

@@ -26,13 +26,10 @@ asks_as_archive caps old new asks =
     check_most (nat_lt old.seen.size 64) old.seen.size caps.limits.headers (style_of caps.style) in
     record { ceiling = omega (arith, asks.ceiling, most); budget = asks.budget }
 
--- nothing more is read
-pub some_within : (budget : Option ℕ) (old new : ℕ) → new ≡ old → IfSome budget (λ bytes. new ≤ old + bytes)
-some_within None old new is = tt
-some_within (Some bytes) old new is = omega (arith, is)
-
-pub asks_nothing : (caps : Caps) (old new : CountedState) → new.asked ≡ old.asked → AsksNoMore (archive_ceiling old.seen.size caps.limits.headers (style_of caps.style)) caps.limits.budget old new
-asks_nothing caps old new is = record { ceiling = omega (arith, is); budget = some_within caps.limits.budget old.asked new.asked is }
+-- nothing is read
+pub some_within : (budget : Option ℕ) (asked : ℕ) → IfSome budget (λ bytes. asked ≤ asked + bytes)
+some_within None asked = tt
+some_within (Some bytes) asked = omega arith
 
 -- the magic bytes of a file are at most eight
 front_few : (short room : Bool) (n : ℕ) → n ≤ 8 → (if short then 0 else if room then n else 0) ≤ 8

@@ -1,8 +1,6 @@
 -- What is reported of a file, and what that reads.
-use Rattle.std.proofs.Common.{◌≡◌, ℕ, ◌+◌, ◌-◌, ◌≤◌, Bool, true, false, not, if◌then◌else◌, List, Option, None, Some, Result, Ok, Err, nat_lt, refl, arith}
+use Rattle.std.proofs.Common.{◌≡◌, ℕ, ◌+◌, ◌-◌, ◌≤◌, Bool, true, false, List, Option, None, Some, Result, Ok, Err, option_map, refl, arith}
 use Rattle.std.specs.Prelude.{IfSome, IfErr}
-use Rattle.std.proofs.lemmas.Bool.Decides.{nat_tests}
-use Rattle.elf_model.specs.Prelude.{budget_after, front_size}
 use Rattle.elf_model.specs.declared.states.FileMagic.{FileMagic}
 use Rattle.elf_model.specs.declared.formats.Format.{Format}
 use Rattle.elf_model.specs.declared.states.FileStatus.TheVariants.{Unread}
@@ -11,7 +9,7 @@ use Rattle.elf_source.specs.Prelude.{CountedState, IsSourceFault, KeepsSource, O
 use Rattle.elf_source.specs.declared.faults.SourceFault.TheVariants.{Device, Ended}
 use Rattle.elf_source.specs.declared.faults.OutFault.{OutFault}
 use Rattle.elf_source.specs.declared.faults.SourceFault.{SourceFault}
-use Rattle.elf_walk.specs.Prelude.{EndsListing, FailsRead, ListsFile, ToldOf, front_asked}
+use Rattle.elf_walk.specs.Prelude.{EndsListing, FailsRead, ListsFile, ToldOf}
 use Rattle.elf_walk.specs.declared.options.ListOptions.{ListOptions}
 use Rattle.elf_table.specs.declared.run_fault.RunFault.TheVariants.{Out}
 use Rattle.elf_table.specs.declared.run_fault.RunFault.{RunFault}
@@ -19,25 +17,11 @@ use Rattle.elf_table.specs.declared.run_fault.RunFault.TheVariants.{Refused, Sou
 use Rattle.elf_archive.specs.Listed.{ArchiveSays}
 use Rattle.elf_walk.specs.ToldListings.{is_unlisted}
 
--- the magic bytes of a file, and what is left after them, are within a budget
-within_both : (members : Bool) (bytes size : ℕ) (t u : Bool) → nat_lt size 4 ≡ t → nat_lt bytes (front_size members size) ≡ u
-    → (if t then 0 else if not u then front_size members size else 0) + (if u then bytes else bytes - front_size members size) ≤ bytes
-within_both members bytes size true true st bt = omega arith
-within_both members bytes size true false st bt = omega arith
-within_both members bytes size false true st bt = omega arith
-within_both members bytes size false false st bt = let most : front_size members size ≤ bytes = grind (arith, nat_tests) in omega (arith, most)
-
-pub front_within : (members : Bool) (budget : Option ℕ) (size before after : ℕ) → after ≤ before + front_asked members budget size → IfSome budget (λ bytes. after ≤ before + bytes)
-front_within members None size before after asks = tt
-front_within members (Some bytes) size before after asks =
-    let both = within_both members bytes size (nat_lt size 4) (nat_lt bytes (front_size members size)) refl refl in omega (arith, asks, both)
-
-pub sort_within : (members : Bool) (budget left : Option ℕ) (size before between after : ℕ) → left ≡ budget_after budget (front_size members size)
-    → between ≤ before + front_asked members budget size → IfSome left (λ bytes. after ≤ between + bytes) → IfSome budget (λ bytes. after ≤ before + bytes)
-sort_within members None left size before between after is asks more = tt
-sort_within members (Some bytes) left size before between after is asks more =
-    let rest = rw is at more in
-    let both = within_both members bytes size (nat_lt size 4) (nat_lt bytes (front_size members size)) refl refl in omega (arith, asks, rest, both)
+-- the magic bytes of a file, and what follows them within what they leave, are within a budget
+pub rest_within : (budget : Option ℕ) (front before between after : ℕ) → between ≡ before + front → IfSome budget (λ bytes. between ≤ before + bytes)
+    → IfSome (option_map (λ bytes. bytes - front) budget) (λ bytes. after ≤ between + bytes) → IfSome budget (λ bytes. after ≤ before + bytes)
+rest_within None front before between after asks within more = tt
+rest_within (Some bytes) front before between after asks within more = omega (arith, asks, within, more)
 
 -- a read that failed
 pub fault_fails : (before after : CountedState) (fault : SourceFault) → IsSourceFault before.seen after.seen fault → FailsRead before after Unread

@@ -1,6 +1,6 @@
 -- The effect of the check of an archive with its members.
 use Rattle.std.specs.Prelude.{ℕ, ◌≡◌, ◌+◌, ⊤, true, List, length, None, Some}
-use Rattle.elf_model.specs.Prelude.{ListingStyle, archive_ceiling, budget_after, file_magic, front_size}
+use Rattle.elf_model.specs.Prelude.{ListingStyle, archive_ceiling, file_magic}
 use Rattle.elf_model.specs.FileLists.{undecided}
 use Rattle.elf_model.specs.declared.causes.Cause.TheVariants.{Thin}
 use Rattle.elf_model.specs.declared.states.FileMagic.{FileMagic}
@@ -9,8 +9,10 @@ use Rattle.elf_model.specs.declared.states.FileMagic.TheVariants as sort
 use Rattle.elf_model.specs.declared.states.FileStatus.TheVariants as state
 use Rattle.elf_options.specs.Prelude.{style_of}
 use Rattle.elf_options.specs.declared.caps.Caps.{Caps}
+use Rattle.elf_options.specs.declared.caps.Limits.{Limits}
 use Rattle.elf_archive.specs.FirstFault.{IsArchiveFault, before_magic, cost_after_magic}
 use Rattle.elf_walk.specs.CheckedFile.{FindsElf, elf_cost}
+use Rattle.elf_walk.specs.Fronts.{AreLimitsAfter}
 
 -- THE STATE that is found for an archive: that of its fault within the budget, of which its magic
 -- string left that of the caps, unless a read failed
@@ -21,12 +23,6 @@ FindsArchive left parts file (state.Refused refusal) =
 FindsArchive caps parts file state.NoElf = ⊥
 FindsArchive caps parts file state.Unread = ⊤
 FindsArchive caps parts file state.Memory = ⊥
-
--- the caps after the magic bytes of a file of the given size
-pub record IsCapsAfter (caps : Caps) (size : ℕ) (left : Caps) : Type 0 where
-  pub headers : left.limits.headers ≡ caps.limits.headers
-  pub budget : left.limits.budget ≡ budget_after caps.limits.budget (front_size true size)
-  pub style : left.style ≡ caps.style
 
 -- the state of a file of which nothing is listed, by its type
 abbrev pub unlisted_state : FileMagic → FileStatus
@@ -43,9 +39,9 @@ FindsBySort kind caps parts file found = found ≡ unlisted_state kind
 -- THE STATE that is found for a file if members are checked: that of its type, within what is left
 -- of the budget after the magic bytes, unless a read of these failed
 pub record FindsSortedState (caps : Caps) (parts : ℕ) (file : List ℕ) (found : FileStatus) : Type 0 where
-  pub left : Caps
-  pub behind : IsCapsAfter caps (length file) left
-  pub finds : FindsBySort (file_magic true caps.limits.budget file) left parts file found
+  pub left : Limits
+  pub after : AreLimitsAfter true caps.limits (length file) left
+  pub finds : FindsBySort (file_magic true caps.limits.budget file) (record { limits = left; style = caps.style }) parts file found
 
 abbrev pub FindsSorted : Caps → ℕ → List ℕ → FileStatus → Type 0
 FindsSorted caps parts file state.Unread = ⊤

@@ -1,6 +1,6 @@
 -- What is reported of one listed file among many.
 use Rattle.std.specs.Prelude.{ℕ, ◌≡◌, ◌+◌, ◌≤◌, List, Option, None, Some, Bool, false, Result, Ok, Err, IfOk, IfSome, true}
-use Rattle.elf_model.specs.Prelude.{budget_after, check_line, file_magic, front_size, list_status, path_line}
+use Rattle.elf_model.specs.Prelude.{check_line, file_magic, list_status, path_line}
 use Rattle.elf_model.specs.declared.states.FileMagic.{FileMagic}
 use Rattle.elf_model.specs.declared.formats.Format.{Format}
 use Rattle.elf_model.specs.declared.states.FileStatus.TheVariants.{Unread}
@@ -13,14 +13,9 @@ use Rattle.elf_table.specs.declared.run_fault.RunFault.TheVariants.{Out}
 use Rattle.elf_table.specs.declared.run_fault.RunFault.{RunFault}
 use Rattle.elf_table.specs.declared.run_fault.RunFault.TheVariants.{Refused, Source}
 use Rattle.elf_walk.specs.Checked.{FailsRead}
-use Rattle.elf_walk.specs.Fronts.{front_asked}
+use Rattle.elf_walk.specs.Fronts.{AreLimitsAfter, front_asked}
 use Rattle.elf_walk.specs.Lists.{ListsHeaded, sort_ceiling, sort_cost}
 use Rattle.elf_walk.specs.declared.options.ListOptions.{ListOptions}
-
--- what is left of a rule's limits after the magic bytes
-pub record LeavesLimits (rule : ListOptions) (size : ℕ) (limits : Limits) : Type 0 where
-  pub headers : limits.headers ≡ rule.caps.limits.headers
-  pub budget : limits.budget ≡ budget_after rule.caps.limits.budget (front_size rule.members size)
 
 -- a file that is not read: its line and its status
 abbrev pub PutsUnread : Format → List ℕ → (old new : OutState) → Result ℕ OutFault → Type 0
@@ -38,7 +33,7 @@ EndsListing format path (Err (Out fault)) old new answer = (new ≡ old) × (ans
 -- and its end
 pub record ListsFile (kind : FileMagic) (rule : ListOptions) (path : List ℕ) (before : CountedState) (old new : OutState) (answer : Result ℕ OutFault) : Type 0 where
   pub limits : Limits
-  pub behind : LeavesLimits rule before.seen.size limits
+  pub after : AreLimitsAfter rule.members rule.caps.limits before.seen.size limits
   pub result : Result Bool RunFault
   pub between : OutState
   pub lists : (file : List ℕ) → before.seen.file ≡ Some file

@@ -1,17 +1,16 @@
 //! The listing of each of many files.
 ghost use Rattle.std.specs.Prelude.{◌≡◌};
-ghost use Rattle.elf_walk.specs.ToldListings.{LeavesLimits, EndsListing, PutsUnread, is_unlisted};
-ghost use Rattle.elf_model.specs.Prelude.{budget_after};
+ghost use Rattle.elf_walk.specs.ToldListings.{EndsListing, PutsUnread, is_unlisted};
 
 use crate::each_file::FileVisitor;
 use crate::headed::list_with_path_line;
-use crate::line_prefixes::{find_file_type, front_bytes};
+use crate::line_prefixes::find_file_type;
 use crate::options::ListOptions;
 use crate::statuses::status;
 use elf_format::show_check;
 use elf_model::{FileMagic, FileStatus, Format};
 use elf_source::{Counted, DeferredSink, Out, OutFault, RangeSource, Sink, Source};
-use elf_table::{Caps, HeaderStore, Limits, RunFault};
+use elf_table::{Caps, HeaderStore, RunFault};
 use std::marker::Model;
 
 /// A visitor that lists files: for each the line of its path, and after it its listing, within the
@@ -59,16 +58,24 @@ impl<'a> FileVisitor for ListFiles<'a> {
         path: &[u8],
         out: &mut Out<DeferredSink<W>>,
     ) -> Result<u8, OutFault> {
-        let format = self.rule.caps.style.format;
-        let size = src.length();
-        let sort = match find_file_type(src, self.rule.members, self.rule.caps.limits.budget) {
+        let rule = self.rule;
+        let format = rule.caps.style.format;
+        let mut limits = rule.caps.limits;
+        let sort = match find_file_type(src, rule.members, &mut limits.budget) {
             Ok(sort) => sort,
             Err(_) => return report_unread(path, format, out),
         };
         if is_unlisted(sort) {
             return Ok(0);
         }
-        let rule = behind(&self.rule, size);
+        let rule = ListOptions {
+            caps: Caps {
+                limits,
+                style: rule.caps.style,
+            },
+            parts: rule.parts,
+            members: rule.members,
+        };
         let listed = list_with_path_line(src, &mut self.store, &rule, sort, path, out);
         end_list(listed, path, format, out)
     }
@@ -81,40 +88,6 @@ fn is_unlisted(sort: FileMagic) -> bool
     match sort {
         FileMagic::Foreign | FileMagic::Thin => true,
         FileMagic::Elf | FileMagic::Archive | FileMagic::Undecided => false,
-    }
-}
-
-/// Returns the rule for what follows the magic bytes of a file of `size` bytes: the budget less
-/// those bytes.
-fn behind<'n>(rule: &ListOptions<'n>, size: u64) -> ListOptions<'n>
-    ensures limits { LeavesLimits rule.now size result.caps.limits }
-    ensures style { result.caps.style ≡ rule.now.caps.style }
-    ensures parts { result.parts ≡ rule.now.parts }
-{
-    let limits = rule.caps.limits;
-    let budget = budget_after(limits.budget, front_bytes(rule.members, size));
-    ListOptions {
-        caps: Caps {
-            limits: Limits {
-                headers: limits.headers,
-                budget,
-            },
-            style: rule.caps.style,
-        },
-        parts: rule.parts,
-        members: rule.members,
-    }
-}
-
-/// Returns what is left of a budget after a number of bytes, or all of it if it does not have that
-/// many.
-pub fn budget_after(budget: Option<u64>, count: u64) -> Option<u64>
-    ensures { result ≡ budget_after budget count }
-{
-    match budget {
-        None => None,
-        Some(bytes) if bytes < count => Some(bytes),
-        Some(bytes) => Some(bytes - count),
     }
 }
 

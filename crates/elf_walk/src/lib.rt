@@ -45,11 +45,11 @@ pub use dir_laws::{
 pub use dir_names::{DirNames, FOLDER_NAME_BYTES, KEPT_BYTES, KEPT_NAMES};
 pub use dir_walk::gather;
 pub use each_file::FileVisitor;
-pub use file_lists::{ListFiles, budget_after};
+pub use file_lists::ListFiles;
 pub use file_traits::traits_within;
 pub use headed::list_with_path_line;
 pub use headed_sink::HeadedSink;
-pub use line_prefixes::{find_file_type, front_bytes};
+pub use line_prefixes::find_file_type;
 pub use lists::{ListFault, visit_list};
 pub use many::FileRun;
 pub use members::check_archive;

@@ -30,7 +30,8 @@ pub fn read_short_file_status<S: Source>(src: &mut Counted<S>, budget: Option<u6
         FindsShort budget file result }
 {
     let size = src.length();
-    match find_file_type(src, false, budget) {
+    let mut left = budget;
+    match find_file_type(src, false, &mut left) {
         Ok(magic) => short_file_status(size, magic),
         Err(_) => FileStatus::Unread,
     }

@@ -1,21 +1,21 @@
 //! The check of a file by its type, if members are checked.
-ghost use Rattle.std.specs.Prelude.{◌≡◌, ◌≤◌, ◌^◌};
+ghost use Rattle.std.specs.Prelude.{◌≡◌, ◌≤◌, ◌^◌, None};
 ghost use Rattle.elf_archive.specs.FirstFault.{BeginsArchive};
 ghost use Rattle.elf_archive.specs.Listed.{IsAll};
 ghost use Rattle.elf_model.specs.ArchiveCost.{archive_ceiling};
 ghost use Rattle.elf_model.specs.declared.states.FileMagic.TheVariants.{Archive};
 ghost use Rattle.elf_walk.specs.CheckedFile.{ChecksFile};
-ghost use Rattle.elf_walk.specs.Members.{FindsBySort, FindsSorted, IsCapsAfter};
+ghost use Rattle.elf_walk.specs.Members.{FindsBySort, FindsSorted};
 ghost use Rattle.elf_walk.specs.Members.{cost_by, sorted_ceiling, sorted_cost, unlisted_state};
 
 use crate::check_file::check_elf;
+use crate::line_prefixes::find_file_type;
 use crate::members::check_archive;
 use crate::short::UNDECIDED;
-use crate::{budget_after, find_file_type, front_bytes};
 use elf_model::{Cause, FileMagic, FileStatus, Refusal};
 use elf_record::Parts;
 use elf_source::{Counted, RangeSource, Source};
-use elf_table::{Caps, HeaderStore, Limits};
+use elf_table::{Caps, HeaderStore};
 
 /// Checks one file by the type that its first bytes identify: an ELF file as [`check_elf`] does, an
 /// archive with its members as [`check_archive`] does; a thin archive is refused, and a file of
@@ -35,16 +35,19 @@ pub fn check_sorted<S: Source>(
     ensures { ChecksFile store.old.slots store.new.slots caps.entry parts.0 src.old src.new result
         FindsSorted (sorted_cost caps.entry) sorted_ceiling }
 {
-    let size = src.length();
-    let sort = match find_file_type(src, true, caps.limits.budget) {
+    let mut limits = caps.limits;
+    let sort = match find_file_type(src, true, &mut limits.budget) {
         Ok(sort) => sort,
         Err(_) => return FileStatus::Unread,
     };
-    let left = behind(caps, size);
+    let left = Caps {
+        limits,
+        style: caps.style,
+    };
     check_by_type(src, store, left, parts, sort)
 }
 
-/// Checks one file of a type. On return no limit is set.
+/// Checks one file of a type. No limit is set before, nor on return.
 fn check_by_type<S: Source>(
     src: &mut Counted<RangeSource<S>>,
     store: &mut HeaderStore,
@@ -55,16 +58,14 @@ fn check_by_type<S: Source>(
     requires small { (store.old.slots ≡ caps.limits.headers) × (src.old.asked ≤ 2 ^ 127) }
     requires whole { IsAll src.old }
     requires begins { sort ≡ Archive → BeginsArchive src.old.seen }
+    requires free { src.old.most ≡ None }
     ensures { ChecksFile store.old.slots store.new.slots caps.entry parts.0 src.old src.new result
         (FindsBySort sort) (cost_by sort) archive_ceiling }
 {
     match sort {
         FileMagic::Elf => check_elf(src, store, caps, parts),
         FileMagic::Archive => check_archive(src, store, caps, parts),
-        FileMagic::Thin | FileMagic::Foreign | FileMagic::Undecided => {
-            src.limit(None);
-            unlisted_state(sort)
-        }
+        FileMagic::Thin | FileMagic::Foreign | FileMagic::Undecided => unlisted_state(sort),
     }
 }
 
@@ -79,19 +80,5 @@ fn unlisted_state(sort: FileMagic) -> FileStatus
             cause: Cause::Thin,
         }),
         FileMagic::Elf | FileMagic::Archive | FileMagic::Foreign => FileStatus::NoElf,
-    }
-}
-
-/// Returns the caps for what follows the magic bytes of a file of `size` bytes: the budget less
-/// those bytes.
-fn behind<'n>(caps: Caps<'n>, size: u64) -> Caps<'n>
-    ensures { IsCapsAfter caps.entry size result }
-{
-    Caps {
-        limits: Limits {
-            headers: caps.limits.headers,
-            budget: budget_after(caps.limits.budget, front_bytes(true, size)),
-        },
-        style: caps.style,
     }
 }

@@ -1,6 +1,5 @@
 -- The file of a source in memory is known, so what is found is the file's.
-use Rattle.std.proofs.Common.{rules, ◌≡◌, Some, Ok, Err, ap, ◌∙◌, arith}
-use Rattle.elf_source.specs.Source.{SourceState}
+use Rattle.std.proofs.Common.{rules, ◌≡◌, Ok, Err, arith}
 use Rattle.elf_table.specs.declared.fault.Fault.TheVariants.{Refused as Refuses}
 use Rattle.elf_capi.specs.Prelude.{asks_of, file_of, wanted_by}
 use Rattle.elf_capi.proofs.ResolvingLaws.{resolve_refused}
@@ -9,7 +8,7 @@ use Rattle.elf_capi.proofs.loader_lookup.resolve_in.Goals as goal
 pub returns-in-Ok-clause-resolves : goal.returns-in-Ok-clause-resolves
 returns-in-Ok-clause-resolves c =
     let file = c.args.file.now in
-    let known = ap (λ (s : SourceState). s.file) (c.limit.ensures.seen ∙ c.new-src.ensures.seen) ∙ ap Some c.new.ensures in
+    let known = c.file_within-src.ensures.known in
     let found : c.look_up-found.result ≡ Ok c.in-Ok.lookup = search rules in
     (rw (c.wanted-wanted.ensures.is, c.by_segments.ensures, found) at (c.look_up-found.ensures.did.known file known)).tells
 
@@ -17,20 +16,20 @@ pub returns-in-Err-Refused-clause-resolves : goal.returns-in-Err-Refused-clause-
 returns-in-Err-Refused-clause-resolves c =
     let file = c.args.file.now in
     let query = asks_of c.args.query.now in
-    let known = ap (λ (s : SourceState). s.file) (c.limit.ensures.seen ∙ c.new-src.ensures.seen) ∙ ap Some c.new.ensures in
+    let known = c.file_within-src.ensures.known in
     let found : c.look_up-found.result ≡ Err (Refuses c.in-Err-Refused.refusal) = search rules in
-    resolve_refused (file_of query file) c.args.store.now.slots _ (wanted_by query) c.look_up-found.new.name c.args.budget c.new-src.result c.limit.new.self c.look_up-found.new.src c.in-Err-Refused.refusal
-    c.limit.ensures c.new-src.ensures.asked (c.limit.new.self.seen.sized file known)
+    resolve_refused (file_of query file) c.args.store.now.slots _ (wanted_by query) c.look_up-found.new.name c.args.budget c.file_within-src.result c.look_up-found.new.src c.in-Err-Refused.refusal
+    c.file_within-src.ensures.limit c.file_within-src.ensures.unasked (c.file_within-src.result.seen.sized file known)
     (rw (c.wanted-wanted.ensures.is, c.by_segments.ensures, found) at (c.look_up-found.ensures.did.known file known))
 
 pub returns-in-Ok-clause-cost : goal.returns-in-Ok-clause-cost
 returns-in-Ok-clause-cost c =
-    let known = ap (λ (s : SourceState). s.file) (c.limit.ensures.seen ∙ c.new-src.ensures.seen) ∙ ap Some c.new.ensures in
+    let known = c.file_within-src.ensures.known in
     let cost = (rw (c.wanted-wanted.ensures.is, c.by_segments.ensures) at (c.look_up-found.ensures.did.known c.args.file.now known)).costs.reads.at_most in
-    omega (arith, c.short.ensures, c.asked.ensures, c.limit.ensures.asked, c.new-src.ensures.asked, cost)
+    omega (arith, c.short.ensures, c.asked.ensures, c.file_within-src.ensures.unasked, cost)
 
 pub returns-in-Err-Refused-clause-cost : goal.returns-in-Err-Refused-clause-cost
 returns-in-Err-Refused-clause-cost c =
-    let known = ap (λ (s : SourceState). s.file) (c.limit.ensures.seen ∙ c.new-src.ensures.seen) ∙ ap Some c.new.ensures in
+    let known = c.file_within-src.ensures.known in
     let cost = (rw (c.wanted-wanted.ensures.is, c.by_segments.ensures) at (c.look_up-found.ensures.did.known c.args.file.now known)).costs.reads.at_most in
-    omega (arith, c.short.ensures, c.asked.ensures, c.limit.ensures.asked, c.new-src.ensures.asked, cost)
+    omega (arith, c.short.ensures, c.asked.ensures, c.file_within-src.ensures.unasked, cost)

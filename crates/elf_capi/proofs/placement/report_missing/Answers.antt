@@ -1,6 +1,5 @@
 -- What is reported is what the layout lacks, or nothing.
-use Rattle.std.proofs.Common.{rules, ◌≡◌, ◌-◌, Some, None, Ok, Err, inl, inr, option_map, ap, length, subst, ◌∙◌, arith}
-use Rattle.elf_source.specs.Source.{SourceState, SetsLimit}
+use Rattle.std.proofs.Common.{rules, ◌≡◌, Some, None, Ok, Err, inl, inr, ap, length, subst, ◌∙◌, arith}
 use Rattle.elf_table.specs.declared.fault.Fault.TheVariants.{Refused as Refuses}
 use Rattle.elf_capi.specs.LentLayouts.{ReturnsMissing}
 use Rattle.elf_capi.proofs.BudgetLaws.{rest_spent}
@@ -9,7 +8,7 @@ use Rattle.elf_capi.proofs.placement.report_missing.Goals as goal
 
 pub report-requires : goal.report-requires
 report-requires c =
-    let known = ap (λ (s : SourceState). s.file) (c.limit.ensures.seen ∙ c.new-src.ensures.seen) ∙ ap Some c.new.ensures in
+    let known = c.file_within-src.ensures.known in
     let wanted = c.args.wanted.now in
     let found : c.explain-found.result ≡ Ok (Some (c.in-Ok-Some.lack, c.in-Ok-Some.end)) = search rules in
     let is = rw (found) at (c.explain-found.ensures.did.known c.args.file.now known) in
@@ -18,14 +17,14 @@ report-requires c =
 
 pub returns-in-Ok-Some-clause-explains : goal.returns-in-Ok-Some-clause-explains
 returns-in-Ok-Some-clause-explains c =
-    let known = ap (λ (s : SourceState). s.file) (c.limit.ensures.seen ∙ c.new-src.ensures.seen) ∙ ap Some c.new.ensures in
+    let known = c.file_within-src.ensures.known in
     let found : c.explain-found.result ≡ Ok (Some (c.in-Ok-Some.lack, c.in-Ok-Some.end)) = search rules in
     let is = rw (found) at (c.explain-found.ensures.did.known c.args.file.now known) in
     inl (subst (ReturnsMissing c.report.new.self) is (rw (c.bytes.ensures.value) at c.report.ensures))
 
 pub returns-in-Ok-None-clause-explains : goal.returns-in-Ok-None-clause-explains
 returns-in-Ok-None-clause-explains c =
-    let known = ap (λ (s : SourceState). s.file) (c.limit.ensures.seen ∙ c.new-src.ensures.seen) ∙ ap Some c.new.ensures in
+    let known = c.file_within-src.ensures.known in
     let found : c.explain-found.result ≡ Ok None = search rules in
     let is = rw (found) at (c.explain-found.ensures.did.known c.args.file.now known) in
     inl (subst (ReturnsMissing c.clear.new.self) is c.clear.ensures)
@@ -33,43 +32,43 @@ returns-in-Ok-None-clause-explains c =
 pub returns-in-Err-Refused-clause-explains : goal.returns-in-Err-Refused-clause-explains
 returns-in-Err-Refused-clause-explains c =
     let file = c.args.file.now in
-    let known = ap (λ (s : SourceState). s.file) (c.limit.ensures.seen ∙ c.new-src.ensures.seen) ∙ ap Some c.new.ensures in
-    let set : SetsLimit c.new-src.result c.limit.new.self (option_map (λ bytes. bytes - c.args.asked) c.args.wanted.now.budget) = rw (c.rest_of.ensures) at c.limit.ensures in
+    let known = c.file_within-src.ensures.known in
+    let limit = c.file_within-src.ensures.limit ∙ c.rest_of.ensures in
     let found : c.explain-found.result ≡ Err (Refuses c.in-Err-Refused.field-0-0) = search rules in
     let checks = rw (found) at (c.explain-found.ensures.did.known file known) in
     let says = rw (found) at c.explain-found.ensures.did.costs.says in
     inr (
       c.clear.ensures,
-      cannot_be_known file c.args.store.now.slots c.args.wanted.now.budget c.args.asked c.new-src.result c.limit.new.self c.explain-found.new.src c.in-Err-Refused.field-0-0 set c.new-src.ensures.asked
-          (c.limit.new.self.seen.sized file known) says checks,
+      cannot_be_known file c.args.store.now.slots c.args.wanted.now.budget c.args.asked c.file_within-src.result c.explain-found.new.src c.in-Err-Refused.field-0-0 limit c.file_within-src.ensures.unasked
+          (c.file_within-src.result.seen.sized file known) says checks,
     )
 
 pub returns-in-Ok-Some-clause-cost : goal.returns-in-Ok-Some-clause-cost
 returns-in-Ok-Some-clause-cost c =
-    let cost = c.explain-found.ensures.did.costs.reads.at_most in omega (arith, c.asked-more.ensures, c.limit.ensures.asked, c.new-src.ensures.asked, cost)
+    let cost = c.explain-found.ensures.did.costs.reads.at_most in omega (arith, c.asked-more.ensures, c.file_within-src.ensures.unasked, cost)
 
 pub returns-in-Ok-Some-clause-budget : goal.returns-in-Ok-Some-clause-budget
 returns-in-Ok-Some-clause-budget c =
-    let set : SetsLimit c.new-src.result c.limit.new.self (option_map (λ bytes. bytes - c.args.asked) c.args.wanted.now.budget) = rw (c.rest_of.ensures) at c.limit.ensures in
-    rest_spent c.args.wanted.now.budget c.args.asked _ c.new-src.result c.limit.new.self c.explain-found.new.src set c.new-src.ensures.asked c.asked-more.ensures
+    let limit = c.file_within-src.ensures.limit ∙ c.rest_of.ensures in
+    rest_spent c.args.wanted.now.budget c.args.asked _ c.file_within-src.result c.explain-found.new.src limit c.asked-more.ensures
     c.explain-found.ensures.did.costs.reads.same_limit c.requires
 
 pub returns-in-Ok-None-clause-cost : goal.returns-in-Ok-None-clause-cost
 returns-in-Ok-None-clause-cost c =
-    let cost = c.explain-found.ensures.did.costs.reads.at_most in omega (arith, c.asked-more.ensures, c.limit.ensures.asked, c.new-src.ensures.asked, cost)
+    let cost = c.explain-found.ensures.did.costs.reads.at_most in omega (arith, c.asked-more.ensures, c.file_within-src.ensures.unasked, cost)
 
 pub returns-in-Ok-None-clause-budget : goal.returns-in-Ok-None-clause-budget
 returns-in-Ok-None-clause-budget c =
-    let set : SetsLimit c.new-src.result c.limit.new.self (option_map (λ bytes. bytes - c.args.asked) c.args.wanted.now.budget) = rw (c.rest_of.ensures) at c.limit.ensures in
-    rest_spent c.args.wanted.now.budget c.args.asked _ c.new-src.result c.limit.new.self c.explain-found.new.src set c.new-src.ensures.asked c.asked-more.ensures
+    let limit = c.file_within-src.ensures.limit ∙ c.rest_of.ensures in
+    rest_spent c.args.wanted.now.budget c.args.asked _ c.file_within-src.result c.explain-found.new.src limit c.asked-more.ensures
     c.explain-found.ensures.did.costs.reads.same_limit c.requires
 
 pub returns-in-Err-Refused-clause-cost : goal.returns-in-Err-Refused-clause-cost
 returns-in-Err-Refused-clause-cost c =
-    let cost = c.explain-found.ensures.did.costs.reads.at_most in omega (arith, c.asked-more.ensures, c.limit.ensures.asked, c.new-src.ensures.asked, cost)
+    let cost = c.explain-found.ensures.did.costs.reads.at_most in omega (arith, c.asked-more.ensures, c.file_within-src.ensures.unasked, cost)
 
 pub returns-in-Err-Refused-clause-budget : goal.returns-in-Err-Refused-clause-budget
 returns-in-Err-Refused-clause-budget c =
-    let set : SetsLimit c.new-src.result c.limit.new.self (option_map (λ bytes. bytes - c.args.asked) c.args.wanted.now.budget) = rw (c.rest_of.ensures) at c.limit.ensures in
-    rest_spent c.args.wanted.now.budget c.args.asked _ c.new-src.result c.limit.new.self c.explain-found.new.src set c.new-src.ensures.asked c.asked-more.ensures
+    let limit = c.file_within-src.ensures.limit ∙ c.rest_of.ensures in
+    rest_spent c.args.wanted.now.budget c.args.asked _ c.file_within-src.result c.explain-found.new.src limit c.asked-more.ensures
     c.explain-found.ensures.did.costs.reads.same_limit c.requires

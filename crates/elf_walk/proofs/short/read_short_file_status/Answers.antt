@@ -1,7 +1,7 @@
 -- The state of a short file is that of what it is.
 use Rattle.std.proofs.Common.{false, arith}
 use Rattle.elf_walk.proofs.FileMagicLaws.{front_four}
-use Rattle.elf_walk.proofs.ListingToldLaws.{fault_fails, front_within}
+use Rattle.elf_walk.proofs.ListingToldLaws.{fault_fails}
 use Rattle.elf_walk.proofs.StateLaws.{short_is, short_read}
 use Rattle.elf_walk.proofs.short.read_short_file_status.Goals as goal
 
@@ -18,7 +18,7 @@ pub returns-in-Ok-clause-asks : goal.returns-in-Ok-clause-asks
 returns-in-Ok-clause-asks g c = let few = front_four c.args.budget c.args.src.now.seen.size in omega (arith, few, c.in-Ok.ensures.asks)
 
 pub returns-in-Ok-clause-within : goal.returns-in-Ok-clause-within
-returns-in-Ok-clause-within g c = front_within false c.args.budget c.args.src.now.seen.size c.args.src.now.asked c.find_file_type.new.src.asked c.in-Ok.ensures.asks
+returns-in-Ok-clause-within g c = c.in-Ok.ensures.within
 
 pub returns-in-Err-clause-read : goal.returns-in-Err-clause-read
 returns-in-Err-clause-read g c = fault_fails c.args.src.now c.find_file_type.new.src c.in-Err.field-0 c.in-Err.ensures.fails
@@ -27,4 +27,4 @@ pub returns-in-Err-clause-asks : goal.returns-in-Err-clause-asks
 returns-in-Err-clause-asks g c = let few = front_four c.args.budget c.args.src.now.seen.size in omega (arith, few, c.in-Err.ensures.asks)
 
 pub returns-in-Err-clause-within : goal.returns-in-Err-clause-within
-returns-in-Err-clause-within g c = front_within false c.args.budget c.args.src.now.seen.size c.args.src.now.asked c.find_file_type.new.src.asked c.in-Err.ensures.asks
+returns-in-Err-clause-within g c = c.in-Err.ensures.within

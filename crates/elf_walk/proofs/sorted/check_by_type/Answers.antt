@@ -1,6 +1,6 @@
 -- The state of a file by its type.
 use Rattle.std.proofs.Common.{refl, arith}
-use Rattle.elf_walk.proofs.FileMagicLaws.{asks_as_archive, asks_nothing, unlisted_found, unlisted_read}
+use Rattle.elf_walk.proofs.FileMagicLaws.{asks_as_archive, some_within, unlisted_found, unlisted_read}
 use Rattle.elf_walk.proofs.sorted.check_by_type.Goals as goal
 
 pub returns-in-Elf : goal.returns-in-Elf
@@ -34,11 +34,11 @@ pub returns-in-Thin : goal.returns-in-Thin
 returns-in-Thin g c = record {
   slots = refl;
   leaves = record {
-    keeps = rw c.limit.ensures.seen (record { same_size = refl; no_fewer = omega arith; same_file = refl; same_whole = refl });
-    free = c.limit.ensures.most;
+    keeps = record { same_size = refl; no_fewer = omega arith; same_file = refl; same_whole = refl };
+    free = c.requires.free;
   };
   state = λ file held. unlisted_found c.args.sort c.in-Thin.is c.args.caps c.args.parts.0 file c.unlisted_state.result c.unlisted_state.ensures;
-  cost = λ file held. omega (arith, c.limit.ensures.asked);
-  read = unlisted_read c.args.src.now c.limit.new.self c.args.sort c.unlisted_state.result c.unlisted_state.ensures;
-  asks = asks_nothing c.args.caps c.args.src.now c.limit.new.self c.limit.ensures.asked;
+  cost = λ file held. omega arith;
+  read = unlisted_read c.args.src.now c.args.src.now c.args.sort c.unlisted_state.result c.unlisted_state.ensures;
+  asks = record { ceiling = omega arith; budget = some_within c.args.caps.limits.budget _ };
 }

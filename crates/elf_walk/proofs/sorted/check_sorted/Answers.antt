@@ -1,9 +1,9 @@
 -- The state of a file after the magic bytes that identify its type.
-use Rattle.std.proofs.Common.{ℕ, true, List, Option, Some, Ok, refl, sym, ap, subst, ◌∙◌, arith}
+use Rattle.std.proofs.Common.{ℕ, List, Option, Some, Ok, refl, sym, ap, ◌∙◌, arith}
 use Rattle.elf_model.specs.declared.states.FileMagic.{FileMagic}
 use Rattle.elf_options.specs.Permitted.{style_of}
-use Rattle.elf_walk.proofs.ListingToldLaws.{fault_fails, front_within, sort_within}
-use Rattle.elf_walk.specs.Members.{FindsBySort, IsCapsAfter, cost_by}
+use Rattle.elf_walk.proofs.ListingToldLaws.{fault_fails, rest_within}
+use Rattle.elf_walk.specs.Members.{cost_by}
 use Rattle.elf_walk.proofs.FileMagicLaws.{begins_kept, front_eight, sorted_found, state_after}
 use Rattle.elf_walk.proofs.sorted.check_sorted.Goals as goal
 
@@ -19,14 +19,14 @@ returns-in-Err g c =
       read = fault_fails c.args.src.now c.find_file_type.new.src c.in-Err.field-0 c.in-Err.ensures.fails;
       asks = record {
         ceiling = omega (arith, asks, few);
-        budget = front_within true c.args.caps.limits.budget c.args.src.now.seen.size c.args.src.now.asked c.find_file_type.new.src.asked asks;
+        budget = c.in-Err.ensures.within;
       };
     }
 
 pub check_by_type-requires-clause-small : goal.check_by_type-requires-clause-small
 check_by_type-requires-clause-small g c =
     let few = front_eight c.args.caps.limits.budget c.args.src.now.seen.size in
-    (c.requires.small.0 ∙ sym c.behind-left.ensures.headers, omega (arith, c.requires.small.1, c.in-Ok.ensures.asks, few))
+    (c.requires.small.0, omega (arith, c.requires.small.1, c.in-Ok.ensures.asks, few))
 
 pub check_by_type-requires-clause-whole : goal.check_by_type-requires-clause-whole
 check_by_type-requires-clause-whole g c =
@@ -60,24 +60,18 @@ returns g c =
       };
       state = λ file held.
           let sized = c.args.src.now.seen.sized file held in
-          let finds = did.state file (keeps.same_file ∙ held) in
           sorted_found c.args.caps c.args.parts.0 file c.check_by_type.result (record {
-            left = c.behind-left.result;
-            behind = subst (λ (n : ℕ). IsCapsAfter c.args.caps n c.behind-left.result) (c.length-size.ensures.value ∙ sym sized) c.behind-left.ensures;
-            finds = subst (λ (s : FileMagic). FindsBySort s c.behind-left.result c.args.parts.0 file c.check_by_type.result) (c.in-Ok.ensures.finds file held) finds;
+            left = _;
+            after = record { headers = refl; budget = rw (← sized) at c.in-Ok.ensures.pays };
+            finds = rw (c.in-Ok.ensures.finds file held) at (did.state file (keeps.same_file ∙ held));
           });
       cost = λ file held.
-          let most = rw (c.behind-left.ensures.headers, c.behind-left.ensures.style) at (did.cost file (keeps.same_file ∙ held)) in
+          let most = did.cost file (keeps.same_file ∙ held) in
           let same = ap (λ (s : FileMagic). cost_by s file c.args.caps.limits.headers (style_of c.args.caps.style) c.args.parts.0) (c.in-Ok.ensures.finds file held) in
           omega (arith, c.in-Ok.ensures.asks, few, most, same);
       read = state_after c.args.src.now c.find_file_type.new.src c.check_by_type.new.src c.check_by_type.result keeps.no_fewer did.read;
       asks = record {
-        ceiling =
-            let most = rw (keeps.same_size, c.behind-left.ensures.headers, c.behind-left.ensures.style) at did.asks.ceiling in
-            omega (arith, c.in-Ok.ensures.asks, few, most);
-        budget =
-            let left = rw c.length-size.ensures.value at c.behind-left.ensures.budget in
-            sort_within true c.args.caps.limits.budget c.behind-left.result.limits.budget c.args.src.now.seen.size c.args.src.now.asked c.find_file_type.new.src.asked c.check_by_type.new.src.asked
-            left c.in-Ok.ensures.asks did.asks.budget;
+        ceiling = let most = rw keeps.same_size at did.asks.ceiling in omega (arith, c.in-Ok.ensures.asks, few, most);
+        budget = rest_within c.args.caps.limits.budget _ _ _ _ c.in-Ok.ensures.asks c.in-Ok.ensures.within (rw c.in-Ok.ensures.pays at did.asks.budget);
       };
     }

@@ -1,9 +1,9 @@
 -- What is reported of a file, by its type.
-use Rattle.std.proofs.Common.{rules, ◌≡◌, None, Some, Ok, false, subst, ◌∙◌, arith, true}
+use Rattle.std.proofs.Common.{rules, ◌≡◌, None, Some, Ok, false, refl, subst, ◌∙◌, arith, true}
 use Rattle.elf_walk.specs.Prelude.{ReturnsListing}
 use Rattle.elf_walk.specs.ToldListings.{is_unlisted}
 use Rattle.elf_walk.specs.declared.options.ListOptions.{ListOptions}
-use Rattle.elf_walk.proofs.ListingToldLaws.{end_fails, fault_after, fault_fails, file_told, front_within, sort_within, nothing_told}
+use Rattle.elf_walk.proofs.ListingToldLaws.{end_fails, fault_after, fault_fails, file_told, nothing_told, rest_within}
 use Rattle.elf_walk.proofs.file_lists.ListFilesFileVisitor.visit.Goals as goal
 
 pub returns-in-Err-clause-tells : goal.returns-in-Err-clause-tells
@@ -17,7 +17,7 @@ returns-in-Err-clause-tells g c =
       read = λ is. fault_fails c.args.src.now c.find_file_type.new.src c.in-Err.field-0 c.in-Err.ensures.fails;
       cost = λ file held. omega (arith, asks);
       ceiling = omega (arith, asks);
-      budget = front_within rule.members rule.caps.limits.budget c.args.src.now.seen.size c.args.src.now.asked c.find_file_type.new.src.asked asks;
+      budget = c.in-Err.ensures.within;
     })
 
 pub returns-then-is_unlisted-clause-tells : goal.returns-then-is_unlisted-clause-tells
@@ -32,7 +32,7 @@ returns-then-is_unlisted-clause-tells g c =
       read = λ is. absurd (cc);
       cost = λ file held. omega (arith, asks);
       ceiling = omega (arith, asks);
-      budget = front_within rule.members rule.caps.limits.budget c.args.src.now.seen.size c.args.src.now.asked c.find_file_type.new.src.asked asks;
+      budget = c.in-Ok.ensures.within;
     })
 
 pub returns-clause-tells : goal.returns-clause-tells
@@ -41,28 +41,25 @@ returns-clause-tells g c =
     let asks = c.in-Ok.ensures.asks in
     let keeps = c.in-Ok.ensures.keeps in
     let some : is_unlisted c.in-Ok.sort ≡ false = search rules in
-    let limits = rw c.length-size.ensures.value at c.behind-rule.ensures.limits in
-    let style = c.behind-rule.ensures.style in
-    let parts = c.behind-rule.ensures.parts in
-    let most = rw (keeps.same_size, limits.headers, style) at c.list_with_path_line-listed.ensures.asks.ceiling in
+    let pays = c.in-Ok.ensures.pays in
+    let most = rw keeps.same_size at c.list_with_path_line-listed.ensures.asks.ceiling in
     subst (λ (r : ListOptions). ReturnsListing r c.args.path.now c.args.src.now c.list_with_path_line-listed.new.src c.args.out.now c.end_list.new.out c.end_list.result) c.self.view_is (record {
       kind = Some c.in-Ok.sort;
       finds = λ file held. c.in-Ok.ensures.finds file held;
       told = file_told c.in-Ok.sort rule c.args.path.now c.args.src.now c.args.out.now c.end_list.new.out c.end_list.result some (record {
-        limits = c.behind-rule.result.caps.limits;
-        behind = limits;
+        limits = _;
+        after = record { headers = refl; budget = pays };
         result = c.list_with_path_line-listed.result;
         between = c.list_with_path_line-listed.new.out;
-        lists = λ file held. rw (style, parts) at (c.list_with_path_line-listed.ensures.lists file (keeps.same_file ∙ held));
+        lists = λ file held. c.list_with_path_line-listed.ensures.lists file (keeps.same_file ∙ held);
         ends = c.end_list.ensures;
       });
       read = λ is. fault_after c.args.src.now c.find_file_type.new.src c.list_with_path_line-listed.new.src keeps
           (end_fails rule.caps.style.format c.args.path.now c.list_with_path_line-listed.result c.list_with_path_line-listed.new.out c.end_list.new.out c.end_list.result c.find_file_type.new.src c.list_with_path_line-listed.new.src
           c.end_list.ensures c.list_with_path_line-listed.ensures.says is);
       cost = λ file held.
-          let cost = rw (limits.headers, style, parts) at (c.list_with_path_line-listed.ensures.cost file (keeps.same_file ∙ held)) in
+          let cost = c.list_with_path_line-listed.ensures.cost file (keeps.same_file ∙ held) in
           omega (arith, asks, cost);
       ceiling = omega (arith, asks, most);
-      budget = sort_within rule.members rule.caps.limits.budget c.behind-rule.result.caps.limits.budget c.args.src.now.seen.size c.args.src.now.asked c.find_file_type.new.src.asked c.list_with_path_line-listed.new.src.asked
-          limits.budget asks c.list_with_path_line-listed.ensures.asks.budget;
+      budget = rest_within rule.caps.limits.budget _ _ _ _ asks c.in-Ok.ensures.within (rw pays at c.list_with_path_line-listed.ensures.asks.budget);
     })
