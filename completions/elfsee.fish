@@ -57,12 +57,12 @@ function __elfsee_lacks
 end
 
 complete -c elfsee -f
-complete -c elfsee -n "not __fish_seen_subcommand_from $commands" -a show -d 'list a whole file or one part of it'
+complete -c elfsee -n "not __fish_seen_subcommand_from $commands" -a show -d 'list a whole file or parts of it'
 complete -c elfsee -n "not __fish_seen_subcommand_from $commands" -a sample -d 'list a small file that is built into the program'
 complete -c elfsee -n "not __fish_seen_subcommand_from $commands" -a find -d 'look up a name in the hash table of a file'
 complete -c elfsee -n "not __fish_seen_subcommand_from $commands" -a apply -d 'write a section with its relocations applied'
 complete -c elfsee -n "not __fish_seen_subcommand_from $commands" -a check -d 'check many files: which are malformed, where and why'
-complete -c elfsee -n "not __fish_seen_subcommand_from $commands" -a list -d 'list many files, whole or one part of each'
+complete -c elfsee -n "not __fish_seen_subcommand_from $commands" -a list -d 'list many files, whole or parts of each'
 complete -c elfsee -n "not __fish_seen_subcommand_from $commands" -a traits -d 'print how each of many files is hardened'
 complete -c elfsee -n "not __fish_seen_subcommand_from $commands" -a needs -d 'print which libraries programs need, and where they are'
 complete -c elfsee -n "not __fish_seen_subcommand_from $commands" -a archive -d 'list the members of an archive, and their contents'

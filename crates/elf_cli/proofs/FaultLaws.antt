@@ -8,19 +8,18 @@ use Rattle.clap.specs.Walk.{Text}
 use Rattle.clap.specs.declared.error.Error.{Error}
 use Rattle.clap.specs.declared.parser.matches.ArgMatches.{ArgMatches}
 use Rattle.clap.proofs.OnLiterals.{clap_on_literals}
-use Rattle.elf_cli.specs.Prelude.{ArePartNames, AreRead, AreRefused, IsFaultOf, IsOneOf, program}
-use Rattle.elf_cli.specs.declared.part_names.PartNames.{PartNames}
+use Rattle.elf_cli.specs.Prelude.{AreRead, AreRefused, IsFaultOf, IsOneOf, program}
 use Rattle.elf_cli.specs.declared.faults.RequestFault.TheVariants.{BadItem, BadName, BadTrait, LayoutFull, LayoutRepeat, Memory, NamesFull, Words}
 use Rattle.elf_cli.specs.declared.faults.RequestFault.{RequestFault}
 
 -- the command line is one whose matches and faults are known: no argument has a rule on another
-is_known : (parts : PartNames) → is_simple_and_free (program parts) ≡ true
+is_known : is_simple_and_free program ≡ true
 unfolding clap_on_literals
-is_known parts = refl
+is_known = refl
 
-has_known_matches : (parts : PartNames) → is_simple (program parts) ≡ true
+has_known_matches : is_simple program ≡ true
 unfolding clap_on_literals
-has_known_matches parts = refl
+has_known_matches = refl
 
 fault_told : (kinds : Kinds) (error : Error) (fault : RequestFault) → IsFaultOf error fault → HasKind kinds error → IsOneOf kinds fault
 fault_told kinds error Memory is has = tt
@@ -34,20 +33,16 @@ fault_told kinds error LayoutRepeat is has = is
 fault_told kinds error BadTrait is has = is
 
 -- an error of a command line that is that one
-pub refused : (app : App) (parts : PartNames) (words : List Text) (error : Error) (fault : RequestFault) → app ≡ program parts → ArePartNames parts
+pub refused : (app : App) (words : List Text) (error : Error) (fault : RequestFault) → app ≡ program
     → (is_simple_and_free app ≡ true → HasKind (fault_of app words) error) → IsFaultOf error fault → AreRefused words fault
-refused app parts words error fault is named kinds told = record {
-  parts = parts;
-  named = named;
-  among = subst (λ a. IsOneOf (fault_of a words) fault) is (fault_told (fault_of app words) error fault told (kinds (ap is_simple_and_free is ∙ is_known parts)));
+refused app words error fault is kinds told = record {
+  among = subst (λ a. IsOneOf (fault_of a words) fault) is (fault_told (fault_of app words) error fault told (kinds (ap is_simple_and_free is ∙ is_known)));
 }
 
 -- matches of such a command line: they are those of the arguments, for which it has no fault
-pub read : (app : App) (parts : PartNames) (words : List Text) (m : ArgMatches) → app ≡ program parts → ArePartNames parts
+pub read : (app : App) (words : List Text) (m : ArgMatches) → app ≡ program
     → (is_simple_and_free app ≡ true → fault_of app words ≡ []) → HasMatchesOf app words m → AreRead words (subcommand_rows_of m)
-read app parts words m is named taken matches = record {
-  parts = parts;
-  named = named;
-  taken = subst (λ a. fault_of a words ≡ []) is (taken (ap is_simple_and_free is ∙ is_known parts));
-  made = subst (λ a. subcommand_of a words ≡ subcommand_rows_of m) is (sym (matches (ap is_simple is ∙ has_known_matches parts)).1);
+read app words m is taken matches = record {
+  taken = subst (λ a. fault_of a words ≡ []) is (taken (ap is_simple_and_free is ∙ is_known));
+  made = subst (λ a. subcommand_of a words ≡ subcommand_rows_of m) is (sym (matches (ap is_simple is ∙ has_known_matches)).1);
 }

@@ -1,6 +1,8 @@
 pub mod BuildingLaws
 pub mod FaultLaws
 pub mod OptionLaws
+pub mod PartLaws
+pub mod PieceLaws
 pub mod LineLaws
 pub mod MarkedText
 pub mod OutputLaws

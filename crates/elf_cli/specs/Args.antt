@@ -50,6 +50,7 @@ pub record AreOptions (rows : List Row) (args : CommandArgs) : Type 0 where
   pub members : args.members ≡ is_option_set (first_of (codes "members") rows)
   pub caps : AreCapOptions rows args.caps
   pub limits_names : args.limits_names ≡ is_given (codes "names") rows
+  pub only : option_map (λ names. names.now) args.only ≡ first_of (codes "only") rows
   pub parts : args.parts.0 ≡ asked_parts rows
   pub names : texts args.names.items ≡ values_of (codes "name") rows
   pub name_list : option_map (λ path. path.now) args.name_list ≡ first_of (codes "name-list") rows

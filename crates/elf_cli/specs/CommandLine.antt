@@ -7,11 +7,10 @@ use Rattle.clap.specs.Simple.{App, new_app, new_rule, with_rule, with_subcommand
 use Rattle.clap.specs.Lexer.{usize_max}
 use Rattle.clap.specs.declared.builder.action.ArgAction.TheVariants.{Append, SetTrue}
 use Rattle.clap.specs.declared.builder.value_parser.ValueParser.{ValueParser}
-use Rattle.clap.specs.declared.builder.value_parser.ValueParser.TheVariants.{Names, Signed, Unsigned}
+use Rattle.clap.specs.declared.builder.value_parser.ValueParser.TheVariants.{NonEmptyString, Signed, Unsigned}
 use Rattle.elf_cli.specs.declared.command_args.CommandName.{CommandName}
 use Rattle.elf_cli.specs.declared.command_args.CommandName.TheVariants as command
 use Rattle.elf_cli.specs.declared.command_sets.TheConstants.{SHOW, SAMPLE, FIND, APPLY, CHECK, LIST, TRAITS, NEEDS, ARCHIVE, EXPLAIN, VERSION}
-use Rattle.elf_cli.specs.declared.part_names.PartNames.{PartNames}
 
 -- an option without a value, which is set if it is given
 abbrev pub flag : Text → Rule
@@ -63,8 +62,8 @@ selecting = SHOW + LIST + ARCHIVE
 
 -- THE ARGUMENTS of all commands, in the order of help: the commands that have it, a bit for each,
 -- and its rule
-abbrev pub argument_rows : PartNames → List (ℕ × Rule)
-argument_rows parts =
+abbrev pub argument_rows : List (ℕ × Rule)
+argument_rows =
     (one_file + SAMPLE + many_files, numbered_option (codes "headers") (Signed (pos 1) (pos 65279)) (codes "4096"))
     ∷ (listing, numbered_option (codes "names") (Signed (pos 1) (pos 4096)) (codes "256"))
     ∷ (one_file + SAMPLE + many_files, option (codes "max-read") (Unsigned 0 9223372036854775807))
@@ -78,8 +77,8 @@ argument_rows parts =
     ∷ (NEEDS, flag (codes "unused"))
     ∷ (NEEDS, flag (codes "problems"))
     ∷ (TRAITS, valued (codes "require"))
-    ∷ (SHOW + SAMPLE + CHECK + LIST, option (codes "only") (Names parts.listed))
-    ∷ (ARCHIVE, option (codes "only") (Names parts.archived))
+    ∷ (SHOW + SAMPLE + CHECK + LIST, option (codes "only") NonEmptyString)
+    ∷ (ARCHIVE, option (codes "only") NonEmptyString)
     ∷ (listing, flag (codes "gnu"))
     ∷ (FIND, flag (codes "gnu"))
     ∷ (listing, flag (codes "by-segments"))
@@ -130,12 +129,12 @@ abbrev pub with_argument : ℕ → App → ℕ × Rule → App
 with_argument bit app argument = if bit_and argument.0 bit == bit then with_rule app argument.1 else app
 
 -- a command with its arguments
-abbrev pub described : PartNames → CommandRow → App
-described parts known = fold (with_argument known.2) (new_app known.0) (argument_rows parts)
+abbrev pub described : CommandRow → App
+described known = fold (with_argument known.2) (new_app known.0) argument_rows
 
 -- a program with one more command
-abbrev pub with_command : PartNames → App → CommandRow → App
-with_command parts app known = with_subcommand app (described parts known).top
+abbrev pub with_command : App → CommandRow → App
+with_command app known = with_subcommand app (described known).top
 
 -- the program, whose arguments begin after its name, and which requires a command
 abbrev pub without_command : App
@@ -143,5 +142,5 @@ without_command = let app = new_app (codes "elfsee") in
     record app { top = record app.top { no_binary_name = true; subcommand_required = true; arg_required_else_help = true } }
 
 -- THE COMMAND LINE: the program with all its commands
-abbrev pub program : PartNames → App
-program parts = fold (with_command parts) without_command command_rows
+abbrev pub program : App
+program = fold with_command without_command command_rows

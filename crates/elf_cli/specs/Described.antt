@@ -2,34 +2,32 @@
 use Rattle.std.specs.Prelude.{ℕ, List}
 use Rattle.std.specs.Borrow.{Bor}
 use Rattle.clap.specs.Walk.{Rule, Text}
-use Rattle.clap.specs.declared.builder.value_parser.ValueParser.TheVariants.{Names}
+use Rattle.clap.specs.declared.builder.value_parser.ValueParser.TheVariants.{NonEmptyString}
 use Rattle.elf_cli.specs.CommandLine.{CommandRow, any_words, flag, indexed, numbered_option, option, repeated, required, valued}
 use Rattle.elf_cli.specs.declared.builder.CommandSpec.{CommandSpec}
 use Rattle.elf_cli.specs.declared.arg_specs.ArgSpec.{ArgSpec}
 use Rattle.elf_cli.specs.declared.arg_specs.ArgKind.{ArgKind}
-use Rattle.elf_cli.specs.declared.arg_specs.ArgKind.TheVariants.{Flag, Value, Repeated, Number, Count, Part, MemberPart, Needed, Index, Any}
+use Rattle.elf_cli.specs.declared.arg_specs.ArgKind.TheVariants.{Flag, Value, Repeated, Number, Count, Filled, Needed, Index, Any}
 use Rattle.elf_record.specs.declared.parts.Parts.{Parts}
-use Rattle.elf_cli.specs.declared.part_names.PartNames.{PartNames}
 
--- the rule of an argument of this name and kind, given the names of parts
-abbrev rule_of_kind : PartNames → Text → ArgKind → Rule
-rule_of_kind parts name Flag = flag name
-rule_of_kind parts name (Value value) = valued name
-rule_of_kind parts name (Repeated value) = repeated name
-rule_of_kind parts name (Number parser) = option name parser
-rule_of_kind parts name (Count parser default) = numbered_option name parser default.now
-rule_of_kind parts name Part = option name (Names parts.listed)
-rule_of_kind parts name MemberPart = option name (Names parts.archived)
-rule_of_kind parts name Needed = required name
-rule_of_kind parts name (Index parser) = indexed name parser
-rule_of_kind parts name Any = any_words name
+-- the rule of an argument of this name and kind
+abbrev rule_of_kind : Text → ArgKind → Rule
+rule_of_kind name Flag = flag name
+rule_of_kind name (Value value) = valued name
+rule_of_kind name (Repeated value) = repeated name
+rule_of_kind name (Number parser) = option name parser
+rule_of_kind name (Count parser default) = numbered_option name parser default.now
+rule_of_kind name (Filled value) = option name NonEmptyString
+rule_of_kind name Needed = required name
+rule_of_kind name (Index parser) = indexed name parser
+rule_of_kind name Any = any_words name
 
-abbrev pub rule_by : PartNames → ArgSpec → Rule
-rule_by parts word = rule_of_kind parts word.name.now word.kind
+abbrev pub rule_by : ArgSpec → Rule
+rule_by word = rule_of_kind word.name.now word.kind
 
 -- an argument as it is described, with the set of the commands that have it
-abbrev pub argument_row : PartNames → ArgSpec → ℕ × Rule
-argument_row parts word = (word.commands, rule_by parts word)
+abbrev pub argument_row : ArgSpec → ℕ × Rule
+argument_row word = (word.commands, rule_by word)
 
 -- a command as it is described
 abbrev pub command_row : CommandSpec → CommandRow

@@ -1,10 +1,13 @@
 -- The values of a command's arguments, each alone.
 use Rattle.std.specs.Prelude.{Bool, true, false, ◌||◌, if◌then◌else◌, bytes_eq, find, is_some, ℕ, ◌≡◌, ◌<◌, ◌≤◌, ◌^◌, List, [], ◌∷◌, codes, Option, None, Some, option_and_then, unwrap_or}
 use Rattle.std.specs.Str.Parse.{IsNumeral, digits_value, without_leading_plus}
+use Rattle.std.specs.Int.RustNames.{bit_or}
+use Rattle.std.specs.List.{fold, list_all, list_any}
 use Rattle.clap.specs.Walk.{Row, Text, all_of, first_of}
 use Rattle.clap.specs.declared.parser.matches.ValueSource.{ValueSource}
 use Rattle.clap.specs.declared.parser.matches.ValueSource.TheVariants.{CommandLine, DefaultValue}
 use Rattle.elf_model.specs.Prelude.{DYNAMIC, HEADER, NOTES, RELOCS, SECTIONS, SEGMENTS, SYMBOLS, VERSIONS, all_parts}
+use Rattle.elf_cli.specs.Pieces.{pieces}
 use Rattle.elf_model.specs.declared.formats.Format.TheVariants.{Columns, Object}
 use Rattle.elf_model.specs.declared.formats.Format.{Format}
 
@@ -60,7 +63,7 @@ part_names =
 abbrev pub member_part_names : List (ℕ × List ℕ)
 member_part_names = (0, codes "members") ∷ part_names
 
--- the part with this name in a table; the command line accepts no names but those of the parts
+-- the part with this name in a table; no other name is accepted
 abbrev pub part_among : List (ℕ × List ℕ) → Text → ℕ
 part_among [] name = VERSIONS
 part_among (part ∷ rest) name = if bytes_eq name part.1 then part.0 else part_among rest name
@@ -72,11 +75,29 @@ part_number name = part_among member_part_names name
 abbrev pub has_name_option : List Row → Bool
 has_name_option rows = is_some (first_of (codes "name") rows) || is_some (first_of (codes "name-list") rows)
 
+-- those of a listing, or of an archive's listing
+abbrev pub part_rows : (archived : Bool) → List (ℕ × List ℕ)
+part_rows archived = if archived then member_part_names else part_names
+
+-- whether it is the name of one of them
+abbrev pub is_part_name : (archived : Bool) → Text → Bool
+is_part_name archived name = list_any (λ part. bytes_eq name part.1) (part_rows archived)
+
+abbrev pub are_part_names : (archived : Bool) → Text → Bool
+are_part_names archived names = list_all (is_part_name archived) (pieces names)
+
+-- the parts that names give together
+abbrev pub with_part : ℕ → Text → ℕ
+with_part parts name = bit_or parts (part_number name)
+
+abbrev pub parts_number : Text → ℕ
+parts_number names = fold with_part 0 (pieces names)
+
 abbrev parts_by : (named gnu : Bool) → Option Text → ℕ
-parts_by named gnu (Some name) = part_number name
+parts_by named gnu (Some names) = parts_number names
 parts_by named gnu None = if named then SYMBOLS else all_parts gnu
 
--- the part that is named; without a name the symbols if rows are selected by name, otherwise all
+-- the parts that are named; without a name the symbols if rows are selected by name, otherwise all
 -- parts, of GNU listings or of the standards' alone
 abbrev pub asked_parts : List Row → ℕ
 asked_parts rows = parts_by (has_name_option rows) (is_option_set (first_of (codes "gnu") rows)) (first_of (codes "only") rows)

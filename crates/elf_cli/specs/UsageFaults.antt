@@ -1,17 +1,19 @@
 -- What is wrong with arguments that the command line accepts.
-use Rattle.std.specs.Prelude.{Bool, true, false, not, ◌||◌, ◌&&◌, ◌==◌, if◌then◌else◌, is_some, length, nat_lt, ℕ, ◌≡◌, List, Option, None, Some}
+use Rattle.std.specs.Prelude.{Bool, true, false, not, ◌+◌, ◌||◌, ◌&&◌, ◌==◌, if◌then◌else◌, is_some, length, nat_lt, ℕ, ◌≡◌, List, Option, None, Some}
+use Rattle.std.specs.Int.RustNames.{bit_or}
 use Rattle.std.specs.List.{list_all}
 use Rattle.clap.specs.Walk.{Text, texts}
 use Rattle.elf_model.specs.Names.{nul_in}
-use Rattle.elf_model.specs.Prelude.{RELOCS, SYMBOLS, VERSIONS, is_complete, parse_query}
+use Rattle.elf_model.specs.Prelude.{RELOCS, SYMBOLS, VERSIONS, has, is_complete, parse_query}
 use Rattle.elf_cli.specs.Faults.{IsUnasked}
+use Rattle.elf_cli.specs.Options.{are_part_names}
 use Rattle.elf_cli.specs.declared.command_args.CommandArgs.{CommandArgs}
 use Rattle.elf_cli.specs.declared.command_args.CommandName.{CommandName}
 use Rattle.elf_cli.specs.declared.command_args.CommandName.TheVariants.{Show, Find, Apply, Check, List as Listings, Traits, Needs, Archive}
 use Rattle.elf_cli.specs.declared.faults.RequestFault.{RequestFault}
 use Rattle.elf_cli.specs.declared.faults.RequestFault.TheVariants as fault
 use Rattle.elf_cli.specs.declared.usage_faults.UsageFault.{UsageFault}
-use Rattle.elf_cli.specs.declared.usage_faults.UsageFault.TheVariants.{NamesFull, BadName, NoGnu, NamesLimited, NoRows, NoPath, NoFile}
+use Rattle.elf_cli.specs.declared.usage_faults.UsageFault.TheVariants.{UnknownPart, NamesFull, BadName, NoGnu, NamesLimited, NoRows, NoPath, NoFile}
 
 -- a text of 1 to 4,096 bytes without NUL; and if a name may have a version, neither is empty
 abbrev pub is_name : (versions : Bool) → Text → Bool
@@ -44,14 +46,26 @@ takes_file command = false
 -- whether something of GNU listings is requested, or of a loader's lookup
 abbrev requires_gnu : CommandName → CommandArgs → Bool
 requires_gnu Find args = args.caps.style.by_segments
-requires_gnu command args = args.caps.style.versions || (args.parts.0 == VERSIONS)
+requires_gnu command args = args.caps.style.versions || has args.parts.0 VERSIONS
 
 abbrev pub gnu_option_is_missing : CommandArgs → Bool
 gnu_option_is_missing args = not args.caps.style.gnu && requires_gnu args.command args
 
--- one part whose rows are selected by name
+-- parts whose rows are selected by name, at least one
+abbrev named_rows : ℕ
+named_rows = SYMBOLS + RELOCS + VERSIONS
+
 abbrev pub has_named_rows : ℕ → Bool
-has_named_rows parts = (parts == SYMBOLS) || ((parts == RELOCS) || (parts == VERSIONS))
+has_named_rows parts = nat_lt 0 parts && (bit_or parts named_rows == named_rows)
+
+-- whether it is the command of archives, whose members have parts
+abbrev pub is_archive : CommandName → Bool
+is_archive Archive = true
+is_archive command = false
+
+-- a name is given that no part has
+abbrev pub part_is_unknown : CommandArgs → Bool
+part_is_unknown args = elim args.only [ None ↦ false | Some names ↦ not (are_part_names (is_archive args.command) names.now) ]
 
 abbrev pub path_is_missing : CommandArgs → Bool
 path_is_missing args = is_of_many_files args.command && ((length args.paths.items == 0) && not (is_some args.list))
@@ -62,7 +76,8 @@ file_is_missing args = takes_file args.command && not (is_some args.file)
 -- THE FAULT OF ARGUMENTS: the first of these
 abbrev pub usage_fault : CommandArgs → Option UsageFault
 usage_fault args =
-    if nat_lt 64 (length args.names.items) then Some NamesFull
+    if part_is_unknown args then Some UnknownPart
+    else if nat_lt 64 (length args.names.items) then Some NamesFull
     else if not (are_names args.caps.style.versions (texts args.names.items)) then Some BadName
     else if gnu_option_is_missing args then Some NoGnu
     else if selects_rows args && args.limits_names then Some NamesLimited

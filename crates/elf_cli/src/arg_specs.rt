@@ -4,7 +4,6 @@ ghost use Rattle.elf_cli.specs.CommandLine.{any_words, flag, indexed, numbered_o
 ghost use Rattle.elf_cli.specs.CommandLine.{option, repeated, required, valued};
 ghost use Rattle.elf_cli.specs.Described.{rule_by};
 
-use crate::part_names::PartNames;
 use clap::builder::ValueParser;
 use clap::{Arg, ArgAction};
 use std::alloc::Global;
@@ -30,10 +29,8 @@ pub(crate) enum ArgKind {
     Number(ValueParser<'static>),
     /// An option with a number, and its default if the option is absent.
     Count(ValueParser<'static>, &'static str),
-    /// An option with the name of a part of a listing.
-    Part,
-    /// An option with the name of a part of an archive's listing.
-    MemberPart,
+    /// An option with a value that is not empty, with its name in help.
+    Filled(&'static str),
     /// A required argument.
     Needed,
     /// A required argument, a number.
@@ -42,9 +39,9 @@ pub(crate) enum ArgKind {
     Any,
 }
 
-/// Returns the `clap` argument for a specification, given the names of parts.
-pub(crate) fn clap_arg_of<'a>(alloc: Global, word: &ArgSpec, parts: PartNames<'a>) -> Arg<'a>
-    ensures { IsArg (rule_by parts.entry word.now) result }
+/// Returns the `clap` argument for a specification.
+pub(crate) fn clap_arg_of<'a>(alloc: Global, word: &ArgSpec) -> Arg<'a>
+    ensures { IsArg (rule_by word.now) result }
 {
     match word.kind {
         ArgKind::Flag => flag(alloc, word),
@@ -52,8 +49,7 @@ pub(crate) fn clap_arg_of<'a>(alloc: Global, word: &ArgSpec, parts: PartNames<'a
         ArgKind::Repeated(value) => repeated(alloc, word, value),
         ArgKind::Number(parser) => parsed(alloc, word, "N", parser),
         ArgKind::Count(parser, default) => count(alloc, word, parser, default),
-        ArgKind::Part => parsed(alloc, word, "PART", ValueParser::Names(parts.listed)),
-        ArgKind::MemberPart => parsed(alloc, word, "PART", ValueParser::Names(parts.archived)),
+        ArgKind::Filled(value) => parsed(alloc, word, value, ValueParser::NonEmptyString),
         ArgKind::Needed => required(alloc, word),
         ArgKind::Index(parser) => index(alloc, word, parser),
         ArgKind::Any => any(alloc, word),

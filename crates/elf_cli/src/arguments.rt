@@ -2,7 +2,6 @@
 ghost use Rattle.std.specs.Prelude.{◌≡◌, map};
 ghost use Rattle.elf_cli.specs.CommandLine.{argument_rows};
 ghost use Rattle.elf_cli.specs.Described.{argument_row};
-ghost use Rattle.elf_cli.specs.declared.part_names.PartNames.{PartNames};
 
 use crate::arg_specs::{ArgKind, ArgSpec};
 use crate::command_sets::{
@@ -93,14 +92,16 @@ static ARGUMENTS: [ArgSpec; 33] = [
     },
     ArgSpec {
         name: "only",
-        kind: ArgKind::Part,
-        help: "List one part [default: all]",
+        kind: ArgKind::Filled("PART"),
+        help: "List these parts, separated by commas [default: all] [possible values: header, \
+            sections, segments, symbols, relocs, notes, dynamic, versions]",
         commands: SHOW | SAMPLE | CHECK | LIST,
     },
     ArgSpec {
         name: "only",
-        kind: ArgKind::MemberPart,
-        help: "List one part [default: all]",
+        kind: ArgKind::Filled("PART"),
+        help: "List these parts, separated by commas [default: all] [possible values: members, \
+            header, sections, segments, symbols, relocs, notes, dynamic, versions]",
         commands: ARCHIVE,
     },
     ArgSpec {
@@ -218,7 +219,7 @@ static ARGUMENTS: [ArgSpec; 33] = [
 
 /// Returns the arguments of all commands.
 pub(crate) fn all_arguments() -> &'static [ArgSpec]
-    ensures { (parts : PartNames) → map (argument_row parts) result.now ≡ argument_rows parts }
+    ensures { map argument_row result.now ≡ argument_rows }
 {
     &ARGUMENTS
 }

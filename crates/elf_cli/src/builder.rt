@@ -9,7 +9,6 @@ ghost use Rattle.elf_cli.specs.Described.{argument_row, command_row};
 use crate::arg_specs::{ArgSpec, clap_arg_of};
 use crate::arguments::all_arguments;
 use crate::command_args::CommandName;
-use crate::part_names::PartNames;
 use clap::Command;
 use std::alloc::{AllocError, Global};
 
@@ -36,18 +35,17 @@ pub(crate) fn new_command<'a>(
     Command::new(alloc, name).about(about).after_help(more)
 }
 
-/// Returns the command for a description with its arguments, given the names of parts.
+/// Returns the command for a description with its arguments.
 pub(crate) fn clap_command_of<'a>(
     alloc: Global,
     command: &CommandSpec,
-    parts: PartNames<'a>,
 ) -> Result<Command<'a>, AllocError>
-    ensures { IfOk result (IsBuilt (described parts.entry (command_row command.now))) }
+    ensures { IfOk result (IsBuilt (described (command_row command.now))) }
 {
     let mut whole = new_command(alloc, command.name, command.about, command.more);
     let arguments = all_arguments();
     for argument in arguments {
-        whole = with_argument(alloc, whole, argument, command.bit, parts)?;
+        whole = with_argument(alloc, whole, argument, command.bit)?;
     }
     Ok(whole)
 }
@@ -58,15 +56,14 @@ fn with_argument<'a>(
     command: Command<'a>,
     argument: &ArgSpec,
     bit: u16,
-    parts: PartNames<'a>,
 ) -> Result<Command<'a>, AllocError>
     ensures { (app : App) → IsBuilt app command.entry → IfOk result
-        (IsBuilt (with_argument bit app (argument_row parts.entry argument.now))) }
+        (IsBuilt (with_argument bit app (argument_row argument.now))) }
 {
     if argument.commands & bit != bit {
         return Ok(command);
     }
-    command.arg(clap_arg_of(alloc, argument, parts))
+    command.arg(clap_arg_of(alloc, argument))
 }
 
 /// Returns a command with one more subcommand.
@@ -74,11 +71,10 @@ pub(crate) fn with_command<'a>(
     alloc: Global,
     command: Command<'a>,
     below: &CommandSpec,
-    parts: PartNames<'a>,
 ) -> Result<Command<'a>, AllocError>
     ensures { (app : App) → app_of command.entry ≡ app → IfOk result (λ whole.
-        app_of whole ≡ with_command parts.entry app (command_row below.now)) }
+        app_of whole ≡ with_command app (command_row below.now)) }
 {
-    let below = clap_command_of(alloc, below, parts)?;
+    let below = clap_command_of(alloc, below)?;
     command.subcommand(below)
 }

@@ -9,6 +9,7 @@ ghost use Rattle.elf_cli.specs.declared.faults.RequestFault.TheVariants.{Memory}
 use crate::commands::command_named;
 use crate::faults::RequestFault;
 use crate::options::Options;
+use crate::part_names::unknown_part;
 use crate::usage_errors::without_command;
 use clap::ArgMatches;
 use elf_options::RowFilter;
@@ -74,6 +75,8 @@ pub struct CommandArgs<'a> {
     pub caps: Caps<'static>,
     /// Whether a limit on the shown bytes of a name is given.
     pub limits_names: bool,
+    /// The names of the parts of a listing, separated by commas.
+    pub only: Option<&'a str>,
     /// The parts of a listing.
     pub parts: Parts,
     /// The names whose rows alone are shown, if there are any, or a file of names.
@@ -104,13 +107,30 @@ pub struct CommandArgs<'a> {
 }
 
 impl CommandArgs<'_> {
-    ghost use Rattle.elf_cli.specs.UsageFaults.{selects_rows};
+    ghost use Rattle.elf_cli.specs.UsageFaults.{is_archive, part_is_unknown, selects_rows};
 
     /// Returns `true` if only the rows of some names are requested.
     pub fn selects_rows(&self) -> bool
         ensures { result ≡ selects_rows self.now }
     {
         !self.names.is_empty() || self.name_list.is_some()
+    }
+
+    /// Returns the first of the names of parts that no part has, if there is one.
+    pub(crate) fn unknown_part(&self) -> Option<&str>
+        ensures { is_some result ≡ part_is_unknown self.now }
+    {
+        unknown_part(self.only?, self.is_archive())
+    }
+
+    /// Returns `true` if an archive is listed, whose members have the parts.
+    pub(crate) fn is_archive(&self) -> bool
+        ensures { result ≡ is_archive self.now.command }
+    {
+        match self.command {
+            CommandName::Archive => true,
+            _ => false,
+        }
     }
 }
 
@@ -173,6 +193,7 @@ fn read<'a>(
         members: options.is_set("members"),
         caps: caps_of(options),
         limits_names: options.is_given("names"),
+        only: options.text("only"),
         parts: options.parts(),
         names: options.values(alloc, "name")?,
         name_list: options.text("name-list"),

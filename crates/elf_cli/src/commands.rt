@@ -10,7 +10,6 @@ use crate::command_args::CommandName;
 use crate::command_sets::{
     APPLY, ARCHIVE, CHECK, EXPLAIN, FIND, LIST, NEEDS, SAMPLE, SHOW, TRAITS, VERSION,
 };
-use crate::part_names::{PartNames, known_parts};
 use crate::texts::{
     ABOUT, CHECKED, EXPLAINED, FOUND, HARDENED, ITEMS, LISTED, MEMBERS, MORE, NEEDED, SHOWN,
 };
@@ -23,7 +22,7 @@ static COMMANDS: [CommandSpec; 11] = [
         name: "show",
         command: CommandName::Show,
         bit: SHOW,
-        about: "List a whole file or one part of it",
+        about: "List a whole file or parts of it",
         more: SHOWN,
     },
     CommandSpec {
@@ -58,7 +57,7 @@ static COMMANDS: [CommandSpec; 11] = [
         name: "list",
         command: CommandName::List,
         bit: LIST,
-        about: "List many files, whole or one part of each",
+        about: "List many files, whole or parts of each",
         more: LISTED,
     },
     CommandSpec {
@@ -105,21 +104,18 @@ fn all_commands() -> &'static [CommandSpec]
     &COMMANDS
 }
 
-/// Returns the command line, given the names of parts: all commands with their arguments and help,
-/// by which `clap` parses arguments.
+/// Returns the command line: all commands with their arguments and help, by which `clap` parses
+/// arguments.
 ///
 /// # Errors
 /// Out of memory; nothing of it is kept then.
-pub(crate) fn command_line<'a>(
-    alloc: Global,
-    parts: PartNames<'a>,
-) -> Result<Command<'a>, AllocError>
-    ensures { IfOk result (λ command. app_of command ≡ program parts.entry) }
+pub(crate) fn command_line<'a>(alloc: Global) -> Result<Command<'a>, AllocError>
+    ensures { IfOk result (λ command. app_of command ≡ program) }
 {
     let mut whole = program(alloc)?;
     let commands = all_commands();
     for command in commands {
-        whole = with_command(alloc, whole, command, parts)?;
+        whole = with_command(alloc, whole, command)?;
     }
     Ok(whole)
 }
@@ -176,5 +172,5 @@ pub(crate) fn command_with_usage<'a>(
     let command = row_of(command);
     let name = command.name;
     let usage = format!(in alloc; "elfsee {name}")?;
-    clap_command_of(alloc, command, known_parts())?.bin_name(usage.as_str())
+    clap_command_of(alloc, command)?.bin_name(usage.as_str())
 }

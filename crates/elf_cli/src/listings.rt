@@ -42,7 +42,7 @@ fn listed_by<'a>(alloc: Global, matches: &ArgMatches<'a>) -> Result<CommandArgs<
         return Err(not_listed(alloc));
     }
     match usage_fault(&args) {
-        Some(fault) => Err(request_fault(alloc, args.command, fault)),
+        Some(fault) => Err(request_fault(alloc, &args, fault)),
         None => Ok(args),
     }
 }

@@ -6,7 +6,7 @@ ghost use Rattle.elf_cli.specs.Options.{HasNumber, IsCount, asked_format, asked_
 ghost use Rattle.elf_cli.specs.Options.{has_name_option, is_given, is_of_words, is_option_set};
 ghost use Rattle.elf_cli.specs.Options.{values_of};
 
-use crate::part_names::part_named;
+use crate::part_names::parts_named;
 use clap::ArgMatches;
 use clap::parser::ValueSource;
 use elf_model::Format;
@@ -34,13 +34,13 @@ impl<'m, 'a> Options<'m, 'a> {
         Options { matches }
     }
 
-    /// Returns the parts that are selected: the part that is named; otherwise the symbols if rows
-    /// are selected by name, or all parts.
+    /// Returns the parts that are selected: those that are named; otherwise the symbols if rows are
+    /// selected by name, or all parts.
     pub(crate) fn parts(&self) -> Parts
         ensures { result.0 ≡ asked_parts self.now }
     {
         match self.text("only") {
-            Some(name) => part_named(name),
+            Some(names) => parts_named(names),
             None if self.has_name_option() => Parts::SYMBOLS,
             None if self.is_set("gnu") => Parts(255),
             None => Parts(127),

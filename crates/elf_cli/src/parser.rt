@@ -2,12 +2,10 @@
 ghost use Rattle.std.specs.Prelude.{◌≡◌, IfErr, IfOk, map};
 ghost use Rattle.clap.specs.Words.{app_of, subcommand_rows_of};
 ghost use Rattle.elf_cli.specs.CommandLine.{program};
-ghost use Rattle.elf_cli.specs.Reading.{ArePartNames, AreRead, AreRefused};
-ghost use Rattle.elf_cli.specs.declared.part_names.PartNames.{PartNames};
+ghost use Rattle.elf_cli.specs.Reading.{AreRead, AreRefused};
 
 use crate::commands::command_line;
 use crate::faults::RequestFault;
-use crate::part_names::known_parts;
 use clap::{ArgMatches, Command};
 use std::alloc::{AllocError, Global};
 use std::convert::AsStr;
@@ -25,22 +23,21 @@ pub fn parse_arguments<'a, S: AsStr>(
         AreRead (map S.text words.entry.now) (subcommand_rows_of matches)) }
     ensures refused { IfErr result (AreRefused (map S.text words.entry.now)) }
 {
-    match command_line(alloc, known_parts()) {
+    match command_line(alloc) {
         Ok(mut commands) => read_by(&mut commands, words),
         Err(AllocError) => Err(RequestFault::Memory),
     }
 }
 
-/// Parses arguments by a command line that has the names of the parts.
+/// Parses arguments by the command line.
 fn read_by<'a, S: AsStr>(
     commands: &mut Command<'a>,
     words: &'a [S],
 ) -> Result<ArgMatches<'a>, RequestFault>
-    ensures read { (parts : PartNames) → app_of commands.old ≡ program parts → ArePartNames parts
-        → IfOk result
-        (λ matches. AreRead (map S.text words.entry.now) (subcommand_rows_of matches)) }
-    ensures refused { (parts : PartNames) → app_of commands.old ≡ program parts
-        → ArePartNames parts → IfErr result (AreRefused (map S.text words.entry.now)) }
+    requires { app_of commands.old ≡ program }
+    ensures read { IfOk result (λ matches.
+        AreRead (map S.text words.entry.now) (subcommand_rows_of matches)) }
+    ensures refused { IfErr result (AreRefused (map S.text words.entry.now)) }
 {
     match commands.try_get_matches_from_mut(words) {
         Ok(matches) => Ok(matches),

@@ -5,10 +5,14 @@ ghost use Rattle.elf_cli.specs.Endings.{EndsWords};
 ghost use Rattle.elf_cli.specs.Marked.{byte_beside, told_beside};
 ghost use Rattle.elf_cli.specs.declared.faults.RequestFault.TheVariants.{Memory};
 
+use crate::command_args::read_args;
 use crate::exit_lines::{BAD_WORDS, ExitLine, NOT_UTF8, OUT_OF_MEMORY, refused};
 use crate::faults::RequestFault;
 use crate::outputs::{ERROR_LINE_BYTES, write_rest};
 use crate::parser::parse_arguments;
+use crate::usage_errors::request_fault;
+use crate::usage_faults::usage_fault;
+use clap::ArgMatches;
 use elf_format::show_escaped_text;
 use elf_source::{Out, OutFault, Sink, WriteSink};
 use std::alloc::{AllocError, Global};
@@ -112,9 +116,27 @@ fn marked_text(alloc: Global, words: &[String]) -> Result<String, AllocError>
         }
     }
     match parse_arguments(alloc, others.as_slice()) {
-        Ok(_) => Ok(String::new(alloc)),
+        Ok(matches) => usage_text(alloc, &matches),
         Err(RequestFault::Words(told)) => format!(in alloc; "{told}"),
         Err(_) => Err(AllocError),
+    }
+}
+
+/// Returns the message for arguments that the command line accepts; empty if they have no fault
+/// with a message of its own.
+///
+/// # Errors
+/// Out of memory for the text.
+fn usage_text(alloc: Global, matches: &ArgMatches<'_>) -> Result<String, AllocError> {
+    let Ok(args) = read_args(alloc, matches) else {
+        return Err(AllocError);
+    };
+    let Some(fault) = usage_fault(&args) else {
+        return Ok(String::new(alloc));
+    };
+    match request_fault(alloc, &args, fault) {
+        RequestFault::Words(told) => format!(in alloc; "{told}"),
+        _ => Ok(String::new(alloc)),
     }
 }
 

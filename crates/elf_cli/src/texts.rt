@@ -28,7 +28,8 @@ Options, before or after FILE; 'elfsee help COMMAND' prints those of one command
   --max-read N  read at most N bytes of the file: 0 to 9223372036854775807
                 [default: no limit]
   --only PART   list one part: header, sections, segments, symbols, relocs, notes or dynamic,
-                with --gnu also versions [default: all of them]; archive also has: members
+                with --gnu also versions [default: all of them]; archive also has: members;
+                or several parts, separated by commas
   --gnu         also name the numbers defined by GNU, and list symbol versions; for find: look
                 up the symbol that glibc's dynamic loader picks for NAME, NAME@VERSION or
                 NAME@@VERSION
@@ -141,7 +142,7 @@ Examples:
   find /opt -name '*.so' -print0 | elfsee check --files0-from -";
 
 pub(crate) const SHOWN: &str = "\
-With --name or --name-list only the symbols are listed, or the part given with --only: symbols,
+With --name or --name-list only the symbols are listed, or the parts given with --only: symbols,
 relocs, or with --gnu versions. Of them, only the rows with one of the names are shown. Neither
 allows --names: as many bytes of a name are compared as the longest NAME has. With --versions,
 NAME matches each version of the name, NAME@VERSION that version, and NAME@@VERSION that version
@@ -149,6 +150,7 @@ if it is the default one.
 
 Examples:
   elfsee show --only symbols /bin/ls
+  elfsee show --only sections,segments /bin/ls
   elfsee show --name main --name printf /bin/ls
   elfsee show --gnu --versions --name memcpy@@GLIBC_2.14 /lib/x86_64-linux-gnu/libc.so.6";
 
@@ -240,9 +242,9 @@ pub(crate) const MEMBERS: &str = "\
 Prints one line for each member: A, its index, the offset and the size of its data, and its name.
 If it is an ELF file, its listing follows, with offsets from the first byte of its data. If that
 file is refused, the next member follows.
-  --only PART  list the members and one part of each; --only members: only the members
+  --only PART  list the members and these parts of each; --only members: only the members
   --max-read N read at most N bytes of the archive
-  --name NAME  of the members' symbols, or of the part of --only, show those with this name
+  --name NAME  of the members' symbols, or of the parts of --only, show those with this name
 
 Exit status: 1 if the archive or a member is refused.
 

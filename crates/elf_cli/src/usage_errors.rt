@@ -5,19 +5,22 @@ ghost use Rattle.clap.specs.declared.error.kind.ErrorKind.TheVariants.{Format};
 ghost use Rattle.elf_cli.specs.Faults.{IsUnasked};
 ghost use Rattle.elf_cli.specs.UsageFaults.{ReportsUsage};
 
-use crate::command_args::CommandName;
+use crate::command_args::{CommandArgs, CommandName};
 use crate::commands::command_with_usage;
 use crate::faults::RequestFault;
+use crate::part_names::known_parts;
 use crate::usage_faults::UsageFault;
 use clap::Error;
 use clap::error::ErrorKind;
 use std::alloc::{AllocError, Global};
 
 /// Returns the fault that reports one of a command's arguments.
-pub fn request_fault(alloc: Global, command: CommandName, fault: UsageFault) -> RequestFault
+pub fn request_fault(alloc: Global, args: &CommandArgs<'_>, fault: UsageFault) -> RequestFault
     ensures { ReportsUsage fault result }
 {
+    let command = args.command;
     match fault {
+        UsageFault::UnknownPart => unknown_part_error(alloc, args),
         UsageFault::NamesFull => RequestFault::NamesFull,
         UsageFault::BadName => RequestFault::BadName,
         UsageFault::NoGnu => usage_error(
@@ -46,6 +49,23 @@ pub fn request_fault(alloc: Global, command: CommandName, fault: UsageFault) -> 
             "the following required arguments were not provided:\n  <FILE>",
         ),
     }
+}
+
+/// Returns the fault that reports the first name of a part that no part has.
+fn unknown_part_error(alloc: Global, args: &CommandArgs<'_>) -> RequestFault
+    ensures { IsUnasked result }
+{
+    match unknown_part_message(alloc, args) {
+        Ok(message) => usage_error(alloc, args.command, message.as_str()),
+        Err(AllocError) => RequestFault::Memory,
+    }
+}
+
+/// Returns the message with that name and with the names of all parts.
+fn unknown_part_message(alloc: Global, args: &CommandArgs<'_>) -> Result<String, AllocError> {
+    let name = args.unknown_part().unwrap_or("");
+    let known = known_parts(alloc, args.is_archive())?;
+    format!(in alloc; "invalid value '{name}' for '--only <PART>'\n  [possible values: {known}]")
 }
 
 /// Returns the fault of a program that only lists one file, for other commands and for rows that

@@ -1,6 +1,7 @@
 //! What is wrong with arguments that the command line accepts.
 ghost use Rattle.std.specs.Prelude.{◌≡◌};
 ghost use Rattle.clap.specs.Walk.{texts};
+ghost use Rattle.elf_model.specs.Prelude.{VERSIONS, has};
 ghost use Rattle.elf_cli.specs.UsageFaults.{are_names, has_named_rows, is_name, is_of_many_files};
 ghost use Rattle.elf_cli.specs.UsageFaults.{usage_fault, file_is_missing, gnu_option_is_missing, path_is_missing, takes_file};
 
@@ -14,6 +15,8 @@ const MOST_NAMES: usize = 64;
 /// What is wrong with arguments that the command line accepts.
 #[derive(Clone, Copy, Drop)]
 pub enum UsageFault {
+    /// One of the names of parts is that of no part.
+    UnknownPart,
     /// There are more than 64 names.
     NamesFull,
     /// One of the names cannot be looked up.
@@ -23,7 +26,7 @@ pub enum UsageFault {
     NoGnu,
     /// Rows are selected by name, and the shown bytes of a name are limited.
     NamesLimited,
-    /// Rows are selected by name in a part that has no such rows.
+    /// Rows are selected by name in parts of which one has no such rows.
     NoRows,
     /// There is neither a path nor a list of paths.
     NoPath,
@@ -35,6 +38,9 @@ pub enum UsageFault {
 pub fn usage_fault(args: &CommandArgs<'_>) -> Option<UsageFault>
     ensures { result ≡ usage_fault args.now }
 {
+    if args.unknown_part().is_some() {
+        return Some(UsageFault::UnknownPart);
+    }
     if args.names.len() > MOST_NAMES {
         return Some(UsageFault::NamesFull);
     }
@@ -68,8 +74,15 @@ fn gnu_option_is_missing(args: &CommandArgs<'_>) -> bool
     }
     match args.command {
         CommandName::Find => args.caps.style.by_segments,
-        _ => args.caps.style.versions || args.parts.0 == Parts::VERSIONS.0,
+        _ => args.caps.style.versions || has_versions(args.parts),
     }
+}
+
+/// Returns `true` if symbol versions are among the parts.
+fn has_versions(parts: Parts) -> bool
+    ensures { result ≡ has parts.0 VERSIONS }
+{
+    parts.0 & Parts::VERSIONS.0 == Parts::VERSIONS.0
 }
 
 /// Returns `true` if a command of many files has neither a path nor a list of paths.
@@ -106,11 +119,12 @@ fn takes_file(command: CommandName) -> bool
     }
 }
 
-/// Returns `true` if these are one part whose rows are selected by name.
+/// Returns `true` if these are parts whose rows are selected by name, at least one.
 fn has_named_rows(parts: Parts) -> bool
     ensures { result ≡ has_named_rows parts.0 }
 {
-    parts.0 == Parts::SYMBOLS.0 || parts.0 == Parts::RELOCS.0 || parts.0 == Parts::VERSIONS.0
+    let named = Parts::SYMBOLS.0 | Parts::RELOCS.0 | Parts::VERSIONS.0;
+    parts.0 > 0 && parts.0 | named == named
 }
 
 /// Returns `true` if all arguments are names that can be looked up.

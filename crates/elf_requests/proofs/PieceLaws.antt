@@ -1,35 +1,14 @@
--- The pieces of a text, and the traits that they name.
-use Rattle.std.proofs.Common.{◌≡◌, ◌≢◌, ◌∙◌, ◌==◌, ◌<◌, ℕ, zero, suc, Bool, true, false, List, [], ◌∷◌, ◌++◌, length, get_or, map, Option, None, Some, refl, ap, sym, subst, inl, inr, arith, append_assoc}
+-- The traits that the pieces of a text name.
+use Rattle.std.proofs.Common.{◌≡◌, ◌∙◌, Bool, true, false, List, [], ◌∷◌, ◌++◌, map, Option, None, Some, refl, ap, sym, inl, inr, append_assoc}
 use Rattle.std.specs.Prelude.{◌⊎◌, ◌||◌, is_some, not}
 use Rattle.std.specs.List.{list_any}
-use Rattle.std.proofs.lemmas.Bool.Decides.{nat_tests}
 use Rattle.clap.specs.Walk.{Text}
 use Rattle.elf_model.specs.TraitWords.{Required}
 use Rattle.elf_options.specs.Prelude.{parsed_trait_word}
-use Rattle.elf_requests.specs.AskedTraits.{IsWordFault, onto_first, pieces}
+use Rattle.elf_requests.specs.AskedTraits.{IsWordFault}
+use Rattle.elf_cli.specs.Pieces.{pieces}
 use Rattle.elf_cli.specs.declared.faults.RequestFault.TheVariants.{BadTrait, Memory}
 use Rattle.elf_cli.specs.declared.faults.RequestFault.{RequestFault}
-
--- a byte that is not a comma is at the start of the first piece
-piece_onto : (byte : ℕ) (bytes : Text) → byte ≢ 44 → pieces (byte ∷ bytes) ≡ onto_first byte (pieces bytes)
-unfolding pieces
-piece_onto byte bytes other =
-    let differ : (byte == 44) ≡ false = grind (arith, nat_tests, other) in
-    subst (λ (b : Bool). elim b as (λ _. List Text) [ true ↦ [] ∷ pieces bytes | false ↦ onto_first byte (pieces bytes) ] ≡ onto_first byte (pieces bytes)) (sym differ) refl
-
--- what is before the first comma is the first piece
-pub first_piece : (piece behind : Text) → ((i : ℕ) → i < length piece → get_or piece i 0 ≢ 44) → pieces (piece ++ 44 ∷ behind) ≡ piece ∷ pieces behind
-unfolding pieces
-first_piece [] behind lacks = refl
-first_piece (byte ∷ piece) behind lacks =
-    piece_onto byte (piece ++ 44 ∷ behind) (lacks zero (omega arith)) ∙ ap (onto_first byte) (first_piece piece behind (λ i low. lacks (suc i) (omega arith)))
-
--- a text without a comma is one piece
-pub one_piece : (text : Text) → ((i : ℕ) → i < length text → get_or text i 0 ≢ 44) → pieces text ≡ text ∷ []
-unfolding pieces
-one_piece [] lacks = refl
-one_piece (byte ∷ bytes) lacks =
-    piece_onto byte bytes (lacks zero (omega arith)) ∙ ap (onto_first byte) (one_piece bytes (λ i low. lacks (suc i) (omega arith)))
 
 abbrev Spelled : Type 0
 Spelled = List (Option Required)

@@ -1,22 +1,13 @@
 -- The required traits of an argument.
-use Rattle.std.specs.Prelude.{ℕ, ◌==◌, ◌≡◌, ◌⊎◌, true, false, not, is_some, List, [], ◌∷◌, map, Option, None, Some}
+use Rattle.std.specs.Prelude.{◌≡◌, ◌⊎◌, true, not, is_some, List, [], map, Option, None, Some}
 use Rattle.std.specs.List.{list_any}
 use Rattle.clap.specs.Walk.{Text}
+use Rattle.elf_cli.specs.Pieces.{pieces}
 use Rattle.elf_cli.specs.declared.faults.RequestFault.TheVariants.{BadTrait, Memory}
 use Rattle.elf_cli.specs.declared.faults.RequestFault.{RequestFault}
 use Rattle.elf_model.specs.TraitWords.{Required}
 use Rattle.elf_options.specs.Prelude.{parsed_trait_word, required_words}
 use Rattle.elf_options.specs.declared.required.RequiredTrait.{RequiredTrait}
-
--- one more byte at the start of the first of some pieces
-abbrev pub onto_first : ℕ → List Text → List Text
-onto_first byte [] = (byte ∷ []) ∷ []
-onto_first byte (piece ∷ rest) = (byte ∷ piece) ∷ rest
-
--- the pieces of a text, separated by commas
-unfoldable pub pieces : Text → List Text
-pieces [] = [] ∷ []
-pieces (byte ∷ bytes) = elim (byte == 44) [ true ↦ [] ∷ pieces bytes | false ↦ onto_first byte (pieces bytes) ]
 
 -- the trait that each piece of a text names; without a text nothing is required
 abbrev parsed_in : Option Text → List (Option Required)

@@ -72,7 +72,7 @@ fn checked<'a>(
 {
     let required = required_of(alloc, args.require)?;
     match usage_fault(&args) {
-        Some(fault) => Err(request_fault(alloc, args.command, fault)),
+        Some(fault) => Err(request_fault(alloc, &args, fault)),
         None => made_of(args, required, layout),
     }
 }

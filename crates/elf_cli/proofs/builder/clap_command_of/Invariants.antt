@@ -9,4 +9,4 @@ use Rattle.elf_cli.proofs.builder.clap_command_of.Given as goal
 
 abbrev pub invariant-loop-argument : goal.invariant-loop-argument
 invariant-loop-argument l =
-    IsBuilt (fold (λ app word. with_argument l.command.bit app (argument_row l.parts word)) (new_app l.command.name.now) (take l.argument-index l.arguments)) l.whole
+    IsBuilt (fold (λ app word. with_argument l.command.bit app (argument_row word)) (new_app l.command.name.now) (take l.argument-index l.arguments)) l.whole

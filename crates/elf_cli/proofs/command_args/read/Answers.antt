@@ -1,4 +1,4 @@
--- The value of each argument, one a line.
+-- Each argument is what its reader returns, a line for each.
 use Rattle.elf_cli.proofs.command_args.read.Goals as goal
 
 pub returns-clause-options : goal.returns-clause-options
@@ -15,14 +15,15 @@ returns-clause-options c = record {
   members = c.is_set-2.ensures;
   caps = c.caps_of.ensures;
   limits_names = c.is_given.ensures;
+  only = c.text-4.ensures;
   parts = c.parts.ensures;
   names = c.in_ok-values-4.ensures;
-  name_list = c.text-4.ensures;
-  require = c.text-5.ensures;
+  name_list = c.text-5.ensures;
+  require = c.text-6.ensures;
   library_path = c.text_or_empty-2.ensures;
-  default = c.text-6.ensures;
+  default = c.text-7.ensures;
   root = c.text_or_empty-3.ensures;
-  cache = c.text-7.ensures;
+  cache = c.text-8.ensures;
   no_cache = c.has_no_cache.ensures;
   max_tries = c.number.ensures;
   symbols = c.is_set-3.ensures;

@@ -7,4 +7,4 @@ use Rattle.elf_cli.specs.Described.{command_row}
 use Rattle.elf_cli.proofs.commands.command_line.Given as goal
 
 abbrev pub invariant-loop-command : goal.invariant-loop-command
-invariant-loop-command l = app_of l.whole ≡ fold (λ app row. with_command l.parts app (command_row row)) without_command (take l.command-index l.commands)
+invariant-loop-command l = app_of l.whole ≡ fold (λ app row. with_command app (command_row row)) without_command (take l.command-index l.commands)

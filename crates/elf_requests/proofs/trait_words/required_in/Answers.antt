@@ -1,7 +1,8 @@
 use Rattle.std.proofs.Common.{rules, arith, ap, ◌∙◌}
 use Rattle.std.proofs.lemmas.Str.Pattern.{split_parts}
-use Rattle.elf_requests.specs.AskedTraits.{pieces}
-use Rattle.elf_requests.proofs.PieceLaws.{first_piece, one_piece, word_fault, word_last, word_more}
+use Rattle.elf_cli.specs.Pieces.{pieces}
+use Rattle.elf_cli.proofs.PieceLaws.{first_piece, one_piece}
+use Rattle.elf_requests.proofs.PieceLaws.{word_fault, word_last, word_more}
 use Rattle.elf_requests.proofs.trait_words.required_in.Goals as goal
 
 pub returns-in-Err-clause-refused : goal.returns-in-Err-clause-refused

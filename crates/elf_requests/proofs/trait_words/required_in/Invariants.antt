@@ -1,6 +1,6 @@
 use Rattle.std.proofs.Common.{◌≡◌, ◌++◌, length, map, Some, IsUtf8}
 use Rattle.elf_options.specs.Prelude.{parsed_trait_word, required_words}
-use Rattle.elf_requests.specs.AskedTraits.{pieces}
+use Rattle.elf_cli.specs.Pieces.{pieces}
 use Rattle.elf_requests.proofs.trait_words.required_in.Given as goal
 
 -- the traits so far, and those that the pieces of the rest name, are those that all pieces name
