@@ -11,7 +11,7 @@ use Rattle.elf_cli.specs.declared.command_args.CommandName.TheVariants.{Show, Fi
 use Rattle.elf_cli.specs.declared.faults.RequestFault.{RequestFault}
 use Rattle.elf_cli.specs.declared.faults.RequestFault.TheVariants as fault
 use Rattle.elf_cli.specs.declared.usage_faults.UsageFault.{UsageFault}
-use Rattle.elf_cli.specs.declared.usage_faults.UsageFault.TheVariants.{NamesFull, BadName, NoGnu, NamesLimited, NoRows, NoPath, NoFile}
+use Rattle.elf_cli.specs.declared.usage_faults.UsageFault.TheVariants.{TwoFormats, NamesFull, BadName, NoGnu, NamesLimited, NoRows, NoPath, NoFile}
 
 -- a text of 1 to 4,096 bytes without NUL; and if a name may have a version, neither is empty
 abbrev pub is_name : (versions : Bool) → Text → Bool
@@ -62,7 +62,8 @@ file_is_missing args = takes_file args.command && not (is_some args.file)
 -- THE FAULT OF ARGUMENTS: the first of these
 abbrev pub usage_fault : CommandArgs → Option UsageFault
 usage_fault args =
-    if nat_lt 64 (length args.names.items) then Some NamesFull
+    if args.two_formats then Some TwoFormats
+    else if nat_lt 64 (length args.names.items) then Some NamesFull
     else if not (are_names args.caps.style.versions (texts args.names.items)) then Some BadName
     else if gnu_option_is_missing args then Some NoGnu
     else if selects_rows args && args.limits_names then Some NamesLimited

@@ -11,7 +11,7 @@ use crate::command_sets::{
 };
 use clap::builder::ValueParser;
 
-static ARGUMENTS: [ArgSpec; 32] = [
+static ARGUMENTS: [ArgSpec; 33] = [
     ArgSpec {
         name: "headers",
         kind: ArgKind::Count(ValueParser::Signed(1, 65279), "4096"),
@@ -133,6 +133,12 @@ static ARGUMENTS: [ArgSpec; 32] = [
         name: "json",
         kind: ArgKind::Flag,
         help: "Print each line as a JSON object",
+        commands: LINES,
+    },
+    ArgSpec {
+        name: "table",
+        kind: ArgKind::Flag,
+        help: "Print a table with the names of its columns; implies --gnu and --versions",
         commands: LINES,
     },
     ArgSpec {

@@ -18,6 +18,11 @@ pub fn request_fault(alloc: Global, command: CommandName, fault: UsageFault) -> 
     ensures { ReportsUsage fault result }
 {
     match fault {
+        UsageFault::TwoFormats => usage_error(
+            alloc,
+            command,
+            "the argument '--json' cannot be used with '--table'",
+        ),
         UsageFault::NamesFull => RequestFault::NamesFull,
         UsageFault::BadName => RequestFault::BadName,
         UsageFault::NoGnu => usage_error(

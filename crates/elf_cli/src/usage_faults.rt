@@ -14,6 +14,8 @@ const MOST_NAMES: usize = 64;
 /// What is wrong with arguments that the command line accepts.
 #[derive(Clone, Copy, Drop)]
 pub enum UsageFault {
+    /// Both JSON objects and a table are requested.
+    TwoFormats,
     /// There are more than 64 names.
     NamesFull,
     /// One of the names cannot be looked up.
@@ -35,6 +37,9 @@ pub enum UsageFault {
 pub fn usage_fault(args: &CommandArgs<'_>) -> Option<UsageFault>
     ensures { result ≡ usage_fault args.now }
 {
+    if args.two_formats {
+        return Some(UsageFault::TwoFormats);
+    }
     if args.names.len() > MOST_NAMES {
         return Some(UsageFault::NamesFull);
     }

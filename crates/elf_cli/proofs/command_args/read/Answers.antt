@@ -1,0 +1,31 @@
+-- Each argument is what its reader returned.
+use Rattle.elf_cli.proofs.command_args.read.Goals as goal
+
+pub returns-clause-options : goal.returns-clause-options
+returns-clause-options c = record {
+  file = c.text.ensures;
+  name = c.text_or_empty.ensures;
+  section = c.count.ensures;
+  items = c.in_ok-values.ensures;
+  layout = c.text-2.ensures;
+  explain = c.is_set.ensures;
+  paths = c.in_ok-values-2.ensures;
+  list = c.text-3.ensures;
+  members = c.is_set-2.ensures;
+  caps = c.caps_of.ensures;
+  two_formats = c.has_two_formats.ensures;
+  limits_names = c.is_given.ensures;
+  parts = c.parts.ensures;
+  names = c.in_ok-values-3.ensures;
+  name_list = c.text-4.ensures;
+  require = c.text-5.ensures;
+  library_path = c.text_or_empty-2.ensures;
+  default = c.text-6.ensures;
+  root = c.text_or_empty-3.ensures;
+  cache = c.text-7.ensures;
+  no_cache = c.has_no_cache.ensures;
+  max_tries = c.number.ensures;
+  symbols = c.is_set-3.ensures;
+  unused = c.is_set-4.ensures;
+  problems = c.is_set-5.ensures;
+}
