@@ -86,6 +86,7 @@ complete -c elfsee -n '__fish_seen_subcommand_from find; and __elfsee_lacks --gn
 complete -c elfsee -n '__fish_seen_subcommand_from find; and __elfsee_lacks --by-segments' -l by-segments -d 'with --gnu: find the tables by the program headers'
 complete -c elfsee -n "$listing; and __elfsee_lacks --by-segments" -l by-segments -d 'find tables by the program headers'
 complete -c elfsee -n "__fish_seen_subcommand_from show sample find check list traits needs archive; and __elfsee_lacks --json" -l json -d 'print each line as a JSON object'
+complete -c elfsee -n "__fish_seen_subcommand_from show sample find check list traits needs archive; and __elfsee_lacks --table" -l table -d 'print a table with the names of its columns; implies --gnu and --versions'
 complete -c elfsee -n '__fish_seen_subcommand_from show sample list archive; and __elfsee_lacks --versions' -l versions -d 'with --gnu: append its version to the name of a symbol'
 complete -c elfsee -n '__fish_seen_subcommand_from show list archive' -l name -x -d 'show only the rows with this name'
 complete -c elfsee -n '__fish_seen_subcommand_from show list archive; and __elfsee_lacks --name-list' -l name-list -r -F -d 'also show the rows with the names in a file, one per line'

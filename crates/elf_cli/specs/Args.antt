@@ -8,7 +8,7 @@ use Rattle.elf_options.specs.declared.caps.Limits.{Limits}
 use Rattle.elf_options.specs.declared.caps.ListingStyle.{ListingStyle}
 use Rattle.elf_cli.specs.CommandLine.{command_among, command_rows}
 use Rattle.elf_cli.specs.Faults.{IsUnasked}
-use Rattle.elf_cli.specs.Options.{HasNumber, IsCount, asked_format, asked_parts, is_given, is_option_set, values_of}
+use Rattle.elf_cli.specs.Options.{HasNumber, IsCount, asked_format, asked_parts, has_two_formats, is_given, is_option_set, is_set_or_implied, values_of}
 use Rattle.elf_cli.specs.declared.command_args.CommandArgs.{CommandArgs}
 use Rattle.elf_cli.specs.declared.command_args.CommandName.{CommandName}
 use Rattle.elf_cli.specs.declared.faults.RequestFault.{RequestFault}
@@ -26,11 +26,11 @@ pub record AreLimits (rows : List Row) (limits : Limits) : Type 0 where
 -- how rows are shown, before any is selected by name
 pub record IsStyle (rows : List Row) (style : ListingStyle) : Type 0 where
   pub cap : IsCount 1 4096 (one_of (codes "names") rows) style.cap.bytes
-  pub gnu : style.gnu ≡ is_option_set (first_of (codes "gnu") rows)
+  pub gnu : style.gnu ≡ is_set_or_implied (codes "gnu") rows
   pub by_segments : style.by_segments ≡ is_option_set (first_of (codes "by-segments") rows)
   pub format : style.format ≡ asked_format rows
   pub choice : choice_of style.choice ≡ EveryRow
-  pub versions : style.versions ≡ is_option_set (first_of (codes "versions") rows)
+  pub versions : style.versions ≡ is_set_or_implied (codes "versions") rows
 
 pub record AreCapOptions (rows : List Row) (caps : Caps) : Type 0 where
   pub limits : AreLimits rows caps.limits
@@ -49,6 +49,7 @@ pub record AreOptions (rows : List Row) (args : CommandArgs) : Type 0 where
   pub list : option_map (λ path. path.now) args.list ≡ first_of (codes "files0-from") rows
   pub members : args.members ≡ is_option_set (first_of (codes "members") rows)
   pub caps : AreCapOptions rows args.caps
+  pub two_formats : args.two_formats ≡ has_two_formats rows
   pub limits_names : args.limits_names ≡ is_given (codes "names") rows
   pub only : option_map (λ names. names.now) args.only ≡ first_of (codes "only") rows
   pub parts : args.parts.0 ≡ asked_parts rows

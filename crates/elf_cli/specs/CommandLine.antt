@@ -84,6 +84,7 @@ argument_rows =
     ∷ (listing, flag (codes "by-segments"))
     ∷ (FIND, flag (codes "by-segments"))
     ∷ (listing + FIND + TRAITS + NEEDS, flag (codes "json"))
+    ∷ (listing + FIND + TRAITS + NEEDS, flag (codes "table"))
     ∷ (selecting + SAMPLE, flag (codes "versions"))
     ∷ (selecting, repeated (codes "name"))
     ∷ (selecting, valued (codes "name-list"))

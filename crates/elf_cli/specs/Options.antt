@@ -1,5 +1,5 @@
 -- The values of a command's arguments, each alone.
-use Rattle.std.specs.Prelude.{Bool, true, false, ◌||◌, if◌then◌else◌, bytes_eq, find, is_some, ℕ, ◌≡◌, ◌<◌, ◌≤◌, ◌^◌, List, [], ◌∷◌, codes, Option, None, Some, option_and_then, unwrap_or}
+use Rattle.std.specs.Prelude.{Bool, true, false, ◌||◌, ◌&&◌, if◌then◌else◌, bytes_eq, find, is_some, ℕ, ◌≡◌, ◌<◌, ◌≤◌, ◌^◌, List, [], ◌∷◌, codes, Option, None, Some, option_and_then, unwrap_or}
 use Rattle.std.specs.Str.Parse.{IsNumeral, digits_value, without_leading_plus}
 use Rattle.std.specs.Int.RustNames.{bit_or}
 use Rattle.std.specs.List.{fold, list_all, list_any}
@@ -8,7 +8,7 @@ use Rattle.clap.specs.declared.parser.matches.ValueSource.{ValueSource}
 use Rattle.clap.specs.declared.parser.matches.ValueSource.TheVariants.{CommandLine, DefaultValue}
 use Rattle.elf_model.specs.Prelude.{DYNAMIC, HEADER, NOTES, RELOCS, SECTIONS, SEGMENTS, SYMBOLS, VERSIONS, all_parts}
 use Rattle.elf_cli.specs.Pieces.{pieces}
-use Rattle.elf_model.specs.declared.formats.Format.TheVariants.{Columns, Object}
+use Rattle.elf_model.specs.declared.formats.Format.TheVariants.{Columns, Object, Table}
 use Rattle.elf_model.specs.declared.formats.Format.{Format}
 
 -- the value of decimal digits, with an optional plus before them
@@ -49,9 +49,21 @@ is_given id rows = is_of_words (option_and_then (λ row. row.source) (find (λ r
 abbrev pub values_of : Text → List Row → List Text
 values_of id rows = unwrap_or (all_of id rows) []
 
--- how a line is written, by whether JSON objects are requested
+-- how a line is written, by whether JSON objects or a table are requested
 abbrev pub asked_format : List Row → Format
-asked_format rows = if is_option_set (first_of (codes "json") rows) then Object else Columns
+asked_format rows =
+    if is_option_set (first_of (codes "json") rows) then Object
+    else if is_option_set (first_of (codes "table") rows) then Table
+    else Columns
+
+-- whether both are requested
+abbrev pub has_two_formats : List Row → Bool
+has_two_formats rows = is_option_set (first_of (codes "json") rows) && is_option_set (first_of (codes "table") rows)
+
+-- whether an option without a value is set, or implied by a table, as it is if the command has it
+abbrev pub is_set_or_implied : Text → List Row → Bool
+is_set_or_implied option rows =
+    is_option_set (first_of option rows) || (is_option_set (first_of (codes "table") rows) && is_some (first_of option rows))
 
 -- the parts of a listing, by their names
 abbrev pub part_names : List (ℕ × List ℕ)
@@ -100,4 +112,4 @@ parts_by named gnu None = if named then SYMBOLS else all_parts gnu
 -- the parts that are named; without a name the symbols if rows are selected by name, otherwise all
 -- parts, of GNU listings or of the standards' alone
 abbrev pub asked_parts : List Row → ℕ
-asked_parts rows = parts_by (has_name_option rows) (is_option_set (first_of (codes "gnu") rows)) (first_of (codes "only") rows)
+asked_parts rows = parts_by (has_name_option rows) (is_set_or_implied (codes "gnu") rows) (first_of (codes "only") rows)

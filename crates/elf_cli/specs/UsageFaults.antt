@@ -13,7 +13,7 @@ use Rattle.elf_cli.specs.declared.command_args.CommandName.TheVariants.{Show, Fi
 use Rattle.elf_cli.specs.declared.faults.RequestFault.{RequestFault}
 use Rattle.elf_cli.specs.declared.faults.RequestFault.TheVariants as fault
 use Rattle.elf_cli.specs.declared.usage_faults.UsageFault.{UsageFault}
-use Rattle.elf_cli.specs.declared.usage_faults.UsageFault.TheVariants.{UnknownPart, NamesFull, BadName, NoGnu, NamesLimited, NoRows, NoPath, NoFile}
+use Rattle.elf_cli.specs.declared.usage_faults.UsageFault.TheVariants.{UnknownPart, TwoFormats, NamesFull, BadName, NoGnu, NamesLimited, NoRows, NoPath, NoFile}
 
 -- a text of 1 to 4,096 bytes without NUL; and if a name may have a version, neither is empty
 abbrev pub is_name : (versions : Bool) → Text → Bool
@@ -77,6 +77,7 @@ file_is_missing args = takes_file args.command && not (is_some args.file)
 abbrev pub usage_fault : CommandArgs → Option UsageFault
 usage_fault args =
     if part_is_unknown args then Some UnknownPart
+    else if args.two_formats then Some TwoFormats
     else if nat_lt 64 (length args.names.items) then Some NamesFull
     else if not (are_names args.caps.style.versions (texts args.names.items)) then Some BadName
     else if gnu_option_is_missing args then Some NoGnu

@@ -137,6 +137,12 @@ static ARGUMENTS: [ArgSpec; 33] = [
         commands: LINES,
     },
     ArgSpec {
+        name: "table",
+        kind: ArgKind::Flag,
+        help: "Print a table with the names of its columns; implies --gnu and --versions",
+        commands: LINES,
+    },
+    ArgSpec {
         name: "versions",
         kind: ArgKind::Flag,
         help: "With --gnu: append its version to the name of a symbol, as NAME@VERSION",

@@ -73,6 +73,8 @@ pub struct CommandArgs<'a> {
     /// How many headers are allowed, how many bytes may be read, and how rows are shown, before any
     /// is selected by name.
     pub caps: Caps<'static>,
+    /// Whether both JSON objects and a table are requested.
+    pub two_formats: bool,
     /// Whether a limit on the shown bytes of a name is given.
     pub limits_names: bool,
     /// The names of the parts of a listing, separated by commas.
@@ -192,6 +194,7 @@ fn read<'a>(
         list: options.text("files0-from"),
         members: options.is_set("members"),
         caps: caps_of(options),
+        two_formats: options.has_two_formats(),
         limits_names: options.is_given("names"),
         only: options.text("only"),
         parts: options.parts(),
@@ -232,11 +235,11 @@ fn caps_of(options: &Options<'_, '_>) -> Caps<'static>
             cap: NameLimit {
                 bytes: options.count("names", 1, 4096, 256),
             },
-            gnu: options.is_set("gnu"),
+            gnu: options.has_gnu(),
             by_segments: options.is_set("by-segments"),
             format: options.format(),
             choice: RowFilter::every_row(),
-            versions: options.is_set("versions"),
+            versions: options.has_versions(),
         },
     }
 }

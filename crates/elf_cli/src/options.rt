@@ -1,8 +1,9 @@
 //! The values of a command's arguments, by a reader for each form.
-ghost use Rattle.std.specs.Prelude.{◌≡◌, ◌≤◌, ℕ, IfOk, List, [], Option, option_map, unwrap_or};
+ghost use Rattle.std.specs.Prelude.{◌≡◌, ◌≤◌, ℕ, IfOk, List, [], Option, codes, option_map, unwrap_or};
 ghost use Rattle.clap.specs.Walk.{Row, first_of, one_of, rows_of, texts};
 ghost use Rattle.clap.specs.Words.{found_of};
 ghost use Rattle.elf_cli.specs.Options.{HasNumber, IsCount, asked_format, asked_parts};
+ghost use Rattle.elf_cli.specs.Options.{has_two_formats, is_set_or_implied};
 ghost use Rattle.elf_cli.specs.Options.{has_name_option, is_given, is_of_words, is_option_set};
 ghost use Rattle.elf_cli.specs.Options.{values_of};
 
@@ -42,7 +43,7 @@ impl<'m, 'a> Options<'m, 'a> {
         match self.text("only") {
             Some(names) => parts_named(names),
             None if self.has_name_option() => Parts::SYMBOLS,
-            None if self.is_set("gnu") => Parts(255),
+            None if self.has_gnu() => Parts(255),
             None => Parts(127),
         }
     }
@@ -60,9 +61,40 @@ impl<'m, 'a> Options<'m, 'a> {
     {
         if self.is_set("json") {
             Format::Object
+        } else if self.is_set("table") {
+            Format::Table
         } else {
             Format::Columns
         }
+    }
+
+    /// Returns `true` if both JSON objects and a table are requested.
+    pub(crate) fn has_two_formats(&self) -> bool
+        ensures { result ≡ has_two_formats self.now }
+    {
+        self.is_set("json") && self.is_set("table")
+    }
+
+    /// Returns `true` if GNU numbers have names too.
+    pub(crate) fn has_gnu(&self) -> bool
+        ensures { result ≡ is_set_or_implied (codes "gnu") self.now }
+    {
+        self.is_set_or_implied("gnu")
+    }
+
+    /// Returns `true` if the version of a symbol follows its name.
+    pub(crate) fn has_versions(&self) -> bool
+        ensures { result ≡ is_set_or_implied (codes "versions") self.now }
+    {
+        self.is_set_or_implied("versions")
+    }
+
+    /// Returns `true` if an option without a value is set, or implied by a table, as it is if the
+    /// command has it.
+    fn is_set_or_implied(&self, option: &str) -> bool
+        ensures { result ≡ is_set_or_implied option.now self.now }
+    {
+        self.is_set(option) || self.is_set("table") && self.text(option).is_some()
     }
 
     /// Returns `true` if an option without a value is set.

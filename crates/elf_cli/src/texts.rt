@@ -36,6 +36,8 @@ Options, before or after FILE; 'elfsee help COMMAND' prints those of one command
   --by-segments find tables by the program headers, as a loader does, and list the file, or with
                 find --gnu look up NAME, as if it had no section headers
   --json        print each line as a JSON object, one per line
+  --table       print a table with the names of its columns, for a reader; implies --gnu and
+                --versions where a command has these
   --layout LIST for apply: also take the items in the file LIST, one per line, any number of
                 them
   --explain     for apply: if an address is missing, print the type of the relocation, the name

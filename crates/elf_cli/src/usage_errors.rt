@@ -21,6 +21,11 @@ pub fn request_fault(alloc: Global, args: &CommandArgs<'_>, fault: UsageFault) -
     let command = args.command;
     match fault {
         UsageFault::UnknownPart => unknown_part_error(alloc, args),
+        UsageFault::TwoFormats => usage_error(
+            alloc,
+            command,
+            "the argument '--json' cannot be used with '--table'",
+        ),
         UsageFault::NamesFull => RequestFault::NamesFull,
         UsageFault::BadName => RequestFault::BadName,
         UsageFault::NoGnu => usage_error(

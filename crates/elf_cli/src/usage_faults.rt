@@ -17,6 +17,8 @@ const MOST_NAMES: usize = 64;
 pub enum UsageFault {
     /// One of the names of parts is that of no part.
     UnknownPart,
+    /// Both JSON objects and a table are requested.
+    TwoFormats,
     /// There are more than 64 names.
     NamesFull,
     /// One of the names cannot be looked up.
@@ -40,6 +42,9 @@ pub fn usage_fault(args: &CommandArgs<'_>) -> Option<UsageFault>
 {
     if args.unknown_part().is_some() {
         return Some(UsageFault::UnknownPart);
+    }
+    if args.two_formats {
+        return Some(UsageFault::TwoFormats);
     }
     if args.names.len() > MOST_NAMES {
         return Some(UsageFault::NamesFull);

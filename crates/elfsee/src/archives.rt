@@ -8,6 +8,7 @@ use elf_archive::show_archive;
 use elf_cli::{
     CANNOT_OPEN, CommandArgs, ExitLine, allocate, allocate_pages, end_answer, open_by_pages,
 };
+use elf_format::TableWriter;
 use elf_record::Parts;
 use elf_requests::archive_status;
 use elf_source::{Counted, DeferredSink, Out, RangeSource, Source, WriteSink};
@@ -62,7 +63,8 @@ where
     ensures { IfErr result (λ ending.
         EndsWithoutMemory ending.0 ending.1.now ⊎ EndsWithoutFile ending.0 ending.1.now) }
 {
-    let (mut room, output) = match allocate(rt.alloc(), caps.limits.headers, io::writer(rt)) {
+    let lines = TableWriter::new(io::writer(rt), caps.style.format);
+    let (mut room, output) = match allocate(rt.alloc(), caps.limits.headers, lines) {
         Ok(buffers) => buffers,
         Err(ending) => return Err(ending),
     };

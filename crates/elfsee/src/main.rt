@@ -23,9 +23,11 @@ use elf_cli::{
     report_explanations, report_refused, report_version,
 };
 use elf_fixtures::sample;
+use elf_format::TableWriter;
 use elf_layout::Layout;
+use elf_model::Format;
 use elf_record::Refusal;
-use elf_requests::{ParsedCommand, Request, request, run};
+use elf_requests::{ParsedCommand, Request, Task, request, run};
 use elf_source::{Counted, MemorySource, Out, PageCache, Sink, Source, WriteSink};
 use elf_table::{HeaderStore, RunFault};
 use layouts::apply_laid;
@@ -118,7 +120,8 @@ where
     ensures { IfErr result (λ ending.
         EndsWithoutMemory ending.0 ending.1.now ⊎ EndsWithoutFile ending.0 ending.1.now) }
 {
-    let (mut room, output) = match allocate(rt.alloc(), request.limits.headers, io::writer(rt)) {
+    let lines = TableWriter::new(io::writer(rt), format_of(&request.task));
+    let (mut room, output) = match allocate(rt.alloc(), request.limits.headers, lines) {
         Ok(buffers) => buffers,
         Err(ending) => return Err(ending),
     };
@@ -129,6 +132,15 @@ where
     match answer_into(rt, request, room.store(), pages, output, errors) {
         Ok((ending, _output)) => Ok(ending),
         Err(ending) => Err(ending),
+    }
+}
+
+/// Returns the format of the lines of a task; a section has none.
+fn format_of(task: &Task<'_>) -> Format {
+    match task {
+        Task::Show { style, .. } => style.format,
+        Task::Find { format, .. } | Task::Resolve { format, .. } => *format,
+        Task::Apply { .. } | Task::Place { .. } => Format::Columns,
     }
 }
 

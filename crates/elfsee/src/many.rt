@@ -6,6 +6,7 @@ use elf_cli::{
     CANNOT_OPEN, CommandArgs, ExitLine, LineSink, OUT_OF_MEMORY, OUTPUT_BYTES, PIPE_BYTES,
     READ_FAULT, RunEnd, WRITE_FAULT, end_lines,
 };
+use elf_format::TableWriter;
 use elf_model::Format;
 use elf_requests::TraitsRequest;
 use elf_source::{DeferredSink, Out, OutFault, Sink, WriteSink};
@@ -154,7 +155,8 @@ where
     let Ok(kept) = vec![in rt.alloc(); 0u8; kept_bytes(rt)] else {
         return FilesEnd::NoMemory;
     };
-    let output = LineSink::new(WriteSink::new(io::writer(rt)), kept);
+    let lines = TableWriter::new(io::writer(rt), format);
+    let output = LineSink::new(WriteSink::new(lines), kept);
     let mut many = FileRun::new(
         Out::new(DeferredSink::new(output, held)),
         each,

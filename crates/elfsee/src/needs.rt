@@ -6,6 +6,7 @@ use crate::needs_of_files::list_needs_of_files;
 use elf_cli::{
     CANNOT_OPEN, CommandArgs, ExitLine, OUT_OF_MEMORY, READ_FAULT, RunEnd, allocate, end_run, open,
 };
+use elf_format::TableWriter;
 use elf_needs::{
     DependencyWalk, LibraryCache, LineOptions, Listed, MOST_OBJECTS, NeedsBuffers, NeedsFault,
     NeedsOptions, OpenFiles, OpenObjects, RootedFiles, SearchDirs, SystemFiles, default_dirs,
@@ -69,11 +70,8 @@ fn list_needs<R: Files + Print + AllocGlobal>(
 where
     R::File: FileExt,
 {
-    let (mut headers, output) = match allocate(
-        rt.alloc(),
-        asked.caps.limits.headers,
-        io::writer(rt),
-    ) {
+    let lines = TableWriter::new(io::writer(rt), asked.caps.style.format);
+    let (mut headers, output) = match allocate(rt.alloc(), asked.caps.limits.headers, lines) {
         Ok(buffers) => buffers,
         Err(ending) => return Err(ending),
     };

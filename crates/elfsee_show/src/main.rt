@@ -8,6 +8,7 @@ use elf_cli::{
     parse_show, read_words, report_refused, report_version,
 };
 use elf_fixtures::sample;
+use elf_format::TableWriter;
 use elf_listing::show;
 use elf_source::{Counted, MemorySource, Out, Source, WriteSink};
 use elf_table::HeaderStore;
@@ -33,7 +34,8 @@ where
     if let CommandName::Version = args.command {
         return report_version(rt);
     }
-    let (mut room, output) = allocate(rt.alloc(), args.caps.limits.headers, io::writer(rt))?;
+    let lines = TableWriter::new(io::writer(rt), args.caps.style.format);
+    let (mut room, output) = allocate(rt.alloc(), args.caps.limits.headers, lines)?;
     let pages = allocate_pages(rt.alloc(), args.caps.limits.budget)?;
     match args.file {
         Some(path) => Ok(list(&args, open_by_pages(rt, path, pages)?, room.store(), output)),

@@ -14,6 +14,7 @@ returns-clause-options c = record {
   list = c.text-3.ensures;
   members = c.is_set-2.ensures;
   caps = c.caps_of.ensures;
+  two_formats = c.has_two_formats.ensures;
   limits_names = c.is_given.ensures;
   only = c.text-4.ensures;
   parts = c.parts.ensures;
