@@ -10,7 +10,7 @@ use crate::command_sets::{
 };
 use clap::builder::ValueParser;
 
-static ARGUMENTS: [ArgSpec; 33] = [
+static ARGUMENTS: [ArgSpec; 34] = [
     ArgSpec {
         name: "headers",
         kind: ArgKind::Count(ValueParser::Signed(1, 65279), "4096"),
