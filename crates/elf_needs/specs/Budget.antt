@@ -6,14 +6,11 @@ use Rattle.elf_needs.specs.Binds.{asked_of_all}
 use Rattle.elf_needs.specs.Kept.{LookupObjectState}
 use Rattle.elf_needs.specs.Looks.{SpendsBudget}
 use Rattle.elf_needs.specs.Opens.{SpendsBudgetAtLeast}
-use Rattle.elf_needs.specs.declared.object_file.ReadAccount.{ReadAccount}
 
--- WHAT A CALL REQUESTED FROM A FILE, for any source: what is left of the budget decreases by it,
--- and no file is closed
-pub record AsksFile (old new : CountedState) (before after : ReadAccount) : Type 0 where
+-- WHAT A CALL REQUESTED FROM A FILE, for any source: what is left of the budget decreases by it
+pub record AsksFile (old new : CountedState) (left left_new : Option ℕ) : Type 0 where
   pub grows : old.asked ≤ new.asked
-  pub pays : SpendsBudget before.left after.left old.asked new.asked
-  pub same_spent : after.spent ≡ before.spent
+  pub pays : SpendsBudget left left_new old.asked new.asked
 
 -- how many bytes were requested from a file that is found; none is found, and a search that fails
 -- gives none
@@ -25,20 +22,20 @@ asked_of_found (Err fault) = 0
 -- WHAT A SEARCH FOR A FILE REQUESTED, for any sources: what is left of the budget decreases by at
 -- least what was requested from the files that are skipped and closed, and from the one that is
 -- found
-pub record AsksFound {E : Type 0} (before after : ReadAccount) (result : Result (Option CountedState) E) : Type 0 where
-  pub spends : before.spent ≤ after.spent
-  pub pays : SpendsBudgetAtLeast before.left after.left before.spent (after.spent + asked_of_found result)
+pub record AsksFound {E : Type 0} (left left_new : Option ℕ) (closed closed_new : ℕ) (result : Result (Option CountedState) E) : Type 0 where
+  pub closes : closed ≤ closed_new
+  pub pays : SpendsBudgetAtLeast left left_new closed (closed_new + asked_of_found result)
 
 -- WHAT WAS REQUESTED FROM FILES THAT ARE CLOSED, for any sources: what is left of the budget
 -- decreases by at least that, except n bytes that were read before
-pub record AsksClosed (asked : ℕ) (before after : ReadAccount) : Type 0 where
-  pub spends : before.spent ≤ after.spent
-  pub pays : SpendsBudgetAtLeast before.left after.left (before.spent + asked) after.spent
+pub record AsksClosed (n : ℕ) (left left_new : Option ℕ) (closed closed_new : ℕ) : Type 0 where
+  pub closes : closed ≤ closed_new
+  pub pays : SpendsBudgetAtLeast left left_new (closed + n) closed_new
 
 -- WHAT WAS REQUESTED FROM THE FILES OF OBJECTS, for any sources: what is left of the budget
 -- decreases by at least what was requested from all files closed since, and from all that are kept,
 -- except n bytes that were read from one of these before
-pub record AsksFiles (old new : List LookupObjectState) (asked : ℕ) (before after : ReadAccount) : Type 0 where
-  pub spends : before.spent ≤ after.spent
+pub record AsksFiles (n : ℕ) (old new : List LookupObjectState) (left left_new : Option ℕ) (closed closed_new : ℕ) : Type 0 where
+  pub closes : closed ≤ closed_new
   pub grows : asked_of_all old ≤ asked_of_all new
-  pub pays : SpendsBudgetAtLeast before.left after.left (before.spent + asked + asked_of_all old) (after.spent + asked_of_all new)
+  pub pays : SpendsBudgetAtLeast left left_new (closed + n + asked_of_all old) (closed_new + asked_of_all new)

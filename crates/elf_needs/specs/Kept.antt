@@ -3,7 +3,7 @@ use Rattle.std.specs.Prelude.{ℕ, ◌≡◌, ◌+◌, ◌*◌, List, Option, No
 use Rattle.elf_model.specs.Prelude.{IsBudgetRefusal, LookupTables as IsScopeOf, e_shnum, lookup_tables_of, without_sections}
 use Rattle.elf_model.specs.declared.causes.Refusal.{Refusal}
 use Rattle.elf_source.specs.Source.{CountedState, SourceState}
-use Rattle.elf_table.specs.Prelude.{CallReads, fault_of_result}
+use Rattle.elf_table.specs.Prelude.{CallDid, CallReads, fault_of_result}
 use Rattle.elf_table.specs.declared.fault.Fault.{Fault}
 use Rattle.elf_table.specs.declared.fault.Fault.TheVariants.{Refused, Source}
 use Rattle.elf_hash.specs.Prelude.{FindsLookupTables, IsLookupTables, LookupTablesInBounds, place_of_table, scope_cost}
@@ -37,20 +37,12 @@ pub record IsKept (seen : SourceState) (headers : ℕ) (scope : LookupTables) (r
   pub placed : IfSome ready (λ table. place_of_table table ≡ scope.hash)
   pub ready_in : (file : List ℕ) → seen.file ≡ Some file → IsReadyIn file scope ready
 
--- the source, kept or returned, and why it is returned
-abbrev pub source_of : Result LookupObjectState (CountedState × Fault) → CountedState
-source_of (Ok kept) = kept.src
-source_of (Err back) = back.0
-
-abbrev pub why_back : Result LookupObjectState (CountedState × Fault) → Option Fault
-why_back (Ok kept) = None
-why_back (Err back) = Some back.1
-
--- if it is returned it is for the definition's refusal, except one for lack of budget
-abbrev pub ReturnsKept : List ℕ → (headers : ℕ) → Result LookupObjectState (CountedState × Fault) → Type 0
+-- the lookup tables of a known file are kept, or the fault is the definition's refusal, except one
+-- for lack of budget
+abbrev pub ReturnsKept : List ℕ → (headers : ℕ) → Result LookupObjectState Fault → Type 0
 ReturnsKept file headers (Ok kept) = kept.headers ≡ headers
-ReturnsKept file headers (Err (src, Refused refusal)) = (IsBudgetRefusal refusal → ⊥) → lookup_tables_of file headers ≡ Err refusal
-ReturnsKept file headers (Err (src, Source fault at)) = Unit {0}
+ReturnsKept file headers (Err (Refused refusal)) = (IsBudgetRefusal refusal → ⊥) → lookup_tables_of file headers ≡ Err refusal
+ReturnsKept file headers (Err (Source fault at)) = Unit {0}
 
 -- how many bytes finding the lookup tables and the tables of versions may request in a known file
 abbrev pub found_tables_cost : List ℕ → (headers size : ℕ) → ℕ
@@ -67,12 +59,11 @@ pub record FindsTables (file : List ℕ) (headers : ℕ) (old new : CountedState
   pub finds : FindsScopeOf file (lookup_tables_of file headers) result
   pub versions : e_shnum file ≡ 0 → IfOk result (λ found. AreVersionsOf file found.versions)
 
+-- WHAT FINDING THE TABLES DID to a source, with so many headers allowed
+pub record FindsFileTables (headers : ℕ) (old new : CountedState) (result : Result FileTables Fault) : Type 0 where
+  pub did : CallDid old new (fault_of_result result) (2 * (64 + 64 * headers + old.seen.size)) (λ file. FindsTables file headers old new result)
+
 -- THE TABLES OF VERSIONS ARE THE FILE'S, of a source that shows no section headers
 pub record KnowsVersions (seen : SourceState) (versions : FileVersions) : Type 0 where
   pub lies : FileVersionsInBounds seen.size versions
   pub known : (file : List ℕ) → seen.file ≡ Some file → AreVersionsOf file versions × (without_sections file ≡ file)
-
--- THE LOOKUP TABLES ARE FOUND ONCE, in a known file
-pub record KeepsScope (file : List ℕ) (headers : ℕ) (old : CountedState) (result : Result LookupObjectState (CountedState × Fault)) : Type 0 where
-  pub costs : CallReads old (source_of result) (why_back result) (found_tables_cost file headers old.seen.size)
-  pub tells : ReturnsKept file headers result

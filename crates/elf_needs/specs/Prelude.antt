@@ -9,7 +9,7 @@ pub use Rattle.elf_needs.specs.Kept.{IsKept, IsReadyIn, LookupObjectState}
 pub use Rattle.elf_needs.specs.ItemLines.{WritesSoFar}
 pub use Rattle.elf_needs.specs.Lacking.{definition_if, definitions_of}
 pub use Rattle.elf_needs.specs.Looks.{DefinesIn, FailsIn, FaultLeaves, LooksInObject, OverLeft, Prepares, SpendsAtMost, SpendsBudget, kept_cost}
-pub use Rattle.elf_needs.specs.Opens.{AsksKept, KeepsOne, SpendsBudgetAtLeast}
+pub use Rattle.elf_needs.specs.Opens.{KeepsOne, SpendsBudgetAtLeast}
 pub use Rattle.elf_needs.specs.Reading.{ReturnsLookupRefusal, linked_in_segments, lookup_passed}
 pub use Rattle.elf_needs.specs.Ready.{IsReadyIf, ReturnsReady, ready_bytes}
 pub use Rattle.elf_needs.specs.Searching.{COLON, DOLLAR, MOST_PATH_BYTES, SearchPathText, Token, default_dirs, dir_paths, if_short, is_below, is_below_default, is_separator, library_dirs, path_in, root_before, rpath_of, search_dirs, unless_runpath}

@@ -35,12 +35,12 @@ impl<W: Sink> DependencyWalk<'_, '_, W> {
     #[inline(never)]
     pub fn bind<S: Source + Drop>(&mut self, opened: &mut OpenObjects<S>) -> Result<u8, NeedsFault>
         ensures asks { AsksAll opened.old.objects.items opened.new.objects.items
-            self.old.search.account.left self.new.search.account.left }
+            self.old.search.left self.new.search.left }
         ensures known { (headers : ℕ) (files : List (List ℕ)) →
             AreObjectFiles headers opened.old.objects.items files →
             WritesBindings self.old.lines
             (bound_items (bound_of headers files opened.old.indexes.items self.old.objects))
-            (IsBudgetShort opened.new.objects.items self.new.search.account.left)
+            (IsBudgetShort opened.new.objects.items self.new.search.left)
             self.old.out self.new.out
             self.old.status result }
     {
@@ -49,7 +49,7 @@ impl<W: Sink> DependencyWalk<'_, '_, W> {
             known: &self.objects,
             lines: self.lines,
         };
-        let left = &mut self.search.account.left;
+        let left = &mut self.search.left;
         let end = bind_all(&mut opened.objects, &scope, left, &mut self.out)?;
         self.status = status_after(end, self.status);
         Ok(self.status)

@@ -1,5 +1,5 @@
 //! Files that may be the one that is searched for.
-ghost use Rattle.std.specs.Prelude.{◌≡◌, ℕ, List, if◌then◌else◌, Err, IfOk, IfSome, None, Ok, Some};
+ghost use Rattle.std.specs.Prelude.{◌≡◌, ℕ, List, if◌then◌else◌, Err, None, Ok, Some};
 ghost use Rattle.elf_model.specs.Prelude.{library_file};
 ghost use Rattle.elf_needs.specs.Budget.{AsksFile, AsksFound, asked_of_found};
 ghost use Rattle.elf_needs.specs.Fits.{ReturnsLibraryFit, not_accepted};
@@ -7,18 +7,17 @@ ghost use Rattle.elf_needs.specs.OpenFailures.{is_no_file};
 ghost use Rattle.elf_needs.specs.declared.candidates.SearchEnd.TheVariants.{Failed};
 ghost use Rattle.elf_needs.specs.declared.walk.NeedsFault.TheVariants.{Open};
 
-use crate::file_identity::{FileAttributes, NO_ATTRIBUTES, file_attributes};
 use crate::library_files::LibraryFit;
-use crate::object_file::{ObjectFile, ReadAccount};
+use crate::object_file::ObjectFile;
 use crate::open_failures::is_no_file;
+use crate::system_files::SystemFiles;
 use crate::walk::NeedsFault;
 use elf_record::{Cause, Refusal};
 use elf_source::{FileReader, Source, StreamSource};
 use elf_table::Fault;
 use std::io::ErrorKind;
-use std::os::unix::fs::{FileExt, FileTypeExt};
+use std::os::unix::fs::FileExt;
 use std::rt::Files;
-use std::{fs, str};
 
 /// A file of the system, read at offsets.
 pub(crate) type FileSource<F> = StreamSource<FileReader<F>>;
@@ -42,23 +41,23 @@ pub(crate) enum SearchEnd {
 /// Why the search ends: what is at the path is no library, and is refused, or the path cannot be
 /// opened for a fault of the system.
 pub(crate) fn candidate<R: Files>(
-    rt: &R,
+    system: &mut SystemFiles<'_, R, FileSource<R::File>>,
     path: &[u8],
     machine: u16,
-    account: &mut ReadAccount,
+    left: &mut Option<u64>,
 ) -> Result<Option<ObjectFile<FileSource<R::File>>>, SearchEnd>
 where
     R::File: FileExt,
-    ensures { AsksFound account.old account.new result }
+    ensures { AsksFound left.old left.new system.old.closed.asked system.new.closed.asked result }
 {
-    let Some(mut file) = opened_at(rt, path)? else {
+    let Some(mut file) = system.open(path)? else {
         return Ok(None);
     };
-    let fit = fit_of(&mut file, machine, account);
+    let fit = fit_of(&mut file, machine, left);
     if matches!(fit, LibraryFit::Accepted) {
         return Ok(Some(file));
     }
-    let _ = file.close(account);
+    file.close(&mut system.closed);
     not_accepted(fit)
 }
 
@@ -79,16 +78,12 @@ fn not_accepted<S: Source>(fit: LibraryFit) -> Result<Option<ObjectFile<S>>, Sea
 /// Returns whether a file is accepted, skipped or refused. It is accepted too if the budget is too
 /// small to find that out. A file whose bytes cannot be read is refused. No more is requested than
 /// the bytes left of the budget, if there is one; those requested are subtracted.
-fn fit_of<S: Source>(
-    file: &mut ObjectFile<S>,
-    machine: u16,
-    account: &mut ReadAccount,
-) -> LibraryFit
-    ensures asks { AsksFile file.old file.new account.old account.new }
+fn fit_of<S: Source>(file: &mut ObjectFile<S>, machine: u16, left: &mut Option<u64>) -> LibraryFit
+    ensures asks { AsksFile file.old file.new left.old left.new }
     ensures known { (bytes : List ℕ) → file.old.seen.file ≡ Some bytes →
-        ReturnsLibraryFit (library_file machine bytes) account.old.left result }
+        ReturnsLibraryFit (library_file machine bytes) left.old result }
 {
-    match file.fit(machine, account) {
+    match file.fit(machine, left) {
         Ok(fit) => fit,
         // The budget is too small for it, which is reported when the file is read.
         Err(Fault::Refused(_)) => LibraryFit::Accepted,
@@ -97,64 +92,21 @@ fn fit_of<S: Source>(
 }
 
 /// The refusal of what has no bytes that can be read.
-const NO_BYTES: Refusal = Refusal {
+pub(crate) const NO_BYTES: Refusal = Refusal {
     at: 0,
     cause: Cause::Short,
 };
-
-/// Opens the file at a path, if it can be opened.
-///
-/// # Errors
-/// It is no regular file, or its length cannot be determined, so that it is refused; or it cannot be
-/// opened for a fault of the system. A socket cannot be opened.
-pub(crate) fn opened_at<R: Files>(
-    rt: &R,
-    path: &[u8],
-) -> Result<Option<ObjectFile<FileSource<R::File>>>, SearchEnd>
-where
-    R::File: FileExt,
-    ensures { IfOk result (λ found. IfSome found (λ file. file.asked ≡ 0)) }
-{
-    let Ok(path) = str::from_utf8(path) else {
-        return Ok(None);
-    };
-    let attributes = match fs::metadata(rt, path) {
-        Ok(found) if found.is_file() => file_attributes(&found),
-        Ok(found) if found.file_type().is_socket() => return Ok(None),
-        Ok(_) => return Err(SearchEnd::Refused(NO_BYTES)),
-        Err(error) => return unopened(error.kind()),
-    };
-    let file = match fs::open(rt, path) {
-        Ok(file) => file,
-        Err(error) => return unopened(error.kind()),
-    };
-    match StreamSource::over(FileReader::new(file)) {
-        Ok(source) => Ok(Some(ObjectFile::new(source, attributes))),
-        Err(_) => Err(SearchEnd::Refused(NO_BYTES)),
-    }
-}
 
 /// Returns no file for a path that cannot be opened.
 ///
 /// # Errors
 /// It is for a fault of the system.
-fn unopened<T>(kind: ErrorKind) -> Result<Option<T>, SearchEnd>
+pub(crate) fn unopened<T>(kind: ErrorKind) -> Result<Option<T>, SearchEnd>
     ensures { result ≡ (if is_no_file kind then Ok None else Err (Failed Open)) }
 {
     if is_no_file(kind) {
         Ok(None)
     } else {
         Err(SearchEnd::Failed(NeedsFault::Open))
-    }
-}
-
-/// Returns what the system says of the file at a path, if that is known.
-pub(crate) fn attributes_at<R: Files>(rt: &R, path: &[u8]) -> FileAttributes {
-    let Ok(path) = str::from_utf8(path) else {
-        return NO_ATTRIBUTES;
-    };
-    match fs::metadata(rt, path) {
-        Ok(found) => file_attributes(&found),
-        Err(_) => NO_ATTRIBUTES,
     }
 }

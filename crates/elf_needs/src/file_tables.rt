@@ -1,9 +1,8 @@
 //! The tables of a file in which names are looked up.
-ghost use Rattle.std.specs.Prelude.{◌+◌, ◌*◌, ◌≡◌, IfOk};
+ghost use Rattle.std.specs.Prelude.{◌≡◌, IfOk};
 ghost use Rattle.elf_hash.specs.Prelude.{LookupTablesInBounds};
-ghost use Rattle.elf_needs.specs.Kept.{FindsTables};
+ghost use Rattle.elf_needs.specs.Kept.{FindsFileTables};
 ghost use Rattle.elf_needs.specs.VersionTables.{FileVersionsInBounds};
-ghost use Rattle.elf_table.specs.Ledger.{CallDid, fault_of_result};
 
 use crate::faults::is_reported_alone;
 use crate::version_tables::{FileVersions, find_file_versions, refused_versions};
@@ -29,9 +28,7 @@ pub(crate) fn find_tables<S: Source>(
     source: &mut Counted<S>,
     store: &mut HeaderStore,
 ) -> Result<FileTables, Fault>
-    ensures did { CallDid source.old source.new (fault_of_result result)
-        (2 * (64 + 64 * store.old.slots + source.old.seen.size))
-        (λ file. FindsTables file store.old.slots source.old source.new result) }
+    ensures finds { FindsFileTables store.old.slots source.old source.new result }
     ensures slots { store.new.slots ≡ store.old.slots }
     ensures within { IfOk result (λ found. LookupTablesInBounds source.old.seen.size found.scope) }
     ensures versions { IfOk result (λ found.

@@ -4,7 +4,7 @@ ghost use Rattle.elf_needs.specs.Budget.{AsksClosed, AsksFile, AsksFiles};
 ghost use Rattle.elf_needs.specs.Held.{with_text};
 ghost use Rattle.elf_needs.specs.Searching.{if_short, root_before};
 
-use crate::candidates::{SearchEnd, opened_at};
+use crate::candidates::{FileSource, SearchEnd};
 use crate::faults::is_budget_fault;
 use crate::file_identity::FileIdentity;
 use crate::known_interpreter::Interpreter;
@@ -14,6 +14,7 @@ use crate::object_file::{ObjectFile, ObjectRole};
 use crate::object_reports::{ObjectPlace, ObjectReport, found_identity, report_alone};
 use crate::paths::named_path;
 use crate::problem_rows::list_object;
+use crate::system_files::{ClosedFiles, SystemFiles};
 use crate::walk::{DependencyWalk, NeedsFault, OpenFiles};
 use crate::walk_needs::ControlFlow;
 use elf_format::{ObjectRow, ObjectState, show_interpreter, show_refusal};
@@ -39,10 +40,14 @@ impl<W: Sink> DependencyWalk<'_, '_, W> {
     ///
     /// # Errors
     /// A read failed, or the path cannot be opened for a fault of the system.
-    pub(crate) fn find_interpreter<R: Files>(&mut self, rt: &R) -> Result<(), NeedsFault>
+    pub(crate) fn find_interpreter<R: Files>(
+        &mut self,
+        system: &mut SystemFiles<'_, R, FileSource<R::File>>,
+    ) -> Result<(), NeedsFault>
     where
         R::File: FileExt,
-        ensures asks { AsksClosed 0 self.old.search.account self.new.search.account }
+        ensures asks { AsksClosed 0 self.old.search.left self.new.search.left
+            system.old.closed.asked system.new.closed.asked }
     {
         let Some(interpreter) = self.objects.interpreter else {
             return Ok(());
@@ -50,8 +55,8 @@ impl<W: Sink> DependencyWalk<'_, '_, W> {
         let Some(path) = self.keep_interpreter_path(interpreter.name) else {
             return Ok(());
         };
-        let read = match opened_at(rt, &self.search.path) {
-            Ok(Some(file)) => self.read_found(file, path)?,
+        let read = match system.open(&self.search.path) {
+            Ok(Some(file)) => self.read_found(file, path, &mut system.closed)?,
             Ok(None) | Err(SearchEnd::Refused(_) | SearchEnd::Unread(_)) => missing(),
             Err(SearchEnd::Failed(fault)) => return Err(fault),
         };
@@ -69,7 +74,7 @@ impl<W: Sink> DependencyWalk<'_, '_, W> {
     /// Composes the interpreter's path below the root, and stores it. Returns its index, or `None`
     /// if it is too long to be opened.
     fn keep_interpreter_path(&mut self, name: u32) -> Option<u32>
-        ensures account { self.new.search.account ≡ self.old.search.account }
+        ensures left { self.new.search.left ≡ self.old.search.left }
         ensures below { IfSome result (λ index. let old = self.old.objects.paths in
             let path = slice_index_or old.texts name [] in
             (if_short (root_before self.old.search.folders.root.now path ++ path)
@@ -90,12 +95,14 @@ impl<W: Sink> DependencyWalk<'_, '_, W> {
         &mut self,
         file: ObjectFile<S>,
         path: u32,
+        closed: &mut ClosedFiles,
     ) -> Result<InterpreterRead, NeedsFault>
-        ensures asks { AsksClosed file.asked self.old.search.account self.new.search.account }
+        ensures asks { AsksClosed file.asked self.old.search.left self.new.search.left
+            closed.old.asked closed.new.asked }
     {
         let mut file = file;
         let read = self.read_opened(&mut file, path);
-        let _ = file.close(&mut self.search.account);
+        file.close(closed);
         read
     }
 
@@ -105,14 +112,14 @@ impl<W: Sink> DependencyWalk<'_, '_, W> {
         file: &mut ObjectFile<S>,
         path: u32,
     ) -> Result<InterpreterRead, NeedsFault>
-        ensures asks { AsksFile file.old file.new self.old.search.account self.new.search.account }
+        ensures asks { AsksFile file.old file.new self.old.search.left self.new.search.left }
     {
         let attributes = file.attributes();
         if !attributes.is_executable {
             return Ok(missing());
         }
         let machine = self.search.machine;
-        let report = match file.interprets(&mut self.search.account, machine) {
+        let report = match file.interprets(&mut self.search.left, machine) {
             Ok(true) => self.read(file, ObjectRole::Library, Some(path))?,
             Ok(false) => return Ok(missing()),
             Err(Fault::Refused(refusal)) => report_alone(ObjectState::Refused(refusal)),
@@ -129,15 +136,16 @@ impl<W: Sink> DependencyWalk<'_, '_, W> {
     /// one; then the name is one more of its names.
     pub(crate) fn take_interpreter<R: Files>(
         &mut self,
-        rt: &R,
+        system: &mut SystemFiles<'_, R, FileSource<R::File>>,
         by: Option<u16>,
         need: NeededLibrary,
         opened: &mut OpenFiles<R::File>,
     ) -> Result<ControlFlow, NeedsFault>
     where
         R::File: FileExt,
-        ensures asks { AsksFiles opened.old.objects.items opened.new.objects.items 0
-            self.old.search.account self.new.search.account }
+        ensures asks { AsksFiles 0 opened.old.objects.items opened.new.objects.items
+            self.old.search.left self.new.search.left
+            system.old.closed.asked system.new.closed.asked }
     {
         let Some(interpreter) = self.objects.interpreter else {
             return self.add_alone(by, need, ObjectState::Missing);
@@ -148,7 +156,7 @@ impl<W: Sink> DependencyWalk<'_, '_, W> {
         if self.objects.len() >= MOST_OBJECTS {
             return self.end_objects(need.at);
         }
-        let report = self.keep_interpreter(rt, &interpreter, opened)?;
+        let report = self.keep_interpreter(system, &interpreter, opened)?;
         self.add_interpreter(by, need.name, &interpreter, &report)
     }
 
@@ -156,21 +164,22 @@ impl<W: Sink> DependencyWalk<'_, '_, W> {
     /// to a file.
     fn keep_interpreter<R: Files>(
         &mut self,
-        rt: &R,
+        system: &mut SystemFiles<'_, R, FileSource<R::File>>,
         interpreter: &Interpreter,
         opened: &mut OpenFiles<R::File>,
     ) -> Result<ObjectReport, NeedsFault>
     where
         R::File: FileExt,
-        ensures asks { AsksFiles opened.old.objects.items opened.new.objects.items 0
-            self.old.search.account self.new.search.account }
+        ensures asks { AsksFiles 0 opened.old.objects.items opened.new.objects.items
+            self.old.search.left self.new.search.left
+            system.old.closed.asked system.new.closed.asked }
     {
         let report = interpreter.report;
         if !matches!(report.state, ObjectState::Found) {
             return Ok(report);
         }
-        match opened_at(rt, self.objects.path(interpreter.path)) {
-            Ok(Some(file)) => self.keep(file, Ok(report), opened),
+        match system.open(self.objects.path(interpreter.path)) {
+            Ok(Some(file)) => self.keep(file, Ok(report), opened, &mut system.closed),
             Ok(None) => Ok(report_alone(ObjectState::Missing)),
             Err(SearchEnd::Refused(refusal) | SearchEnd::Unread(refusal)) => {
                 Ok(report_alone(ObjectState::Refused(refusal)))
@@ -187,7 +196,7 @@ impl<W: Sink> DependencyWalk<'_, '_, W> {
         interpreter: &Interpreter,
         report: &ObjectReport,
     ) -> Result<ControlFlow, NeedsFault>
-        ensures account { self.new.search.account ≡ self.old.search.account }
+        ensures left { self.new.search.left ≡ self.old.search.left }
     {
         let place = ObjectPlace {
             path: Some(interpreter.path),
@@ -218,7 +227,7 @@ impl<W: Sink> DependencyWalk<'_, '_, W> {
     /// # Errors
     /// The output failed.
     pub(crate) fn end_interpreter(&mut self) -> Result<(), NeedsFault>
-        ensures account { self.new.search.account ≡ self.old.search.account }
+        ensures left { self.new.search.left ≡ self.old.search.left }
     {
         let Some(interpreter) = self.objects.interpreter else {
             return Ok(());

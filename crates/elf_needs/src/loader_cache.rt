@@ -3,11 +3,11 @@ ghost use Rattle.std.specs.Prelude.{◌≡◌, ℕ, List, Some};
 ghost use Rattle.elf_cache.specs.Prelude.{ReturnsCacheText};
 ghost use Rattle.elf_model.specs.Prelude.{path_in_cache};
 ghost use Rattle.elf_needs.specs.Budget.{AsksClosed};
-ghost use Rattle.elf_needs.specs.Caches.{PaysAccount};
+ghost use Rattle.elf_needs.specs.Caches.{PaysCache};
 
-use crate::candidates::{FileSource, SearchEnd, opened_at};
-use crate::object_file::{ObjectFile, ReadAccount};
+use crate::candidates::{FileSource, SearchEnd};
 use crate::paths::{CandidatePath, named_path};
+use crate::system_files::{ClosedFiles, opened_at};
 use crate::walk::NeedsFault;
 use elf_cache::read_path_in_cache;
 use elf_source::{Counted, Limited, Source};
@@ -41,34 +41,31 @@ impl<S: Source + Drop> LibraryCache<S> {
         }
     }
 
-    /// Creates a cache of a file that was opened.
-    fn of_file(file: ObjectFile<S>) -> LibraryCache<S> {
-        LibraryCache::new(file.into_source())
-    }
-
     /// Reads the path of a name into `path`. Returns `false` if there is none, or if the file is no
     /// cache; then, and after a fault, the contents of `path` are unspecified. Requests at most the
-    /// bytes left of the budget, if there is one; those requested are subtracted.
+    /// bytes left of the budget, if there is one; those requested are subtracted, and added to what
+    /// was requested from the files that are closed.
     ///
     /// # Errors
     /// Returns a fault of a read, or the refusal `Budget`.
     pub(crate) fn path(
         &mut self,
-        account: &mut ReadAccount,
+        left: &mut Option<u64>,
+        closed: &mut ClosedFiles,
         name: &[u8],
         path: &mut NameBuf,
     ) -> Result<bool, Fault>
-        ensures asks { AsksClosed 0 account.old account.new }
-        ensures pays { PaysAccount self.old self.new account.old account.new }
+        ensures asks { AsksClosed 0 left.old left.new closed.old.asked closed.new.asked }
+        ensures pays { PaysCache self.old self.new left.old left.new
+            closed.old.asked closed.new.asked }
         ensures known { (file : List ℕ) → self.old.seen.file ≡ Some file →
             ReturnsCacheText (path_in_cache file name.now) path.new result }
     {
         let before = self.source.asked();
-        let found = self.source.charge(
-            &mut account.left,
-            &mut |src| { read_path_in_cache(src, name, path) },
-        );
-        account.spent = account.spent.saturating_add(self.source.asked() - before);
+        let found = self
+            .source
+            .charge(left, &mut |src| { read_path_in_cache(src, name, path) });
+        closed.add(self.source.asked() - before);
         found
     }
 }
@@ -89,7 +86,7 @@ where
         return Ok(None);
     }
     match opened_at(rt, &path) {
-        Ok(Some(file)) => Ok(Some(LibraryCache::of_file(file))),
+        Ok(Some(file)) => Ok(Some(file.into_cache())),
         Ok(None) | Err(SearchEnd::Refused(_) | SearchEnd::Unread(_)) => Ok(None),
         Err(SearchEnd::Failed(fault)) => Err(fault),
     }

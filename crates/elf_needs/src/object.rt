@@ -8,7 +8,7 @@ ghost use Rattle.elf_needs.specs.Copied.{ReadsKept, copied_symbol};
 ghost use Rattle.elf_needs.specs.NeedWalks.{FindsVersionState, ReadsNeed, StepsNeeds};
 ghost use Rattle.elf_needs.specs.VersionTables.{AreNeedsOf};
 ghost use Rattle.elf_needs.specs.Filters.{IsHashOf};
-ghost use Rattle.elf_needs.specs.Kept.{KeepsScope, source_of, why_back};
+ghost use Rattle.elf_needs.specs.Kept.{IsKept, KnowsVersions};
 ghost use Rattle.elf_needs.specs.Looks.{ExcludesName, LooksInObject, Prepares};
 ghost use Rattle.elf_needs.specs.Sought.{CountsHashed, LooksForVersion, ReadsFileName, Seeks, reference_bytes};
 ghost use Rattle.elf_loader.specs.Lookups.{AreShort};
@@ -17,7 +17,7 @@ ghost use Rattle.elf_options.specs.Wants.{query_of};
 use crate::copied_symbols::{copied_at, dynamic_relocations, named_symbol};
 use crate::defined_versions::state_in;
 use crate::definition::find_definer;
-use crate::file_tables::{FileTables, find_tables};
+use crate::file_tables::FileTables;
 use crate::hashed::hashed_symbols;
 use crate::kept_filter::KeptFilter;
 use crate::kept_indices::KeptIndices;
@@ -70,36 +70,23 @@ impl<S: Source> Model for LookupObject<S> {
 }
 
 impl<S: Source> LookupObject<S> {
-    /// Finds the lookup tables of a file, as [`find_lookup_tables`] does, once, and keeps them.
-    ///
-    /// They are found by its program headers, since the source masks its section headers. The
-    /// headers are loaded into the store, which is free again afterwards.
-    ///
-    /// # Errors
-    /// Those of [`find_lookup_tables`]; the source is returned.
-    pub fn open(
-        source: Counted<S>,
-        store: &mut HeaderStore,
-    ) -> Result<LookupObject<S>, (Counted<S>, Fault)>
-        requires by_segments { source.hides ≡ true }
-        ensures did { CallDid source (source_of result) (why_back result)
-            (2 * (64 + 64 * store.old.slots + source.seen.size))
-            (λ file. KeepsScope file store.old.slots source result) }
-        ensures slots { store.new.slots ≡ store.old.slots }
+    /// Creates an object of a file whose tables are these, with so many headers allowed. No limit is
+    /// set.
+    pub(crate) fn new(source: Counted<S>, tables: FileTables, headers: u16) -> LookupObject<S>
+        requires kept { IsKept source.seen headers tables.scope None }
+        requires versions { KnowsVersions source.seen tables.versions }
+        ensures { result ≡ record { src = source; headers = headers } }
     {
-        let mut source = source;
-        match find_tables(&mut source, store) {
-            Ok(FileTables { scope, versions }) => Ok(LookupObject {
-                source,
-                scope,
-                versions,
-                headers: store.slots(),
-                ready: None,
-                filter: KeptFilter::new(),
-                indices: KeptIndices::new(),
-                names: KeptVersionNames::new(),
-            }),
-            Err(fault) => Err((source, fault)),
+        let FileTables { scope, versions } = tables;
+        LookupObject {
+            source,
+            scope,
+            versions,
+            headers,
+            ready: None,
+            filter: KeptFilter::new(),
+            indices: KeptIndices::new(),
+            names: KeptVersionNames::new(),
         }
     }
 
@@ -126,7 +113,7 @@ impl<S: Source> LookupObject<S> {
     }
 
     /// Returns the number of bytes that were requested from its source.
-    pub fn asked(&self) -> u128
+    pub(crate) fn asked(&self) -> u128
         ensures { result ≡ self.now.src.asked }
     {
         self.source.asked()

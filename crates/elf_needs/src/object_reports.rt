@@ -8,6 +8,7 @@ use crate::known_object::KnownObject;
 use crate::links::LinkInfo;
 use crate::object_file::{ObjectFile, ObjectRole};
 use crate::open_objects::OpenObjects;
+use crate::system_files::ClosedFiles;
 use crate::walk::{DependencyWalk, NeedsFault};
 use elf_format::{FoundBy, ObjectState};
 use elf_source::{CachedSource, Sink, Source};
@@ -50,11 +51,11 @@ impl<W: Sink> DependencyWalk<'_, '_, W> {
         role: ObjectRole,
         path: Option<u32>,
     ) -> Result<ObjectReport, NeedsFault>
-        ensures asks { AsksFile file.old file.new self.old.search.account self.new.search.account }
+        ensures asks { AsksFile file.old file.new self.old.search.left self.new.search.left }
     {
         let needs = self.objects.links.needs();
-        let account = &mut self.search.account;
-        match file.links(role, account, &mut self.store, &mut self.objects.links) {
+        let left = &mut self.search.left;
+        match file.links(role, left, &mut self.store, &mut self.objects.links) {
             Ok(links) => Ok(self.named(links, needs, path)),
             Err(Fault::Refused(refusal)) => Ok(report_alone(ObjectState::Refused(refusal))),
             Err(Fault::Source { .. }) => Err(NeedsFault::Read),
@@ -64,7 +65,7 @@ impl<W: Sink> DependencyWalk<'_, '_, W> {
     /// Replaces the tokens in the names of what the object at a path needs, the last needs from an
     /// index on. It is refused if a name has no room then.
     fn named(&mut self, links: LinkInfo, needs: usize, path: Option<u32>) -> ObjectReport
-        ensures account { self.new.search.account ≡ self.old.search.account }
+        ensures left { self.new.search.left ≡ self.old.search.left }
     {
         let needs_end = self.objects.links.needs();
         let root = self.search.folders.root;
@@ -79,33 +80,47 @@ impl<W: Sink> DependencyWalk<'_, '_, W> {
         }
     }
 
-    /// Closes the file of the next object, and keeps its source open, if it is found and there is
-    /// room for it.
+    /// Keeps the file of the next object open, if it is found; otherwise closes it.
     #[inline(never)]
     pub(crate) fn keep<S: Source + Drop>(
         &mut self,
         file: ObjectFile<S>,
         report: Result<ObjectReport, NeedsFault>,
         opened: &mut OpenObjects<CachedSource<S>>,
+        closed: &mut ClosedFiles,
     ) -> Result<ObjectReport, NeedsFault>
-        ensures asks { AsksFiles opened.old.objects.items opened.new.objects.items file.asked
-            self.old.search.account self.new.search.account }
+        ensures asks { AsksFiles file.asked opened.old.objects.items opened.new.objects.items
+            self.old.search.left self.new.search.left
+            closed.old.asked closed.new.asked }
     {
-        let source = file.close(&mut self.search.account);
-        let report = report?;
-        let Ok(index) = u16::try_from(self.objects.len()) else {
-            return Ok(report);
-        };
-        if !matches!(report.state, ObjectState::Found) {
-            return Ok(report);
+        match (u16::try_from(self.objects.len()), report) {
+            (Ok(index), Ok(report)) if matches!(report.state, ObjectState::Found) => {
+                self.keep_open(index, file, &report, opened, closed)
+            }
+            _ => {
+                file.close(closed);
+                report
+            }
         }
-        match opened.keep(
-            index,
-            source,
-            &mut self.store,
-            &mut self.search.account.left,
-        ) {
-            Ok(()) => Ok(report),
+    }
+
+    /// Keeps the file of the object with an index open, if there is room for it and it has a hash
+    /// table; otherwise closes it.
+    fn keep_open<S: Source + Drop>(
+        &mut self,
+        index: u16,
+        file: ObjectFile<S>,
+        report: &ObjectReport,
+        opened: &mut OpenObjects<CachedSource<S>>,
+        closed: &mut ClosedFiles,
+    ) -> Result<ObjectReport, NeedsFault>
+        ensures asks { AsksFiles file.asked opened.old.objects.items opened.new.objects.items
+            self.old.search.left self.new.search.left
+            closed.old.asked closed.new.asked }
+    {
+        let left = &mut self.search.left;
+        match opened.keep(index, file, &mut self.store, left, closed) {
+            Ok(()) => Ok(*report),
             Err(Fault::Refused(refusal)) => Ok(report_alone(ObjectState::Refused(refusal))),
             Err(Fault::Source { .. }) => Err(NeedsFault::Read),
         }
@@ -119,7 +134,7 @@ impl<W: Sink> DependencyWalk<'_, '_, W> {
         at: &ObjectPlace,
         report: &ObjectReport,
     ) -> u16
-        ensures account { self.new.search.account ≡ self.old.search.account }
+        ensures left { self.new.search.left ≡ self.old.search.left }
         ensures status { self.new.status ≡ status_with report.now.state self.old.status }
         ensures same { (self.new.lines ≡ self.old.lines) × (self.new.out ≡ self.old.out) }
     {

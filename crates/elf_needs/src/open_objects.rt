@@ -1,12 +1,14 @@
 //! The objects of a program whose files are kept open, so that names can be looked up in them.
 ghost use Rattle.std.specs.Prelude.{◌≡◌, [], IfOk};
+ghost use Rattle.elf_needs.specs.Budget.{AsksFiles};
 ghost use Rattle.elf_needs.specs.Looks.{SpendsBudget};
-ghost use Rattle.elf_needs.specs.Opens.{AsksKept, KeepsIndex, KeepsOne};
+ghost use Rattle.elf_needs.specs.Opens.{KeepsIndex, KeepsOne};
 
-use crate::budget::spend_budget;
 use crate::link_reader::without_hash;
 use crate::object::LookupObject;
-use elf_source::{CachedSource, Counted, PageCache, Source};
+use crate::object_file::{ObjectFile, OpenedObject};
+use crate::system_files::ClosedFiles;
+use elf_source::{CachedSource, PageCache, Source};
 use elf_table::{Fault, HeaderStore};
 use std::alloc::{AllocError, Global};
 
@@ -51,21 +53,24 @@ impl<S: Source + Drop> OpenObjects<S> {
         self.indexes.clear();
     }
 
-    /// Adds an object after the others.
-    fn push(&mut self, index: u16, object: LookupObject<S>)
-        ensures one { KeepsOne self.old.objects.items self.new.objects.items object }
+    /// Adds an object after the others, or closes it if there is no room.
+    fn push(&mut self, index: u16, object: OpenedObject<S>, closed: &mut ClosedFiles)
+        ensures one { KeepsOne self.old.objects.items self.new.objects.items object
+            closed.old.asked closed.new.asked }
         ensures index { KeepsIndex self.old.objects.items self.new.objects.items
             self.old.indexes.items self.new.indexes.items index }
     {
-        if self.indexes.push(index).is_ok() {
-            let _ = self.objects.push(object);
+        if self.indexes.push(index).is_err() {
+            object.close(closed);
+            return;
         }
+        object.keep_in(&mut self.objects, closed);
     }
 }
 
 impl<S: Source + Drop> OpenObjects<CachedSource<S>> {
     /// Keeps the file of the object with an index open, if there is room for it and it has a hash
-    /// table.
+    /// table; otherwise closes it.
     ///
     /// Lookups in it use its program headers, as a loader's do, ignoring its section headers. What
     /// they have in common is read only if symbols are looked up.
@@ -73,35 +78,32 @@ impl<S: Source + Drop> OpenObjects<CachedSource<S>> {
     /// subtracted. Without a budget it is read by whole pages.
     ///
     /// # Errors
-    /// Those of [`LookupObject::open`] except `NoHash`.
-    pub fn keep(
+    /// Those of [`OpenedObject::open`] except `NoHash`.
+    pub(crate) fn keep(
         &mut self,
         index: u16,
-        source: S,
+        file: ObjectFile<S>,
         store: &mut HeaderStore,
         left: &mut Option<u64>,
+        closed: &mut ClosedFiles,
     ) -> Result<(), Fault>
-        ensures { AsksKept self.old.objects.items self.new.objects.items left.old left.new }
+        ensures { AsksFiles file.asked self.old.objects.items self.new.objects.items
+            left.old left.new closed.old.asked closed.new.asked }
     {
         if self.objects.len() >= self.most {
+            file.close(closed);
             return Ok(());
         }
         let pages = pages_for(*self.objects.allocator(), left.is_none());
-        let mut source = Counted::new(CachedSource::new(source, pages));
-        source.mask_section_headers(true);
-        source.limit(*left);
-        match LookupObject::open(source, store) {
+        let file = file.with_pages(pages, closed);
+        match OpenedObject::open(file, store, left, closed) {
             Ok(object) => {
                 let mut object = object;
-                spend_budget(left, object.asked());
                 prepare_if(self.symbols, &mut object, left);
-                self.push(index, object);
+                self.push(index, object, closed);
                 Ok(())
             }
-            Err((source, fault)) => {
-                spend_budget(left, source.asked());
-                without_hash(fault)
-            }
+            Err(fault) => without_hash(fault),
         }
     }
 }
@@ -118,7 +120,7 @@ fn pages_for(alloc: Global, keeps: bool) -> PageCache {
 }
 
 /// Reads what the lookups in an object have in common, if symbols are looked up.
-fn prepare_if<S: Source>(symbols: bool, object: &mut LookupObject<S>, left: &mut Option<u64>)
+fn prepare_if<S: Source + Drop>(symbols: bool, object: &mut OpenedObject<S>, left: &mut Option<u64>)
     ensures { SpendsBudget left.old left.new object.old.src.asked object.new.src.asked }
 {
     if symbols {

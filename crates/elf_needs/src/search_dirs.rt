@@ -6,16 +6,15 @@ ghost use Rattle.elf_needs.specs.Budget.{AsksFound};
 use crate::candidates::{FileSource, SearchEnd, candidate};
 use crate::known_object::{KnownObject, MOST_OBJECTS, ObjectList};
 use crate::library_search::LibrarySearch;
-use crate::loader_cache::LibraryCache;
 use crate::needers::{NeedingObject, SearchPaths, gather_dirs};
-use crate::object_file::{ObjectFile, ReadAccount};
+use crate::object_file::ObjectFile;
 use crate::path_budget::PathBudget;
 use crate::paths::{CandidatePath, named_path};
 use crate::search_path_list::SearchPathList;
 use crate::system_dirs::is_below_default;
+use crate::system_files::SystemFiles;
 use crate::walk::NeedsFault;
 use elf_format::FoundBy;
-use elf_source::Source;
 use elf_table::{Fault, NameBuf};
 use memchr::memchr;
 use std::os::unix::fs::FileExt;
@@ -33,15 +32,6 @@ pub struct SearchDirs<'a> {
     pub root: &'a [u8],
 }
 
-/// The system in which libraries are searched.
-#[derive(Drop)]
-pub struct SystemFiles<'f, R, S: Source + Drop> {
-    /// The files.
-    pub rt: &'f R,
-    /// The loader's cache, if one is searched.
-    pub cache: Option<LibraryCache<S>>,
-}
-
 /// A search for a library of a machine: its parameters, and what is left of the budget.
 #[derive(Drop)]
 pub(crate) struct Search<'s> {
@@ -53,8 +43,8 @@ pub(crate) struct Search<'s> {
     pub path: CandidatePath,
     /// How what is at that path was found.
     pub found_by: FoundBy,
-    /// What is left of the budget, and what was requested.
-    pub account: ReadAccount,
+    /// What is left of the budget, if there is one.
+    pub left: Option<u64>,
     /// How many paths may still be tried.
     pub tries: PathBudget,
 }
@@ -77,12 +67,13 @@ impl Search<'_> {
     ) -> Result<Option<ObjectFile<FileSource<R::File>>>, SearchEnd>
     where
         R::File: FileExt,
-        ensures asks { AsksFound self.old.account self.new.account result }
+        ensures asks { AsksFound self.old.left self.new.left
+            system.old.closed.asked system.new.closed.asked result }
         ensures few { self.new.tries.left ≤ self.old.tries.left }
     {
         if memchr(b'/', name).is_some() {
             self.found_by = FoundBy::Path;
-            return self.try_path(system.rt, name);
+            return self.try_path(system, name);
         }
         let mut lists = no_lists();
         gather(objects, needer, &self.folders, &mut lists);
@@ -103,13 +94,14 @@ impl Search<'_> {
     ) -> Result<Option<ObjectFile<FileSource<R::File>>>, SearchEnd>
     where
         R::File: FileExt,
-        ensures asks { AsksFound self.old.account self.new.account result }
+        ensures asks { AsksFound self.old.left self.new.left
+            system.old.closed.asked system.new.closed.asked result }
         ensures few { self.new.tries.left ≤ self.old.tries.left }
     {
         let root = self.folders.root;
         let last = lists.len().saturating_sub(1);
         let first = LibrarySearch::new(root, name, &lists[..last]);
-        if let Some(found) = self.try_all(system.rt, first)? {
+        if let Some(found) = self.try_all(system, first)? {
             return Ok(Some(found));
         }
         if self.tries.is_over {
@@ -118,7 +110,7 @@ impl Search<'_> {
         if let Some(found) = self.try_cache(system, needer, name)? {
             return Ok(Some(found));
         }
-        self.try_all(system.rt, LibrarySearch::new(root, name, &lists[last..]))
+        self.try_all(system, LibrarySearch::new(root, name, &lists[last..]))
     }
 
     /// Tries the path that the loader's cache has for the name of a library that an object needs, if
@@ -136,20 +128,18 @@ impl Search<'_> {
     ) -> Result<Option<ObjectFile<FileSource<R::File>>>, SearchEnd>
     where
         R::File: FileExt,
-        ensures asks { AsksFound self.old.account self.new.account result }
+        ensures asks { AsksFound self.old.left self.new.left
+            system.old.closed.asked system.new.closed.asked result }
         ensures few { self.new.tries.left ≤ self.old.tries.left }
     {
-        let Some(cache) = &mut system.cache else {
-            return Ok(None);
-        };
         let mut path = NameBuf::new();
-        match cache.path(&mut self.account, name, &mut path) {
+        match system.path_in_cache(&mut self.left, name, &mut path) {
             Ok(true)
                 if needer.links.has_nodeflib()
                     && is_below_default(self.folders.default, path.bytes()) => { Ok(None) }
             Ok(true) => {
                 self.found_by = FoundBy::Cache;
-                self.try_path(system.rt, path.bytes())
+                self.try_path(system, path.bytes())
             }
             Ok(false) => Ok(None),
             Err(Fault::Refused(refusal)) => Err(SearchEnd::Unread(refusal)),
@@ -163,12 +153,13 @@ impl Search<'_> {
     /// A read failed, or the path cannot be opened for a fault of the system.
     fn try_path<R: Files>(
         &mut self,
-        rt: &R,
+        system: &mut SystemFiles<'_, R, FileSource<R::File>>,
         path: &[u8],
     ) -> Result<Option<ObjectFile<FileSource<R::File>>>, SearchEnd>
     where
         R::File: FileExt,
-        ensures asks { AsksFound self.old.account self.new.account result }
+        ensures asks { AsksFound self.old.left self.new.left
+            system.old.closed.asked system.new.closed.asked result }
         ensures few { self.new.tries.left ≤ self.old.tries.left }
     {
         if !self.tries.take() {
@@ -177,7 +168,7 @@ impl Search<'_> {
         if !named_path(&mut self.path, self.folders.root, path) {
             return Ok(None);
         }
-        self.try_candidate(rt)
+        self.try_candidate(system)
     }
 
     /// Tries the path that is composed.
@@ -186,14 +177,15 @@ impl Search<'_> {
     /// A read failed, or the path cannot be opened for a fault of the system.
     fn try_candidate<R: Files>(
         &mut self,
-        rt: &R,
+        system: &mut SystemFiles<'_, R, FileSource<R::File>>,
     ) -> Result<Option<ObjectFile<FileSource<R::File>>>, SearchEnd>
     where
         R::File: FileExt,
-        ensures asks { AsksFound self.old.account self.new.account result }
+        ensures asks { AsksFound self.old.left self.new.left
+            system.old.closed.asked system.new.closed.asked result }
         ensures same { self.new.tries ≡ self.old.tries }
     {
-        candidate(rt, &self.path, self.machine, &mut self.account)
+        candidate(system, &self.path, self.machine, &mut self.left)
     }
 
     /// Tries paths, one after another.
@@ -202,18 +194,19 @@ impl Search<'_> {
     /// Those of [`Search::find`].
     fn try_all<R: Files>(
         &mut self,
-        rt: &R,
+        system: &mut SystemFiles<'_, R, FileSource<R::File>>,
         search: LibrarySearch<'_>,
     ) -> Result<Option<ObjectFile<FileSource<R::File>>>, SearchEnd>
     where
         R::File: FileExt,
-        ensures asks { AsksFound self.old.account self.new.account result }
+        ensures asks { AsksFound self.old.left self.new.left
+            system.old.closed.asked system.new.closed.asked result }
         ensures few { self.new.tries.left ≤ self.old.tries.left }
     {
         let mut search = search;
         while search.next(&mut self.path, &mut self.tries) {
             self.found_by = search.found_by();
-            if let Some(found) = self.try_candidate(rt)? {
+            if let Some(found) = self.try_candidate(system)? {
                 return Ok(Some(found));
             }
         }

@@ -65,7 +65,7 @@ impl<W: Sink> DependencyWalk<'_, '_, W> {
         opened: &mut OpenObjects<S>,
     ) -> Result<u8, NeedsFault>
         ensures { AsksAll opened.old.objects.items opened.new.objects.items
-            self.old.search.account.left self.new.search.account.left }
+            self.old.search.left self.new.search.left }
     {
         let mut used = UsedObjects::none();
         let scope = SearchScope {
@@ -73,7 +73,7 @@ impl<W: Sink> DependencyWalk<'_, '_, W> {
             known: &self.objects,
             lines: self.lines,
         };
-        let left = &mut self.search.account.left;
+        let left = &mut self.search.left;
         match mark_used(
             &mut opened.objects,
             &scope,
@@ -99,7 +99,7 @@ impl<W: Sink> DependencyWalk<'_, '_, W> {
     /// # Errors
     /// The output failed.
     fn show_unused(&mut self, used: &UsedObjects) -> Result<u8, NeedsFault>
-        ensures account { self.new.search.account ≡ self.old.search.account }
+        ensures left { self.new.search.left ≡ self.old.search.left }
     {
         let Some(program) = self.objects.get(0) else {
             return Ok(self.status);

@@ -41,7 +41,7 @@ impl<W: Sink> DependencyWalk<'_, '_, W> {
         opened: &mut OpenObjects<S>,
     ) -> Result<Listed, NeedsFault>
         ensures asks { AsksAll opened.old.objects.items opened.new.objects.items
-            self.old.search.account.left self.new.search.account.left }
+            self.old.search.left self.new.search.left }
         ensures status { IfOk result (λ listed. self.new.status ≡ listed.status) }
         ensures same { (self.new.objects ≡ self.old.objects) × (self.new.lines ≡ self.old.lines)
             × (opened.new.indexes ≡ opened.old.indexes) }
@@ -49,7 +49,7 @@ impl<W: Sink> DependencyWalk<'_, '_, W> {
             AreObjectFiles headers opened.old.objects.items files →
             WritesAllVersions self.old.lines.format
             (version_items (versioned_of files opened.old.indexes.items self.old.objects))
-            (IsBudgetShort opened.new.objects.items self.new.search.account.left)
+            (IsBudgetShort opened.new.objects.items self.new.search.left)
             self.old.out self.new.out
             self.old.status result }
     {
@@ -58,7 +58,7 @@ impl<W: Sink> DependencyWalk<'_, '_, W> {
             known: &self.objects,
             lines: self.lines,
         };
-        let left = &mut self.search.account.left;
+        let left = &mut self.search.left;
         let end = check_all(&mut opened.objects, &scope, left, &mut self.out)?;
         self.status = status_after(end, self.status);
         Ok(self.listed(failing(end).is_some()))

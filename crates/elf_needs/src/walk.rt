@@ -4,14 +4,15 @@ ghost use Rattle.elf_needs.specs.Budget.{AsksFiles};
 ghost use Rattle.elf_needs.specs.Called.{HoldsNothing};
 
 use crate::buffers::NeedsBuffers;
-use crate::candidates::{FileSource, attributes_at};
+use crate::candidates::FileSource;
 use crate::known_object::{MOST_OBJECTS, ObjectList};
 use crate::line_options::LineOptions;
-use crate::object_file::{ObjectFile, ReadAccount};
+use crate::object_file::ObjectFile;
 use crate::open_objects::OpenObjects;
 use crate::path_budget::PathBudget;
 use crate::paths::CandidatePath;
-use crate::search_dirs::{Search, SearchDirs, SystemFiles};
+use crate::search_dirs::{Search, SearchDirs};
+use crate::system_files::SystemFiles;
 use crate::walk_needs::ControlFlow;
 use elf_format::FoundBy;
 use elf_source::{CachedSource, Out, OutFault, Sink};
@@ -79,9 +80,9 @@ impl<'w, 's, W: Sink> DependencyWalk<'w, 's, W> {
         room: NeedsBuffers,
         out: Out<W>,
     ) -> DependencyWalk<'w, 's, W>
-        ensures budget { result.search.account.left ≡ settings.now.budget }
+        ensures budget { result.search.left ≡ settings.now.budget }
         ensures lines { result.lines ≡ settings.now.lines }
-        ensures fresh { (result.status ≡ 0) × (result.search.account.spent ≡ 0) }
+        ensures fresh { result.status ≡ 0 }
         ensures out { result.out ≡ out }
     {
         let NeedsBuffers { objects } = room;
@@ -91,10 +92,7 @@ impl<'w, 's, W: Sink> DependencyWalk<'w, 's, W> {
                 machine: 0,
                 path: CandidatePath::new(),
                 found_by: FoundBy::Path,
-                account: ReadAccount {
-                    left: settings.budget,
-                    spent: 0,
-                },
+                left: settings.budget,
                 tries: PathBudget::new(settings.tries),
             },
             objects,
@@ -142,19 +140,19 @@ impl<W: Sink> DependencyWalk<'_, '_, W> {
     pub fn list<R: Files>(
         &mut self,
         system: &mut SystemFiles<'_, R, FileSource<R::File>>,
-        source: FileSource<R::File>,
+        file: ObjectFile<FileSource<R::File>>,
         path: &[u8],
         real: &[u8],
         opened: &mut OpenFiles<R::File>,
     ) -> Result<Listed, NeedsFault>
     where
         R::File: FileExt,
-        ensures asks { AsksFiles opened.old.objects.items opened.new.objects.items 0
-            self.old.search.account self.new.search.account }
+        ensures asks { AsksFiles file.asked opened.old.objects.items opened.new.objects.items
+            self.old.search.left self.new.search.left
+            system.old.closed.asked system.new.closed.asked }
     {
-        let file = ObjectFile::new(source, attributes_at(system.rt, real));
-        self.program(file, path, real, opened)?;
-        self.find_interpreter(system.rt)?;
+        self.program(file, path, real, opened, &mut system.closed)?;
+        self.find_interpreter(system)?;
         for index in 0..MOST_OBJECTS {
             let Some(known) = self.objects.get(index) else {
                 break;

@@ -9,7 +9,7 @@ use crate::object_file::{ObjectFile, ObjectRole};
 use crate::object_reports::{NOWHERE, ObjectPlace, found_identity, report_alone};
 use crate::open_objects::OpenObjects;
 use crate::problem_rows::list_object;
-use crate::search_dirs::SystemFiles;
+use crate::system_files::{ClosedFiles, SystemFiles};
 use crate::walk::{DependencyWalk, NeedsFault, OpenFiles};
 use elf_format::{FoundBy, ObjectRow, ObjectState, show_too_many, show_too_many_paths};
 use elf_record::{Cause, Refusal};
@@ -38,8 +38,9 @@ impl<W: Sink> DependencyWalk<'_, '_, W> {
     ) -> Result<ControlFlow, NeedsFault>
     where
         R::File: FileExt,
-        ensures asks { AsksFiles opened.old.objects.items opened.new.objects.items 0
-            self.old.search.account self.new.search.account }
+        ensures asks { AsksFiles 0 opened.old.objects.items opened.new.objects.items
+            self.old.search.left self.new.search.left
+            system.old.closed.asked system.new.closed.asked }
     {
         for place in known.needs..known.needs_end {
             let Some(need) = self.objects.need(place) else {
@@ -68,18 +69,19 @@ impl<W: Sink> DependencyWalk<'_, '_, W> {
     ) -> Result<ControlFlow, NeedsFault>
     where
         R::File: FileExt,
-        ensures asks { AsksFiles opened.old.objects.items opened.new.objects.items 0
-            self.old.search.account self.new.search.account }
+        ensures asks { AsksFiles 0 opened.old.objects.items opened.new.objects.items
+            self.old.search.left self.new.search.left
+            system.old.closed.asked system.new.closed.asked }
     {
         let objects = &self.objects;
         let name = objects.links.text(need.name);
         let by = u16::try_from(index).ok();
         if objects.is_interpreter_name(name) {
             self.search.found_by = interpreter_found_by(name);
-            return self.take_interpreter(system.rt, by, need, opened);
+            return self.take_interpreter(system, by, need, opened);
         }
         match self.search.find(system, objects, needer, name) {
-            Ok(Some(file)) => self.take_file(system.rt, by, need, file, opened),
+            Ok(Some(file)) => self.take_file(system, by, need, file, opened),
             Ok(None) => self.take_none(by, need),
             Err(SearchEnd::Refused(refusal)) => self.add_refused(by, need, refusal),
             Err(SearchEnd::Unread(refusal)) => {
@@ -91,7 +93,7 @@ impl<W: Sink> DependencyWalk<'_, '_, W> {
 
     /// Adds a library that is not found, or ends the objects.
     fn take_none(&mut self, by: Option<u16>, need: NeededLibrary) -> Result<ControlFlow, NeedsFault>
-        ensures account { self.new.search.account ≡ self.old.search.account }
+        ensures left { self.new.search.left ≡ self.old.search.left }
     {
         if self.search.tries.is_over {
             return self.end_tries(need.at);
@@ -103,7 +105,7 @@ impl<W: Sink> DependencyWalk<'_, '_, W> {
     /// the name is one more, or the next object's.
     fn take_file<R: Files>(
         &mut self,
-        rt: &R,
+        system: &mut SystemFiles<'_, R, FileSource<R::File>>,
         by: Option<u16>,
         need: NeededLibrary,
         file: ObjectFile<FileSource<R::File>>,
@@ -111,28 +113,29 @@ impl<W: Sink> DependencyWalk<'_, '_, W> {
     ) -> Result<ControlFlow, NeedsFault>
     where
         R::File: FileExt,
-        ensures asks { AsksFiles opened.old.objects.items opened.new.objects.items file.asked
-            self.old.search.account self.new.search.account }
+        ensures asks { AsksFiles file.asked opened.old.objects.items opened.new.objects.items
+            self.old.search.left self.new.search.left
+            system.old.closed.asked system.new.closed.asked }
     {
         let identity = file.attributes().identity;
         if let Some(known) = self.objects.with_file(identity) {
-            let _ = file.close(&mut self.search.account);
+            file.close(&mut system.closed);
             return self.add_name(by, need, known);
         }
         if self.objects.is_interpreter_file(identity) {
-            let _ = file.close(&mut self.search.account);
-            return self.take_interpreter(rt, by, need, opened);
+            file.close(&mut system.closed);
+            return self.take_interpreter(system, by, need, opened);
         }
         if self.objects.len() >= MOST_OBJECTS {
-            let _ = file.close(&mut self.search.account);
+            file.close(&mut system.closed);
             return self.end_objects(need.at);
         }
-        self.add_found(by, need.name, file, opened)
+        self.add_found(by, need.name, file, opened, &mut system.closed)
     }
 
     /// Writes the line that ends the objects if more paths would be tried than may be.
     fn end_tries(&mut self, at: u64) -> Result<ControlFlow, NeedsFault>
-        ensures account { self.new.search.account ≡ self.old.search.account }
+        ensures left { self.new.search.left ≡ self.old.search.left }
         ensures status { self.new.status ≡ 1 }
     {
         self.status = 1;
@@ -144,7 +147,7 @@ impl<W: Sink> DependencyWalk<'_, '_, W> {
 
     /// Writes the line that ends the objects if there is one more than are listed.
     pub(crate) fn end_objects(&mut self, at: u64) -> Result<ControlFlow, NeedsFault>
-        ensures account { self.new.search.account ≡ self.old.search.account }
+        ensures left { self.new.search.left ≡ self.old.search.left }
         ensures status { self.new.status ≡ 1 }
     {
         self.status = 1;
@@ -162,7 +165,7 @@ impl<W: Sink> DependencyWalk<'_, '_, W> {
         need: NeededLibrary,
         known: u16,
     ) -> Result<ControlFlow, NeedsFault>
-        ensures account { self.new.search.account ≡ self.old.search.account }
+        ensures left { self.new.search.left ≡ self.old.search.left }
     {
         if self.objects.add_alias(need.name, known) {
             return Ok(ControlFlow::Yes);
@@ -182,7 +185,7 @@ impl<W: Sink> DependencyWalk<'_, '_, W> {
         need: NeededLibrary,
         state: ObjectState,
     ) -> Result<ControlFlow, NeedsFault>
-        ensures account { self.new.search.account ≡ self.old.search.account }
+        ensures left { self.new.search.left ≡ self.old.search.left }
     {
         if self.objects.len() >= MOST_OBJECTS {
             return self.end_objects(need.at);
@@ -209,7 +212,7 @@ impl<W: Sink> DependencyWalk<'_, '_, W> {
         need: NeededLibrary,
         refusal: Refusal,
     ) -> Result<ControlFlow, NeedsFault>
-        ensures account { self.new.search.account ≡ self.old.search.account }
+        ensures left { self.new.search.left ≡ self.old.search.left }
     {
         if self.objects.len() >= MOST_OBJECTS {
             return self.end_objects(need.at);
@@ -241,15 +244,17 @@ impl<W: Sink> DependencyWalk<'_, '_, W> {
         name: u32,
         file: ObjectFile<S>,
         opened: &mut OpenObjects<CachedSource<S>>,
+        closed: &mut ClosedFiles,
     ) -> Result<ControlFlow, NeedsFault>
-        ensures asks { AsksFiles opened.old.objects.items opened.new.objects.items file.asked
-            self.old.search.account self.new.search.account }
+        ensures asks { AsksFiles file.asked opened.old.objects.items opened.new.objects.items
+            self.old.search.left self.new.search.left
+            closed.old.asked closed.new.asked }
     {
         let mut file = file;
         let path = self.objects.keep_path(&self.search.path);
         let report = self.read(&mut file, ObjectRole::Library, path);
         let identity = file.attributes().identity;
-        let report = self.keep(file, report, opened)?;
+        let report = self.keep(file, report, opened, closed)?;
         let place = ObjectPlace {
             path,
             file: found_identity(report.state, identity),

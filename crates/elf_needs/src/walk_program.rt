@@ -8,6 +8,7 @@ use crate::object_reports::{ObjectPlace, ObjectReport, found_identity, report_al
 use crate::open_objects::OpenObjects;
 use crate::paths::named_path;
 use crate::problem_rows::list_object;
+use crate::system_files::ClosedFiles;
 use crate::walk::{DependencyWalk, NeedsFault};
 use elf_format::{ObjectRow, ObjectState};
 use elf_record::{Cause, Refusal};
@@ -25,15 +26,17 @@ impl<W: Sink> DependencyWalk<'_, '_, W> {
         path: &[u8],
         real: &[u8],
         opened: &mut OpenObjects<CachedSource<S>>,
+        closed: &mut ClosedFiles,
     ) -> Result<(), NeedsFault>
-        ensures asks { AsksFiles opened.old.objects.items opened.new.objects.items file.asked
-            self.old.search.account self.new.search.account }
+        ensures asks { AsksFiles file.asked opened.old.objects.items opened.new.objects.items
+            self.old.search.left self.new.search.left
+            closed.old.asked closed.new.asked }
     {
         let mut file = file;
         let kept = self.keep_program_path(real);
         let report = self.read_program(&mut file, kept);
         let identity = file.attributes().identity;
-        let report = self.keep(file, report, opened)?;
+        let report = self.keep(file, report, opened, closed)?;
         if !matches!(report.state, ObjectState::Found) {
             self.objects.interpreter = None;
         }
@@ -55,7 +58,7 @@ impl<W: Sink> DependencyWalk<'_, '_, W> {
     /// Stores the path of the program, whose directory replaces `$ORIGIN`, and returns its index: one
     /// that is not within the root is taken below it.
     fn keep_program_path(&mut self, real: &[u8]) -> Option<u32>
-        ensures account { self.new.search.account ≡ self.old.search.account }
+        ensures left { self.new.search.left ≡ self.old.search.left }
     {
         let root = self.search.folders.root;
         if root.is_empty() || within_root(root, real).len() < real.len() {
@@ -74,9 +77,9 @@ impl<W: Sink> DependencyWalk<'_, '_, W> {
         file: &mut ObjectFile<S>,
         path: Option<u32>,
     ) -> Result<ObjectReport, NeedsFault>
-        ensures asks { AsksFile file.old file.new self.old.search.account self.new.search.account }
+        ensures asks { AsksFile file.old file.new self.old.search.left self.new.search.left }
     {
-        match file.machine(&mut self.search.account) {
+        match file.machine(&mut self.search.left) {
             Ok(Some(machine)) => self.search.machine = machine,
             // That is reported when the program is read.
             Ok(None) | Err(Fault::Refused(_)) => {}
@@ -97,11 +100,11 @@ impl<W: Sink> DependencyWalk<'_, '_, W> {
         file: &mut ObjectFile<S>,
         report: &ObjectReport,
     ) -> Result<ObjectReport, NeedsFault>
-        ensures asks { AsksFile file.old file.new self.old.search.account self.new.search.account }
+        ensures asks { AsksFile file.old file.new self.old.search.left self.new.search.left }
     {
         let mut path = NameBuf::new();
-        let account = &mut self.search.account;
-        match file.interpreter(account, &mut self.store, &mut path) {
+        let left = &mut self.search.left;
+        match file.interpreter(left, &mut self.store, &mut path) {
             Ok(false) => Ok(*report),
             Ok(true) if self.objects.name_interpreter(path.bytes()) => Ok(*report),
             Ok(true) => Ok(report_alone(ObjectState::Refused(Refusal {

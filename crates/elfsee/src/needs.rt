@@ -117,13 +117,14 @@ where
         Ok(cache) => cache,
         Err(ending) => return Err(ending),
     };
-    let mut system = SystemFiles { rt, cache };
+    let mut system = SystemFiles::new(rt, cache);
+    let program = system.program(source, real.as_str().as_bytes());
     let out = Out::new(WriteSink::new(output));
     let default = last_dirs(rt, asked);
     let mut walk = DependencyWalk::new(&settings(asked, default), store, room, out);
     let listed = walk.list(
         &mut system,
-        source,
+        program,
         file.as_bytes(),
         real.as_str().as_bytes(),
         &mut opened,

@@ -39,8 +39,9 @@ where
         Ok(cache) => cache,
         Err(ending) => return Err(ending),
     };
-    let system = SystemFiles { rt, cache };
+    let system = SystemFiles::new(rt, cache);
     let report = NeedsReport::new(
+        rt,
         system,
         rule_of(asked, last_dirs(rt, asked)),
         headers,

@@ -45,6 +45,7 @@ pub struct NeedsReport<'r, 'a, R: Files>
 where
     R::File: FileExt,
 {
+    rt: &'r R,
     system: SystemFiles<'r, R, StreamSource<FileReader<R::File>>>,
     rule: NeedsRule<'a>,
     headers: HeaderBuffer,
@@ -71,6 +72,7 @@ where
     /// Creates a visitor with a rule and memory: for headers, with a slot for each that the rule
     /// allows, for a walk, and for the files that it keeps open.
     pub fn new(
+        rt: &'r R,
         system: SystemFiles<'r, R, StreamSource<FileReader<R::File>>>,
         rule: NeedsRule<'a>,
         headers: HeaderBuffer,
@@ -80,6 +82,7 @@ where
     {
         let (room, opened) = rooms;
         NeedsReport {
+            rt,
             system,
             rule,
             headers,
@@ -101,7 +104,7 @@ where
     ) -> Result<u8, NeedsFault>
         ensures stays { self.new ≡ self.old }
     {
-        let rt = self.system.rt;
+        let rt = self.rt;
         let Ok(real) = rt.canonicalize(rt.alloc(), opened_path(path)) else {
             return Err(NeedsFault::Open);
         };
@@ -119,7 +122,8 @@ where
         let out = Out::new(HeadedSink::new(out, path.as_bytes(), format));
         let mut walk = DependencyWalk::new(&options, self.headers.store(), room, out);
         let (path, real) = (path.as_bytes(), real.as_str().as_bytes());
-        let listed = walk.list(&mut self.system, source, path, real, &mut self.opened);
+        let program = self.system.program(source, real);
+        let listed = walk.list(&mut self.system, program, path, real, &mut self.opened);
         let NeedsRule {
             symbols,
             unused,

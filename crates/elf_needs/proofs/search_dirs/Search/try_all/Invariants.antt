@@ -6,9 +6,9 @@ use Rattle.elf_needs.proofs.search_dirs.Search.try_all.Given as goal
 
 abbrev pub invariant-loop-search : goal.invariant-loop-search
 invariant-loop-search g l = record {
-  spends : l.fn.self.account.spent ≤ l.self.account.spent;
+  closes : l.fn.system.closed.asked ≤ l.system.closed.asked;
   few : l.self.tries.left ≤ l.fn.self.tries.left;
-  pays : SpendsBudgetAtLeast l.fn.self.account.left l.self.account.left l.fn.self.account.spent l.self.account.spent;
+  pays : SpendsBudgetAtLeast l.fn.self.left l.self.left l.fn.system.closed.asked l.system.closed.asked;
 }
 
 abbrev pub decreases-loop-search : goal.decreases-loop-search

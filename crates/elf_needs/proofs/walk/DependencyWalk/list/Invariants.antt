@@ -5,5 +5,5 @@ use Rattle.elf_needs.proofs.walk.DependencyWalk.list.Given as goal
 
 abbrev pub invariant-loop-index : goal.invariant-loop-index
 invariant-loop-index g l = record {
-  asks : AsksFiles l.fn.opened.objects.items l.opened.objects.items 0 l.fn.self.search.account l.self.search.account;
+  asks : AsksFiles l.fn.file.asked l.fn.opened.objects.items l.opened.objects.items l.fn.self.search.left l.self.search.left l.fn.system.closed.asked l.system.closed.asked;
 }

@@ -5,5 +5,5 @@ use Rattle.elf_needs.proofs.walk.DependencyWalk.needs_of.Given as goal
 
 abbrev pub invariant-loop-place : goal.invariant-loop-place
 invariant-loop-place g l = record {
-  asks : AsksFiles l.fn.opened.objects.items l.opened.objects.items 0 l.fn.self.search.account l.self.search.account;
+  asks : AsksFiles 0 l.fn.opened.objects.items l.opened.objects.items l.fn.self.search.left l.self.search.left l.fn.system.closed.asked l.system.closed.asked;
 }
