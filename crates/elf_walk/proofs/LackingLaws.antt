@@ -105,9 +105,9 @@ shows_failed format t words i d old mid new status low kind is so puts =
     let rest = lacking_columns t (required_words (drop (suc i) words)) in
     let line = lacking_line format t (slice_index_or words i d).column in
     let text : lacking_lines format t so.before ++ (line ++ lacking_lines format t rest) ≡ lacking_lines format t (lacking t (required_words words)) =
-        sym (lines_all format t so.before ((slice_index_or words i d).column ∷ rest))
-        ∙ ap (λ l. lacking_lines format t (so.before ++ l)) (sym (lacked t words i (suc i) d low refl is))
-        ∙ ap (λ l. lacking_lines format t l) (sym so.split ∙ sym (of_program t (required_words words) kind)) in
+    sym (lines_all format t so.before ((slice_index_or words i d).column ∷ rest))
+    ∙ ap (λ l. lacking_lines format t (so.before ++ l)) (sym (lacked t words i (suc i) d low refl is))
+    ∙ ap (λ l. lacking_lines format t l) (sym so.split ∙ sym (of_program t (required_words words) kind)) in
     subst (SinkTakesPrefix old new) text (SinkTakesPrefix-then _ _ so.took (SinkTakesPrefix-more line (lacking_lines format t rest) puts))
 
 dropped : (words : List RequiredTrait) (i : ℕ) → length words ≤ i → drop i words ≡ []

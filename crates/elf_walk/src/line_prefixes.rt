@@ -58,10 +58,7 @@ pub fn find_file_type<S: Source>(
 ///
 /// # Errors
 /// A fault of the source.
-fn read_file_type<S: Source>(
-    src: &mut Counted<S>,
-    members: bool,
-) -> Result<FileMagic, SourceFault>
+fn read_file_type<S: Source>(src: &mut Counted<S>, members: bool) -> Result<FileMagic, SourceFault>
     ensures { src.old.asked ≤ 2 ^ 127 → ReadsFileType members src.old src.new result }
 {
     match read_front(src, members) {
