@@ -1,6 +1,6 @@
 -- A writer that turns lines into a table.
 use Rattle.std.specs.Prelude.{ℕ, ◌≡◌, ◌+◌, ◌<◌, if◌then◌else◌, Bool, true, false, List, Option, get_or}
-use Rattle.std.specs.Io.KnownBytes.{Appends}
+use Rattle.std.specs.Io.KnownBytes.{Appends, append_known}
 use Rattle.elf_model.specs.TableTexts.{state_at_end, table_from}
 use Rattle.elf_model.specs.declared.formats.Format.{Format}
 use Rattle.elf_model.specs.declared.formats.Format.TheVariants.{Columns, Object, Table}
@@ -18,6 +18,10 @@ pub record TableWriting : Type 0 where
   pub below : Option (List ℕ)
   pub is_table : Bool
   pub state : TableState
+
+-- a writer as it is once rows that were collected are written
+abbrev pub with_rows : TableWriting → (rows : List ℕ) → TableWriting
+with_rows writer rows = record { below = append_known writer.below rows; is_table = writer.is_table; state = writer.state }
 
 -- what bytes become
 abbrev pub rendered : TableWriting → List ℕ → List ℕ

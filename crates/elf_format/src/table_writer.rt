@@ -1,17 +1,24 @@
 //! A writer that turns the lines of a listing into a table.
 ghost use Rattle.std.specs.Prelude.{◌≡◌, ◌+◌, ◌<◌, ◌≤◌, ◌++◌, true, false, None, List, [], length, take, slice_index, IfOk, OnOk};
-ghost use Rattle.std.specs.Io.KnownBytes.{Appends, WriteAppends};
+ghost use Rattle.std.specs.Io.KnownBytes.{Appends, WriteAppends, append_known};
 ghost use Rattle.std.specs.Io.{WritesAtMost};
 ghost use Rattle.elf_model.specs.TableTexts.{before_line, state_at_end, table_from, table_start};
 ghost use Rattle.elf_model.specs.Prelude.{name_of, headings};
 ghost use Rattle.std.specs.Prelude.{option_copied};
-ghost use Rattle.elf_format.specs.TableWriters.{HasNoInnerNewline, Renders, is_table};
+ghost use Rattle.elf_format.specs.TableWriters.{HasNoInnerNewline, Renders, is_table, with_rows};
 
 use crate::name_tables::name_of;
+use arrayvec::ArrayVec;
 use elf_model::{Format, LinePlace, TableState};
 use elf_source::{Out, OutFault, WriteSink};
 use std::io::{self, Error, ErrorKind, Write};
 use std::marker::Model;
+
+/// How many bytes of rows are collected before they are written.
+const ROWS_BYTES: usize = 4_096;
+
+/// Rows of a table that are not yet written.
+type Rows = ArrayVec<u8, ROWS_BYTES>;
 
 /// A writer over another, which writes lines as a table, or as they are: in a table a line has no
 /// letter, and before a line of another letter come an empty line and the names of its columns.
@@ -60,7 +67,8 @@ impl<W: Write> TableWriter<W> {
         self.out.put(bytes)
     }
 
-    /// Writes what bytes of a table become.
+    /// Writes what bytes of a table become, in pieces of at most `ROWS_BYTES`; a line that is longer
+    /// is a piece of its own.
     ///
     /// # Errors
     /// A fault of the writer below.
@@ -68,27 +76,29 @@ impl<W: Write> TableWriter<W> {
         requires { self.old.is_table ≡ true }
         ensures { OnOk result (Renders self.old self.new bytes.now) }
     {
+        let mut rows = Rows::new();
         let mut done = 0;
         while done < bytes.len() {
-            done += self.put_next(&bytes[done..])?;
+            done += self.put_next(&bytes[done..], &mut rows)?;
         }
-        Ok(())
+        self.out.put(&rows)
     }
 
-    /// Writes what the first bytes of a table become, at most those of one line; returns how many
-    /// these are.
+    /// Adds to the rows what the first bytes of a table become, at most those of one line; returns
+    /// how many these are. Rows that leave no space are written before.
     ///
     /// # Errors
     /// A fault of the writer below.
-    fn put_next(&mut self, bytes: &[u8]) -> Result<usize, OutFault>
+    fn put_next(&mut self, bytes: &[u8], rows: &mut Rows) -> Result<usize, OutFault>
         requires some { 0 < length bytes.now }
         requires kind { self.old.is_table ≡ true }
         ensures within { IfOk result (λ count. (0 < count) × (count ≤ length bytes.now)) }
-        ensures puts { IfOk result (λ count. Renders self.old self.new (take count bytes.now)) }
+        ensures puts { IfOk result (λ count. Renders (with_rows self.old rows.old.items)
+            (with_rows self.new rows.new.items) (take count bytes.now)) }
     {
         match self.state.place {
             LinePlace::Letter => {
-                begin_line(self.state.letter, bytes[0], &mut self.out)?;
+                begin_line(self.state.letter, bytes[0], rows, &mut self.out)?;
                 self.state.place = LinePlace::Space;
                 self.state.letter = bytes[0];
                 Ok(1)
@@ -99,7 +109,7 @@ impl<W: Write> TableWriter<W> {
             }
             LinePlace::Fields => {
                 let count = line_end(bytes);
-                self.out.put(&bytes[..count])?;
+                add(&bytes[..count], rows, &mut self.out)?;
                 if bytes[count - 1] == b'\n' {
                     self.state.place = LinePlace::Letter;
                 }
@@ -109,25 +119,51 @@ impl<W: Write> TableWriter<W> {
     }
 }
 
-/// Writes what comes before a line of a letter.
+/// Adds to the rows what comes before a line of a letter.
 ///
 /// # Errors
 /// A fault of the output.
 #[tactic(auto, using(crate::proofs::TableLaws::appends_nothing, crate::proofs::TableLaws::appends_more))]
-fn begin_line<W: Write>(last: u8, letter: u8, out: &mut Out<WriteSink<W>>) -> Result<(), OutFault>
-    ensures { OnOk result (Appends out.old.taken out.new.taken (before_line last letter)) }
+fn begin_line<W: Write>(
+    last: u8,
+    letter: u8,
+    rows: &mut Rows,
+    out: &mut Out<WriteSink<W>>,
+) -> Result<(), OutFault>
+    ensures { OnOk result (Appends (append_known out.old.taken rows.old.items)
+        (append_known out.new.taken rows.new.items) (before_line last letter)) }
 {
     if letter == last {
         return Ok(());
     }
     if last != 0 {
-        out.put(b"\n")?;
+        add(b"\n", rows, out)?;
     }
     if let Some(names) = column_names(letter) {
-        out.put(names.as_bytes())?;
-        out.put(b"\n")?;
+        add(names.as_bytes(), rows, out)?;
+        add(b"\n", rows, out)?;
     }
     Ok(())
+}
+
+/// Adds bytes to the rows. If they do not fit, the rows are written first; if they do not fit then,
+/// they are written as well.
+///
+/// # Errors
+/// A fault of the output.
+fn add<W: Write>(bytes: &[u8], rows: &mut Rows, out: &mut Out<WriteSink<W>>) -> Result<(), OutFault>
+    ensures { OnOk result (Appends (append_known out.old.taken rows.old.items)
+        (append_known out.new.taken rows.new.items) bytes.now) }
+{
+    if rows.try_extend_from_slice(bytes).is_ok() {
+        return Ok(());
+    }
+    out.put(rows)?;
+    rows.clear();
+    if rows.try_extend_from_slice(bytes).is_ok() {
+        return Ok(());
+    }
+    out.put(bytes)
 }
 
 /// Returns the length of the line at the beginning of some bytes, with its newline; or of all bytes

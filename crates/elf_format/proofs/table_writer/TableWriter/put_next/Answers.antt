@@ -20,7 +20,7 @@ returns-then-bytes-count-eq10-clause-puts g c =
     let end = c.line_end-count in
     rw (← c.self.view_is)
     (fields_put _ _ c.self.inside.state _ c.args.bytes.now end.result c.self.inside.is_table is c.in-Fields.is end.ensures.within.0 end.ensures.within.1 end.ensures.one
-    c.in_ok-put-in-Fields.ensures.puts.0.appends (line_ended c.self.inside.state (get_or c.args.bytes.now (end.result - 1) 0) c.if-bytes-count-eq10.true))
+    c.in_ok-add-in-Fields.ensures (line_ended c.self.inside.state (get_or c.args.bytes.now (end.result - 1) 0) c.if-bytes-count-eq10.true))
 
 pub returns-else-bytes-count-eq10-clause-puts : goal.returns-else-bytes-count-eq10-clause-puts
 returns-else-bytes-count-eq10-clause-puts g c =
@@ -28,4 +28,4 @@ returns-else-bytes-count-eq10-clause-puts g c =
     let end = c.line_end-count in
     rw (← c.self.view_is)
     (fields_put _ _ c.self.inside.state _ c.args.bytes.now end.result c.self.inside.is_table is c.in-Fields.is end.ensures.within.0 end.ensures.within.1 end.ensures.one
-    c.in_ok-put-in-Fields.ensures.puts.0.appends (line_goes_on c.self.inside.state (get_or c.args.bytes.now (end.result - 1) 0) c.in-Fields.is c.if-bytes-count-eq10.false))
+    c.in_ok-add-in-Fields.ensures (line_goes_on c.self.inside.state (get_or c.args.bytes.now (end.result - 1) 0) c.in-Fields.is c.if-bytes-count-eq10.false))
