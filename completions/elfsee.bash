@@ -63,7 +63,7 @@ _elfsee() {
         else
             case $word in
             --) ended=1 before= ;;
-            --headers | --names | --max-read | --max-tries | --only | --name | --name-list | --layout | --require | --library-path | --default | --root | --cache | --files0-from) skip=1 ;;
+            --headers | --names | --max-read | --max-tries | --only | -o | --name | -n | --name-list | --layout | --require | --library-path | --default | --root | --cache | --files0-from) skip=1 ;;
             -*) ;;
             *) if [[ $command ]]; then files=$((files + 1)); else command=$word; fi ;;
             esac
@@ -72,11 +72,11 @@ _elfsee() {
     [[ $command == archive ]] && parts="members $parts"
     if [[ -z $ended ]]; then
         case $before in
-        --only)
+        --only | -o)
             mapfile -t COMPREPLY < <(compgen -W "$parts" -- "$current")
             return
             ;;
-        --headers | --names | --max-read | --max-tries | --name | --require | --library-path | --default) return ;;
+        --headers | --names | --max-read | --max-tries | --name | -n | --require | --library-path | --default) return ;;
         --name-list | --layout | --root | --cache | --files0-from)
             _elfsee_files
             return

@@ -1,5 +1,5 @@
 -- What one more argument makes of a command, and tables whose rows are taken one after another.
-use Rattle.std.proofs.Common.{◌≡◌, ◌∙◌, ◌≤◌, ℕ, List, ap, length, map, rules, sym, take}
+use Rattle.std.proofs.Common.{◌≡◌, ◌∙◌, ◌≤◌, ℕ, List, None, ap, length, map, refl, rules, sym, take}
 use Rattle.std.specs.List.{fold}
 use Rattle.std.proofs.lemmas.List.{take_all}
 use Rattle.std.proofs.lemmas.List.Folds.{fold-map}
@@ -8,7 +8,23 @@ use Rattle.clap.specs.Walk.{Rule}
 use Rattle.clap.specs.Words.{AddsArg, app_of, rule_of}
 use Rattle.clap.specs.declared.builder.arg.Arg.{Arg}
 use Rattle.clap.specs.declared.builder.command.Command.{Command}
+use Rattle.clap.specs.Walk.{Text}
 use Rattle.elf_cli.specs.Building.{IsArg, IsBuilt}
+use Rattle.elf_cli.specs.Described.{rule_of_kind}
+use Rattle.elf_cli.specs.declared.arg_specs.ArgKind.{ArgKind}
+use Rattle.elf_cli.specs.declared.arg_specs.ArgKind.TheVariants.{Flag, Value, Repeated, Number, Count, Filled, Needed, Index, Any}
+
+-- no kind of argument has a letter by itself
+pub without_letter : (name : Text) (kind : ArgKind) → record (rule_of_kind name kind) { short = None } ≡ rule_of_kind name kind
+without_letter name Flag = refl
+without_letter name (Value value) = refl
+without_letter name (Repeated value) = refl
+without_letter name (Number parser) = refl
+without_letter name (Count parser default) = refl
+without_letter name (Filled value) = refl
+without_letter name Needed = refl
+without_letter name (Index parser) = refl
+without_letter name Any = refl
 
 pub added : (app : App) (rule : Rule) (old new : Command) (arg : Arg) → IsBuilt app old → IsArg rule arg → AddsArg old arg new → IsBuilt (with_rule app rule) new
 added app rule old new arg built is adds =

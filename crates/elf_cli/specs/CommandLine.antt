@@ -1,5 +1,5 @@
 -- The command line: its commands and their arguments, as the parser of the arguments sees them.
-use Rattle.std.specs.Prelude.{ℕ, ◌+◌, ◌==◌, if◌then◌else◌, bytes_eq, List, [], ◌∷◌, codes, pos, true, Some}
+use Rattle.std.specs.Prelude.{ℕ, ◌+◌, ◌==◌, if◌then◌else◌, bytes_eq, List, [], ◌∷◌, codes, get_or, pos, true, Some}
 use Rattle.std.specs.Int.RustNames.{bit_and}
 use Rattle.std.specs.List.{fold}
 use Rattle.clap.specs.Walk.{Rule, Text}
@@ -11,6 +11,10 @@ use Rattle.clap.specs.declared.builder.value_parser.ValueParser.TheVariants.{Non
 use Rattle.elf_cli.specs.declared.command_args.CommandName.{CommandName}
 use Rattle.elf_cli.specs.declared.command_args.CommandName.TheVariants as command
 use Rattle.elf_cli.specs.declared.command_sets.TheConstants.{SHOW, SAMPLE, FIND, APPLY, CHECK, LIST, TRAITS, NEEDS, ARCHIVE, EXPLAIN, VERSION}
+
+-- an option that may also be given by a letter, as in -g
+abbrev pub by_letter : Text → Rule → Rule
+by_letter letter rule = record rule { short = Some (get_or letter 0 0) }
 
 -- an option without a value, which is set if it is given
 abbrev pub flag : Text → Rule
@@ -77,16 +81,16 @@ argument_rows =
     ∷ (NEEDS, flag (codes "unused"))
     ∷ (NEEDS, flag (codes "problems"))
     ∷ (TRAITS, valued (codes "require"))
-    ∷ (SHOW + SAMPLE + CHECK + LIST, option (codes "only") NonEmptyString)
-    ∷ (ARCHIVE, option (codes "only") NonEmptyString)
-    ∷ (listing, flag (codes "gnu"))
-    ∷ (FIND, flag (codes "gnu"))
-    ∷ (listing, flag (codes "by-segments"))
-    ∷ (FIND, flag (codes "by-segments"))
-    ∷ (listing + FIND + TRAITS + NEEDS, flag (codes "json"))
-    ∷ (listing + FIND + TRAITS + NEEDS, flag (codes "table"))
+    ∷ (SHOW + SAMPLE + CHECK + LIST, by_letter (codes "o") (option (codes "only") NonEmptyString))
+    ∷ (ARCHIVE, by_letter (codes "o") (option (codes "only") NonEmptyString))
+    ∷ (listing, by_letter (codes "g") (flag (codes "gnu")))
+    ∷ (FIND, by_letter (codes "g") (flag (codes "gnu")))
+    ∷ (listing, by_letter (codes "D") (flag (codes "by-segments")))
+    ∷ (FIND, by_letter (codes "D") (flag (codes "by-segments")))
+    ∷ (listing + FIND + TRAITS + NEEDS, by_letter (codes "j") (flag (codes "json")))
+    ∷ (listing + FIND + TRAITS + NEEDS, by_letter (codes "t") (flag (codes "table")))
     ∷ (selecting + SAMPLE, flag (codes "versions"))
-    ∷ (selecting, repeated (codes "name"))
+    ∷ (selecting, by_letter (codes "n") (repeated (codes "name")))
     ∷ (selecting, valued (codes "name-list"))
     ∷ (APPLY, valued (codes "layout"))
     ∷ (APPLY, flag (codes "explain"))

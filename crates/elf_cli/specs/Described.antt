@@ -11,7 +11,7 @@ use Rattle.elf_cli.specs.declared.arg_specs.ArgKind.TheVariants.{Flag, Value, Re
 use Rattle.elf_record.specs.declared.parts.Parts.{Parts}
 
 -- the rule of an argument of this name and kind
-abbrev rule_of_kind : Text → ArgKind → Rule
+abbrev pub rule_of_kind : Text → ArgKind → Rule
 rule_of_kind name Flag = flag name
 rule_of_kind name (Value value) = valued name
 rule_of_kind name (Repeated value) = repeated name
@@ -22,8 +22,9 @@ rule_of_kind name Needed = required name
 rule_of_kind name (Index parser) = indexed name parser
 rule_of_kind name Any = any_words name
 
+-- and with its letter
 abbrev pub rule_by : ArgSpec → Rule
-rule_by word = rule_of_kind word.name.now word.kind
+rule_by word = record (rule_of_kind word.name.now word.kind) { short = word.short }
 
 -- an argument as it is described, with the set of the commands that have it
 abbrev pub argument_row : ArgSpec → ℕ × Rule

@@ -2,7 +2,7 @@
 ghost use Rattle.elf_cli.specs.Building.{IsArg};
 ghost use Rattle.elf_cli.specs.CommandLine.{any_words, flag, indexed, numbered_option};
 ghost use Rattle.elf_cli.specs.CommandLine.{option, repeated, required, valued};
-ghost use Rattle.elf_cli.specs.Described.{rule_by};
+ghost use Rattle.elf_cli.specs.Described.{rule_by, rule_of_kind};
 
 use clap::builder::ValueParser;
 use clap::{Arg, ArgAction};
@@ -11,6 +11,8 @@ use std::alloc::Global;
 /// An argument of one or more commands.
 pub(crate) struct ArgSpec {
     pub(crate) name: &'static str,
+    /// The letter of an option that may also be given as `-g`.
+    pub(crate) short: Option<char>,
     pub(crate) kind: ArgKind,
     pub(crate) help: &'static str,
     /// The set of the commands that have it.
@@ -40,8 +42,20 @@ pub(crate) enum ArgKind {
 }
 
 /// Returns the `clap` argument for a specification.
+#[tactic(auto, using(crate::proofs::BuildingLaws::without_letter))]
 pub(crate) fn clap_arg_of<'a>(alloc: Global, word: &ArgSpec) -> Arg<'a>
     ensures { IsArg (rule_by word.now) result }
+{
+    let arg = arg_of_kind(alloc, word);
+    match word.short {
+        Some(letter) => arg.short(letter),
+        None => arg,
+    }
+}
+
+/// Returns the argument for a specification, without its letter.
+fn arg_of_kind<'a>(alloc: Global, word: &ArgSpec) -> Arg<'a>
+    ensures { IsArg (rule_of_kind word.now.name.now word.now.kind) result }
 {
     match word.kind {
         ArgKind::Flag => flag(alloc, word),

@@ -27,16 +27,18 @@ Options, before or after FILE; 'elfsee help COMMAND' prints those of one command
   --names N     show at most N bytes of a name: 1 to 4096 [default: 256]
   --max-read N  read at most N bytes of the file: 0 to 9223372036854775807
                 [default: no limit]
-  --only PART   list one part: header, sections, segments, symbols, relocs, notes or dynamic,
+  -o, --only PART
+                list one part: header, sections, segments, symbols, relocs, notes or dynamic,
                 with --gnu also versions [default: all of them]; archive also has: members;
                 or several parts, separated by commas
-  --gnu         also name the numbers defined by GNU, and list symbol versions; for find: look
+  -g, --gnu     also name the numbers defined by GNU, and list symbol versions; for find: look
                 up the symbol that glibc's dynamic loader picks for NAME, NAME@VERSION or
                 NAME@@VERSION
-  --by-segments find tables by the program headers, as a loader does, and list the file, or with
+  -D, --by-segments
+                find tables by the program headers, as a loader does, and list the file, or with
                 find --gnu look up NAME, as if it had no section headers
-  --json        print each line as a JSON object, one per line
-  --table       print a table with the names of its columns, for a reader; implies --gnu and
+  -j, --json    print each line as a JSON object, one per line
+  -t, --table   print a table with the names of its columns, for a reader; implies --gnu and
                 --versions where a command has these
   --layout LIST for apply: also take the items in the file LIST, one per line, any number of
                 them
@@ -44,7 +46,8 @@ Options, before or after FILE; 'elfsee help COMMAND' prints those of one command
                 of its symbol, and the item that would help on standard error
   --versions    for show, sample, archive and list, with --gnu: append its version to the name
                 of a symbol, as NAME@VERSION, or as NAME@@VERSION if it is the default one
-  --name NAME   for show, archive and list: show only the rows with this name; at most 64 times
+  -n, --name NAME
+                for show, archive and list: show only the rows with this name; at most 64 times
   --name-list LIST
                 for show, archive and list: also show the rows with the names in the file LIST,
                 one per line
