@@ -15,56 +15,64 @@ static ARGUMENTS: [ArgSpec; 34] = [
         name: "headers",
         short: None,
         kind: ArgKind::Count(ValueParser::Signed(1, 65279), "4096"),
-        help: "Allow N section headers, and as many program headers: 1 to 65279",
+        help: "Allow N section and N program headers,\n\
+            1 to 65279",
         commands: READING,
     },
     ArgSpec {
         name: "names",
         short: None,
         kind: ArgKind::Count(ValueParser::Signed(1, 4096), "256"),
-        help: "Show at most N bytes of a name: 1 to 4096",
+        help: "Show at most N bytes of a name,\n\
+            1 to 4096",
         commands: LISTING,
     },
     ArgSpec {
         name: "max-read",
         short: None,
         kind: ArgKind::Number(ValueParser::Unsigned(0, 9_223_372_036_854_775_807)),
-        help: "Read at most N bytes of the file: 0 to 9223372036854775807 [default: no limit]",
+        help: "Read at most N bytes of the file:\n\
+            0 to 9223372036854775807 [default: no limit]",
         commands: READING,
     },
     ArgSpec {
         name: "max-tries",
         short: None,
         kind: ArgKind::Number(ValueParser::Unsigned(0, 9_223_372_036_854_775_807)),
-        help: "Try at most N paths for a FILE: 0 to 9223372036854775807 [default: 100000]",
+        help: "Try at most N paths for a FILE:\n\
+            0 to 9223372036854775807 [default: 100000]",
         commands: NEEDS,
     },
     ArgSpec {
         name: "library-path",
         short: None,
         kind: ArgKind::Value("DIRS"),
-        help: "Also search these directories, like those of LD_LIBRARY_PATH for a loader",
+        help: "Also search these directories, like those of\n\
+            LD_LIBRARY_PATH for a loader",
         commands: NEEDS,
     },
     ArgSpec {
         name: "default",
         short: None,
         kind: ArgKind::Value("DIRS"),
-        help: "Search these directories last, instead of those of a system",
+        help: "Search these directories last, instead of those of\n\
+            a system",
         commands: NEEDS,
     },
     ArgSpec {
         name: "root",
         short: None,
         kind: ArgKind::Value("DIR"),
-        help: "Take each path that begins with a slash relative to DIR",
+        help: "Take each path that begins with a slash relative\n\
+            to DIR",
         commands: NEEDS,
     },
     ArgSpec {
         name: "cache",
         short: None,
         kind: ArgKind::Value("FILE"),
-        help: "Search the loader's cache FILE, not /etc/ld.so.cache",
+        help: "Search the loader's cache FILE,\n\
+            not /etc/ld.so.cache",
         commands: NEEDS,
     },
     ArgSpec {
@@ -85,7 +93,8 @@ static ARGUMENTS: [ArgSpec; 34] = [
         name: "unused",
         short: None,
         kind: ArgKind::Flag,
-        help: "Also print which libraries FILE names itself and uses nothing of",
+        help: "Also print which libraries FILE names itself and\n\
+            uses nothing of",
         commands: NEEDS,
     },
     ArgSpec {
@@ -99,31 +108,36 @@ static ARGUMENTS: [ArgSpec; 34] = [
         name: "require",
         short: None,
         kind: ArgKind::Value("WORDS"),
-        help: "Print which of these words each program and library lacks, as in \
-            stack=nx,relro=full",
+        help: "Print which of these words each program and\n\
+            library lacks, as in stack=nx,relro=full",
         commands: TRAITS,
     },
     ArgSpec {
         name: "only",
         short: Some('o'),
         kind: ArgKind::Filled("PART"),
-        help: "List these parts, separated by commas [default: all] [possible values: header, \
-            sections, segments, symbols, relocs, notes, dynamic, versions]",
+        help: "List these parts, separated by commas\n\
+            [default: all] [possible values: header, sections,\n\
+            segments, symbols, relocs, notes, dynamic,\n\
+            versions]",
         commands: SHOW | SAMPLE | CHECK | LIST,
     },
     ArgSpec {
         name: "only",
         short: Some('o'),
         kind: ArgKind::Filled("PART"),
-        help: "List these parts, separated by commas [default: all] [possible values: members, \
-            header, sections, segments, symbols, relocs, notes, dynamic, versions]",
+        help: "List these parts, separated by commas\n\
+            [default: all] [possible values: members, header,\n\
+            sections, segments, symbols, relocs, notes,\n\
+            dynamic, versions]",
         commands: ARCHIVE,
     },
     ArgSpec {
         name: "gnu",
         short: Some('g'),
         kind: ArgKind::Flag,
-        help: "Also name the numbers defined by GNU, and list symbol versions",
+        help: "Also name the numbers defined by GNU, and list\n\
+            symbol versions",
         commands: LISTING,
     },
     // Whether the name is looked up as glibc's dynamic loader does it.
@@ -131,14 +145,16 @@ static ARGUMENTS: [ArgSpec; 34] = [
         name: "gnu",
         short: Some('g'),
         kind: ArgKind::Flag,
-        help: "Find the symbol that glibc's dynamic loader picks; NAME may have a version",
+        help: "Find the symbol that glibc's dynamic loader picks;\n\
+            NAME may have a version",
         commands: FIND,
     },
     ArgSpec {
         name: "by-segments",
         short: Some('D'),
         kind: ArgKind::Flag,
-        help: "Find tables by the program headers, as a loader does",
+        help: "Find tables by the program headers, as a loader\n\
+            does",
         commands: LISTING,
     },
     // Whether the tables are found as that loader finds them even if there are section headers.
@@ -146,7 +162,8 @@ static ARGUMENTS: [ArgSpec; 34] = [
         name: "by-segments",
         short: Some('D'),
         kind: ArgKind::Flag,
-        help: "With --gnu: find the tables by the program headers, as the loader does",
+        help: "With --gnu: find the tables by the program\n\
+            headers, as the loader does",
         commands: FIND,
     },
     ArgSpec {
@@ -160,42 +177,48 @@ static ARGUMENTS: [ArgSpec; 34] = [
         name: "table",
         short: Some('t'),
         kind: ArgKind::Flag,
-        help: "Print a table with the names of its columns; implies --gnu and --versions",
+        help: "Print a table with the names of its columns;\n\
+            implies --gnu and --versions",
         commands: LINES,
     },
     ArgSpec {
         name: "versions",
         short: None,
         kind: ArgKind::Flag,
-        help: "With --gnu: append its version to the name of a symbol, as NAME@VERSION",
+        help: "With --gnu: append its version to the name of a\n\
+            symbol, as NAME@VERSION",
         commands: SELECTING | SAMPLE,
     },
     ArgSpec {
         name: "name",
         short: Some('n'),
         kind: ArgKind::Repeated("NAME"),
-        help: "Show only the rows with this name; at most 64 times",
+        help: "Show only the rows with this name;\n\
+            at most 64 times",
         commands: SELECTING,
     },
     ArgSpec {
         name: "name-list",
         short: None,
         kind: ArgKind::Value("LIST"),
-        help: "Also show the rows with the names in the file LIST, one per line",
+        help: "Also show the rows with the names in the file\n\
+            LIST, one per line",
         commands: SELECTING,
     },
     ArgSpec {
         name: "layout",
         short: None,
         kind: ArgKind::Value("LIST"),
-        help: "Also take the items in the file LIST, one per line, any number of them",
+        help: "Also take the items in the file LIST, one per\n\
+            line, any number of them",
         commands: APPLY,
     },
     ArgSpec {
         name: "explain",
         short: None,
         kind: ArgKind::Flag,
-        help: "If an address is missing, print the type, the symbol and the item that would help",
+        help: "If an address is missing, print the type, the\n\
+            symbol and the item that would help",
         commands: APPLY,
     },
     ArgSpec {
@@ -209,7 +232,8 @@ static ARGUMENTS: [ArgSpec; 34] = [
         name: "files0-from",
         short: None,
         kind: ArgKind::Value("FILE"),
-        help: "Also take the paths in FILE, each ended by a NUL byte; - is standard input",
+        help: "Also take the paths in FILE, each ended by a NUL\n\
+            byte; - is standard input",
         commands: MANY_FILES,
     },
     ArgSpec {
@@ -237,8 +261,8 @@ static ARGUMENTS: [ArgSpec; 34] = [
         name: "ITEM",
         short: None,
         kind: ArgKind::Any,
-        help: "An address: at:INDEX=ADDR, def:NAME=ADDR, plt:NAME=ADDR, got:NAME=ADDR or \
-            tpgot:NAME=ADDR",
+        help: "An address: at:INDEX=ADDR, def:NAME=ADDR,\n\
+            plt:NAME=ADDR, got:NAME=ADDR or tpgot:NAME=ADDR",
         commands: APPLY,
     },
     ArgSpec {
@@ -252,7 +276,8 @@ static ARGUMENTS: [ArgSpec; 34] = [
         name: "CAUSE",
         short: None,
         kind: ArgKind::Any,
-        help: "A cause or a state that a line has, such as table-outside; without any, all",
+        help: "A cause or a state that a line has, such as\n\
+            table-outside; without any, all",
         commands: EXPLAIN,
     },
 ];

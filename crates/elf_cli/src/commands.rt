@@ -11,7 +11,8 @@ use crate::command_sets::{
     APPLY, ARCHIVE, CHECK, EXPLAIN, FIND, LIST, NEEDS, SAMPLE, SHOW, TRAITS, VERSION,
 };
 use crate::texts::{
-    ABOUT, CHECKED, EXPLAINED, FOUND, HARDENED, ITEMS, LISTED, MEMBERS, MORE, NEEDED, SHOWN,
+    ABOUT, CHECKED, EXPLAINED, FOUND, HARDENED, ITEMS, LISTED, MEMBERS, MORE, NEEDED, SAMPLED,
+    SHOWN,
 };
 use clap::Command;
 use std::alloc::{AllocError, Global};
@@ -30,7 +31,7 @@ static COMMANDS: [CommandSpec; 11] = [
         command: CommandName::Sample,
         bit: SAMPLE,
         about: "List a small file that is built into the program",
-        more: "Example: elfsee sample --only header",
+        more: SAMPLED,
     },
     CommandSpec {
         name: "find",
@@ -78,7 +79,7 @@ static COMMANDS: [CommandSpec; 11] = [
         name: "archive",
         command: CommandName::Archive,
         bit: ARCHIVE,
-        about: "List the members of an archive, such as a static library, and their contents",
+        about: "List the members of an archive, such as a static library",
         more: MEMBERS,
     },
     CommandSpec {
@@ -125,9 +126,7 @@ fn program<'a>(alloc: Global) -> Result<Command<'a>, AllocError>
     ensures { IfOk result (λ command. app_of command ≡ without_command) }
 {
     let program = new_command(alloc, "elfsee", ABOUT, MORE)
-        .subcommand_value_name(
-            "show|sample|find|apply|check|list|traits|needs|archive|explain|version",
-        )
+        .subcommand_value_name("COMMAND")
         .no_binary_name(true)
         .subcommand_required(true)
         .arg_required_else_help(true);
