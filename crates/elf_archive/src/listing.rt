@@ -86,9 +86,7 @@ pub fn show_archive<S: Source, W: Sink>(
             ensures unread { (refusal : Refuses) →
                 first_refusal (archive_length_checks src.old.seen.size) ≡ Some refusal →
                 src.new ≡ src.old }
-        {
-            list_archive(src, store, choice, out)
-        },
+        { list_archive(src, store, choice, out) },
     );
     match listed {
         Ok(refused) => Ok(refused),

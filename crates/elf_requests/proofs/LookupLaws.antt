@@ -146,5 +146,5 @@ resolve_answers {a} {b} {name} {s0} {s1} {s2} {s3} {query = query} {lookup = loo
     let wrote = writes viewed (loader_looked viewed headers wanted) answers in (
       finds.costs,
       rw (resolve_is format viewed headers wanted)
-      (subst (λ (w : SymbolQuery). WroteAnswer a b result (resolved_answer format viewed w.name (loader_looked viewed headers wanted))) parsed wrote),
+          (subst (λ (w : SymbolQuery). WroteAnswer a b result (resolved_answer format viewed w.name (loader_looked viewed headers wanted))) parsed wrote),
     ))

@@ -46,9 +46,7 @@ pub(crate) fn look_up<S: Source, W: Sink>(
                 (λ file. FindsBySysv file store.entry.now.slots wanted.entry.now
                 src.old src.new result) }
             ensures slots { store.exit.now.slots ≡ store.entry.now.slots }
-        {
-            find(src, store, wanted)
-        },
+        { find(src, store, wanted) },
     );
     match found {
         Ok(lookup) => show_lookup(&lookup, wanted, format, out),

@@ -68,9 +68,7 @@ pub(crate) fn resolve<S: Source, W: Sink>(
             ensures did { LooksThrough src.old src.new (looked_at by_segments)
                 store.entry.now.slots (query_of wanted.entry) name.exit result }
             ensures slots { store.exit.now.slots ≡ store.entry.now.slots }
-        {
-            look_up(src, store, &wanted, by_segments, &mut name)
-        },
+        { look_up(src, store, &wanted, by_segments, &mut name) },
     );
     match found {
         Ok(lookup) => show_resolved(&lookup, &wanted, &name, style.format, out),

@@ -53,9 +53,7 @@ pub fn traits_within<S: Source>(
                 (traits_ceiling src.old.seen.size store.entry.now.slots)
                 (λ file. FindsTraits file store.entry.now.slots src.old src.new result) }
             ensures slots { store.exit.now.slots ≡ store.entry.now.slots }
-        {
-            find_traits(src, store)
-        },
+        { find_traits(src, store) },
     );
     match found {
         Ok(traits) => Ok(traits),

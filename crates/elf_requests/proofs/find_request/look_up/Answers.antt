@@ -14,7 +14,7 @@ returns-in-Err-clause-runs g c =
     let found : c.within-found.result ≡ Err c.in-Err.fault = search rules in
     let calls = reads.calls in
     let call : CallDid calls.shown.now calls.left.now (fault_of_result c.within-found.result) (find_bytes calls.shown.now.seen.size c.args.store.now.slots (length wanted))
-        (λ file. FindsBySysv file c.args.store.now.slots wanted calls.shown.now calls.left.now c.within-found.result) = search of_calls in
+    (λ file. FindsBySysv file c.args.store.now.slots wanted calls.shown.now calls.left.now c.within-found.result) = search of_calls in
     let did = rw (calls.leaves, calls.shows, c.requires.slots.0, found) at call in
     lookup_stopped c.args.format limits.budget c.args.src.now reads.before reads.after c.within-found.new.self (λ size. find_bytes size limits.headers (length wanted))
     (λ file. find_cost file limits.headers wanted) (λ file. find_answer c.args.format file limits.headers wanted) reads.sets reads.frees c.in-Err.fault c.show_stop.result c.requires.slots.1

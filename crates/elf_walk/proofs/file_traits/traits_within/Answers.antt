@@ -23,7 +23,7 @@ returns-in-Err-Refused-clause-finds g c = λ file held.
     let end : c.within-found.result ≡ Err (Refused c.in-Err-Refused.refusal) = search rules in
     let calls = reads.calls in
     let call : CallDid calls.shown.now calls.left.now (fault_of_result c.within-found.result) (traits_ceiling calls.shown.now.seen.size c.args.store.now.slots)
-        (λ file. FindsTraits file c.args.store.now.slots calls.shown.now calls.left.now c.within-found.result) = search of_calls in
+    (λ file. FindsTraits file c.args.store.now.slots calls.shown.now calls.left.now c.within-found.result) = search of_calls in
     let did = rw (calls.leaves, calls.shows, c.requires.0, end) at (call.known file (rw calls.shows now)) in
     refused_within c.args.limits.budget c.args.limits.headers file c.args.src.now reads.before reads.after c.in-Err-Refused.refusal c.refused_state.result
     (omega (arith, sized, c.length.ensures.value, c.if-length-lt-HEADER_BYTES.false)) c.requires.1 reads.sets (omega (arith, sized, size)) did c.refused_state.ensures
@@ -35,6 +35,6 @@ returns-in-Ok-clause-finds g c = λ file held.
     let end : c.within-found.result ≡ Ok c.in-Ok.traits = search rules in
     let calls = reads.calls in
     let call : CallDid calls.shown.now calls.left.now (fault_of_result c.within-found.result) (traits_ceiling calls.shown.now.seen.size c.args.store.now.slots)
-        (λ file. FindsTraits file c.args.store.now.slots calls.shown.now calls.left.now c.within-found.result) = search of_calls in
+    (λ file. FindsTraits file c.args.store.now.slots calls.shown.now calls.left.now c.within-found.result) = search of_calls in
     let did = rw (calls.leaves, calls.shows, c.requires.0, end) at (call.known file (rw calls.shows now)) in
     found_within c.args.limits.budget c.args.limits.headers file c.in-Ok.traits reads.before reads.after did
