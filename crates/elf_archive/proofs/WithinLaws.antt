@@ -1,7 +1,7 @@
 -- What a listing of an archive within a budget did, by what its call did while a limit was set.
-use Rattle.std.proofs.Common.{◌≡◌, ℕ, ◌+◌, ◌^◌, ◌≤◌, Bool, false, List, None, Some, Result, Ok, Err, sym, ap, ◌∙◌}
+use Rattle.std.proofs.Common.{◌≡◌, ℕ, ◌+◌, ◌^◌, ◌≤◌, Bool, List, None, Some, Result, Ok, Err, sym, ap, ◌∙◌}
 use Rattle.std.specs.Prelude.{IfErr}
-use Rattle.elf_model.specs.Prelude.{archive_ceiling, archive_cost, archive_length_checks, first_refusal}
+use Rattle.elf_model.specs.Prelude.{archive_ceiling, archive_length_checks, first_refusal}
 use Rattle.elf_model.specs.declared.causes.Refusal.{Refusal}
 use Rattle.elf_source.specs.Prelude.{CountedState, OutGrows, OutState, ReadsUpTo, SetsLimit, SourceState}
 use Rattle.elf_source.proofs.GrowthLaws.{grows_then}

@@ -1,6 +1,6 @@
 //! The listing of an archive: its members, and after each that is an ELF file its own listing.
 ghost use Rattle.std.specs.Prelude.{◌≡◌, ℕ, ◌+◌, ◌-◌, ◌^◌, ◌<◌, ◌≤◌, List, length, is_some, Some, IfErr};
-ghost use Rattle.elf_model.specs.Prelude.{allowance, any_refused, archive_ceiling, archive_cost, archive_items, archive_length_checks, before_members, fault_of, first_refusal, line_before, member_line, members_cost, members_of, told, walk_items};
+ghost use Rattle.elf_model.specs.Prelude.{allowance, any_refused, archive_cost, archive_length_checks, before_members, fault_of, first_refusal, line_before, member_line, members_cost, members_of, told, walk_items};
 ghost use Rattle.elf_model.specs.declared.causes.Refusal.{Refusal as Refuses};
 ghost use Rattle.elf_options.specs.Permitted.{style_of};
 ghost use Rattle.elf_listing.specs.Reports.{KeepsSourceUnlimited};

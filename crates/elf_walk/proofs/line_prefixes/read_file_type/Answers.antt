@@ -1,5 +1,5 @@
 -- The type of a file, by the bytes that determine it.
-use Rattle.std.proofs.Common.{◌≡◌, ◌≤◌, true, sym, ap, ◌∙◌, arith}
+use Rattle.std.proofs.Common.{◌≡◌, ◌≤◌, sym, ap, ◌∙◌, arith}
 use Rattle.elf_model.specs.FileLists.{front_size, may_read_bytes}
 use Rattle.elf_walk.proofs.LinePrefixLaws.{eight_decide, eight_long, four_decide, four_front, front_type, short_type, undecided_type}
 use Rattle.elf_walk.proofs.line_prefixes.read_file_type.Goals as goal
