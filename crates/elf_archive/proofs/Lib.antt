@@ -13,3 +13,4 @@ mod ListingLaws
 mod ArchiveLaws
 mod ReportLaws
 mod FaultLaws
+mod WithinLaws

@@ -1,10 +1,12 @@
 -- The first fault of an archive: of itself, of a member's listing, or of the walk over its members.
-use Rattle.std.specs.Prelude.{ℕ, ◌≡◌, ◌<◌, ◌⊎◌, List, length, Option, None, Some, Result, Ok, Err, ◌≤◌, ◌+◌, ◌-◌, option_map}
-use Rattle.elf_model.specs.Prelude.{IsBudgetRefusal, ListingStyle, MemberWalkState, archive_cost, archive_fault, first_fault, members_from}
+use Rattle.std.specs.Prelude.{false, ℕ, ◌≡◌, ◌<◌, ◌⊎◌, List, length, Option, None, Some, Result, Ok, Err, ◌≤◌, ◌+◌, ◌-◌, option_map}
+use Rattle.elf_model.specs.Prelude.{IsBudgetRefusal, ListingStyle, MemberWalkState, archive_ceiling, archive_cost, archive_fault, archive_length_checks, first_fault, first_refusal, members_from}
 use Rattle.elf_model.specs.Archive.{ARCHIVE_MAGIC, MAGIC_SIZE}
 use Rattle.elf_model.specs.Bytes.{field}
 use Rattle.elf_model.specs.declared.causes.Refusal.{Refusal}
+use Rattle.elf_source.specs.Prelude.{OutState}
 use Rattle.elf_source.specs.Source.{CountedState, IsSourceFault, SourceState}
+use Rattle.elf_archive.specs.Listed.{GoesThrough}
 use Rattle.elf_options.specs.Prelude.{style_of}
 use Rattle.elf_options.specs.declared.caps.Caps.{Caps}
 use Rattle.elf_table.specs.declared.run_fault.RunFault.TheVariants.{Out}
@@ -64,3 +66,14 @@ abbrev pub ReadTells : CountedState → CountedState → RunFault → Type 0
 ReadTells old new (Refused refusal) = Unit {0}
 ReadTells old new (Source fault at) = IsSourceFault old.seen new.seen fault
 ReadTells old new (Out fault) = ⊥
+
+-- THE EFFECT OF A CALL that searches an archive whose magic string was read for its first fault,
+-- and writes nothing
+pub record SearchesArchive (headers : ℕ) (style : ListingStyle) (parts : ℕ) (a b : CountedState) (result : Result (Unit {0}) RunFault) : Type 0 where
+  pub slots : ℕ
+  pub old : OutState
+  pub new : OutState
+  pub goes : GoesThrough headers slots style parts a b old new result (archive_ceiling a.seen.size) cost_after_magic
+      (λ file slots by which. FindsFault (archive_fault file slots by which) result)
+  pub unread : (refusal : Refusal) → first_refusal (archive_length_checks a.seen.size) ≡ Some refusal → b ≡ a
+  pub well : new.failed ≡ false

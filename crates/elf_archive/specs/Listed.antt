@@ -1,6 +1,6 @@
 -- The effect of the calls that list the members of an archive.
 use Rattle.std.specs.Prelude.{ℕ, ◌≡◌, ◌<◌, ◌≤◌, ◌+◌, ◌-◌, ◌^◌, min, Bool, false, List, [], ◌∷◌, Option, None, Some, Result, Ok, Err, IfErr, IfOk, IfSome}
-use Rattle.elf_model.specs.Prelude.{Fault, FileRange, IsArchiveBudgeted, IsBudgetRefusal, ListingItem, ListingStyle, Member, MemberWalkState, NextMember, OneMember, allowance, any_refused, archive_ceiling, archive_length_checks, behind, first_refusal, header_cost, is_refused, member_cost, member_items, member_listing, next_member, placed_after, style_ceiling}
+use Rattle.elf_model.specs.Prelude.{Fault, FileRange, IsArchiveBudgeted, IsBudgetRefusal, ListingItem, ListingStyle, Member, MemberWalkState, NextMember, OneMember, allowance, any_refused, archive_ceiling, archive_cost, archive_items, archive_length_checks, behind, first_refusal, header_cost, is_refused, member_cost, member_items, member_listing, next_member, placed_after, style_ceiling}
 use Rattle.elf_model.specs.declared.causes.Refusal.{Refusal}
 use Rattle.elf_model.specs.Archive.{Ends, Broken}
 use Rattle.elf_model.specs.Names.DisplayedName.{Whole}
@@ -178,3 +178,9 @@ pub record AsksInArchive {X : Type 0} (caps : Caps) (old new : CountedState) (re
   pub late : (refusal : Refusal) → result ≡ Err (Refused refusal) → IsBudgetRefusal refusal
       → (bytes : ℕ) × (caps.limits.budget ≡ Some bytes) × (old.asked + bytes < new.asked + 4096)
   pub inside : (refusal : Refusal) → result ≡ Err (Refused refusal) → IsBudgetRefusal refusal → refusal.at < old.seen.size
+
+-- THE EFFECT OF A CALL that lists an archive
+abbrev pub ListsArchive : Bool → (headers now : ℕ) → ListingStyle → ℕ → (a b : CountedState) → (old new : OutState) → Result Bool RunFault → Type 0
+ListsArchive alone headers now style parts a b old new result =
+    GoesThrough headers now style parts a b old new result (archive_ceiling a.seen.size) archive_cost
+    (λ file slots by which. ListsMembers old new result (archive_items alone file slots by which) (any_refused file slots by which))

@@ -4,14 +4,14 @@ ghost use Rattle.elf_model.specs.Prelude.{allowance, archive_ceiling, archive_fa
 ghost use Rattle.elf_model.specs.declared.causes.Refusal.{Refusal as Refuses};
 ghost use Rattle.elf_options.specs.Permitted.{style_of};
 ghost use Rattle.elf_listing.specs.Reports.{KeepsSourceUnlimited};
-ghost use Rattle.elf_archive.specs.FirstFault.{BeginsArchive, FindsAfterMagic, FindsFault, ReadTells};
+ghost use Rattle.elf_archive.specs.FirstFault.{BeginsArchive, FindsAfterMagic, FindsFault, ReadTells, SearchesArchive};
 ghost use Rattle.elf_archive.specs.FirstFault.{cost_after_magic, fault_from};
 ghost use Rattle.elf_archive.specs.Listed.{AsksInArchive, GoesThrough, IsAll};
 
 use crate::cursor::MemberCursor;
 use crate::parts::{list_member, placed};
 use elf_record::{Cause, Parts, Refusal};
-use elf_source::{Counted, NullSink, Out, RangeSource, Sink, Source};
+use elf_source::{Counted, Limited, NullSink, Out, RangeSource, Sink, Source};
 use elf_table::{Caps, HeaderStore, ListingStyle, NameBuf, RunFault};
 
 /// Iterates over an archive whose magic string was read, and over the listing of each member that
@@ -44,10 +44,31 @@ pub fn find_fault<S: Source>(
     // For any source.
     ensures asks { AsksInArchive caps.entry src.old src.new result }
 {
+    src.within(
+        caps.limits.budget,
+        &mut |src| find_unwritten(src, store, caps.style, parts),
+    )
+}
+
+/// Iterates over an archive whose magic string was read, as [`find_fault`] does, within the limit
+/// that is set on the source.
+///
+/// # Errors
+/// As for [`find_fault`].
+fn find_unwritten<S: Source>(
+    src: &mut Counted<RangeSource<S>>,
+    store: &mut HeaderStore,
+    style: ListingStyle,
+    parts: Parts,
+) -> Result<(), RunFault>
+    requires whole { IsAll src.old }
+    requires begins { BeginsArchive src.old.seen }
+    ensures slots { store.new.slots ≡ store.old.slots }
+    ensures searches { SearchesArchive store.old.slots (style_of style.entry) parts.0
+        src.old src.new result }
+{
     let mut out = Out::new(NullSink);
-    src.limit(caps.limits.budget);
-    let found = find_in_archive(src, store, caps.style, parts, &mut out);
-    src.limit(None);
+    let found = find_in_archive(src, store, style, parts, &mut out);
     let _sink = out.into_inner();
     found
 }

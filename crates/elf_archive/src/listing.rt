@@ -1,12 +1,12 @@
 //! The listing of an archive: its members, and after each that is an ELF file its own listing.
 ghost use Rattle.std.specs.Prelude.{◌≡◌, ℕ, ◌+◌, ◌-◌, ◌^◌, ◌<◌, ◌≤◌, List, length, is_some, Some, IfErr};
-ghost use Rattle.elf_model.specs.Prelude.{allowance, any_refused, archive_ceiling, archive_cost, archive_items, archive_length_checks, before_members, fault_of, first_refusal, line_before, member_line, members_cost, members_of, told, walk_items};
+ghost use Rattle.elf_model.specs.Prelude.{allowance, any_refused, archive_cost, archive_length_checks, before_members, fault_of, first_refusal, line_before, member_line, members_cost, members_of, told, walk_items};
 ghost use Rattle.elf_model.specs.declared.causes.Refusal.{Refusal as Refuses};
 ghost use Rattle.elf_options.specs.Permitted.{style_of};
 ghost use Rattle.elf_listing.specs.Reports.{KeepsSourceUnlimited};
 ghost use Rattle.elf_source.specs.Growth.{OutGrows};
 ghost use Rattle.elf_archive.specs.Listed.{ArchiveSays, AsksInArchive, GoesThrough, GoesThroughMember, HoldsPart, IsAll};
-ghost use Rattle.elf_archive.specs.Listed.{ListsMembers, ReportsArchive, StepsListing};
+ghost use Rattle.elf_archive.specs.Listed.{ListsArchive, ListsMembers, ReportsArchive, StepsListing};
 ghost use Rattle.elf_archive.specs.Members.{IsMemberWalkInBounds, extent_of, member_of};
 
 use crate::cursor::MemberCursor;
@@ -17,7 +17,7 @@ use crate::parts::list_member;
 use elf_format::show_refusal;
 use elf_listing::show_stop;
 use elf_record::Parts;
-use elf_source::{Counted, DeferredSink, Out, RangeSource, Sink, Source};
+use elf_source::{Counted, DeferredSink, Limited, Out, RangeSource, Sink, Source};
 use elf_table::{Caps, HeaderStore, ListingStyle, NameBuf, RunFault};
 
 /// What is listed of members: how rows are shown, which parts of a listing, and whether their lines
@@ -70,14 +70,24 @@ pub fn show_archive<S: Source, W: Sink>(
     // For any source.
     ensures asks { AsksInArchive caps.entry src.old src.new result }
 {
-    src.limit(caps.limits.budget);
     let choice = MemberOptions {
         style: caps.style,
         parts,
         alone,
     };
-    let listed = list_archive(src, store, choice, out);
-    src.limit(None);
+    let listed = src.within(
+        caps.limits.budget,
+        &mut |src: &mut Counted<RangeSource<S>>|
+            requires { IsAll src.old }
+            ensures lists { ListsArchive choice.entry.alone
+                store.entry.now.slots store.exit.now.slots
+                (style_of choice.entry.style) choice.entry.parts.0
+                src.old src.new out.entry.now out.exit.now result }
+            ensures unread { (refusal : Refuses) →
+                first_refusal (archive_length_checks src.old.seen.size) ≡ Some refusal →
+                src.new ≡ src.old }
+        { list_archive(src, store, choice, out) },
+    );
     match listed {
         Ok(refused) => Ok(refused),
         Err(stop) => Err(show_stop(stop, caps.style.format, out)),
@@ -97,12 +107,9 @@ fn list_archive<S: Source, W: Sink>(
     out: &mut Out<DeferredSink<W>>,
 ) -> Result<bool, RunFault>
     requires { IsAll src.old }
-    ensures lists { GoesThrough store.old.slots store.new.slots (style_of choice.entry.style)
-        choice.entry.parts.0 src.old src.new out.old out.new result
-        (archive_ceiling src.old.seen.size) archive_cost (λ file headers style parts.
-        ListsMembers out.old out.new result
-        (archive_items choice.entry.alone file headers style parts)
-        (any_refused file headers style parts)) }
+    ensures lists { ListsArchive choice.entry.alone store.old.slots store.new.slots
+        (style_of choice.entry.style) choice.entry.parts.0
+        src.old src.new out.old out.new result }
     ensures unread { (refusal : Refuses) →
         first_refusal (archive_length_checks src.old.seen.size) ≡ Some refusal →
         src.new ≡ src.old }

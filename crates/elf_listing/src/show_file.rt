@@ -20,7 +20,7 @@ use elf_format::{Columns, Json, Tabular, header_row};
 use elf_model::Format;
 use elf_note::ReadAhead;
 use elf_record::{Ehdr, Parts};
-use elf_source::{Counted, Out, Sink, Source};
+use elf_source::{Counted, Limited, Out, Sink, Source};
 use elf_table::{
     Caps, HeaderStore, ListingStyle, Loaded, NameBuf, RunFault, SectionView, header, load,
 };
@@ -67,9 +67,10 @@ pub fn show<S: Source, W: Sink>(
     // For any source.
     ensures asks { AsksWithin caps.entry parts.0 src.old src.new result }
 {
-    src.limit(caps.limits.budget);
-    let listed = list(src, store, caps.style, parts, out);
-    src.limit(None);
+    let listed = src.within(
+        caps.limits.budget,
+        &mut |src| list(src, store, caps.style, parts, out),
+    );
     match listed {
         Ok(()) => Ok(()),
         Err(stop) => Err(show_stop(stop, caps.style.format, out)),

@@ -1,10 +1,10 @@
 -- What a lookup of either kind did, between the call that sets its limit and the one that removes
 -- it.
-use Rattle.std.proofs.Common.{◌≡◌, ℕ, suc, ◌^◌, ◌≤◌, ◌==◌, List, [], ◌∷◌, ◌++◌, append-nil, length, drop, position, Option, None, Some, Result, Ok, Err, refl, ap, arith, inl, inr}
+use Rattle.std.proofs.Common.{◌≡◌, ℕ, suc, ◌^◌, ◌≤◌, ◌==◌, List, [], ◌∷◌, ◌++◌, append-nil, length, drop, position, Option, None, Some, Result, Ok, Err, refl, sym, ap, subst, arith, inl, inr, Bool}
 use Rattle.std.proofs.lemmas.Bool.{cases_Bool}
 use Rattle.std.proofs.lemmas.List.{length-drop, length-take}
 use Rattle.std.specs.Prelude.{IfErr, IfSome}
-use Rattle.elf_model.specs.Prelude.{AT_SIGN, Answer, FoundVersion, IsAnswered, SymbolQuery, asked_after, asked_name, find_answer, found_version_line, loader_answer_for, loader_looked, looked, named_line, parse_query, symbol_version_prefix}
+use Rattle.elf_model.specs.Prelude.{AT_SIGN, Answer, FoundVersion, IsAnswered, SymbolQuery, asked_after, LoaderLookup, asked_name, find_answer, found_version_line, loader_answer, loader_answer_for, loader_ceiling, loader_cost, loader_looked, looked, looked_at, named_line, parse_query, symbol_version_prefix}
 use Rattle.elf_model.specs.declared.formats.Format.{Format}
 use Rattle.elf_source.specs.Prelude.{CountedState, OutGrows, OutPuts, OutState, SetsLimit, SinkTakes, SourceState}
 use Rattle.elf_source.specs.declared.faults.OutFault.{OutFault}
@@ -18,7 +18,8 @@ use Rattle.elf_hash.specs.Lookups.{GivesLookup}
 use Rattle.elf_listing.specs.Prelude.{IsOfOutput, ReturnsStop}
 use Rattle.elf_listing.proofs.AskLaws.{told_says}
 use Rattle.elf_listing.proofs.ShowLaws.{StopSays-fault}
-use Rattle.elf_loader.specs.Lookups.{AreShort, ReturnsLookup}
+use Rattle.elf_loader.specs.Lookups.{AnswersLoaderLookup, AreShort, LooksThrough, ReturnsLookup}
+use Rattle.elf_loader.specs.declared.lookup.SymbolLookup.{SymbolLookup}
 use Rattle.elf_requests.specs.Prelude.{Answers, AsksUpTo, Runs, WholeOrUsedUp, WroteAnswer, resolved_answer}
 use Rattle.elf_requests.proofs.TaskLaws.{RefusesAs, answered_stop, answered_whole, lookup_stops, lookup_used, output_alone, runs}
 
@@ -123,3 +124,27 @@ wanted_short text most = go (position (λ byte. byte == AT_SIGN) text) refl
         let front = length-take place text in
         let back = length-drop (suc place) text in
         rw (e, parse_query) (omega (arith, most, front), behind_short (drop (suc place) text) 4096 (omega (arith, most, back)))
+
+-- a lookup as a loader does it, whose answer was written
+pub resolve_answers : {a b : OutState} {name : List ℕ} {s0 s1 s2 s3 p q : CountedState} {slots : ℕ} {query : SymbolQuery} {lookup : SymbolLookup} {found : Result SymbolLookup Fault}
+    (format : Format) (budget : Option ℕ) (headers : ℕ) (text : List ℕ) (by_segments : Bool) → SetsLimit s0 s1 budget → SetsLimit s2 s3 None → p ≡ s1 → q ≡ s2
+    → found ≡ Ok lookup → slots ≡ headers → query ≡ parse_query text → (result : Result ℕ RunFault) → OutGrows a b → IfErr result (IsOfOutput b)
+    → ((file : List ℕ) (looked : LoaderLookup) → AnswersLoaderLookup file query.asked name looked lookup → WroteAnswer a b result (resolved_answer format file query.name looked))
+    → LooksThrough p q (looked_at by_segments) slots query name found
+    → Runs s0 s3 a b result (AsksUpTo budget s0 s3 (loader_ceiling s0.seen.size headers (parse_query text))) (λ file. loader_cost (looked_at by_segments file) headers (parse_query text))
+    (GivesAnswer format budget s0 s3 (λ file. loader_cost (looked_at by_segments file) headers (parse_query text)) (λ file. loader_answer format (looked_at by_segments file) headers text) a b result)
+resolve_answers {a} {b} {name} {s0} {s1} {s2} {s3} {query = query} {lookup = lookup} format budget headers text by_segments set unset shows leaves is same parsed result grows fails writes looks =
+    let wanted = parse_query text in
+    let did = rw (leaves, shows, same, is) at looks in
+    let asks = rw parsed at did in
+    lookup_answers format budget s0 s1 s2 s3 (λ size. loader_ceiling size headers wanted) (λ file. loader_cost (looked_at by_segments file) headers wanted)
+    (λ file. loader_answer format (looked_at by_segments file) headers text) set unset result asks.costs grows fails
+    (λ file held.
+    let finds = asks.known file held in
+    let viewed = looked_at by_segments file in
+    let answers = subst (λ (w : SymbolQuery). AnswersLoaderLookup viewed w.asked name (loader_looked viewed headers wanted) lookup) (sym parsed) finds.tells in
+    let wrote = writes viewed (loader_looked viewed headers wanted) answers in (
+      finds.costs,
+      rw (resolve_is format viewed headers wanted)
+          (subst (λ (w : SymbolQuery). WroteAnswer a b result (resolved_answer format viewed w.name (loader_looked viewed headers wanted))) parsed wrote),
+    ))

@@ -1,8 +1,9 @@
 //! The request for a lookup by the SysV hash table.
 ghost use Rattle.std.specs.Prelude.{◌≡◌, ◌^◌, ◌≤◌, ℕ, List, length, IfErr};
-ghost use Rattle.elf_hash.specs.Lookups.{AnswersSysvLookup as LooksInObject};
+ghost use Rattle.elf_hash.specs.Lookups.{AnswersSysvLookup as LooksInObject, FindsBySysv, find_bytes};
 ghost use Rattle.elf_model.specs.Hash.{Lookup as Looked};
 ghost use Rattle.elf_source.specs.Growth.{OutGrows};
+ghost use Rattle.elf_table.specs.Prelude.{CallDid, fault_of_result};
 ghost use Rattle.elf_listing.specs.Shows.{IsOfOutput};
 ghost use Rattle.elf_requests.specs.Answers.{WroteAnswer};
 ghost use Rattle.elf_requests.specs.Lookups.{answer_of_lookup};
@@ -12,7 +13,7 @@ use elf_format::{show_steps, show_symbol};
 use elf_hash::{Lookup, find};
 use elf_listing::show_stop;
 use elf_model::Format;
-use elf_source::{Counted, Out, Sink, Source};
+use elf_source::{Counted, Limited, Out, Sink, Source};
 use elf_table::{HeaderStore, Limits, RunFault};
 
 /// Looks up a name in a file by its SysV hash table: writes the symbol's line and how many names
@@ -36,9 +37,17 @@ pub(crate) fn look_up<S: Source, W: Sink>(
     ensures slots { store.new.slots ≡ store.old.slots }
     ensures runs { RunsFind limits wanted.now format src.old src.new out.old out.new result }
 {
-    src.limit(limits.budget);
-    let found = find(src, store, wanted);
-    src.limit(None);
+    let found = src.within(
+        limits.budget,
+        &mut |src: &mut Counted<S>|
+            requires { length wanted.now ≤ 4096 }
+            ensures did { CallDid src.old src.new (fault_of_result result)
+                (find_bytes src.old.seen.size store.entry.now.slots (length wanted.entry.now))
+                (λ file. FindsBySysv file store.entry.now.slots wanted.entry.now
+                src.old src.new result) }
+            ensures slots { store.exit.now.slots ≡ store.entry.now.slots }
+        { find(src, store, wanted) },
+    );
     match found {
         Ok(lookup) => show_lookup(&lookup, wanted, format, out),
         Err(fault) => Err(show_stop(fault.into(), format, out)),

@@ -2,15 +2,16 @@
 ghost use Rattle.std.specs.Prelude.{◌≡◌, ◌^◌, ◌≤◌, ◌++◌, ℕ, List, length, IfErr, Some, option_map, true};
 ghost use Rattle.elf_format.specs.Named.{shown_as};
 ghost use Rattle.elf_listing.specs.Shows.{IsOfOutput};
+ghost use Rattle.elf_loader.specs.Lookups.{AreShort, LooksThrough};
 ghost use Rattle.elf_loader.specs.Prelude.{AnswersLoaderLookup, name_shown, version_found};
-ghost use Rattle.elf_model.specs.Prelude.{LoaderLookup, asked_name, e_machine, found_version_line, named_line, symbol_prefix};
+ghost use Rattle.elf_model.specs.Prelude.{LoaderLookup, asked_name, e_machine, found_version_line, looked_at, named_line, symbol_prefix};
 ghost use Rattle.elf_model.specs.Names.DisplayedName.{Whole};
 ghost use Rattle.elf_record.specs.Sym.{IsSym};
 ghost use Rattle.elf_source.specs.Prelude.{IsOutFault, OutGrows, OutPuts};
 ghost use Rattle.elf_requests.specs.Answers.{WroteAnswer};
 ghost use Rattle.elf_requests.specs.Lookups.{resolved_answer};
 ghost use Rattle.elf_requests.specs.Requests.{RunsResolve};
-ghost use Rattle.elf_options.specs.Wants.{asked_of};
+ghost use Rattle.elf_options.specs.Wants.{asked_of, query_of};
 
 use elf_format::{
     ConstantNames, LinePrefix, show_named, show_steps, symbol_front_in, symbol_version_front_in,
@@ -19,7 +20,7 @@ use elf_listing::show_stop;
 use elf_loader::{FoundSymbol, FoundVersion, SymbolLookup, VersionName, look_up};
 use elf_model::Format;
 use elf_options::{SymbolQuery, VersionQuery, parse_query};
-use elf_source::{Counted, Out, OutFault, Sink, Source};
+use elf_source::{Counted, Limited, Out, OutFault, Sink, Source};
 use elf_table::{HeaderStore, Limits, NameBuf, NameEnd, RunFault};
 
 /// How a name is looked up, and how the result is written.
@@ -59,9 +60,16 @@ pub(crate) fn resolve<S: Source, W: Sink>(
 {
     let wanted = parse_query(text);
     let mut name = NameBuf::new();
-    src.limit(limits.budget);
-    let found = look_up(src, store, &wanted, style.by_segments, &mut name);
-    src.limit(None);
+    let by_segments = style.by_segments;
+    let found = src.within(
+        limits.budget,
+        &mut |src: &mut Counted<S>|
+            requires { AreShort (query_of wanted) }
+            ensures did { LooksThrough src.old src.new (looked_at by_segments)
+                store.entry.now.slots (query_of wanted.entry) name.exit result }
+            ensures slots { store.exit.now.slots ≡ store.entry.now.slots }
+        { look_up(src, store, &wanted, by_segments, &mut name) },
+    );
     match found {
         Ok(lookup) => show_resolved(&lookup, &wanted, &name, style.format, out),
         Err(fault) => Err(show_stop(fault.into(), style.format, out)),

@@ -1,16 +1,17 @@
 -- The check of a file by its type, and what that reads.
-use Rattle.std.proofs.Common.{◌≡◌, ℕ, ◌+◌, ◌≤◌, nat_lt, Bool, true, false, if◌then◌else◌, List, Option, None, Some, sym, ◌∙◌, arith, ◌⊎◌, inl, inr}
+use Rattle.std.proofs.Common.{◌≡◌, ℕ, ◌+◌, ◌-◌, ◌^◌, ◌≤◌, nat_lt, Bool, true, false, if◌then◌else◌, List, Option, None, Some, option_map, sym, ◌∙◌, arith, ◌⊎◌, inl, inr}
 use Rattle.std.specs.Prelude.{IfSome}
 use Rattle.elf_model.specs.Prelude.{ListingStyle, archive_ceiling, front_size, style_ceiling}
 use Rattle.elf_model.specs.declared.states.FileMagic.TheVariants as sort
 use Rattle.elf_model.specs.declared.states.FileMagic.{FileMagic}
 use Rattle.elf_model.specs.declared.states.FileStatus.{FileStatus}
 use Rattle.elf_model.specs.declared.states.FileStatus.TheVariants as state
-use Rattle.elf_source.specs.Source.{CountedState, KeepsSource, SourceState}
+use Rattle.elf_source.specs.Source.{CountedState, KeepsSource, SourceState, counted}
 use Rattle.elf_options.specs.Prelude.{style_of}
 use Rattle.elf_options.specs.declared.caps.Caps.{Caps}
 use Rattle.elf_walk.specs.Prelude.{AsksNoMore, FailsRead, FindsSorted, FindsSortedState, check_ceiling, front_asked}
 use Rattle.elf_archive.specs.FirstFault.{BeginsArchive}
+use Rattle.elf_walk.specs.Fronts.{left_after}
 use Rattle.elf_walk.specs.Members.{FindsBySort, unlisted_state}
 
 -- what a check reads, by the ceiling of an archive of as many bytes
@@ -26,10 +27,10 @@ asks_as_archive caps old new asks =
     check_most (nat_lt old.seen.size 64) old.seen.size caps.limits.headers (style_of caps.style) in
     record { ceiling = omega (arith, asks.ceiling, most); budget = asks.budget }
 
--- nothing is read
-pub some_within : (budget : Option ℕ) (asked : ℕ) → IfSome budget (λ bytes. asked ≤ asked + bytes)
-some_within None asked = tt
-some_within (Some bytes) asked = omega arith
+-- nothing more is read
+pub some_within : (budget : Option ℕ) (old new : ℕ) → new ≡ old → IfSome budget (λ bytes. new ≤ old + bytes)
+some_within None old new is = tt
+some_within (Some bytes) old new is = omega (arith, is)
 
 -- the magic bytes of a file are at most eight
 front_few : (short room : Bool) (n : ℕ) → n ≤ 8 → (if short then 0 else if room then n else 0) ≤ 8
@@ -51,6 +52,18 @@ front_four budget size = by (nat_lt size 4) _
     by true room = omega arith
     by false true = omega arith
     by false false = omega arith
+
+-- what is left of a budget after them, if the count does not stay at its most
+front_few_more : (members : Bool) (budget : Option ℕ) (size : ℕ) → front_asked members budget size ≤ 8
+front_few_more true budget size = front_eight budget size
+front_few_more false budget size = let few = front_four budget size in omega (arith, few)
+
+pub left_front : (members : Bool) (budget left : Option ℕ) (size before after : ℕ) → before ≤ 2 ^ 127 → after ≡ counted before (front_asked members budget size)
+    → left ≡ option_map (λ bytes. bytes - (after - before)) budget → left ≡ left_after members budget size
+left_front members budget left size before after small asks pays =
+    let few = front_few_more members budget size in
+    let spent : after - before ≡ front_asked members budget size = omega (arith, small, asks, few) in
+    rw spent at pays
 
 -- a file that begins as an archive still does after reads
 pub begins_kept : (a b : SourceState) → KeepsSource a b → BeginsArchive a → BeginsArchive b

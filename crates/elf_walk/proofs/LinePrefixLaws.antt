@@ -1,5 +1,5 @@
--- The numbers in the first bytes of a file, and what these decide.
-use Rattle.std.proofs.Common.{◌≡◌, ℕ, ◌+◌, ◌-◌, ◌^◌, ◌<◌, ◌≤◌, Bool, true, false, ◌&&◌, not, if◌then◌else◌, List, length, Option, None, Some, Result, Ok, Err, option_map, take, drop, refl, sym, ap, ◌∙◌, arith}
+-- The numbers in the first bytes of a file, what these decide, and what their read did.
+use Rattle.std.proofs.Common.{◌≡◌, ℕ, ◌+◌, ◌≤◌, ◌<◌, Bool, true, false, ◌&&◌, not, if◌then◌else◌, List, length, Option, None, Some, Result, Ok, take, drop, refl, ap, subst, ◌∙◌, arith}
 use Rattle.std.specs.Prelude.{◌==◌, IfErr, IfOk, IfSome, nat_le, nat_lt}
 use Rattle.std.proofs.lemmas.Bool.Decides.{nat_tests}
 use Rattle.elf_model.specs.Archive.{ARCHIVE_MAGIC, THIN_MAGIC}
@@ -10,12 +10,9 @@ use Rattle.elf_model.specs.declared.states.FileMagic.{FileMagic}
 use Rattle.elf_model.specs.declared.states.FileMagic.TheVariants as sort
 use Rattle.elf_model.proofs.Slices.{field-slice}
 use Rattle.elf_archive.specs.FirstFault.{BeginsArchive}
-use Rattle.elf_source.specs.Source.{CountedState, CountsRead, ExceedsBudget, IsAskFault, ReadsUpTo, SetsLimit, counted, left}
-use Rattle.elf_source.proofs.LimitLaws.{within_budget}
-use Rattle.elf_source.specs.declared.faults.AskFault.{AskFault}
-use Rattle.elf_source.specs.declared.faults.AskFault.TheVariants.{Budget, Source}
+use Rattle.elf_source.specs.Source.{CountedState, FillsUnlimited, IsSourceFault, SetsLimit, counted}
 use Rattle.elf_source.specs.declared.faults.SourceFault.{SourceFault}
-use Rattle.elf_walk.specs.Fronts.{ReadsFileType, file_type_of, front_asked}
+use Rattle.elf_walk.specs.Fronts.{ReadsFileType, front_asked}
 
 pub front_word : (file bytes : List ℕ) → bytes ≡ take 8 (drop 0 file) → field bytes 0 4 ≡ field file 0 4
 front_word file bytes is = ap (λ b. field b 0 4) is ∙ field-slice file 0 8 0 4 (omega arith)
@@ -23,130 +20,132 @@ front_word file bytes is = ap (λ b. field b 0 4) is ∙ field-slice file 0 8 0 
 pub front_words : (file bytes : List ℕ) → bytes ≡ take 8 (drop 0 file) → field bytes 0 8 ≡ field file 0 8
 front_words file bytes is = ap (λ b. field b 0 8) is ∙ field-slice file 0 8 0 8 (omega arith)
 
+-- how many bytes decide, by whether the file has as many as a magic string
+eight_wide : (t : Bool) → ◌≡◌ {A = ℕ} (if t then 4 else 8) 8 → t ≡ false
+eight_wide true is = absurd (cc)
+eight_wide false is = refl
+
+four_narrow : (t : Bool) → (◌≡◌ {A = ℕ} (if t then 4 else 8) 8 → ⊥) → t ≡ true
+four_narrow true is = refl
+four_narrow false is = absurd (is refl)
+
+by_eight : (few may elf long archive thin : Bool) → few ≡ false → may ≡ true → long ≡ true
+    → (if elf then sort.Elf else if archive then sort.Archive else if thin then sort.Thin else sort.Foreign)
+    ≡ (if few then sort.Foreign else if not may then sort.Undecided else if elf then sort.Elf else if true && (long && archive) then sort.Archive else if true && (long && thin) then sort.Thin else sort.Foreign)
+by_eight few may elf long archive thin f m l = rw (f, m, l) refl
+
+by_four : (few may elf long archive thin : Bool) → few ≡ false → may ≡ true → long ≡ false
+    → (if elf then sort.Elf else sort.Foreign)
+    ≡ (if few then sort.Foreign else if not may then sort.Undecided else if elf then sort.Elf else if true && (long && archive) then sort.Archive else if true && (long && thin) then sort.Thin else sort.Foreign)
+by_four few may elf long archive thin f m l = rw (f, m, l) refl
+
+alone_by_four : (few may elf : Bool) → few ≡ false → may ≡ true
+    → (if elf then sort.Elf else sort.Foreign) ≡ (if few then sort.Foreign else if not may then sort.Undecided else if elf then sort.Elf else sort.Foreign)
+alone_by_four few may elf f m = rw (f, m) refl
+
 -- what a file is, if eight bytes decide it
-pub eight_decide : (budget : Option ℕ) (file : List ℕ) → 8 ≤ length file → may_read_bytes budget 8 ≡ true
-    → (if has_elf_magic file then sort.Elf else if field file 0 8 == ARCHIVE_MAGIC then sort.Archive else if field file 0 8 == THIN_MAGIC then sort.Thin else sort.Foreign) ≡ file_magic true budget file
+pub eight_decide : (members : Bool) (budget : Option ℕ) (file : List ℕ) → 4 ≤ length file → may_read_bytes budget (front_size members (length file)) ≡ true → front_size members (length file) ≡ 8
+    → (if has_elf_magic file then sort.Elf else if field file 0 8 == ARCHIVE_MAGIC then sort.Archive else if field file 0 8 == THIN_MAGIC then sort.Thin else sort.Foreign) ≡ file_magic members budget file
 unfolding file_magic
-eight_decide budget file long may =
+eight_decide true budget file long may front =
     let few : nat_lt (length file) 4 ≡ false = grind (arith, nat_tests) in
-    let below : nat_lt (length file) 8 ≡ false = grind (arith, nat_tests) in
+    let below : nat_lt (length file) 8 ≡ false = eight_wide _ front in
     let room : nat_le 8 (length file) ≡ true = grind (arith, nat_tests) in
-    rw (few, below, may, room) refl
+    by_eight (nat_lt (length file) 4) (may_read_bytes budget (front_size true (length file))) (has_elf_magic file) (nat_le 8 (length file)) (field file 0 8 == ARCHIVE_MAGIC) (field file 0 8 == THIN_MAGIC) few may room
+eight_decide false budget file long may front = absurd (cc)
 
 -- and if four do
-four_narrow : (t : Bool) → ◌≡◌ {A = ℕ} (if t then 4 else 8) 4 → t ≡ true
-four_narrow true is = refl
-four_narrow false is = absurd (cc)
-
-pub four_front : (members : Bool) (size : ℕ) → size < 8 → front_size members size ≡ 4
-four_front true size short = let less : nat_lt size 8 ≡ true = grind (arith, nat_tests) in rw less refl
-four_front false size short = refl
-
-pub four_decide : (members : Bool) (budget : Option ℕ) (file : List ℕ) → 4 ≤ length file → may_read_bytes budget 4 ≡ true → front_size members (length file) ≡ 4
+pub four_decide : (members : Bool) (budget : Option ℕ) (file : List ℕ) → 4 ≤ length file → may_read_bytes budget (front_size members (length file)) ≡ true → (front_size members (length file) ≡ 8 → ⊥)
     → (if has_elf_magic file then sort.Elf else sort.Foreign) ≡ file_magic members budget file
 unfolding file_magic
 four_decide true budget file long may front =
     let few : nat_lt (length file) 4 ≡ false = grind (arith, nat_tests) in
     let below : nat_lt (length file) 8 ≡ true = four_narrow _ front in
     let room : nat_le 8 (length file) ≡ false = grind (arith, nat_tests) in
-    rw (few, front, may, room) refl
+    by_four (nat_lt (length file) 4) (may_read_bytes budget (front_size true (length file))) (has_elf_magic file) (nat_le 8 (length file)) (field file 0 8 == ARCHIVE_MAGIC) (field file 0 8 == THIN_MAGIC) few may room
 four_decide false budget file long may front =
     let few : nat_lt (length file) 4 ≡ false = grind (arith, nat_tests) in
-    rw (few, may) refl
+    alone_by_four (nat_lt (length file) 4) (may_read_bytes budget 4) (has_elf_magic file) few may
 
--- and if they exceed the budget
-undecided_is : (members : Bool) (budget : Option ℕ) (file : List ℕ) → 4 ≤ length file → may_read_bytes budget (front_size members (length file)) ≡ false
-    → sort.Undecided ≡ file_magic members budget file
-unfolding file_magic
-undecided_is members budget file long may = let few : nat_lt (length file) 4 ≡ false = grind (arith, nat_tests) in rw (few, may) refl
+-- an archive has eight bytes that decide
+pub eight_long : (members : Bool) (size : ℕ) → front_size members size ≡ 8 → 8 ≤ size
+eight_long true size front = let below : nat_lt size 8 ≡ false = eight_wide _ front in grind (arith, nat_tests)
+eight_long false size front = absurd (cc)
+
+-- what is not eight bytes is four
+pub four_front : (members : Bool) (size : ℕ) → (front_size members size ≡ 8 → ⊥) → front_size members size ≡ 4
+four_front true size other = let less : nat_lt size 8 ≡ true = four_narrow _ other in rw less refl
+four_front false size other = refl
 
 -- of a file with fewer bytes none is read
-pub short_type : (members : Bool) (s : CountedState) → s.seen.size < 4 → ReadsFileType members s s (Ok sort.Foreign)
+pub short_type : (members : Bool) (budget : Option ℕ) (s : CountedState) → s.seen.size < 4 → ReadsFileType members budget s s (Ok sort.Foreign)
 unfolding file_magic
-short_type members s short =
+short_type members budget s short =
     let few : nat_lt s.seen.size 4 ≡ true = grind (arith, nat_tests) in
+    let fits = s.fits in
     record {
       keeps = record { same_size = refl; no_fewer = omega arith; same_file = refl; same_whole = refl };
       shows = refl;
-      same_limit = refl;
-      asks = rw few (omega arith);
+      asks = rw few (omega (arith, fits));
       fails = tt;
       finds = λ file held. let sized = s.seen.sized file held in rw (sized, few) refl;
       begins = λ is. absurd (cc);
     }
 
--- THE READ of those bytes within a limit: it has as many, or they are not read
-permits : (old new : CountedState) (n : ℕ) → old.asked ≤ 2 ^ 127 → n ≤ 8 → new.most ≡ old.most → new.asked ≡ counted old.asked n → may_read_bytes (left old) n ≡ true
-permits old new n small few same asks = by old.most refl
-  where
-    by : (most : Option ℕ) → most ≡ old.most → may_read_bytes (option_map (λ m. m - old.asked) most) n ≡ true
-    by None e = refl
-    by (Some most) e =
-        let within = (new.within most (same ∙ sym e)).0 in
-        let fewer : nat_lt (most - old.asked) n ≡ false = grind (arith, nat_tests) in
-        rw fewer refl
+-- nor if a budget does not have them
+pub undecided_type : (members : Bool) (budget : Option ℕ) (s : CountedState) → 4 ≤ s.seen.size → may_read_bytes budget (front_size members s.seen.size) ≡ false
+    → ReadsFileType members budget s s (Ok sort.Undecided)
+unfolding file_magic
+undecided_type members budget s long may =
+    let more : nat_lt s.seen.size 4 ≡ false = grind (arith, nat_tests) in
+    let fits = s.fits in
+    record {
+      keeps = record { same_size = refl; no_fewer = omega arith; same_file = refl; same_whole = refl };
+      shows = refl;
+      asks = rw (more, may) (omega (arith, fits));
+      fails = tt;
+      finds = λ file held. let sized = s.seen.sized file held in rw (sized, more, may) refl;
+      begins = λ is. absurd (cc);
+    }
 
-forbids : (old new : CountedState) (n : ℕ) → 4 ≤ n → ExceedsBudget old new n → may_read_bytes (left old) n ≡ false
-forbids old new n some over =
-    let above = over.above in
-    let fewer : nat_lt (over.most - old.asked) n ≡ true = grind (arith, nat_tests) in
-    rw (over.is_set, fewer) refl
+-- THE READ of those bytes
+pub front_type : (members : Bool) (budget : Option ℕ) (old new : CountedState) (n : ℕ) → 4 ≤ old.seen.size → front_size members old.seen.size ≡ n → may_read_bytes budget (front_size members old.seen.size) ≡ true
+    → FillsUnlimited old new n → (result : Result FileMagic SourceFault) → IfErr result (IsSourceFault old.seen new.seen)
+    → (by : List ℕ → FileMagic) → ((file : List ℕ) → old.seen.file ≡ Some file → IfOk result (λ kind. kind ≡ by file))
+    → ((file : List ℕ) → 4 ≤ length file → may_read_bytes budget (front_size members (length file)) ≡ true → front_size members (length file) ≡ n → by file ≡ file_magic members budget file)
+    → (result ≡ Ok sort.Archive → BeginsArchive old.seen) → ReadsFileType members budget old new result
+front_type members budget old new n long front may fills result fails by finds decide begins =
+    let more : nat_lt old.seen.size 4 ≡ false = grind (arith, nat_tests) in
+    record {
+      keeps = fills.keeps;
+      shows = fills.view.hides;
+      asks = rw (more, may, front) fills.asks;
+      fails = fails;
+      finds = λ file held.
+          let sized = old.seen.sized file held in
+          subst (λ (kind : FileMagic). IfOk result (λ (s : FileMagic). s ≡ kind)) (decide file (omega (arith, sized, long)) (rw sized may) (rw sized front)) (finds file held);
+      begins = begins;
+    }
 
-module _ (members : Bool) (old new : CountedState) (n : ℕ) (long : 4 ≤ old.seen.size) (small : old.asked ≤ 2 ^ 127) (front : front_size members old.seen.size ≡ n) (some : 4 ≤ n) (few : n ≤ 8) (reads : ReadsUpTo old new n) where
-  asked_front : (may : Bool) → may_read_bytes (left old) n ≡ may → new.asked ≡ old.asked + (if may then n else 0) → new.asked ≡ old.asked + front_asked members (left old) old.seen.size
-  asked_front may is asks = let more : nat_lt old.seen.size 4 ≡ false = grind (arith, nat_tests) in rw (more, front, is) asks
+-- no more is read than a budget has
+few_within : (members : Bool) (bytes size : ℕ) (t u : Bool) → nat_lt bytes (front_size members size) ≡ u
+    → (if t then 0 else if not u then front_size members size else 0) ≤ bytes
+few_within members bytes size true u is = omega arith
+few_within members bytes size false true is = omega arith
+few_within members bytes size false false is = let most : front_size members size ≤ bytes = grind (arith, nat_tests) in omega (arith, most)
 
-  pub front_type : (result : Result FileMagic AskFault) → CountsRead old new n result → IfErr result (IsAskFault old new n)
-      → (by : List ℕ → FileMagic) → ((file : List ℕ) → old.seen.file ≡ Some file → IfOk result (λ kind. kind ≡ by file))
-      → ((file : List ℕ) → length file ≡ old.seen.size → may_read_bytes (left old) n ≡ true → by file ≡ file_magic members (left old) file)
-      → (result ≡ Ok sort.Archive → BeginsArchive old.seen) → ReadsFileType members old new (file_type_of result)
-  front_type (Ok kind) asks fails by finds decide begins = record {
-    keeps = reads.keeps;
-    shows = reads.view.hides;
-    same_limit = reads.same_limit;
-    asks = asked_front true (permits old new n small few reads.same_limit asks) (omega (arith, asks, small, few));
-    fails = tt;
-    finds = λ file held. finds file held ∙ decide file (old.seen.sized file held) (permits old new n small few reads.same_limit asks);
-    begins = λ is. begins (cc);
-  }
-  front_type (Err (Source fault)) asks fails by finds decide begins = record {
-    keeps = reads.keeps;
-    shows = reads.view.hides;
-    same_limit = reads.same_limit;
-    asks = asked_front true (permits old new n small few reads.same_limit asks) (omega (arith, asks, small, few));
-    fails = fails;
-    finds = λ file held. tt;
-    begins = λ is. absurd (cc);
-  }
-  front_type (Err Budget) asks fails by finds decide begins =
-      let not_may = forbids old new n some fails in
-      record {
-        keeps = reads.keeps;
-        shows = reads.view.hides;
-        same_limit = reads.same_limit;
-        asks = asked_front false not_may (omega (arith, asks));
-        fails = tt;
-        finds = λ file held. undecided_is members (left old) file (let sized = old.seen.sized file held in omega (arith, sized, long)) (let sized = old.seen.sized file held in rw (sized, front) not_may);
-        begins = λ is. absurd (cc);
-      }
+front_within : (members : Bool) (budget : Option ℕ) (size before after : ℕ) → after ≤ before + front_asked members budget size → IfSome budget (λ bytes. after ≤ before + bytes)
+front_within members None size before after asks = tt
+front_within members (Some bytes) size before after asks =
+    let few = few_within members bytes size (nat_lt size 4) (nat_lt bytes (front_size members size)) refl in omega (arith, asks, few)
 
--- THE READ of those bytes within what is left of a budget
-left_set : (budget : Option ℕ) (a b : CountedState) → a.asked ≤ 2 ^ 127 → SetsLimit a b budget → left b ≡ budget
-left_set None a b small set = rw set.most refl
-left_set (Some bytes) a b small set =
-    let fits = set.small bytes refl in
-    let same : counted a.asked bytes - b.asked ≡ bytes = omega (arith, small, fits, set.asked) in
-    rw set.most (ap (λ n. Some n) same)
-
-module _ (members : Bool) {a b c d : CountedState} {budget : Option ℕ} {result : Result FileMagic SourceFault} (small : a.asked ≤ 2 ^ 127) (set : SetsLimit a b budget) (free : SetsLimit c d None) (did : b.asked ≤ 2 ^ 127 → ReadsFileType members b c result) where
-  type_read : ReadsFileType members b c result
-  type_read = did (omega (arith, small, set.asked))
-
+-- THE READ of those bytes while a limit is set
+module _ (members : Bool) {a b c d : CountedState} {budget : Option ℕ} {result : Result FileMagic SourceFault} (set : SetsLimit a b budget) (free : SetsLimit c d None) (did : ReadsFileType members budget b c result) where
   pub type_found : (file : List ℕ) → a.seen.file ≡ Some file → IfOk result (λ kind. kind ≡ file_magic members budget file)
-  type_found file held = rw (left_set budget a b small set) at (type_read.finds file (rw set.seen held))
+  type_found file held = did.finds file (rw set.seen held)
+
+  pub type_asked : d.asked ≡ counted a.asked (front_asked members budget a.seen.size)
+  type_asked = let asks = rw (set.seen, set.asked) at did.asks in free.asked ∙ asks
 
   pub type_within : IfSome budget (λ bytes. d.asked ≤ a.asked + bytes)
-  type_within = rw free.asked (within_budget budget a b c set type_read.same_limit)
-
-  pub type_asked : d.asked ≡ a.asked + front_asked members budget a.seen.size
-  type_asked = let asks = rw (left_set budget a b small set, set.seen) at type_read.asks in omega (arith, asks, set.asked, free.asked)
+  type_within = let asks = type_asked in front_within members budget a.seen.size a.asked d.asked (omega (arith, asks))

@@ -18,10 +18,10 @@ use Rattle.elf_archive.specs.Listed.{ArchiveSays}
 use Rattle.elf_walk.specs.ToldListings.{is_unlisted}
 
 -- the magic bytes of a file, and what follows them within what they leave, are within a budget
-pub rest_within : (budget : Option ℕ) (front before between after : ℕ) → between ≡ before + front → IfSome budget (λ bytes. between ≤ before + bytes)
-    → IfSome (option_map (λ bytes. bytes - front) budget) (λ bytes. after ≤ between + bytes) → IfSome budget (λ bytes. after ≤ before + bytes)
-rest_within None front before between after asks within more = tt
-rest_within (Some bytes) front before between after asks within more = omega (arith, asks, within, more)
+pub rest_within : (budget : Option ℕ) (before between after : ℕ) → before ≤ between → IfSome budget (λ bytes. between ≤ before + bytes)
+    → IfSome (option_map (λ bytes. bytes - (between - before)) budget) (λ bytes. after ≤ between + bytes) → IfSome budget (λ bytes. after ≤ before + bytes)
+rest_within None before between after grows within more = tt
+rest_within (Some bytes) before between after grows within more = omega (arith, grows, within, more)
 
 -- a read that failed
 pub fault_fails : (before after : CountedState) (fault : SourceFault) → IsSourceFault before.seen after.seen fault → FailsRead before after Unread

@@ -1,13 +1,11 @@
 -- What is read to determine the type of a file, by its first bytes.
-use Rattle.std.specs.Prelude.{ℕ, ◌≡◌, ◌+◌, ◌-◌, nat_lt, if◌then◌else◌, Bool, List, Option, Some, Result, Ok, Err, IfErr, IfOk, option_map}
+use Rattle.std.specs.Prelude.{ℕ, ◌≡◌, ◌-◌, nat_lt, if◌then◌else◌, Bool, List, Option, Some, Result, Ok, IfErr, IfOk, option_map}
 use Rattle.elf_model.specs.Prelude.{ELF_MAGIC_SIZE, file_magic, front_size, may_read_bytes}
 use Rattle.elf_model.specs.declared.states.FileMagic.{FileMagic}
-use Rattle.elf_model.specs.declared.states.FileMagic.TheVariants.{Archive, Undecided}
+use Rattle.elf_model.specs.declared.states.FileMagic.TheVariants.{Archive}
 use Rattle.elf_archive.specs.FirstFault.{BeginsArchive}
 use Rattle.elf_options.specs.declared.caps.Limits.{Limits}
-use Rattle.elf_source.specs.Source.{CountedState, IsSourceFault, KeepsSource, left}
-use Rattle.elf_source.specs.declared.faults.AskFault.{AskFault}
-use Rattle.elf_source.specs.declared.faults.AskFault.TheVariants.{Budget, Source}
+use Rattle.elf_source.specs.Source.{CountedState, IsSourceFault, KeepsSource, counted}
 use Rattle.elf_source.specs.declared.faults.SourceFault.{SourceFault}
 
 -- how many bytes are read: if the file and the budget have them
@@ -26,18 +24,11 @@ pub record AreLimitsAfter (members : Bool) (limits : Limits) (size : ℕ) (left 
   pub headers : left.headers ≡ limits.headers
   pub budget : left.budget ≡ left_after members limits.budget size
 
--- the type of a file by a read of its first bytes, which is not decided if they exceed the limit
-abbrev pub file_type_of : Result FileMagic AskFault → Result FileMagic SourceFault
-file_type_of (Ok kind) = Ok kind
-file_type_of (Err Budget) = Ok Undecided
-file_type_of (Err (Source fault)) = Err fault
-
--- a read of the type of a file, within the limit that is set
-pub record ReadsFileType (members : Bool) (old new : CountedState) (result : Result FileMagic SourceFault) : Type 0 where
+-- a read of the type of a file, if a budget has its bytes
+pub record ReadsFileType (members : Bool) (budget : Option ℕ) (old new : CountedState) (result : Result FileMagic SourceFault) : Type 0 where
   pub keeps : KeepsSource old.seen new.seen
   pub shows : new.hides ≡ old.hides
-  pub same_limit : new.most ≡ old.most
-  pub asks : new.asked ≡ old.asked + front_asked members (left old) old.seen.size
+  pub asks : new.asked ≡ counted old.asked (front_asked members budget old.seen.size)
   pub fails : IfErr result (IsSourceFault old.seen new.seen)
-  pub finds : (file : List ℕ) → old.seen.file ≡ Some file → IfOk result (λ sort. sort ≡ file_magic members (left old) file)
+  pub finds : (file : List ℕ) → old.seen.file ≡ Some file → IfOk result (λ sort. sort ≡ file_magic members budget file)
   pub begins : result ≡ Ok Archive → BeginsArchive old.seen

@@ -1,5 +1,5 @@
 //! The check of one file.
-ghost use Rattle.std.specs.Prelude.{◌≡◌, ◌≤◌, ◌^◌, None};
+ghost use Rattle.std.specs.Prelude.{◌≡◌, ◌≤◌, ◌^◌};
 ghost use Rattle.elf_walk.specs.CheckedFile.{ChecksFile, FindsElf, FindsState};
 ghost use Rattle.elf_walk.specs.CheckedFile.{check_ceiling, check_cost, elf_cost};
 
@@ -45,20 +45,20 @@ pub fn check<S: Source>(
 }
 
 /// Checks one file that begins with the magic number, as [`check`] does; of one that is too short
-/// for a file header nothing is read. No limit is set before.
+/// for a file header nothing is read.
 pub fn check_elf<S: Source>(
     src: &mut Counted<S>,
     store: &mut HeaderStore,
     caps: Caps,
     parts: Parts,
 ) -> FileStatus
-    requires small { (store.old.slots ≡ caps.limits.headers) × (src.old.asked ≤ 2 ^ 127) }
-    requires free { src.old.most ≡ None }
+    requires { (store.old.slots ≡ caps.limits.headers) × (src.old.asked ≤ 2 ^ 127) }
     ensures { ChecksFile store.old.slots store.new.slots caps.entry parts.0 src.old src.new result
         FindsElf elf_cost check_ceiling }
 {
     let size = src.length();
     if size < HEADER_BYTES {
+        src.limit(None);
         return short_file_status(size, FileMagic::Elf);
     }
     check(src, store, caps, parts)

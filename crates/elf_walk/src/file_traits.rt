@@ -1,6 +1,9 @@
 //! The traits of one file among many.
 ghost use Rattle.std.specs.Prelude.{◌≡◌, ◌+◌, ◌≤◌, ◌^◌, ℕ, List, None, Some, IfErr};
+ghost use Rattle.elf_loader.specs.TraitStages.{FindsTraits};
+ghost use Rattle.elf_model.specs.Prelude.{traits_ceiling};
 ghost use Rattle.elf_source.specs.Source.{KeepsSource};
+ghost use Rattle.elf_table.specs.Prelude.{CallDid, fault_of_result};
 ghost use Rattle.elf_walk.specs.Checked.{FailsRead};
 ghost use Rattle.elf_walk.specs.CheckedFile.{AsksNoMore};
 ghost use Rattle.elf_walk.specs.Found.{FindsWithin, file_traits_ceiling, file_traits_cost};
@@ -8,7 +11,7 @@ ghost use Rattle.elf_walk.specs.Found.{FindsWithin, file_traits_ceiling, file_tr
 use crate::short::{read_short_file_status, refused_state};
 use elf_loader::find_traits;
 use elf_model::{FileStatus, Hardening};
-use elf_source::{Counted, Source};
+use elf_source::{Counted, Limited, Source};
 use elf_table::{Fault, HeaderStore, Limits};
 
 /// How many bytes a file header has.
@@ -43,9 +46,15 @@ pub fn traits_within<S: Source>(
     if src.length() < HEADER_BYTES {
         return Err(read_short_file_status(src, limits.budget));
     }
-    src.limit(limits.budget);
-    let found = find_traits(src, store);
-    src.limit(None);
+    let found = src.within(
+        limits.budget,
+        &mut |src: &mut Counted<S>|
+            ensures did { CallDid src.old src.new (fault_of_result result)
+                (traits_ceiling src.old.seen.size store.entry.now.slots)
+                (λ file. FindsTraits file store.entry.now.slots src.old src.new result) }
+            ensures slots { store.exit.now.slots ≡ store.entry.now.slots }
+        { find_traits(src, store) },
+    );
     match found {
         Ok(traits) => Ok(traits),
         Err(Fault::Refused(refusal)) => Err(refused_state(refusal)),

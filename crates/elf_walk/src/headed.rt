@@ -1,5 +1,5 @@
 //! A listing after the line of its file's path.
-ghost use Rattle.std.specs.Prelude.{◌≡◌, ◌+◌, ◌≤◌, ◌^◌, ℕ, List, None, Some, IfErr};
+ghost use Rattle.std.specs.Prelude.{◌≡◌, ◌+◌, ◌≤◌, ◌^◌, ℕ, List, Some, IfErr};
 ghost use Rattle.elf_archive.specs.Listed.{ArchiveSays, IsAll};
 ghost use Rattle.elf_options.specs.Permitted.{style_of};
 ghost use Rattle.elf_listing.specs.Reports.{KeepsSourceUnlimited};
@@ -19,8 +19,7 @@ use elf_table::{HeaderStore, RunFault};
 /// Writes the line of a path, and after it the listing of the file there as [`list_by_type`] does;
 /// if rows are selected by name, the line is written only before something that is listed.
 ///
-/// Returns whether the listing of a member was refused. The budget left is that of the rule's caps;
-/// no limit is set before.
+/// Returns whether the listing of a member was refused. The budget left is that of the rule's caps.
 ///
 /// # Errors
 /// As for [`list_by_type`], with a prefix of the line and the listing written, and as for
@@ -35,7 +34,6 @@ pub fn list_with_path_line<S: Source, W: Sink>(
 ) -> Result<bool, RunFault>
     requires small { (store.old.slots ≡ rule.now.caps.limits.headers) × (src.old.asked ≤ 2 ^ 127) }
     requires whole { IsAll src.old }
-    requires free { src.old.most ≡ None }
     ensures slots { store.new.slots ≡ store.old.slots }
     ensures leaves { KeepsSourceUnlimited src.old src.new }
     ensures says { IfErr result (ArchiveSays src.old src.new out.new) }
@@ -48,6 +46,7 @@ pub fn list_with_path_line<S: Source, W: Sink>(
     ensures asks { AsksNoMore (sort_ceiling sort src.old.seen.size rule.now.caps.limits.headers
         (style_of rule.now.caps.style)) rule.now.caps.limits.budget src.old src.new }
 {
+    src.limit(None);
     if !rule.caps.style.choice.by_name {
         show_path(path, rule.caps.style.format, out)?;
         return list_by_type(src, store, rule.caps, rule.parts, sort, out);

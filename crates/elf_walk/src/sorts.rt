@@ -1,5 +1,5 @@
 //! The listing of a file, by its type.
-ghost use Rattle.std.specs.Prelude.{◌≡◌, ◌+◌, ◌≤◌, ◌^◌, ℕ, List, None, Some, IfErr};
+ghost use Rattle.std.specs.Prelude.{◌≡◌, ◌+◌, ◌≤◌, ◌^◌, ℕ, List, Some, IfErr};
 ghost use Rattle.elf_archive.specs.Listed.{ArchiveSays, IsAll};
 ghost use Rattle.elf_options.specs.Permitted.{style_of};
 ghost use Rattle.elf_listing.specs.Reports.{KeepsSourceUnlimited, ReturnsStop};
@@ -22,8 +22,8 @@ use elf_table::{Caps, HeaderStore, ListingStyle, RunFault};
 /// the budget the line of this refusal, for another file nothing.
 ///
 /// The last line is that of its refusal, if it has one. Returns whether the listing of a member was
-/// refused. The source is a range of all bytes of the file, with nothing masked and no limit set; it
-/// and the store are as for [`show_archive`].
+/// refused. The source is a range of all bytes of the file, with nothing masked; it and the store
+/// are as for [`show_archive`].
 ///
 /// # Errors
 /// As for [`show`] and [`show_archive`].
@@ -37,7 +37,6 @@ pub fn list_by_type<S: Source, W: Sink>(
 ) -> Result<bool, RunFault>
     requires small { (store.old.slots ≡ caps.limits.headers) × (src.old.asked ≤ 2 ^ 127) }
     requires whole { IsAll src.old }
-    requires free { src.old.most ≡ None }
     ensures slots { store.new.slots ≡ store.old.slots }
     ensures grows { OutGrows out.old out.new }
     ensures leaves { KeepsSourceUnlimited src.old src.new }
@@ -60,8 +59,14 @@ pub fn list_by_type<S: Source, W: Sink>(
             let alone = are_alone(&caps.style);
             show_archive(src, store, caps, parts, alone, out)
         }
-        FileMagic::Undecided => Err(report_undecided(caps.style.format, out)),
-        FileMagic::Thin | FileMagic::Foreign => Ok(false),
+        FileMagic::Undecided => {
+            src.limit(None);
+            Err(report_undecided(caps.style.format, out))
+        }
+        FileMagic::Thin | FileMagic::Foreign => {
+            src.limit(None);
+            Ok(false)
+        }
     }
 }
 

@@ -1,18 +1,19 @@
 //! What would help after a refusal of a section, printed on standard error.
 ghost use Rattle.std.specs.Prelude.{◌≡◌, ◌≤◌, ◌^◌, ℕ, List, None, Some, IfErr, false};
 ghost use Rattle.elf_model.specs.Prelude.{explained, explanation};
-ghost use Rattle.elf_source.specs.Source.{ReadsUpTo, SetsLimit};
+ghost use Rattle.elf_source.specs.Source.{ReadsUpTo};
 ghost use Rattle.elf_listing.specs.Prelude.{KeepsSourceUnlimited, StopSays};
 ghost use Rattle.elf_reloc.specs.Explained.{explain_bytes, may_be_missing};
-ghost use Rattle.elfsee.specs.Explaining.{AsksRest, WroteUpTo, asks_why, lack_in, budget_rest};
+ghost use Rattle.elfsee.specs.Explaining.{AsksRest, WroteUpTo, asks_why, lack_in};
 
+use crate::needs_report::budget_left;
 use elf_cli::{ERROR_LINE_BYTES, write_rest};
 use elf_format::show_missing;
 use elf_layout::Addresses;
 use elf_record::Refusal;
 use elf_reloc::explain;
 use elf_requests::{Request, Task};
-use elf_source::{Counted, Out, Sink, Source, WriteSink};
+use elf_source::{Counted, Limited, Out, Sink, Source, WriteSink};
 use elf_table::{HeaderStore, NameBuf, NameEnd, RunFault};
 use std::alloc::Global;
 use std::io::{BufWriter, Stderr};
@@ -79,23 +80,11 @@ fn report_rest<S: Source, W: Sink>(
     ensures tells { (file : List ℕ) → src.old.seen.file ≡ Some file →
         WroteUpTo out.old out.new result (explanation (lack_in file request.now.task refusal)) }
 {
-    limit_rest(src, request.limits.budget);
-    let told = report_missing(request, refusal, src, store, out);
-    src.limit(None);
-    told
-}
-
-/// Sets the rest of a budget, less all that was requested so far, as the limit.
-fn limit_rest<S: Source>(src: &mut Counted<S>, budget: Option<u64>)
-    ensures { SetsLimit src.old src.new (budget_rest budget src.old.asked) }
-{
-    match budget {
-        None => src.limit(None),
-        Some(bytes) => {
-            let asked = u64::try_from(src.asked()).unwrap_or(u64::MAX);
-            src.limit(Some(bytes.saturating_sub(asked)));
-        }
-    }
+    let rest = budget_left(request.limits.budget, src.asked());
+    src.within(
+        rest,
+        &mut |src| report_missing(request, refusal, src, store, out),
+    )
 }
 
 /// Returns `true` if a request asks what would help.

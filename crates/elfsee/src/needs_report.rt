@@ -11,8 +11,8 @@ use elf_needs::{
     DependencyWalk, NeedsBuffers, NeedsFault, NeedsOptions, OpenFiles, SystemFiles, is_linked,
 };
 use elf_source::{
-    Counted, DeferredSink, FileReader, Out, OutFault, RangeSource, Sink, Source, StreamSource,
-    opened_path,
+    Counted, DeferredSink, FileReader, Limited, Out, OutFault, RangeSource, Sink, Source,
+    StreamSource, opened_path,
 };
 use elf_table::{Fault, HeaderBuffer, HeaderStore, Limits};
 use elf_walk::{FileVisitor, HeadedSink, read_short_file_status, status};
@@ -220,10 +220,7 @@ fn is_linked_within<S: Source>(
     ensures known { (file : List ℕ) → src.old.seen.file ≡ Some file →
         ReturnsLinked (linked_file file store.old.slots) result }
 {
-    src.limit(budget);
-    let linked = is_linked(src, store);
-    src.limit(None);
-    linked
+    src.within(budget, &mut |src| is_linked(src, store))
 }
 
 /// Returns `true` if the headers of a file are refused because it is no ELF64 file.
@@ -234,7 +231,7 @@ fn is_of_other_type(cause: Cause) -> bool
 }
 
 /// Returns what is left of a budget.
-fn budget_left(budget: Option<u64>, asked: u128) -> Option<u64>
+pub fn budget_left(budget: Option<u64>, asked: u128) -> Option<u64>
     ensures { result ≡ option_map (λ bytes. bytes - asked) budget }
 {
     match budget {

@@ -11,15 +11,15 @@ pub returns-then-size-lt-HEADER_BYTES : goal.returns-then-size-lt-HEADER_BYTES
 returns-then-size-lt-HEADER_BYTES g c = record {
   slots = refl;
   leaves = record {
-    keeps = record { same_size = refl; no_fewer = omega arith; same_file = refl; same_whole = refl };
-    free = c.requires.free;
+    keeps = rw c.limit.ensures.seen (record { same_size = refl; no_fewer = omega arith; same_file = refl; same_whole = refl });
+    free = c.limit.ensures.most;
   };
   state = λ file held.
       let sized = c.args.src.now.seen.sized file held in
       short_elf c.args.caps c.args.parts.0 file c.length-size.result c.short_file_status.result (omega (arith, sized, c.length-size.ensures.value)) (omega (arith, c.if-size-lt-HEADER_BYTES.true)) c.short_file_status.ensures;
-  cost = λ file held. omega arith;
-  read = short_read c.args.src.now c.args.src.now c.length-size.result sort.Elf c.short_file_status.result c.short_file_status.ensures;
-  asks = record { ceiling = omega arith; budget = some_within c.args.caps.limits.budget _ };
+  cost = λ file held. omega (arith, c.limit.ensures.asked);
+  read = short_read c.args.src.now c.limit.new.self c.length-size.result sort.Elf c.short_file_status.result c.short_file_status.ensures;
+  asks = record { ceiling = omega (arith, c.limit.ensures.asked); budget = some_within c.args.caps.limits.budget _ _ c.limit.ensures.asked };
 }
 
 pub returns : goal.returns

@@ -40,5 +40,5 @@ returns-in-Thin g c = record {
   state = λ file held. unlisted_found c.args.sort c.in-Thin.is c.args.caps c.args.parts.0 file c.unlisted_state.result c.unlisted_state.ensures;
   cost = λ file held. omega arith;
   read = unlisted_read c.args.src.now c.args.src.now c.args.sort c.unlisted_state.result c.unlisted_state.ensures;
-  asks = record { ceiling = omega arith; budget = some_within c.args.caps.limits.budget _ };
+  asks = record { ceiling = omega arith; budget = some_within c.args.caps.limits.budget _ _ refl };
 }

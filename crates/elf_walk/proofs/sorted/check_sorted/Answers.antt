@@ -1,10 +1,10 @@
 -- The state of a file after the magic bytes that identify its type.
-use Rattle.std.proofs.Common.{ℕ, List, Option, Some, Ok, refl, sym, ap, ◌∙◌, arith}
+use Rattle.std.proofs.Common.{ℕ, true, List, Option, Some, Ok, refl, sym, ap, ◌∙◌, arith}
 use Rattle.elf_model.specs.declared.states.FileMagic.{FileMagic}
 use Rattle.elf_options.specs.Permitted.{style_of}
 use Rattle.elf_walk.proofs.ListingToldLaws.{fault_fails, rest_within}
 use Rattle.elf_walk.specs.Members.{cost_by}
-use Rattle.elf_walk.proofs.FileMagicLaws.{begins_kept, front_eight, sorted_found, state_after}
+use Rattle.elf_walk.proofs.FileMagicLaws.{begins_kept, front_eight, left_front, sorted_found, state_after}
 use Rattle.elf_walk.proofs.sorted.check_sorted.Goals as goal
 
 pub returns-in-Err : goal.returns-in-Err
@@ -62,7 +62,7 @@ returns g c =
           let sized = c.args.src.now.seen.sized file held in
           sorted_found c.args.caps c.args.parts.0 file c.check_by_type.result (record {
             left = _;
-            after = record { headers = refl; budget = rw (← sized) at c.in-Ok.ensures.pays };
+            after = record { headers = refl; budget = rw (← sized) at (left_front true c.args.caps.limits.budget _ _ _ _ (omega (arith, c.requires.small.1)) c.in-Ok.ensures.asks c.in-Ok.ensures.pays) };
             finds = rw (c.in-Ok.ensures.finds file held) at (did.state file (keeps.same_file ∙ held));
           });
       cost = λ file held.
@@ -72,6 +72,6 @@ returns g c =
       read = state_after c.args.src.now c.find_file_type.new.src c.check_by_type.new.src c.check_by_type.result keeps.no_fewer did.read;
       asks = record {
         ceiling = let most = rw keeps.same_size at did.asks.ceiling in omega (arith, c.in-Ok.ensures.asks, few, most);
-        budget = rest_within c.args.caps.limits.budget _ _ _ _ c.in-Ok.ensures.asks c.in-Ok.ensures.within (rw c.in-Ok.ensures.pays at did.asks.budget);
+        budget = rest_within c.args.caps.limits.budget _ _ _ (omega (arith, c.requires.small.1, c.in-Ok.ensures.asks)) c.in-Ok.ensures.within (rw c.in-Ok.ensures.pays at did.asks.budget);
       };
     }

@@ -35,4 +35,4 @@ returns-in-Undecided-clause-lists g c = λ file held.
     rw c.in-Undecided.is (undecided_listed file c.args.caps.limits (style_of c.args.caps.style) c.args.parts.0 c.args.out.now c.report_undecided.new.out c.report_undecided.result c.report_undecided.ensures.tells)
 
 pub returns-in-Undecided-clause-says : goal.returns-in-Undecided-clause-says
-returns-in-Undecided-clause-says g c = undecided_says c.args.caps.style.format c.args.src.now c.args.src.now c.args.out.now c.report_undecided.new.out c.report_undecided.result c.report_undecided.ensures.tells
+returns-in-Undecided-clause-says g c = undecided_says c.args.caps.style.format c.args.src.now c.limit.new.self c.args.out.now c.report_undecided.new.out c.report_undecided.result c.report_undecided.ensures.tells

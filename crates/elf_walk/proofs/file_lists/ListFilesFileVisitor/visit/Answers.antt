@@ -3,6 +3,7 @@ use Rattle.std.proofs.Common.{rules, ◌≡◌, None, Some, Ok, false, refl, sub
 use Rattle.elf_walk.specs.Prelude.{ReturnsListing}
 use Rattle.elf_walk.specs.ToldListings.{is_unlisted}
 use Rattle.elf_walk.specs.declared.options.ListOptions.{ListOptions}
+use Rattle.elf_walk.proofs.FileMagicLaws.{left_front}
 use Rattle.elf_walk.proofs.ListingToldLaws.{end_fails, fault_after, fault_fails, file_told, nothing_told, rest_within}
 use Rattle.elf_walk.proofs.file_lists.ListFilesFileVisitor.visit.Goals as goal
 
@@ -48,7 +49,7 @@ returns-clause-tells g c =
       finds = λ file held. c.in-Ok.ensures.finds file held;
       told = file_told c.in-Ok.sort rule c.args.path.now c.args.src.now c.args.out.now c.end_list.new.out c.end_list.result some (record {
         limits = _;
-        after = record { headers = refl; budget = pays };
+        after = record { headers = refl; budget = left_front rule.members rule.caps.limits.budget _ _ _ _ (omega (arith, c.requires.few)) asks pays };
         result = c.list_with_path_line-listed.result;
         between = c.list_with_path_line-listed.new.out;
         lists = λ file held. c.list_with_path_line-listed.ensures.lists file (keeps.same_file ∙ held);
@@ -61,5 +62,5 @@ returns-clause-tells g c =
           let cost = c.list_with_path_line-listed.ensures.cost file (keeps.same_file ∙ held) in
           omega (arith, asks, cost);
       ceiling = omega (arith, asks, most);
-      budget = rest_within rule.caps.limits.budget _ _ _ _ asks c.in-Ok.ensures.within (rw pays at c.list_with_path_line-listed.ensures.asks.budget);
+      budget = rest_within rule.caps.limits.budget _ _ _ (omega (arith, c.requires.few, asks)) c.in-Ok.ensures.within (rw pays at c.list_with_path_line-listed.ensures.asks.budget);
     })
