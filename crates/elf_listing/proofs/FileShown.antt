@@ -10,7 +10,7 @@ use Rattle.elf_model.proofs.ListingLemmas.{guarded-passes, guarded-fault, load_s
 use Rattle.elf_table.specs.Prelude.{HeaderRead, HoldsSectionHeaders, LoadedAs, LoadedFile, StoreState}
 use Rattle.elf_table.specs.declared.fault.Fault.{Fault as TableFault}
 use Rattle.elf_table.specs.declared.fault.Fault.TheVariants.{Refused}
-use Rattle.elf_listing.specs.Prelude.{ChecksView, PartListed, first_kinds, kinds_items, of_sections, of_segments, part_items, record_kinds, section_headers_part, sections_listed, segments_parts, viewed_headers}
+use Rattle.elf_listing.specs.Prelude.{ChecksView, PartListed, first_kinds, kinds_items, kinds_listed, of_sections, of_segments, part_items, record_kinds, section_headers_part, sections_listed, segments_parts, viewed_headers}
 
 -- the file header's part
 abbrev pub header_part : Format → List ℕ → ℕ → List ListingItem
@@ -93,25 +93,36 @@ kinds_append (kind ∷ xs) ys headers file style parts =
     ap (λ rest. own ++ rest) (kinds_append xs ys headers file style parts) ∙ sym (append_assoc own _ _)
 
 -- the rows of kinds of tables of sections are what these kinds list, for as many sections
-kinds_listed : (kinds : List TableKind) (file : List ℕ) (style : ListingStyle) (parts : ℕ) (store : StoreState) → store.loaded ≡ e_shnum file
+sections_listed_by : (kinds : List TableKind) (file : List ℕ) (style : ListingStyle) (parts : ℕ) (store : StoreState) → store.loaded ≡ e_shnum file
     → kinds_rows kinds (file_sections file) file style parts ≡ kinds_items parts (sections_listed kinds) store style file
-unfolding kinds_rows kinds_items sections_listed
-kinds_listed [] file style parts store count = refl
-kinds_listed (kind ∷ kinds) file style parts store count =
+unfolding kinds_rows kinds_items kinds_listed
+sections_listed_by [] file style parts store count = refl
+sections_listed_by (kind ∷ kinds) file style parts store count =
     ap (λ n. of_headers file style parts (of_sections kind) n ++ kinds_rows kinds (file_sections file) file style parts) (sym count)
-    ∙ ap (λ rest. of_headers file style parts (of_sections kind) store.loaded ++ rest) (kinds_listed kinds file style parts store count)
+    ∙ ap (λ rest. of_headers file style parts (of_sections kind) store.loaded ++ rest) (sections_listed_by kinds file style parts store count)
 
--- without sections they list nothing
-none_listed : (kinds : List TableKind) (file : List ℕ) (style : ListingStyle) (parts : ℕ) (store : StoreState) → store.loaded ≡ 0
-    → kinds_items parts (sections_listed kinds) store style file ≡ []
-unfolding kinds_items sections_listed
-none_listed [] file style parts store zero = refl
-none_listed (kind ∷ kinds) file style parts store zero = rw (none_of file style parts (of_sections kind) store.loaded zero) (none_listed kinds file style parts store zero)
+-- each of some kinds whose part is listed has its headers in the store
+abbrev AreHeld : List TableKind → ℕ → Type 0 → Type 0
+AreHeld [] parts held = Unit {0}
+AreHeld (kind ∷ kinds) parts held = (has parts kind.part ≡ true → held) × AreHeld kinds parts held
 
-kinds_of_segments : (file : List ℕ) (style : ListingStyle) (parts : ℕ) → kinds_rows segment_kinds (file_segments file) file style parts
-    ≡ of_headers file style parts (of_segments segment_notes) (e_phnum file) ++ (of_headers file style parts (of_segments segment_dynamic) (e_phnum file) ++ [])
-unfolding kinds_rows segment_notes segment_dynamic
-kinds_of_segments file style parts = refl
+-- and so are the rows of kinds of tables of segments
+segments_listed_by : (kinds : List TableKind) (file : List ℕ) (style : ListingStyle) (parts : ℕ) (store : StoreState) → AreHeld kinds parts (store.segments ≡ e_phnum file)
+    → kinds_rows kinds (file_segments file) file style parts ≡ kinds_items parts (kinds_listed of_segments kinds) store style file
+unfolding kinds_rows kinds_items kinds_listed
+segments_listed_by [] file style parts store held = refl
+segments_listed_by (kind ∷ kinds) file style parts store held =
+    let own = asked_same parts kind.part (λ n. part_items (of_segments kind) style n file) (e_phnum file) store.segments (λ asked. sym (held.0 asked)) in
+    ap (λ rows. rows ++ kinds_rows kinds (file_segments file) file style parts) own
+    ∙ ap (λ rest. of_headers file style parts (of_segments kind) store.segments ++ rest) (segments_listed_by kinds file style parts store held.1)
+
+-- without headers, kinds list nothing
+none_listed : (of : TableKind → PartListed) (kinds : List TableKind) (file : List ℕ) (style : ListingStyle) (parts : ℕ) (store : StoreState) → ((kind : TableKind) → (of kind).count store ≡ 0)
+    → kinds_items parts (kinds_listed of kinds) store style file ≡ []
+unfolding kinds_items kinds_listed
+none_listed of [] file style parts store zero = refl
+none_listed of (kind ∷ kinds) file style parts store zero =
+    rw (none_of file style parts (of kind) ((of kind).count store) (zero kind)) (none_listed of kinds file style parts store zero)
 
 -- if a part needs the program headers of a file without sections, they are loaded
 viewed_where : (parts : ℕ) (loaded : LoadedFile) → (loaded.header.e_shnum == 0) ≡ true → (has parts SEGMENTS || (has parts NOTES || has parts DYNAMIC)) ≡ true
@@ -124,21 +135,17 @@ viewed_none parts loaded some = rw some refl
 pub viewed_segments : (parts : ℕ) (loaded : LoadedFile) → (loaded.header.e_shnum == 0) ≡ true → has parts SEGMENTS ≡ true → viewed_headers parts loaded ≡ loaded.header.e_phnum
 viewed_segments parts loaded none asked = rw (none, asked) refl
 
+-- the parts of the kinds of tables of segments need the program headers
+segments_held : (parts : ℕ) (held : Type 0) → ((has parts SEGMENTS || (has parts NOTES || has parts DYNAMIC)) ≡ true → held) → AreHeld segment_kinds parts held
+unfolding segment_notes segment_dynamic
+segments_held parts held all = (λ asked. all (or_right _ _ (or_left _ _ asked)), (λ asked. all (or_right _ _ (or_right _ _ asked)), tt))
+
 -- what program headers list, if they are those of the file
 segments_listed_are : (file : List ℕ) (style : ListingStyle) (parts : ℕ) (loaded : LoadedFile) (store : StoreState) → HoldsSectionHeaders file loaded store → store.segments ≡ viewed_headers parts loaded
     → (e_shnum file == 0) ≡ true → kinds_rows segment_kinds (file_segments file) file style parts ≡ kinds_items parts segments_parts store style file
-unfolding segment_notes segment_dynamic kinds_items
 segments_listed_are file style parts loaded store belongs view none =
     let all = viewed_where parts loaded (ap (λ n. n == 0) belongs.header.e_shnum ∙ none) in
-    let notes = asked_same parts NOTES (λ n. part_items (of_segments segment_notes) style n file) (e_phnum file) store.segments
-    (λ asked. sym (view ∙ (all (or_right _ _ (or_left _ _ asked)) ∙ belongs.header.e_phnum))) in
-    let dynamic = asked_same parts DYNAMIC (λ n. part_items (of_segments segment_dynamic) style n file) (e_phnum file) store.segments
-    (λ asked. sym (view ∙ (all (or_right _ _ (or_right _ _ asked)) ∙ belongs.header.e_phnum))) in
-    kinds_of_segments file style parts ∙ rw (notes, dynamic) refl
-
-no_segments : (file : List ℕ) (style : ListingStyle) (parts : ℕ) (store : StoreState) → store.segments ≡ 0 → kinds_items parts segments_parts store style file ≡ []
-unfolding kinds_items
-no_segments file style parts store zero = rw (none_of file style parts (of_segments segment_notes) store.segments zero, none_of file style parts (of_segments segment_dynamic) store.segments zero) refl
+    segments_listed_by segment_kinds file style parts store (segments_held parts (store.segments ≡ e_phnum file) (λ asked. view ∙ (all asked ∙ belongs.header.e_phnum)))
 
 -- the tables of the headers in the store, but the section headers and the program headers
 abbrev kinds_by_store : List ℕ → ListingStyle → ℕ → StoreState → List ListingItem
@@ -149,7 +156,7 @@ kinds_by_store file style parts store =
     ++ of_headers file style parts (of_sections symbol_versions) store.loaded))
 
 last_listed : (file : List ℕ) (style : ListingStyle) (parts : ℕ) (store : StoreState) → kinds_items parts (sections_listed (symbol_versions ∷ [])) store style file ≡ of_headers file style parts (of_sections symbol_versions) store.loaded
-unfolding kinds_items sections_listed
+unfolding kinds_items kinds_listed
 last_listed file style parts store = append-nil _
 
 -- the tables of all kinds are those of the headers in the store
@@ -160,19 +167,19 @@ kinds_are file style parts loaded store belongs view =
     elim (cases_Bool (e_shnum file == 0)) [
       | inl none ↦
           let zero : store.loaded ≡ 0 = count ∙ eqb-true (e_shnum file) 0 none in
-          let first = none_listed (first_kinds style.versions) file style parts store zero in
-          let records = none_listed record_kinds file style parts store zero in
+          let first = none_listed of_sections (first_kinds style.versions) file style parts store (λ kind. zero) in
+          let records = none_listed of_sections record_kinds file style parts store (λ kind. zero) in
           let last = none_of file style parts (of_sections symbol_versions) store.loaded zero in
           ap (λ (tables : TableHeaders). kinds_rows tables.kinds tables.headers file style parts) (headers_none style.versions file none)
           ∙ (segments_listed_are file style parts loaded store belongs view none ∙ sym (rw (first, records, last) (append-nil _)))
       | inr some ↦
           let zero : store.segments ≡ 0 = view ∙ viewed_none parts loaded (ap (λ n. n == 0) belongs.header.e_shnum ∙ some) in
           let sections = file_sections file in
-          let listed = λ (kinds : List TableKind). kinds_listed kinds file style parts store count in
+          let listed = λ (kinds : List TableKind). sections_listed_by kinds file style parts store count in
           ap (λ (tables : TableHeaders). kinds_rows tables.kinds tables.headers file style parts) (headers_some style.versions file some)
           ∙ (kinds_append (first_kinds style.versions) (record_kinds ++ (symbol_versions ∷ [])) sections file style parts
           ∙ (ap (λ rest. kinds_rows (first_kinds style.versions) sections file style parts ++ rest) (kinds_append record_kinds (symbol_versions ∷ []) sections file style parts)
-          ∙ rw (listed (first_kinds style.versions), listed record_kinds, listed (symbol_versions ∷ []), last_listed file style parts store, no_segments file style parts store zero) refl))
+          ∙ rw (listed (first_kinds style.versions), listed record_kinds, listed (symbol_versions ∷ []), last_listed file style parts store, none_listed of_segments segment_kinds file style parts store (λ kind. zero)) refl))
     ]
 
 regrouped : (a b c d e : List ListingItem) → a ++ (b ++ (c ++ (d ++ e))) ≡ (((a ++ b) ++ c) ++ d) ++ e
@@ -200,7 +207,7 @@ tables_are file style parts loaded store belongs view =
 -- if the rows of definitions and needs are listed and have no fault, they have none at all
 pub versions_none : (file : List ℕ) (style : ListingStyle) (parts : ℕ) (loaded : LoadedFile) (store : StoreState) → HoldsSectionHeaders file loaded store
     → has parts VERSIONS ≡ true → fault_of (kinds_items parts (sections_listed record_kinds) store style file) ≡ None → fault_of (records_rows file style) ≡ None
-unfolding version_definitions version_needs kinds_items sections_listed
+unfolding version_definitions version_needs kinds_items kinds_listed
 versions_none file style parts loaded store belongs asked none =
     let count : store.loaded ≡ e_shnum file = belongs.count ∙ belongs.header.e_shnum in
     let both = rw (asked, count, where_asked) at none in

@@ -4,10 +4,9 @@ use Rattle.elf_model.specs.Prelude.{VisitedRecord, all_checks, first_of_type, fi
 use Rattle.elf_model.specs.declared.versions.VersionKind.TheVariants.{Definition, File}
 use Rattle.elf_model.specs.declared.causes.Refusal.{Refusal}
 use Rattle.elf_model.specs.declared.versions.VersionKind.{VersionKind}
-use Rattle.elf_table.specs.Prelude.{IsOfCheck, IsOfRead, IsReadFault, RefusedBy, StringTableRange, TableRange, rows, strings_in}
+use Rattle.elf_table.specs.Prelude.{IsOfRead, RefusedBy, StringTableRange, TableRange, rows, strings_in}
 use Rattle.elf_table.specs.declared.fault.Fault.{Fault}
 use Rattle.elf_table.specs.declared.fault.Fault.TheVariants.{Refused, Source}
-use Rattle.elf_source.specs.Source.{CountedState}
 use Rattle.elf_note.specs.Prelude.{NamesNumbers, ReadsNumberNames, StartsVersions, VersionCursorState, versions_left}
 use Rattle.elf_note.specs.declared.version_names.VersionNameRef.{VersionNameRef}
 use Rattle.elf_listing.specs.Prelude.{AreRecordsWhole, NumberedOr, NumbersTaken, TakenIn, TakenOr, kind_type}
@@ -131,11 +130,6 @@ pub numbered-later : (file : List ℕ) (records : List VisitedRecord) (after : L
     → AreRecordsWhole file Definition → TakenOr file File records after (Err fault) → NumberedOr file places (Err fault)
 numbered-later file records after places (Refused refusal) whole taken = λ other. or-none _ _ (Some refusal) whole (taken other)
 numbered-later file records after places (Source fault offset) whole taken = tt
-
--- a refusal of a check says nothing of the source
-pub check-says : (a b : CountedState) (n : ℕ) (fault : Fault) → IsOfCheck fault → IsReadFault a b n fault
-check-says a b n (Refused refusal) check = λ budget. absurd (check budget)
-check-says a b n (Source fault offset) check = absurd check
 
 -- what a new cursor reads and what it may still read is a walk's cost
 pub walk-asks : (before between after unread cost : ℕ) → between + unread ≤ before + cost → after ≤ between + unread → after ≤ before + cost

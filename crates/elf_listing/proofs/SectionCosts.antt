@@ -13,7 +13,7 @@ use Rattle.elf_record.specs.declared.ehdr.Ehdr.{Ehdr}
 use Rattle.elf_table.specs.Prelude.{HoldsSectionHeaders, HoldsSegments, IsOpened, LoadedFile, StoreState, StringTableRange, TableRange, byte_rows, checked, dynamic_of, early_of, load_cost, row, rows, segment_bytes, table_of}
 use Rattle.elf_table.specs.declared.fault.Fault.{Fault}
 use Rattle.elf_table.proofs.RelocationLaws.{passed_first}
-use Rattle.elf_listing.specs.Prelude.{asked_cost, first_kinds, kinds_asked, name_cost, needs_segment_view, of_sections, record_kinds, sections_listed, segments_parts, store_sections, store_segments, tables_listed, view_cost, viewed_headers}
+use Rattle.elf_listing.specs.Prelude.{asked_cost, first_kinds, kinds_asked, kinds_listed, name_cost, needs_segment_view, of_sections, of_segments, record_kinds, sections_listed, store_sections, store_segments, tables_listed, view_cost, viewed_headers}
 use Rattle.elf_listing.proofs.FileShown.{viewed_none}
 use Rattle.elf_table.proofs.LoadLaws.{early_is}
 
@@ -139,14 +139,15 @@ kinds_cost_append (kind ∷ xs) ys headers size most parts count = omega (arith,
 
 kinds_cost_listed : (kinds : List TableKind) (loaded : LoadedFile) (store : StoreState) (most parts : ℕ)
     → kinds_asked parts (sections_listed kinds) loaded store most ≡ kind_by_kind kinds (store_sections store) loaded.size most parts store.loaded
-unfolding kind_by_kind kinds_asked sections_listed
+unfolding kind_by_kind kinds_asked kinds_listed
 kinds_cost_listed [] loaded store most parts = refl
 kinds_cost_listed (kind ∷ kinds) loaded store most parts = omega (arith, kinds_cost_listed kinds loaded store most parts)
 
-segments_cost_listed : (loaded : LoadedFile) (store : StoreState) (most parts : ℕ)
-    → kinds_asked parts segments_parts loaded store most ≡ kind_by_kind segment_kinds (store_segments store) loaded.size most parts store.segments
-unfolding kind_by_kind kinds_asked
-segments_cost_listed loaded store most parts = refl
+segments_cost_listed : (kinds : List TableKind) (loaded : LoadedFile) (store : StoreState) (most parts : ℕ)
+    → kinds_asked parts (kinds_listed of_segments kinds) loaded store most ≡ kind_by_kind kinds (store_segments store) loaded.size most parts store.segments
+unfolding kind_by_kind kinds_asked kinds_listed
+segments_cost_listed [] loaded store most parts = refl
+segments_cost_listed (kind ∷ kinds) loaded store most parts = omega (arith, segments_cost_listed kinds loaded store most parts)
 
 last_cost_listed : (loaded : LoadedFile) (store : StoreState) (most parts : ℕ)
     → asked_cost parts (of_sections symbol_versions) loaded store most ≡ kind_by_kind (symbol_versions ∷ []) (store_sections store) loaded.size most parts store.loaded
@@ -166,7 +167,7 @@ listed_parts versions loaded store most parts =
     let last = kinds_cost_append record_kinds (symbol_versions ∷ []) (store_sections store) loaded.size most parts store.loaded in
     let first = kinds_cost_listed (first_kinds versions) loaded store most parts in
     let records = kinds_cost_listed record_kinds loaded store most parts in
-    omega (arith, names, once, sections, segments, all, last, first, records, segments_cost_listed loaded store most parts, last_cost_listed loaded store most parts)
+    omega (arith, names, once, sections, segments, all, last, first, records, segments_cost_listed segment_kinds loaded store most parts, last_cost_listed loaded store most parts)
 
 -- all program headers are in the store, or none
 viewed_is : (parts : ℕ) (loaded : LoadedFile) → (viewed_headers parts loaded ≡ 0) ⊎ (viewed_headers parts loaded ≡ loaded.header.e_phnum)

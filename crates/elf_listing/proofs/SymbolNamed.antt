@@ -1,14 +1,13 @@
 -- The symbol that a relocation entry names, by what the file's sections give.
-use Rattle.std.proofs.Common.{◌≡◌, ◌≢◌, ℕ, ◌+◌, ◌≤◌, ◌==◌, false, inl, inr, List, Option, None, Some, Result, Ok, Err, IfErr, refl, sym, ap, subst}
+use Rattle.std.proofs.Common.{◌≡◌, ◌≢◌, ℕ, ◌+◌, ◌≤◌, ◌==◌, false, inl, inr, List, None, Some, Result, Ok, Err, IfErr, refl, sym, ap, subst}
 use Rattle.std.proofs.lemmas.Bool.{cases_Bool, ne_eqb}
 use Rattle.elf_model.specs.Prelude.{DisplayedName, entry_at, first_refusal, linked_at, no_name, shown, st_name, strings_of, symbol_checks_of, symbol_named}
 use Rattle.elf_model.specs.declared.causes.Cause.{Cause}
 use Rattle.elf_model.specs.declared.causes.Refusal.{Refusal}
 use Rattle.elf_source.specs.Source.{CountedState, ReadsUpTo}
-use Rattle.elf_table.specs.Prelude.{IsReadFault, NameRead, RefersToSymbol, RefusedBy, Refuses}
+use Rattle.elf_table.specs.Prelude.{IsReadFault, NameRead, RefusedBy, Refuses}
 use Rattle.elf_table.specs.declared.fault.Fault.{Fault}
 use Rattle.elf_table.specs.declared.fault.Fault.TheVariants.{Refused, Source}
-use Rattle.elf_table.specs.declared.linked_symbol.LinkedSymbol.{LinkedSymbol}
 use Rattle.elf_table.specs.declared.names.NameEnd.{NameEnd}
 use Rattle.elf_listing.proofs.VersionedCosts.{IsReadFault-account}
 
@@ -44,15 +43,6 @@ pub refuses_named : (file : List ℕ) (cap header entry symbol : ℕ) (fault : F
     → Refuses (symbol_named file cap header entry symbol).0 fault (symbol_named file cap header entry symbol).1
 refuses_named file cap header entry symbol (Refused refusal) by = refuses_as _ _ _ (named_refused file cap header entry symbol refusal by)
 refuses_named file cap header entry symbol (Source fault offset) by = absurd by
-
--- the symbol that was found is none, or one of the table
-pub zero_by : (file : List ℕ) (header entry symbol : ℕ) (found : Option LinkedSymbol) → ((one : LinkedSymbol) → found ≡ Some one → ⊥) → RefersToSymbol file header entry symbol (Ok found) → symbol ≡ 0
-zero_by file header entry symbol None none refers = refers
-zero_by file header entry symbol (Some one) none refers = absurd (none one refl)
-
-pub found_by : (file : List ℕ) (header entry symbol : ℕ) (found : Option LinkedSymbol) (one : LinkedSymbol) → found ≡ Some one → RefersToSymbol file header entry symbol (Ok found)
-    → RefersToSymbol file header entry symbol (Ok (Some one))
-found_by file header entry symbol found one is refers = subst (λ (o : Option LinkedSymbol). RefersToSymbol file header entry symbol (Ok o)) is refers
 
 -- the name of a symbol that was found, as it is read: by its place and the strings of its name
 pub read_named : (file : List ℕ) (cap header entry symbol place off : ℕ) (names : List ℕ) (result : Result NameEnd Fault) (name : List ℕ) → symbol ≢ 0

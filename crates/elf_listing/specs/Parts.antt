@@ -1,7 +1,7 @@
 -- The parts of a listing after the file header: what is listed of each section, and how much is
 -- read.
-use Rattle.std.specs.Prelude.{ℕ, ◌+◌, ◌*◌, ◌==◌, ◌&&◌, ◌≡◌, not, Bool, true, false, List, [], ◌∷◌, Option, None, Some, Result}
-use Rattle.elf_model.specs.Prelude.{DisplayedName, HeaderTable, ListingItem, ListingStyle, SECTIONS, SEGMENTS, TableKind, cost_where, each, fault_of, has, held_headers, name_bytes, no_name, records_rows, relocations, relocations_with_versions, section_at, section_dynamic, section_notes, section_row, segment_at, segment_dynamic, segment_notes, segment_row, shown, suffixed_symbols, sum_over, symbol_versions, symbols, table_cost, table_rows, version_definitions, version_needs}
+use Rattle.std.specs.Prelude.{ℕ, ◌+◌, ◌-◌, ◌*◌, ◌==◌, ◌&&◌, ◌≡◌, not, Bool, true, false, List, [], ◌∷◌, length, take, Option, None, Some, Result}
+use Rattle.elf_model.specs.Prelude.{DisplayedName, HeaderTable, ListingItem, ListingStyle, SECTIONS, SEGMENTS, TableKind, cost_where, each, fault_of, has, held_headers, name_bytes, no_name, records_rows, relocations, relocations_with_versions, section_at, section_kinds, section_row, segment_at, segment_kinds, segment_row, shown, suffixed_symbols, sum_over, symbol_versions, symbols, table_cost, table_rows, version_definitions, version_needs}
 use Rattle.elf_model.specs.declared.causes.Cause.{Cause}
 use Rattle.elf_table.specs.Prelude.{LoadedFile, StoreState, StringTableRange, row, segment_bytes, strings_in}
 
@@ -105,21 +105,24 @@ unfoldable pub kinds_asked : ℕ → List PartListed → LoadedFile → StoreSta
 kinds_asked parts [] loaded store cap = 0
 kinds_asked parts (kind ∷ kinds) loaded store cap = asked_cost parts kind loaded store cap + kinds_asked parts kinds loaded store cap
 
--- the kinds of tables of section headers that are listed before the records of versions, and these
-abbrev pub first_kinds : Bool → List TableKind
-first_kinds versions = symbols_kind versions ∷ relocations_kind versions ∷ section_notes ∷ section_dynamic ∷ []
-
+-- the kinds of the records of versions, and the kinds of tables of section headers that are listed
+-- before them: all but those of versions
 abbrev pub record_kinds : List TableKind
 record_kinds = version_definitions ∷ version_needs ∷ []
 
--- what kinds of tables list that section headers describe
-unfoldable pub sections_listed : List TableKind → List PartListed
-sections_listed [] = []
-sections_listed (kind ∷ kinds) = of_sections kind ∷ sections_listed kinds
+abbrev pub first_kinds : Bool → List TableKind
+first_kinds versions = take (length (section_kinds versions) - length (symbol_versions ∷ record_kinds)) (section_kinds versions)
 
--- the kinds that program headers describe
+-- what each of some kinds lists, by the headers that describe its tables
+unfoldable pub kinds_listed : (TableKind → PartListed) → List TableKind → List PartListed
+kinds_listed of [] = []
+kinds_listed of (kind ∷ kinds) = of kind ∷ kinds_listed of kinds
+
+abbrev pub sections_listed : List TableKind → List PartListed
+sections_listed kinds = kinds_listed of_sections kinds
+
 abbrev pub segments_parts : List PartListed
-segments_parts = of_segments segment_notes ∷ of_segments segment_dynamic ∷ []
+segments_parts = kinds_listed of_segments segment_kinds
 
 -- how many bytes the tables of a loaded file read at most, those among the parts, with or without
 -- versions after the names of symbols

@@ -17,10 +17,15 @@ use elf_record::Parts;
 use elf_source::{Sink, Source};
 use elf_table::RunFault;
 
-/// The kinds of tables that section headers describe, except those of versions.
-type SectionTables = (Symbols, (Relocations, (SectionNotes, (SectionDynamic, ()))));
+/// The kinds of tables that section headers describe, except those of versions, in the order of the
+/// definition's `section_kinds`.
+type SectionTables = (Symbols, (Relocations, OtherTables));
 
-/// The kinds of tables that program headers describe, if a file has no section headers.
+/// Those that are listed after the symbols and the relocation entries.
+type OtherTables = (SectionNotes, (SectionDynamic, ()));
+
+/// The kinds of tables that program headers describe, if a file has no section headers, in the order
+/// of `segment_kinds`.
 type SegmentTables = (SegmentNotes, (SegmentDynamic, ()));
 
 /// The records of versions.

@@ -1,17 +1,17 @@
 -- The table's checks, those of the symbols that it refers to, and then the version lookup come
 -- before its rows.
-use Rattle.std.proofs.Common.{◌≡◌, ◌+◌, ◌<◌, ◌==◌, false, Option, None, refl, sym, ◌∙◌, arith}
-use Rattle.std.proofs.lemmas.Bool.{eq-eqb, false≢true, ne_eqb}
+use Rattle.std.proofs.Common.{◌≡◌, ◌+◌, ◌==◌, false, Option, None, refl, sym, ◌∙◌, arith}
+use Rattle.std.proofs.lemmas.Bool.{eq-eqb, ne_eqb}
 use Rattle.std.proofs.lemmas.Result.{err_from_is_err_and}
 use Rattle.elf_options.specs.Permitted.{style_of}
 use Rattle.elf_table.specs.Store.{row}
 use Rattle.elf_model.specs.Prelude.{name_bytes, relocations, relocations_with_versions, sh_link}
 use Rattle.elf_listing.specs.Prelude.{linked_count, store_sections}
 use Rattle.elf_listing.specs.declared.suffixes.VersionLookup.{VersionLookup}
-use Rattle.elf_listing.proofs.ListsLaws.{ListingCalls-nothing, ListingCalls-unread}
+use Rattle.elf_listing.proofs.ListsLaws.{ListingCalls-unread}
 use Rattle.elf_listing.proofs.RowLaws.{WroteSome-as}
 use Rattle.elf_listing.proofs.SuffixCosts.{plain_within, rows_plain, rows_within, suffixed_within, walks_fewer, walks_within}
-use Rattle.elf_listing.proofs.SuffixTables.{ListingCalls-after, entries_plain, entries_refused, entries_shown, linked_found, no_entries}
+use Rattle.elf_listing.proofs.SuffixTables.{ListingCalls-after, entries_plain, entries_refused, entries_shown, linked_found}
 use Rattle.elf_listing.proofs.relocations.list_versioned.Goals as goal
 
 pub returns-in_err-found : goal.returns-in_err-found

@@ -1,5 +1,5 @@
 -- Without a section of version indices the rows are those of entries alone.
-use Rattle.std.proofs.Common.{rules, ◌≡◌, ◌+◌, ◌<◌, ◌==◌, false, None, refl, sym, ◌∙◌, arith}
+use Rattle.std.proofs.Common.{◌+◌, ◌<◌, refl, sym, ◌∙◌, arith}
 use Rattle.std.proofs.lemmas.Bool.{eq-eqb, false≢true, ne_eqb}
 use Rattle.elf_options.specs.Permitted.{style_of}
 use Rattle.elf_table.specs.Store.{row}

@@ -1,5 +1,5 @@
 -- Without a section of version indices the rows are those of symbols alone.
-use Rattle.std.proofs.Common.{rules, ℕ, ◌+◌, None, refl, sym, ap, ◌∙◌, arith}
+use Rattle.std.proofs.Common.{◌+◌, refl, sym, ap, ◌∙◌}
 use Rattle.elf_options.specs.Permitted.{style_of}
 use Rattle.elf_table.specs.Prelude.{StringTableRange}
 use Rattle.elf_model.specs.Prelude.{name_bytes, section_at, slice, suffixed_symbols, symbols}
@@ -7,7 +7,7 @@ use Rattle.elf_table.proofs.RelocationLaws.{symbols-pass}
 use Rattle.elf_listing.specs.Prelude.{store_sections}
 use Rattle.elf_listing.proofs.ListsLaws.{ListingCalls-within}
 use Rattle.elf_listing.proofs.RowLaws.{WroteSome-as}
-use Rattle.elf_listing.proofs.SuffixCosts.{no_fewer, plain_alone, suffixed_within}
+use Rattle.elf_listing.proofs.SuffixCosts.{plain_alone, suffixed_within}
 use Rattle.elf_listing.proofs.SuffixFound.{none_found, unnumbered}
 use Rattle.elf_listing.proofs.SuffixTables.{symbols_plain}
 use Rattle.elf_listing.proofs.symbols.list_with_versions.Goals as goal

@@ -5,12 +5,12 @@ use Rattle.std.proofs.lemmas.Result.{err_from_is_err_and}
 use Rattle.elf_model.specs.Prelude.{st_name, st_shndx}
 use Rattle.elf_model.specs.Names.DisplayedName.{Whole}
 use Rattle.elf_note.proofs.HeldLaws.{still_ahead}
+use Rattle.elf_note.proofs.WordLaws.{none-of}
 use Rattle.elf_note.proofs.SpendsLaws.{SpendsAtMost-none, SpendsAtMost-then}
 use Rattle.elf_table.proofs.OpenLaws.{still_open}
 use Rattle.elf_table.specs.declared.names.NameEnd.{NameEnd}
-use Rattle.elf_listing.proofs.FirstTaken.{check-says}
 use Rattle.elf_listing.proofs.ViewedLaws.{still_viewed}
-use Rattle.elf_listing.proofs.SymbolNamed.{found_by, named_zero, read_named, refuses_named, says_after, zero_by}
+use Rattle.elf_listing.proofs.SymbolNamed.{named_zero, read_named, refuses_named, says_after}
 use Rattle.elf_listing.proofs.listing.Listing.read_linked.Goals as goal
 
 pub returns-in_err-found : goal.returns-in_err-found
@@ -18,7 +18,7 @@ returns-in_err-found g c =
     let p = err_from_is_err_and c.from_residual.result c.from_residual.ensures.1 in
     rw (p.1, p.2)
     (record {
-      fetches = (record { same_src = refl; same_out = refl; same_file = refl; same_style = refl }, refl, SpendsAtMost-none _ _ _ _ (omega arith), check-says _ _ _ _ c.in_err-found.ensures.refusal);
+      fetches = (record { same_src = refl; same_out = refl; same_file = refl; same_style = refl }, refl, SpendsAtMost-none _ _ _ _ (omega arith), grind (arith, c.in_err-found.ensures.refusal));
       read = λ file header held linked. refuses_named file c.args.self.now.style.cap.bytes header c.args.at c.args.symbol _ (c.in_err-found.ensures.held file header linked);
       defined = λ file header held linked some. tt;
     })
@@ -27,10 +27,10 @@ pub returns-in_default : goal.returns-in_default
 returns-in_default g c = record {
   fetches = (record { same_src = refl; same_out = refl; same_file = refl; same_style = refl }, refl, SpendsAtMost-none _ _ _ _ (omega arith), tt);
   read = λ file header held linked.
-      let zero = zero_by file header c.args.at c.args.symbol _ c.in_default.not-Some (c.in_ok-found.ensures.held file header linked) in
+      let zero = rw (none-of _ c.in_default.not-Some) at (c.in_ok-found.ensures.held file header linked) in
       rw (named_zero file c.args.self.now.style.cap.bytes header c.args.at c.args.symbol zero) (ap (λ name. Ok (Whole name)) (sym c.clear.ensures));
   defined = λ file header held linked some.
-      let zero = eq-eqb c.args.symbol 0 (zero_by file header c.args.at c.args.symbol _ c.in_default.not-Some (c.in_ok-found.ensures.held file header linked)) in absurd cc;
+      let zero = eq-eqb c.args.symbol 0 (rw (none-of _ c.in_default.not-Some) at (c.in_ok-found.ensures.held file header linked)) in absurd cc;
 }
 
 pub returns-in_err-end : goal.returns-in_err-end
@@ -47,7 +47,7 @@ returns-in_err-end g c =
         says_after {X = NameEnd} _ _ _ (Err c.in_err-end.field-0.0) _ _ _ (omega (arith, first.account)) first.reads more.3,
       );
       read = λ file header held linked.
-          let found = found_by file header c.args.at c.args.symbol _ _ c.in-Some.is (c.in_ok-found.ensures.held file header linked) in
+          let found = rw c.in-Some.is at (c.in_ok-found.ensures.held file header linked) in
           let decoded = c.in_ok-entry.ensures.read file held (c.args.self.now.held file held) in
           read_named file c.args.self.now.style.cap.bytes header c.args.at c.args.symbol _ _ _ (Err c.in_err-end.field-0.0) [] found.0 found.1 (c.at.ensures ∙ found.2) (c.from.ensures ∙ (decoded.st_name ∙ ap (st_name file) (sym c.at.ensures))) found.3
           (c.in_err-end.ensures.read file (c.in_ok-entry.ensures.ahead.costs.spends.reads.keeps.same_file ∙ held));
@@ -66,12 +66,12 @@ returns g c =
         tt,
       );
       read = λ file header held linked.
-          let found = found_by file header c.args.at c.args.symbol _ _ c.in-Some.is (c.in_ok-found.ensures.held file header linked) in
+          let found = rw c.in-Some.is at (c.in_ok-found.ensures.held file header linked) in
           let decoded = c.in_ok-entry.ensures.read file held (c.args.self.now.held file held) in
           read_named file c.args.self.now.style.cap.bytes header c.args.at c.args.symbol _ _ _ (Ok c.in_ok-end.end) _ found.0 found.1 (c.at.ensures ∙ found.2) (c.from.ensures ∙ (decoded.st_name ∙ ap (st_name file) (sym c.at.ensures))) found.3
           (c.in_ok-end.ensures.read file (c.in_ok-entry.ensures.ahead.costs.spends.reads.keeps.same_file ∙ held));
       defined = λ file header held linked some.
-          let found = found_by file header c.args.at c.args.symbol _ _ c.in-Some.is (c.in_ok-found.ensures.held file header linked) in
+          let found = rw c.in-Some.is at (c.in_ok-found.ensures.held file header linked) in
           let decoded = c.in_ok-entry.ensures.read file held (c.args.self.now.held file held) in
           ap (λ (n : ℕ). not (n == 0)) (decoded.st_shndx ∙ ap (st_shndx file) found.2);
     }

@@ -5,7 +5,6 @@ use Rattle.std.proofs.lemmas.Bool.{ne_eqb}
 use Rattle.elf_note.proofs.SpendsLaws.{SpendsAtMost-none}
 use Rattle.elf_listing.specs.Parts.{store_sections}
 use Rattle.elf_note.proofs.WordLaws.{none-of}
-use Rattle.elf_listing.proofs.FirstTaken.{check-says}
 use Rattle.elf_listing.proofs.SectionShown.{section_placed}
 use Rattle.elf_listing.proofs.SuffixFound.{bytes_of, no_symbols, unnumbered, refused_numbers, refused_walks, found_all, walks_of}
 use Rattle.elf_listing.proofs.listing.Listing.suffixes.Goals as goal
@@ -31,7 +30,7 @@ returns-in_err-found g c =
     let p = err_from_is_err_and c.from_residual.result c.from_residual.ensures.1 in
     rw (p.1, p.2)
     (record {
-      fetches = (record { same_src = refl; same_out = refl; same_file = refl; same_style = refl }, refl, SpendsAtMost-none _ _ _ _ (omega arith), check-says _ _ _ _ c.in_err-found.ensures.refusal);
+      fetches = (record { same_src = refl; same_out = refl; same_file = refl; same_style = refl }, refl, SpendsAtMost-none _ _ _ _ (omega arith), grind (arith, c.in_err-found.ensures.refusal));
       within = tt;
       pays = tt;
       read = λ file held counted.

@@ -5,7 +5,7 @@ use Rattle.std.proofs.Common.{ℕ, List}
 use Rattle.std.proofs.lemmas.Result.{err_from_is_err_and}
 use Rattle.elf_model.specs.Prelude.{ListingItem, symbol_versions}
 use Rattle.elf_table.specs.declared.file.SectionView.{SectionView}
-use Rattle.elf_listing.specs.Prelude.{first_kinds, of_sections, record_kinds, sections_listed, segments_listed, segments_parts}
+use Rattle.elf_listing.specs.Prelude.{first_kinds, kinds_listed, of_sections, record_kinds, sections_listed, segments_listed, segments_parts}
 use Rattle.elf_listing.proofs.FileShown.{segment_part, tables_are}
 use Rattle.elf_listing.proofs.PartsLaws.{Parts-as, Parts-more, Parts-then, cost_asked, cost_of_kinds, items_asked, items_of_kinds, records_listed}
 use Rattle.elf_listing.proofs.listing.Listing.tables.Goals as goal
@@ -38,7 +38,7 @@ returns-in_err-program_headers g c =
     (Parts-more _ _ _ (Parts-more _ _ _ (Parts-more _ _ _ (Parts-more _ _ _ (Parts-then _ (segments_cost c.args.parts.0) (segments_shown c.args.parts.0) c.in_ok-list_kind.ensures c.in_err-program_headers.ensures))))))
 
 pub returns-in_err-list : goal.returns-in_err-list
-unfolding sections_listed
+unfolding kinds_listed
 returns-in_err-list g c =
     let p = err_from_is_err_and c.from_residual-in_err-list.result c.from_residual-in_err-list.ensures.1 in
     let second = Parts-then _ (segments_cost c.args.parts.0) (segments_shown c.args.parts.0) c.in_ok-list_kind.ensures c.in_ok-program_headers.ensures in
@@ -47,7 +47,7 @@ returns-in_err-list g c =
     (Parts-more _ _ _ (Parts-more _ _ _ (Parts-more _ _ _ (Parts-then _ (first_cost c.args.parts.0) (first_items c.args.parts.0) second c.in_err-list.ensures)))))
 
 pub returns-in_err-list-2 : goal.returns-in_err-list-2
-unfolding sections_listed
+unfolding kinds_listed
 returns-in_err-list-2 g c =
     let p = err_from_is_err_and c.from_residual-in_err-list-2.result c.from_residual-in_err-list-2.ensures.1 in
     let parts = c.args.parts.0 in
@@ -58,7 +58,7 @@ returns-in_err-list-2 g c =
     (Parts-more _ _ _ (Parts-more _ _ _ (Parts-then _ (cost_of_kinds parts segments_parts) (items_of_kinds parts segments_parts) third c.in_err-list-2.ensures))))
 
 pub returns-in_err-list-3 : goal.returns-in_err-list-3
-unfolding sections_listed
+unfolding kinds_listed
 returns-in_err-list-3 g c =
     let p = err_from_is_err_and c.from_residual-in_err-list-3.result c.from_residual-in_err-list-3.ensures.1 in
     let parts = c.args.parts.0 in
@@ -70,11 +70,11 @@ returns-in_err-list-3 g c =
     (Parts-more _ _ _ (Parts-then _ (cost_of_kinds parts (sections_listed record_kinds)) (items_of_kinds parts (sections_listed record_kinds)) fourth c.in_err-list-3.ensures)))
 
 pub list_kind-requires-2 : goal.list_kind-requires-2
-unfolding sections_listed
+unfolding kinds_listed
 list_kind-requires-2 g c = records_listed c.args.parts.0 c.in_ok-list-3.ensures
 
 pub returns : goal.returns
-unfolding sections_listed
+unfolding kinds_listed
 returns g c =
     let parts = c.args.parts.0 in
     let second = Parts-then _ (segments_cost parts) (segments_shown parts) c.in_ok-list_kind.ensures c.in_ok-program_headers.ensures in

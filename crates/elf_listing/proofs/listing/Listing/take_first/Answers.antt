@@ -1,5 +1,5 @@
 -- The records of the first section are added, if its checks pass.
-use Rattle.std.proofs.Common.{rules, ◌≡◌, ℕ, ◌==◌, false, Some, None, refl, sym, ap, ◌∙◌, arith}
+use Rattle.std.proofs.Common.{◌≡◌, ℕ, ◌==◌, false, Some, None, refl, sym, ap, ◌∙◌, arith}
 use Rattle.std.proofs.lemmas.Bool.{ne_eqb}
 use Rattle.std.proofs.lemmas.Result.{err_from_is_err_and}
 use Rattle.elf_table.proofs.OpenLaws.{still_open}
@@ -12,7 +12,7 @@ use Rattle.elf_source.proofs.ReadsLaws.{ReadsUpTo-none}
 use Rattle.elf_table.specs.Tables.{StringTableRange, StringsInBounds}
 use Rattle.elf_note.proofs.WordLaws.{none-of}
 use Rattle.elf_listing.specs.Versions.{kind_type}
-use Rattle.elf_listing.proofs.FirstTaken.{check-says, empty-section, no-section, of-read, taken-all, taken-cut, taken-none, taken-refused}
+use Rattle.elf_listing.proofs.FirstTaken.{empty-section, no-section, of-read, taken-all, taken-cut, taken-none, taken-refused}
 use Rattle.elf_listing.proofs.SectionShown.{range_of_file, section_placed}
 use Rattle.elf_listing.proofs.VersionSections.{found, outside, unnamed}
 use Rattle.elf_listing.proofs.VersionedCosts.{IsReadFault-account, walk-cost}
@@ -55,7 +55,7 @@ returns-in_err-table-clause-records g c =
     let p = err_from_is_err_and c.from_residual.result c.from_residual.ensures.1 in
     rw (p.1, p.2)
     (record {
-      fetches = (record { same_src = refl; same_out = refl; same_file = refl; same_style = refl }, refl, spends_not _ _ _, check-says _ _ _ _ (search rules));
+      fetches = (record { same_src = refl; same_out = refl; same_file = refl; same_style = refl }, refl, spends_not _ _ _, grind (arith, c.in_err-table.ensures));
       within = tt;
       taken = λ file held records names.
           let belongs = c.args.self.now.loaded.belongs file held in
@@ -74,7 +74,7 @@ returns-in_err-strings-clause-records g c =
     let p = err_from_is_err_and c.from_residual-in_err-strings.result c.from_residual-in_err-strings.ensures.1 in
     rw (p.1, p.2)
     (record {
-      fetches = (record { same_src = refl; same_out = refl; same_file = refl; same_style = refl }, refl, spends_not _ _ _, check-says _ _ _ _ c.in_err-strings.ensures.refusal);
+      fetches = (record { same_src = refl; same_out = refl; same_file = refl; same_style = refl }, refl, spends_not _ _ _, grind (arith, c.in_err-strings.ensures.refusal));
       within = tt;
       taken = λ file held records names.
           let belongs = c.args.self.now.loaded.belongs file held in
