@@ -11,8 +11,24 @@ import re
 SIZES = {"uint8_t": 1, "uint16_t": 2, "uint32_t": 4, "uint64_t": 8, "int64_t": 8, "size_t": 8}
 # The types of the crate in C's words.
 OF_RUST = {"u8": "uint8_t", "u16": "uint16_t", "u32": "uint32_t", "u64": "uint64_t", "i64": "int64_t", "usize": "size_t"}
+# The structs that have another name in the crates, in which other things have the short one.
+IN_C = {"LookupFields": "found", "CallerLimits": "limits", "CallerItem": "item", "ByteRange": "range", "RowPosition": "rows",
+        "NotePosition": "notes", "MemberPosition": "members", "MemberRow": "member", "CallerLayout": "layout",
+        "CallerMissing": "missing", "LentSection": "lent_section", "LentName": "lent_name",
+        "CallEnd": "end", "ApplyCall": "job", "Versym": "version_word",
+        "VersionRecordPosition": "version_records", "RecordRow": "version_record", "Ehdr": "header", "Shdr": "section",
+        "Phdr": "segment", "Sym": "symbol", "Rela": "relocation", "Dyn": "dynamic"}
 # Fields that C calls `kind` too; each other `kind` of the crate is C's `type`.
 KINDS = ("elfsee_item", "elfsee_version_record", "elfsee_version_records")
+
+
+# Fields of the records that C gives another name; the others lose what is before the first `_`.
+OF_RECORDS = {"st_shndx": "section", "d_un": "value"}
+
+
+def record_field_in_c(field):
+    """The name in C of a field of a record, as `sh_flags`; that of another field is the same."""
+    return OF_RECORDS.get(field) or re.sub(r"^(?:e|sh|p|st|r|d)_", "", field)
 
 
 def without_comments(text):

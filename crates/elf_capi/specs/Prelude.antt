@@ -16,11 +16,11 @@ pub use Rattle.elf_capi.specs.ListedEntries.{ListsWithin, ReadsListed, all_liste
 pub use Rattle.elf_capi.specs.LoadRefused.{load_refused}
 pub use Rattle.elf_capi.specs.Queries.{IsPermitted, asks_of, wanted_by}
 pub use Rattle.elf_capi.specs.Resolved.{IsResolved, Resolves, ResolvesIn, ReturnsResolved, cut_number, file_of, nothing_resolved}
-pub use Rattle.elf_capi.specs.Rows.{StepsRows, next_at, rows_from_first}
+pub use Rattle.elf_capi.specs.Rows.{ReadsNext, StepsRows, next_at, rows_from_first}
 pub use Rattle.elf_capi.specs.SegmentDynamic.{ReadsSegmentDynamic}
 pub use Rattle.elf_capi.specs.Shown.{FillsMemory, HasAskedListing, HasListing, HasStyledListing, ListsInMemory, ShowsInMemory}
 pub use Rattle.elf_capi.specs.Symbols.{IsSymbol}
 pub use Rattle.elf_capi.specs.TableOpenings.{ReadsRows, holds}
 pub use Rattle.elf_capi.specs.Told.{IsStatus, status_from}
 pub use Rattle.elf_capi.specs.VersionRecords.{AreRecords, GoesOnTo, IsVersionWord, StepsRecord, bytes_within, first_kind, kind_number, record_names, records_left, stand_as, standing_in, starting}
-pub use Rattle.elf_capi.specs.Within.{OpensAlways, OpensEntries, ReturnsEntries, StepsBudgeted}
+pub use Rattle.elf_capi.specs.Within.{OpensAlways, OpensEntries, ReadsBudgeted, ReturnsEntries, StepsBudgeted}

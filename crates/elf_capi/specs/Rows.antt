@@ -1,5 +1,5 @@
 -- A position in a table of a file in memory, and steps over its rows.
-use Rattle.std.specs.Prelude.{ℕ, ◌≡◌, ◌+◌, ◌-◌, ◌*◌, ◌/◌, ◌==◌, min, if◌then◌else◌}
+use Rattle.std.specs.Prelude.{ℕ, ◌≡◌, ◌+◌, ◌-◌, ◌*◌, ◌/◌, ◌<◌, ◌==◌, min, if◌then◌else◌, List, length, slice_index_or}
 use Rattle.elf_table.specs.Tables.{TableRange as Table, StringTableRange}
 use Rattle.elf_capi.specs.declared.rows.RowPosition.{RowPosition}
 
@@ -39,3 +39,8 @@ stepped rows count = record {
 pub record StepsRows (size entry : ℕ) (old new : RowPosition) (room count : ℕ) : Type 0 where
   pub counted : count ≡ min (rows_left size old entry) room
   pub stepped : new ≡ stepped old count
+
+-- THE ROWS THAT A STEP READS: each is the entry at its place in the file
+pub record ReadsNext {Row : Type 0} (entry : ℕ) (stands : List ℕ → ℕ → Row → Type 0) (file : List ℕ) (old new : RowPosition) (room : ℕ) (out : List Row) (count : ℕ) : Type 0 where
+  pub steps : StepsRows (length file) entry old new room count
+  pub read : (k : ℕ) (none : Row) → k < count → stands file (next_at old entry k) (slice_index_or out k none)

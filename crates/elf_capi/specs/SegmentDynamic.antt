@@ -55,8 +55,5 @@ ReadsSegmentDynamic file index (Ok (Some rows)) =
     (first_refused file ≡ None) × HasEntries file index
     × (first_refusal (segment_dynamic_checks file (segment_at file index)) ≡ None)
     × (rows ≡ all_listed file (all_entries file index))
-ReadsSegmentDynamic file index (Ok None) = (first_refused file ≡ None) × ((e_phnum file ≤ index) ⊎ (p_type file (segment_at file index) ≢ PT_DYNAMIC))
-ReadsSegmentDynamic file index (Err refusal) =
-    (first_refused file ≡ Some refusal)
-    ⊎ ((first_refused file ≡ None) × HasEntries file index
-    × (first_refusal (segment_dynamic_checks file (segment_at file index)) ≡ Some refusal))
+ReadsSegmentDynamic file index (Ok None) = FindsEntries file index (Ok None)
+ReadsSegmentDynamic file index (Err refusal) = FindsEntries file index (Err refusal)

@@ -1,5 +1,5 @@
 -- Rows within a budget: what is read counts, over all tables.
-use Rattle.std.specs.Prelude.{ℕ, ◌≡◌, ◌+◌, ◌-◌, ◌*◌, ◌/◌, ◌^◌, ◌==◌, min, nat_lt, if◌then◌else◌, Option, None, Some, Result, Ok, Err}
+use Rattle.std.specs.Prelude.{ℕ, ◌≡◌, ◌<◌, ◌≤◌, ◌+◌, ◌-◌, ◌*◌, ◌/◌, ◌^◌, ◌==◌, min, nat_lt, if◌then◌else◌, List, length, slice_index_or, Option, None, Some, Result, Ok, Err, IfSome}
 use Rattle.elf_model.specs.declared.causes.Cause.TheVariants.{Budget}
 use Rattle.elf_model.specs.declared.causes.Refusal.{Refusal}
 use Rattle.elf_capi.specs.ListedEntries.{ReadsListed}
@@ -59,3 +59,9 @@ pub record StepsBudgeted (size entry : ℕ) (limits : CallerLimits) (asked later
   pub steps : StepsRows size entry old new (min room (budget_left (budget_of limits) asked / entry)) count
   pub counts : later ≡ asked_more asked (entry * count)
   pub tells : end ≡ step_end size entry new (room - count)
+
+-- THE ROWS THAT A STEP READS WITHIN A BUDGET: each is the entry at its place in the file
+pub record ReadsBudgeted {Row : Type 0} (entry : ℕ) (stands : List ℕ → ℕ → Row → Type 0) (file : List ℕ) (limits : CallerLimits) (asked later : ℕ) (old new : RowPosition) (room : ℕ) (out : List Row) (count : ℕ) (end : CallEnd) : Type 0 where
+  pub steps : StepsBudgeted (length file) entry limits asked later old new room count end
+  pub budget : IfSome (budget_of limits) (λ bytes. asked ≤ bytes → later ≤ bytes)
+  pub read : (k : ℕ) (none : Row) → k < count → stands file (next_at old entry k) (slice_index_or out k none)

@@ -79,5 +79,5 @@ pub use segment_entries::{segment_dynamic, segment_dynamic_within};
 pub use spent::{count_entries, entries_left, next_within};
 pub use symbol::Symbol;
 pub use table_row::{TableRow, next_rows};
-pub use tables::{dynamic_within, rows_in};
+pub use tables::{dynamic_within, open_rows, rows_in};
 pub use version_words::Versym;

@@ -1,6 +1,6 @@
 //! Rows of one size, and steps over them.
 ghost use Rattle.std.specs.Prelude.{◌≡◌, ◌+◌, ◌*◌, ◌<◌, ◌≤◌, ℕ, List, length, slice_index_or};
-ghost use Rattle.elf_capi.specs.Rows.{StepsRows, next_at};
+ghost use Rattle.elf_capi.specs.Rows.{ReadsNext};
 
 use crate::rows::RowPosition;
 
@@ -27,10 +27,8 @@ pub trait TableRow: Copy {
 /// Reads the next rows to the start of `out`, as many as there are and as fit, steps over them, and
 /// returns how many.
 pub fn next_rows<R: TableRow>(file: &[u8], rows: &mut RowPosition, out: &mut [R]) -> usize
-    ensures steps { StepsRows (length file.now) R.BYTES rows.old rows.new
-        (length out.old) result }
-    ensures read { (k : ℕ) (none : R) → k < result →
-        R.stands file.now (next_at rows.old R.BYTES k) (slice_index_or out.new k none) }
+    ensures { ReadsNext R.BYTES R.stands file.now rows.old rows.new (length out.old) out.new
+        result }
 {
     let count = rows.next(file.len(), R::BYTES, out.len());
     if count > 0 {

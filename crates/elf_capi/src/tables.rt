@@ -2,6 +2,7 @@
 ghost use Rattle.std.specs.Prelude.{◌≡◌, ◌<◌, IfErr, min};
 ghost use Rattle.elf_model.specs.Records.{section_at};
 ghost use Rattle.elf_table.specs.Faults.{IsOfCheck};
+ghost use Rattle.elf_capi.specs.CallOpenings.{OpensRows};
 ghost use Rattle.elf_capi.specs.declared.kind.RowKind.TheVariants.{Dynamic};
 ghost use Rattle.elf_capi.specs.ListedEntries.{ReadsListed};
 ghost use Rattle.elf_capi.specs.TableOpenings.{OpensTable, ReadsRows, linked_names};
@@ -9,6 +10,7 @@ ghost use Rattle.elf_capi.specs.TableOpenings.{OpensTable, ReadsRows, linked_nam
 use crate::dynamic_table::{listed_rows, listed_within};
 use crate::held::MemoryFile;
 use crate::kind::{RowKind, holds};
+use crate::limits::{CallerLimits, checked_limits};
 use crate::load_checks::held_file;
 use crate::rows::RowPosition;
 use elf_record::Refusal;
@@ -45,6 +47,21 @@ pub fn rows_in(
         // No check is a fault of the source.
         Err(Fault::Source { .. }) => Ok(None),
     }
+}
+
+/// Opens such a table, as [`rows_in`] does, with what the limits and the given bytes of room allow;
+/// returns `None` for a call with a number out of range.
+pub fn open_rows(
+    file: &[u8],
+    limits: &CallerLimits,
+    room: usize,
+    section: u16,
+    kind: RowKind,
+) -> Option<Result<Option<RowPosition>, Refusal>>
+    ensures { OpensRows kind file.now limits.now room section result }
+{
+    let limits = checked_limits(limits, room)?;
+    Some(rows_in(file, limits.headers, section, kind))
 }
 
 /// Checks the table of dynamic entries that a section of a file in memory holds, as [`rows_in`]

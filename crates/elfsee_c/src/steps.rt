@@ -1,10 +1,6 @@
 //! The exports that read the next rows of a table of a file in memory.
-ghost use Rattle.std.specs.Prelude.{◌<◌, ℕ, length, slice_index_or};
-ghost use Rattle.elf_capi.specs.Prelude.{IsDynamic, IsRelocation, IsSymbol, IsVersionWord, StepsRows, next_at};
-ghost use Rattle.elf_capi.specs.declared.relocations.Relocation.{Relocation as OneRelocation};
-ghost use Rattle.elf_capi.specs.declared.symbol.Symbol.{Symbol as OneSymbol};
-ghost use Rattle.elf_capi.specs.declared.version_words.Versym.{Versym as OneWord};
-ghost use Rattle.elf_capi.specs.declared.dynamic.Dynamic.{Dynamic as OneDynamic};
+ghost use Rattle.std.specs.Prelude.{length};
+ghost use Rattle.elf_capi.specs.Prelude.{IsDynamic, IsRelocation, IsSymbol, IsVersionWord, ReadsNext};
 
 use elf_capi::{Dynamic, Relocation, RowPosition, Symbol, Versym, next_rows};
 
@@ -16,9 +12,7 @@ pub extern "C" fn elfsee_next_symbols(
     rows: &mut RowPosition,
     out: &mut [Symbol],
 ) -> usize
-    ensures steps { StepsRows (length file.now) 24 rows.old rows.new (length out.old) result }
-    ensures read { (k : ℕ) (none : OneSymbol) → k < result →
-        IsSymbol file.now (next_at rows.old 24 k) (slice_index_or out.new k none) }
+    ensures { ReadsNext 24 IsSymbol file.now rows.old rows.new (length out.old) out.new result }
 {
     next_rows(file, rows, out)
 }
@@ -30,9 +24,7 @@ pub extern "C" fn elfsee_next_relocations(
     rows: &mut RowPosition,
     out: &mut [Relocation],
 ) -> usize
-    ensures steps { StepsRows (length file.now) 24 rows.old rows.new (length out.old) result }
-    ensures read { (k : ℕ) (none : OneRelocation) → k < result →
-        IsRelocation file.now (next_at rows.old 24 k) (slice_index_or out.new k none) }
+    ensures { ReadsNext 24 IsRelocation file.now rows.old rows.new (length out.old) out.new result }
 {
     next_rows(file, rows, out)
 }
@@ -45,9 +37,7 @@ pub extern "C" fn elfsee_next_dynamic(
     rows: &mut RowPosition,
     out: &mut [Dynamic],
 ) -> usize
-    ensures steps { StepsRows (length file.now) 16 rows.old rows.new (length out.old) result }
-    ensures read { (k : ℕ) (none : OneDynamic) → k < result →
-        IsDynamic file.now (next_at rows.old 16 k) (slice_index_or out.new k none) }
+    ensures { ReadsNext 16 IsDynamic file.now rows.old rows.new (length out.old) out.new result }
 {
     next_rows(file, rows, out)
 }
@@ -60,9 +50,7 @@ pub extern "C" fn elfsee_next_version_words(
     rows: &mut RowPosition,
     out: &mut [Versym],
 ) -> usize
-    ensures steps { StepsRows (length file.now) 2 rows.old rows.new (length out.old) result }
-    ensures read { (k : ℕ) (none : OneWord) → k < result →
-        IsVersionWord file.now (next_at rows.old 2 k) (slice_index_or out.new k none) }
+    ensures { ReadsNext 2 IsVersionWord file.now rows.old rows.new (length out.old) out.new result }
 {
     next_rows(file, rows, out)
 }

@@ -4,9 +4,7 @@ ghost use Rattle.elf_capi.specs.Prelude.{OpensRows, ReturnsOpened};
 ghost use Rattle.elf_capi.specs.declared.kind.RowKind.TheVariants.{Relocations, Symbols, VersionWords};
 ghost use Rattle.elf_capi.specs.declared.kind.RowKind.TheVariants.{Dynamic};
 
-use elf_capi::{
-    CallEnd, CallerLimits, RowKind, RowPosition, checked_limits, report_opened, rows_in,
-};
+use elf_capi::{CallEnd, CallerLimits, RowKind, RowPosition, open_rows, report_opened};
 
 /// Checks the symbol table that a section of a file holds, and sets `rows` before its first row.
 ///
@@ -29,16 +27,8 @@ pub extern "C" fn elfsee_symbols(
     ensures { ReturnsOpened (OpensRows Symbols file.now limits.now (length room.now) section)
         result rows.old rows.new end.new }
 {
-    report_opened(
-        checked_limits(limits, room.len()).map(|limits| rows_in(
-            file,
-            limits.headers,
-            section,
-            RowKind::Symbols,
-        )),
-        rows,
-        end,
-    )
+    let opened = open_rows(file, limits, room.len(), section, RowKind::Symbols);
+    report_opened(opened, rows, end)
 }
 
 /// Checks the table of relocation entries that a section of a file holds, as [`elfsee_symbols`]
@@ -56,16 +46,8 @@ pub extern "C" fn elfsee_relocations(
     ensures { ReturnsOpened (OpensRows Relocations file.now limits.now (length room.now) section)
         result rows.old rows.new end.new }
 {
-    report_opened(
-        checked_limits(limits, room.len()).map(|limits| rows_in(
-            file,
-            limits.headers,
-            section,
-            RowKind::Relocations,
-        )),
-        rows,
-        end,
-    )
+    let opened = open_rows(file, limits, room.len(), section, RowKind::Relocations);
+    report_opened(opened, rows, end)
 }
 
 /// Checks the table of dynamic entries that a section of a file holds, as [`elfsee_symbols`] does
@@ -83,16 +65,8 @@ pub extern "C" fn elfsee_dynamic(
     ensures { ReturnsOpened (OpensRows Dynamic file.now limits.now (length room.now) section)
         result rows.old rows.new end.new }
 {
-    report_opened(
-        checked_limits(limits, room.len()).map(|limits| rows_in(
-            file,
-            limits.headers,
-            section,
-            RowKind::Dynamic,
-        )),
-        rows,
-        end,
-    )
+    let opened = open_rows(file, limits, room.len(), section, RowKind::Dynamic);
+    report_opened(opened, rows, end)
 }
 
 /// Checks the table of symbols' versions that a section of a file holds, as [`elfsee_symbols`] does
@@ -112,14 +86,6 @@ pub extern "C" fn elfsee_version_words(
     ensures { ReturnsOpened (OpensRows VersionWords file.now limits.now (length room.now) section)
         result rows.old rows.new end.new }
 {
-    report_opened(
-        checked_limits(limits, room.len()).map(|limits| rows_in(
-            file,
-            limits.headers,
-            section,
-            RowKind::VersionWords,
-        )),
-        rows,
-        end,
-    )
+    let opened = open_rows(file, limits, room.len(), section, RowKind::VersionWords);
+    report_opened(opened, rows, end)
 }

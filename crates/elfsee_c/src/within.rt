@@ -1,10 +1,6 @@
 //! The exports that read rows within a budget: what they read counts, over all tables.
-ghost use Rattle.std.specs.Prelude.{◌≡◌, ◌≤◌, ◌<◌, ℕ, IfSome, length, slice_index_or};
-ghost use Rattle.elf_capi.specs.Prelude.{IsDynamic, IsRelocation, IsSymbol, IsVersionWord, OpensAlways, OpensEntries, OpensRows, ReadsSegmentDynamic, ReturnsEntries, StepsBudgeted, budget_of, next_at};
-ghost use Rattle.elf_capi.specs.declared.relocations.Relocation.{Relocation as OneRelocation};
-ghost use Rattle.elf_capi.specs.declared.symbol.Symbol.{Symbol as OneSymbol};
-ghost use Rattle.elf_capi.specs.declared.version_words.Versym.{Versym as OneWord};
-ghost use Rattle.elf_capi.specs.declared.dynamic.Dynamic.{Dynamic as OneDynamic};
+ghost use Rattle.std.specs.Prelude.{◌≤◌, IfSome, length};
+ghost use Rattle.elf_capi.specs.Prelude.{IsDynamic, IsRelocation, IsSymbol, IsVersionWord, OpensAlways, OpensEntries, OpensRows, ReadsSegmentDynamic, ReadsBudgeted, ReturnsEntries, budget_of};
 ghost use Rattle.elf_capi.specs.declared.kind.RowKind.TheVariants.{Dynamic as DynamicRows};
 
 use elf_capi::{
@@ -81,12 +77,8 @@ pub extern "C" fn elfsee_next_symbols_within(
     out: &mut [Symbol],
     end: &mut CallEnd,
 ) -> usize
-    ensures steps { StepsBudgeted (length file.now) 24 limits.now asked.old asked.new
-        rows.old rows.new (length out.old) result end.new }
-    ensures budget { IfSome (budget_of limits.now)
-        (λ bytes. asked.old ≤ bytes → asked.new ≤ bytes) }
-    ensures read { (k : ℕ) (none : OneSymbol) → k < result →
-        IsSymbol file.now (next_at rows.old 24 k) (slice_index_or out.new k none) }
+    ensures { ReadsBudgeted 24 IsSymbol file.now limits.now asked.old asked.new rows.old rows.new
+        (length out.old) out.new result end.new }
 {
     next_within(file, limits, asked, rows, out, end)
 }
@@ -101,12 +93,8 @@ pub extern "C" fn elfsee_next_relocations_within(
     out: &mut [Relocation],
     end: &mut CallEnd,
 ) -> usize
-    ensures steps { StepsBudgeted (length file.now) 24 limits.now asked.old asked.new
-        rows.old rows.new (length out.old) result end.new }
-    ensures budget { IfSome (budget_of limits.now)
-        (λ bytes. asked.old ≤ bytes → asked.new ≤ bytes) }
-    ensures read { (k : ℕ) (none : OneRelocation) → k < result →
-        IsRelocation file.now (next_at rows.old 24 k) (slice_index_or out.new k none) }
+    ensures { ReadsBudgeted 24 IsRelocation file.now limits.now asked.old asked.new rows.old rows.new
+        (length out.old) out.new result end.new }
 {
     next_within(file, limits, asked, rows, out, end)
 }
@@ -122,12 +110,8 @@ pub extern "C" fn elfsee_next_dynamic_within(
     out: &mut [Dynamic],
     end: &mut CallEnd,
 ) -> usize
-    ensures steps { StepsBudgeted (length file.now) 16 limits.now asked.old asked.new
-        rows.old rows.new (length out.old) result end.new }
-    ensures budget { IfSome (budget_of limits.now)
-        (λ bytes. asked.old ≤ bytes → asked.new ≤ bytes) }
-    ensures read { (k : ℕ) (none : OneDynamic) → k < result →
-        IsDynamic file.now (next_at rows.old 16 k) (slice_index_or out.new k none) }
+    ensures { ReadsBudgeted 16 IsDynamic file.now limits.now asked.old asked.new rows.old rows.new
+        (length out.old) out.new result end.new }
 {
     next_within(file, limits, asked, rows, out, end)
 }
@@ -147,12 +131,8 @@ pub extern "C" fn elfsee_next_version_words_within(
     out: &mut [Versym],
     end: &mut CallEnd,
 ) -> usize
-    ensures steps { StepsBudgeted (length file.now) 2 limits.now asked.old asked.new
-        rows.old rows.new (length out.old) result end.new }
-    ensures budget { IfSome (budget_of limits.now)
-        (λ bytes. asked.old ≤ bytes → asked.new ≤ bytes) }
-    ensures read { (k : ℕ) (none : OneWord) → k < result →
-        IsVersionWord file.now (next_at rows.old 2 k) (slice_index_or out.new k none) }
+    ensures { ReadsBudgeted 2 IsVersionWord file.now limits.now asked.old asked.new rows.old rows.new
+        (length out.old) out.new result end.new }
 {
     next_within(file, limits, asked, rows, out, end)
 }
