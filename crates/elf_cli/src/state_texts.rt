@@ -5,13 +5,15 @@ use crate::explain::Explanation;
 pub(crate) static STATES: [Explanation; 16] = [
     Explanation {
         word: "ok",
-        text: "    Line C: elfsee show with these options exits with status 0.
+        text: "    Line C: elfsee show with these options exits with status 0: the tables
+    that it lists are sound. Whether segments can be mapped is not checked.
 ",
     },
     Explanation {
         word: "refused",
-        text: "    Line C: the file is malformed at this offset, for this cause. Line L: so
-    is this object, or it is no library. Line U: the records of versions of
+        text: "    Line C: the file has this fault at this offset, or has more than is
+    allowed, or is of a type that elfsee does not read: see the cause. Line L:
+    so is this object, or it is no library. Line U: the records of versions of
     the object that should define it are malformed. Line B: the lookup ends at
     a fault of this object.
     What to do: elfsee explain CAUSE says what a cause means.
@@ -53,7 +55,8 @@ pub(crate) static STATES: [Explanation; 16] = [
     machine: the shell says 'No such file or directory' of a program that
     exists.
     What to do: install the package that has it, or set LD_LIBRARY_PATH or a
-    RUNPATH to its directory.
+    RUNPATH to its directory; elfsee reads --library-path instead of the
+    variable.
 ",
     },
     Explanation {
@@ -98,16 +101,17 @@ pub(crate) static STATES: [Explanation; 16] = [
     },
     Explanation {
         word: "unbound",
-        text: "    Line B: no object defines the symbol.
-    What to do: link with the library that defines it: elfsee list --name NAME
-    finds it.
+        text: "    Line B: no object defines the symbol. A loader says: undefined symbol.
+    What to do: link with the library that defines it: elfsee list --defined
+    --name NAME finds it. A plugin's symbols may be those of its program.
 ",
     },
     Explanation {
         word: "absent",
-        text: "    Line F: no symbol has this name in the hash table.
-    What to do: elfsee show --name NAME also looks into the table of all
-    symbols.
+        text: "    Line F: no symbol in the hash table has this name and, if one is given,
+    this version.
+    What to do: elfsee show --gnu --versions --name NAME prints the versions
+    of the name, also of symbols that no hash table has.
 ",
     },
 ];
