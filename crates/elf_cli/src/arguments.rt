@@ -10,7 +10,7 @@ use crate::command_sets::{
 };
 use clap::builder::ValueParser;
 
-static ARGUMENTS: [ArgSpec; 34] = [
+static ARGUMENTS: [ArgSpec; 37] = [
     ArgSpec {
         name: "headers",
         kind: ArgKind::Count(ValueParser::Signed(1, 65279), "4096"),
@@ -158,6 +158,24 @@ static ARGUMENTS: [ArgSpec; 34] = [
         name: "name-list",
         kind: ArgKind::Value("LIST"),
         help: "Also show the rows with the names in the file LIST, one per line",
+        commands: SELECTING,
+    },
+    ArgSpec {
+        name: "defined",
+        kind: ArgKind::Flag,
+        help: "Of symbols, show only the defined ones",
+        commands: SELECTING,
+    },
+    ArgSpec {
+        name: "undefined",
+        kind: ArgKind::Flag,
+        help: "Of symbols, show only the undefined ones",
+        commands: SELECTING,
+    },
+    ArgSpec {
+        name: "dynamic",
+        kind: ArgKind::Flag,
+        help: "Of symbols, show only those of dynamic symbol tables",
         commands: SELECTING,
     },
     ArgSpec {

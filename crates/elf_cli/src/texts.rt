@@ -48,6 +48,9 @@ Options, before or after FILE; 'elfsee help COMMAND' prints those of one command
   --name-list LIST
                 for show, archive and list: also show the rows with the names in the file LIST,
                 one per line
+  --defined     for show, archive and list: of symbols, show only the defined ones
+  --undefined   for show, archive and list: of symbols, show only the undefined ones
+  --dynamic     for show, archive and list: of symbols, show only those of dynamic symbol tables
   --members     for check and list: also read the members of archives
   --require WORDS
                 for traits: print which of these words each program and library lacks, as in
@@ -150,10 +153,14 @@ allows --names: as many bytes of a name are compared as the longest NAME has. Wi
 NAME matches each version of the name, NAME@VERSION that version, and NAME@@VERSION that version
 if it is the default one.
 
+With --defined, --undefined or --dynamic only the symbols are listed, or the parts given with
+--only; of other parts all rows are shown. --defined cannot be used with --undefined.
+
 Examples:
   elfsee show --only symbols /bin/ls
   elfsee show --only sections,segments /bin/ls
   elfsee show --name main --name printf /bin/ls
+  elfsee show --undefined /bin/ls
   elfsee show --gnu --versions --name memcpy@@GLIBC_2.14 /lib/x86_64-linux-gnu/libc.so.6";
 
 pub(crate) const LISTED: &str = "\
@@ -247,6 +254,7 @@ file is refused, the next member follows.
   --only PART  list the members and these parts of each; --only members: only the members
   --max-read N read at most N bytes of the archive
   --name NAME  of the members' symbols, or of the parts of --only, show those with this name
+  --defined    of the members' symbols, show the defined ones; --undefined: the undefined ones
 
 Exit status: 1 if the archive or a member is refused.
 
