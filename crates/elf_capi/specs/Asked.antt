@@ -5,7 +5,7 @@ use Rattle.std.specs.Borrow.{Bor}
 use Rattle.std.specs.Cmp.Lexicographic.{slice_cmp}
 use Rattle.std.specs.Int.RustNames.{bit_and}
 use Rattle.std.specs.Ordering.{is_lt, nat_cmp}
-use Rattle.elf_model.specs.Prelude.{EveryRow, ListingStyle, RELOCS, SYMBOLS, VERSIONS, all_parts, are_all, field, has}
+use Rattle.elf_model.specs.Prelude.{EveryRow, ListingStyle, RELOCS, SYMBOLS, VERSIONS, all_parts, are_all, every_symbol, field, has}
 use Rattle.elf_model.specs.declared.formats.Format.TheVariants.{Columns, Object}
 use Rattle.elf_model.specs.declared.formats.Format.{Format}
 use Rattle.elf_options.specs.Prelude.{IsRowName, NeverDescend, named_style, texts_of}
@@ -42,6 +42,7 @@ style_of_flags asked cap = record {
   by_segments = has (flags_in asked) 1;
   format = format_in (flags_in asked);
   choice = EveryRow;
+  symbols = every_symbol;
   versions = has_versions_in asked;
 }
 
@@ -91,6 +92,7 @@ every_row_of listing cap = record {
   by_segments = listing.by_segments;
   format = listing.format;
   choice = EveryRow;
+  symbols = every_symbol;
   versions = listing.versions;
 }
 

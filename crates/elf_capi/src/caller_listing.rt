@@ -1,7 +1,7 @@
 //! A listing, as a caller requests it.
 ghost use Rattle.elf_options.specs.Names.{NeverDescend};
 
-use elf_model::Format;
+use elf_model::{Format, SymbolFilter};
 use elf_options::{RowFilter, style_with_names};
 use elf_record::Parts;
 use elf_table::{ListingStyle, NameLimit};
@@ -60,6 +60,7 @@ impl<'n> CallerListing<'n> {
             by_segments: self.by_segments,
             format: self.format,
             choice: RowFilter::every_row(),
+            symbols: SymbolFilter::every_symbol(),
             versions: self.versions,
         };
         if self.by_name {

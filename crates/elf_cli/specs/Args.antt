@@ -8,7 +8,7 @@ use Rattle.elf_options.specs.declared.caps.Limits.{Limits}
 use Rattle.elf_options.specs.declared.caps.ListingStyle.{ListingStyle}
 use Rattle.elf_cli.specs.CommandLine.{command_among, command_rows}
 use Rattle.elf_cli.specs.Faults.{IsUnasked}
-use Rattle.elf_cli.specs.Options.{HasNumber, IsCount, asked_format, asked_parts, has_two_formats, is_given, is_option_set, is_set_or_implied, values_of}
+use Rattle.elf_cli.specs.Options.{HasNumber, IsCount, asked_format, asked_parts, asked_symbols, has_two_formats, is_given, is_option_set, is_set_or_implied, values_of}
 use Rattle.elf_cli.specs.declared.command_args.CommandArgs.{CommandArgs}
 use Rattle.elf_cli.specs.declared.command_args.CommandName.{CommandName}
 use Rattle.elf_cli.specs.declared.faults.RequestFault.{RequestFault}
@@ -30,6 +30,7 @@ pub record IsStyle (rows : List Row) (style : ListingStyle) : Type 0 where
   pub by_segments : style.by_segments ≡ is_option_set (first_of (codes "by-segments") rows)
   pub format : style.format ≡ asked_format rows
   pub choice : choice_of style.choice ≡ EveryRow
+  pub symbols : style.symbols ≡ asked_symbols rows
   pub versions : style.versions ≡ is_set_or_implied (codes "versions") rows
 
 pub record AreCapOptions (rows : List Row) (caps : Caps) : Type 0 where

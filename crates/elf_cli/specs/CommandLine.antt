@@ -60,7 +60,7 @@ many_files = CHECK + LIST + TRAITS + NEEDS
 abbrev listing : ℕ
 listing = SHOW + SAMPLE + CHECK + LIST + ARCHIVE
 
--- those whose rows may be selected by name
+-- those whose rows may be selected
 abbrev selecting : ℕ
 selecting = SHOW + LIST + ARCHIVE
 
@@ -92,6 +92,9 @@ argument_rows =
     ∷ (selecting + SAMPLE, flag (codes "versions"))
     ∷ (selecting, by_letter (codes "n") (repeated (codes "name")))
     ∷ (selecting, valued (codes "name-list"))
+    ∷ (selecting, flag (codes "defined"))
+    ∷ (selecting, flag (codes "undefined"))
+    ∷ (selecting, flag (codes "dynamic"))
     ∷ (APPLY, valued (codes "layout"))
     ∷ (APPLY, flag (codes "explain"))
     ∷ (CHECK + LIST, flag (codes "members"))

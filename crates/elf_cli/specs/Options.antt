@@ -6,10 +6,11 @@ use Rattle.std.specs.List.{fold, list_all, list_any}
 use Rattle.clap.specs.Walk.{Row, Text, all_of, first_of}
 use Rattle.clap.specs.declared.parser.matches.ValueSource.{ValueSource}
 use Rattle.clap.specs.declared.parser.matches.ValueSource.TheVariants.{CommandLine, DefaultValue}
-use Rattle.elf_model.specs.Prelude.{DYNAMIC, HEADER, NOTES, RELOCS, SECTIONS, SEGMENTS, SYMBOLS, VERSIONS, all_parts}
+use Rattle.elf_model.specs.Prelude.{DYNAMIC, HEADER, NOTES, RELOCS, SECTIONS, SEGMENTS, SYMBOLS, VERSIONS, all_parts, is_narrow}
 use Rattle.elf_cli.specs.Pieces.{pieces}
 use Rattle.elf_model.specs.declared.formats.Format.TheVariants.{Columns, Object, Table}
 use Rattle.elf_model.specs.declared.formats.Format.{Format}
+use Rattle.elf_model.specs.declared.symbol_filters.SymbolFilter.{SymbolFilter}
 
 -- the value of decimal digits, with an optional plus before them
 abbrev decimal_value : Text → ℕ
@@ -65,6 +66,14 @@ abbrev pub is_set_or_implied : Text → List Row → Bool
 is_set_or_implied option rows =
     is_option_set (first_of option rows) || (is_option_set (first_of (codes "table") rows) && is_some (first_of option rows))
 
+-- which symbols are shown: each option is a condition
+abbrev pub asked_symbols : List Row → SymbolFilter
+asked_symbols rows = record {
+  defined = is_option_set (first_of (codes "defined") rows);
+  undefined = is_option_set (first_of (codes "undefined") rows);
+  dynamic = is_option_set (first_of (codes "dynamic") rows);
+}
+
 -- the parts of a listing, by their names
 abbrev pub part_names : List (ℕ × List ℕ)
 part_names =
@@ -105,11 +114,12 @@ with_part parts name = bit_or parts (part_number name)
 abbrev pub parts_number : Text → ℕ
 parts_number names = fold with_part 0 (pieces names)
 
-abbrev parts_by : (named gnu : Bool) → Option Text → ℕ
-parts_by named gnu (Some names) = parts_number names
-parts_by named gnu None = if named then SYMBOLS else all_parts gnu
+abbrev parts_by : (selected gnu : Bool) → Option Text → ℕ
+parts_by selected gnu (Some names) = parts_number names
+parts_by selected gnu None = if selected then SYMBOLS else all_parts gnu
 
--- the parts that are named; without a name the symbols if rows are selected by name, otherwise all
--- parts, of GNU listings or of the standards' alone
+-- the parts that are named; without a name the symbols if rows are selected by name or not every
+-- symbol is shown, otherwise all parts, of GNU listings or of the standards' alone
 abbrev pub asked_parts : List Row → ℕ
-asked_parts rows = parts_by (has_name_option rows) (is_set_or_implied (codes "gnu") rows) (first_of (codes "only") rows)
+asked_parts rows =
+    parts_by (has_name_option rows || is_narrow (asked_symbols rows)) (is_set_or_implied (codes "gnu") rows) (first_of (codes "only") rows)

@@ -4,6 +4,7 @@ use Rattle.std.specs.Int.RustNames.{bit_or}
 use Rattle.std.specs.List.{list_all}
 use Rattle.clap.specs.Walk.{Text, texts}
 use Rattle.elf_model.specs.Names.{nul_in}
+use Rattle.elf_model.specs.declared.symbol_filters.SymbolFilter.{SymbolFilter}
 use Rattle.elf_model.specs.Prelude.{RELOCS, SYMBOLS, VERSIONS, has, is_complete, parse_query}
 use Rattle.elf_cli.specs.Faults.{IsUnasked}
 use Rattle.elf_cli.specs.Options.{are_part_names}
@@ -13,7 +14,7 @@ use Rattle.elf_cli.specs.declared.command_args.CommandName.TheVariants.{Show, Fi
 use Rattle.elf_cli.specs.declared.faults.RequestFault.{RequestFault}
 use Rattle.elf_cli.specs.declared.faults.RequestFault.TheVariants as fault
 use Rattle.elf_cli.specs.declared.usage_faults.UsageFault.{UsageFault}
-use Rattle.elf_cli.specs.declared.usage_faults.UsageFault.TheVariants.{UnknownPart, TwoFormats, NamesFull, BadName, NoGnu, NamesLimited, NoRows, NoPath, NoFile}
+use Rattle.elf_cli.specs.declared.usage_faults.UsageFault.TheVariants.{UnknownPart, TwoFormats, TwoFilters, NamesFull, BadName, NoGnu, NamesLimited, NoRows, NoPath, NoFile}
 
 -- a text of 1 to 4,096 bytes without NUL; and if a name may have a version, neither is empty
 abbrev pub is_name : (versions : Bool) → Text → Bool
@@ -73,11 +74,16 @@ path_is_missing args = is_of_many_files args.command && ((length args.paths.item
 abbrev pub file_is_missing : CommandArgs → Bool
 file_is_missing args = takes_file args.command && not (is_some args.file)
 
+-- the defined symbols alone and the undefined ones alone are requested
+abbrev pub has_two_filters : SymbolFilter → Bool
+has_two_filters symbols = symbols.defined && symbols.undefined
+
 -- THE FAULT OF ARGUMENTS: the first of these
 abbrev pub usage_fault : CommandArgs → Option UsageFault
 usage_fault args =
     if part_is_unknown args then Some UnknownPart
     else if args.two_formats then Some TwoFormats
+    else if has_two_filters args.caps.style.symbols then Some TwoFilters
     else if nat_lt 64 (length args.names.items) then Some NamesFull
     else if not (are_names args.caps.style.versions (texts args.names.items)) then Some BadName
     else if gnu_option_is_missing args then Some NoGnu

@@ -10,7 +10,7 @@ use crate::command_sets::{
 };
 use clap::builder::ValueParser;
 
-static ARGUMENTS: [ArgSpec; 34] = [
+static ARGUMENTS: [ArgSpec; 37] = [
     ArgSpec {
         name: "headers",
         short: None,
@@ -203,6 +203,27 @@ static ARGUMENTS: [ArgSpec; 34] = [
         kind: ArgKind::Value("LIST"),
         help: "Also show the rows with the names in the file\n\
             LIST, one per line",
+        commands: SELECTING,
+    },
+    ArgSpec {
+        name: "defined",
+        short: None,
+        kind: ArgKind::Flag,
+        help: "Of symbols, show only the defined ones",
+        commands: SELECTING,
+    },
+    ArgSpec {
+        name: "undefined",
+        short: None,
+        kind: ArgKind::Flag,
+        help: "Of symbols, show only the undefined ones",
+        commands: SELECTING,
+    },
+    ArgSpec {
+        name: "dynamic",
+        short: None,
+        kind: ArgKind::Flag,
+        help: "Of symbols, show only those of dynamic tables",
         commands: SELECTING,
     },
     ArgSpec {

@@ -239,6 +239,7 @@ fn caps_of(options: &Options<'_, '_>) -> Caps<'static>
             by_segments: options.is_set("by-segments"),
             format: options.format(),
             choice: RowFilter::every_row(),
+            symbols: options.symbols(),
             versions: options.has_versions(),
         },
     }

@@ -37,5 +37,5 @@ pub(crate) const LINES: u16 = LISTING | FIND | TRAITS | NEEDS;
 /// Those that list the tables of a file, or check them as a listing does.
 pub(crate) const LISTING: u16 = SHOW | SAMPLE | CHECK | LIST | ARCHIVE;
 
-/// Those whose rows may be selected by name.
+/// Those whose rows may be selected.
 pub(crate) const SELECTING: u16 = SHOW | LIST | ARCHIVE;

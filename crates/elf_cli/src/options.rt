@@ -2,7 +2,7 @@
 ghost use Rattle.std.specs.Prelude.{◌≡◌, ◌≤◌, ℕ, IfOk, List, [], Option, codes, option_map, unwrap_or};
 ghost use Rattle.clap.specs.Walk.{Row, first_of, one_of, rows_of, texts};
 ghost use Rattle.clap.specs.Words.{found_of};
-ghost use Rattle.elf_cli.specs.Options.{HasNumber, IsCount, asked_format, asked_parts};
+ghost use Rattle.elf_cli.specs.Options.{HasNumber, IsCount, asked_format, asked_parts, asked_symbols};
 ghost use Rattle.elf_cli.specs.Options.{has_two_formats, is_set_or_implied};
 ghost use Rattle.elf_cli.specs.Options.{has_name_option, is_given, is_of_words, is_option_set};
 ghost use Rattle.elf_cli.specs.Options.{values_of};
@@ -10,7 +10,7 @@ ghost use Rattle.elf_cli.specs.Options.{values_of};
 use crate::part_names::parts_named;
 use clap::ArgMatches;
 use clap::parser::ValueSource;
-use elf_model::Format;
+use elf_model::{Format, SymbolFilter};
 use elf_record::Parts;
 use std::alloc::{AllocError, Global};
 use std::marker::Model;
@@ -36,13 +36,13 @@ impl<'m, 'a> Options<'m, 'a> {
     }
 
     /// Returns the parts that are selected: those that are named; otherwise the symbols if rows are
-    /// selected by name, or all parts.
+    /// selected by name, or if not every symbol is shown, or all parts.
     pub(crate) fn parts(&self) -> Parts
         ensures { result.0 ≡ asked_parts self.now }
     {
         match self.text("only") {
             Some(names) => parts_named(names),
-            None if self.has_name_option() => Parts::SYMBOLS,
+            None if self.has_name_option() || self.symbols().is_narrow() => Parts::SYMBOLS,
             None if self.has_gnu() => Parts(255),
             None => Parts(127),
         }
@@ -53,6 +53,17 @@ impl<'m, 'a> Options<'m, 'a> {
         ensures { result ≡ has_name_option self.now }
     {
         self.text("name").is_some() || self.text("name-list").is_some()
+    }
+
+    /// Returns which symbols are shown.
+    pub(crate) fn symbols(&self) -> SymbolFilter
+        ensures { result ≡ asked_symbols self.now }
+    {
+        SymbolFilter {
+            defined: self.is_set("defined"),
+            undefined: self.is_set("undefined"),
+            dynamic: self.is_set("dynamic"),
+        }
     }
 
     /// Returns how a line is written.

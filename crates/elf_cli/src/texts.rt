@@ -92,8 +92,13 @@ compared as the longest NAME has. With --versions, NAME matches each version of
 the name, NAME@VERSION that version, and NAME@@VERSION that version if it is
 the default one.
 
+With --defined, --undefined or --dynamic only the symbols are listed, or the
+parts given with --only; of other parts all rows are shown. --defined cannot be
+used with --undefined.
+
 Examples:
   elfsee show --only symbols /bin/ls
+  elfsee show --undefined /bin/ls
   elfsee show --table --only sections,segments /bin/ls
   elfsee show --name main --name printf /bin/ls
   elfsee show --gnu --versions --name memcpy@@GLIBC_2.14 /lib64/libc.so.6

@@ -26,6 +26,11 @@ pub fn request_fault(alloc: Global, args: &CommandArgs<'_>, fault: UsageFault) -
             command,
             "the argument '--json' cannot be used with '--table'",
         ),
+        UsageFault::TwoFilters => usage_error(
+            alloc,
+            command,
+            "the argument '--defined' cannot be used with '--undefined'",
+        ),
         UsageFault::NamesFull => RequestFault::NamesFull,
         UsageFault::BadName => RequestFault::BadName,
         UsageFault::NoGnu => usage_error(

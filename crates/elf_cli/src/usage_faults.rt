@@ -2,10 +2,11 @@
 ghost use Rattle.std.specs.Prelude.{◌≡◌};
 ghost use Rattle.clap.specs.Walk.{texts};
 ghost use Rattle.elf_model.specs.Prelude.{VERSIONS, has};
-ghost use Rattle.elf_cli.specs.UsageFaults.{are_names, has_named_rows, is_name, is_of_many_files};
+ghost use Rattle.elf_cli.specs.UsageFaults.{are_names, has_named_rows, has_two_filters, is_name, is_of_many_files};
 ghost use Rattle.elf_cli.specs.UsageFaults.{usage_fault, file_is_missing, gnu_option_is_missing, path_is_missing, takes_file};
 
 use crate::command_args::{CommandArgs, CommandName};
+use elf_model::SymbolFilter;
 use elf_options::is_valid_row_name;
 use elf_record::Parts;
 
@@ -19,6 +20,8 @@ pub enum UsageFault {
     UnknownPart,
     /// Both JSON objects and a table are requested.
     TwoFormats,
+    /// Both the defined symbols alone and the undefined ones alone are requested.
+    TwoFilters,
     /// There are more than 64 names.
     NamesFull,
     /// One of the names cannot be looked up.
@@ -46,6 +49,9 @@ pub fn usage_fault(args: &CommandArgs<'_>) -> Option<UsageFault>
     if args.two_formats {
         return Some(UsageFault::TwoFormats);
     }
+    if has_two_filters(args.caps.style.symbols) {
+        return Some(UsageFault::TwoFilters);
+    }
     if args.names.len() > MOST_NAMES {
         return Some(UsageFault::NamesFull);
     }
@@ -68,6 +74,13 @@ pub fn usage_fault(args: &CommandArgs<'_>) -> Option<UsageFault>
         return Some(UsageFault::NoFile);
     }
     None
+}
+
+/// Returns `true` if a filter shows the defined symbols alone and the undefined ones alone.
+fn has_two_filters(symbols: SymbolFilter) -> bool
+    ensures { result ≡ has_two_filters symbols }
+{
+    symbols.defined && symbols.undefined
 }
 
 /// Returns `true` if `--gnu` is required and not given.

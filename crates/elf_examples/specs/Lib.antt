@@ -16,6 +16,7 @@ pub mod ListedSymbols
 pub mod ListedTables
 pub mod ListedTags
 pub mod ListedFiles
+pub mod ListedFilters
 pub mod ExamplesAllowed
 pub mod ExamplesAnswers
 pub mod ExamplesDynamic

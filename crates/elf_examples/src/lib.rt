@@ -26,6 +26,7 @@ mod listed_checks;
 mod listed_costs;
 mod listed_dynamic;
 mod listed_files;
+mod listed_filters;
 mod listed_headers;
 mod listed_members;
 mod listed_notes;

@@ -1,5 +1,5 @@
 -- The items of one row, by the line that was written.
-use Rattle.elf_model.specs.Prelude.{DisplayedName, Fault as FaultItem, IsBudgetRefusal, Line, LinePrefix, ListingItem, ListingStyle, NoSuffix, RowFilter, Suffix, chooses, chosen_row, e_machine, e_phoff, entry_at, lines_of, named_row, r_sym, relocation_prefix, relocation_row, section_at, segment_at, segment_line, segment_row, sh_offset, shown, st_name, strings_of, symbol_named, symbol_prefix, symbol_row}
+use Rattle.elf_model.specs.Prelude.{DisplayedName, Fault as FaultItem, IsBudgetRefusal, Line, LinePrefix, ListingItem, ListingStyle, NoSuffix, RowFilter, Suffix, chooses, chosen_row, e_machine, e_phoff, entry_at, lines_of, named_row, r_sym, relocation_prefix, relocation_row, section_at, segment_at, segment_line, segment_row, sh_offset, shown, st_name, strings_of, symbol_choice, symbol_named, symbol_prefix, symbol_row}
 use Rattle.elf_model.specs.declared.causes.Cause.{Cause}
 use Rattle.elf_model.specs.declared.causes.Refusal.{Refusal}
 use Rattle.std.proofs.Common.{◌≡◌, ℕ, ◌+◌, ◌*◌, List, [], ◌∷◌, Bool, true, false, Result, Ok, Err, refl, sym, ap, ◌∙◌, subst, arith, append-nil}
@@ -90,14 +90,15 @@ segment_is file line style at index same here =
 -- a symbol's row at its place
 pub symbol_is : (file : List ℕ) (style : ListingStyle) (section index at : ℕ) (front : LinePrefix) (table : List ℕ) (off : ℕ) → front ≡ symbol_prefix style.format style.gnu (e_machine file) file at section index
     → table ≡ strings_of file (section_at file section) → off ≡ st_name file at → at ≡ sh_offset file (section_at file section) + index * 24
-    → symbol_row file style section (section_at file section) index ≡ chosen_row style.choice front at (shown table off style.cap)
+    → symbol_row file style section (section_at file section) index ≡ chosen_row (symbol_choice file style (section_at file section) at) front at (shown table off style.cap)
 unfolding symbol_row
 symbol_is file style section index at front table off same_front same_table same_name here =
+    let choice : ℕ → RowFilter = symbol_choice file style (section_at file section) in
     let place : at ≡ entry_at file (section_at file section) 24 index = omega arith in
-    sym (ap (λ text. chosen_row style.choice text at (shown table off style.cap)) same_front
-    ∙ (ap (λ names. chosen_row style.choice (symbol_prefix style.format style.gnu (e_machine file) file at section index) at (shown names off style.cap)) same_table
-    ∙ (ap (λ name. chosen_row style.choice (symbol_prefix style.format style.gnu (e_machine file) file at section index) at (shown (strings_of file (section_at file section)) name style.cap)) same_name
-    ∙ ap (λ p. chosen_row style.choice (symbol_prefix style.format style.gnu (e_machine file) file p section index) p (shown (strings_of file (section_at file section)) (st_name file p) style.cap)) place)))
+    sym (ap (λ text. chosen_row (choice at) text at (shown table off style.cap)) same_front
+    ∙ (ap (λ names. chosen_row (choice at) (symbol_prefix style.format style.gnu (e_machine file) file at section index) at (shown names off style.cap)) same_table
+    ∙ (ap (λ name. chosen_row (choice at) (symbol_prefix style.format style.gnu (e_machine file) file at section index) at (shown (strings_of file (section_at file section)) name style.cap)) same_name
+    ∙ ap (λ p. chosen_row (choice p) (symbol_prefix style.format style.gnu (e_machine file) file p section index) p (shown (strings_of file (section_at file section)) (st_name file p) style.cap)) place)))
 
 -- a relocation entry's row at its place
 pub relocation_is : (file : List ℕ) (front : LinePrefix) (style : ListingStyle) (section at entry symbol index : ℕ) → entry ≡ sh_offset file at + index * 24

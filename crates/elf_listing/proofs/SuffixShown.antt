@@ -1,6 +1,6 @@
 -- Rows that end in a name with its version, by what was read of both.
 use Rattle.std.proofs.Common.{◌≡◌, ℕ, ◌+◌, ◌*◌, ◌≤◌, ◌==◌, if◌then◌else◌, Bool, true, false, List, [], ◌∷◌, Option, None, Some, Result, Ok, Err, refl, sym, ap, ◌∙◌, arith}
-use Rattle.elf_model.specs.Prelude.{DisplayedName, EveryRow, Fault as FaultItem, Line, LinePrefix, ListingItem, ListingStyle, NoSuffix, RowFilter, Suffix, chooses, e_machine, entry_at, linked_at, named_row, r_sym, relocation_prefix, relocation_row, relocation_row_with_version, section_at, sh_link, sh_offset, shown, st_name, strings_of, suffixed_row, symbol_named, symbol_prefix, symbol_row, symbol_row_with_version, symbol_suffix}
+use Rattle.elf_model.specs.Prelude.{DisplayedName, EveryRow, Fault as FaultItem, Line, LinePrefix, ListingItem, ListingStyle, NoSuffix, RowFilter, Suffix, chooses, e_machine, entry_at, linked_at, named_row, r_sym, relocation_prefix, relocation_row, relocation_row_with_version, section_at, sh_link, sh_offset, shown, st_name, strings_of, suffixed_row, symbol_choice, symbol_named, symbol_prefix, symbol_row, symbol_row_with_version, symbol_suffix}
 use Rattle.elf_model.specs.declared.causes.Cause.{Cause}
 use Rattle.elf_model.specs.declared.causes.Refusal.{Refusal}
 use Rattle.elf_model.proofs.SuffixLaws.{unsuffixed_line, unsuffixed_row}
@@ -87,7 +87,7 @@ suffixed_symbol_is : (file : List ℕ) (style : ListingStyle) (section index at 
     → front ≡ symbol_prefix style.format style.gnu (e_machine file) file at section index
     → table ≡ strings_of file (section_at file section) → off ≡ st_name file at → at ≡ sh_offset file (section_at file section) + index * 24
     → symbol_row_with_version file style section (section_at file section) index
-    ≡ suffixed_row style.choice front at (shown table off style.cap) (symbol_suffix file style.cap section at index)
+    ≡ suffixed_row (symbol_choice file style (section_at file section) at) front at (shown table off style.cap) (symbol_suffix file style.cap section at index)
 unfolding symbol_row_with_version
 suffixed_symbol_is file style section index at front table off same_front same_table same_name here =
     let place : at ≡ entry_at file (section_at file section) 24 index = omega arith in
@@ -121,9 +121,9 @@ pub symbol_row_is : (versions : Option VersionLookup) (file : List ℕ) (style :
     → front ≡ symbol_prefix style.format style.gnu (e_machine file) file at section index
     → table ≡ strings_of file (section_at file section) → off ≡ st_name file at → at ≡ sh_offset file (section_at file section) + index * 24
     → row_by versions (symbol_row file style section (section_at file section)) (symbol_row_with_version file style section (section_at file section)) index
-    ≡ suffixed_row style.choice front at (shown table off style.cap) (suffix_by versions file style.cap section at index)
+    ≡ suffixed_row (symbol_choice file style (section_at file section) at) front at (shown table off style.cap) (suffix_by versions file style.cap section at index)
 symbol_row_is None file style section index at front table off same_front same_table same_name here =
-    symbol_is file style section index at front table off same_front same_table same_name here ∙ sym (unsuffixed_row style.choice front at (shown table off style.cap))
+    symbol_is file style section index at front table off same_front same_table same_name here ∙ sym (unsuffixed_row (symbol_choice file style (section_at file section) at) front at (shown table off style.cap))
 symbol_row_is (Some suffixes) file style section index at front table off same_front same_table same_name here =
     suffixed_symbol_is file style section index at front table off same_front same_table same_name here
 

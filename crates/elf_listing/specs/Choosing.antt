@@ -1,7 +1,12 @@
 -- Which rows that end in the name of a symbol or of a version are shown.
-use Rattle.std.specs.Prelude.{◌≡◌, Bool}
+use Rattle.std.specs.Prelude.{◌≡◌, ◌||◌, Bool}
+use Rattle.elf_model.specs.Prelude.{is_narrow}
 use Rattle.elf_options.specs.declared.caps.ListingStyle.{ListingStyle}
 
--- rows are selected by name, or every row is shown, as a style says
+-- rows are selected by name, or not every symbol is shown
+abbrev pub has_selection : ListingStyle → Bool
+has_selection style = style.choice.by_name || is_narrow style.symbols
+
+-- rows are selected, or every row is shown, as a style says
 abbrev pub ShowsRows : Bool → ListingStyle → Type 0
-ShowsRows by_name style = by_name ≡ style.choice.by_name
+ShowsRows selects style = selects ≡ has_selection style

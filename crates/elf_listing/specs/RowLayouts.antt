@@ -1,6 +1,6 @@
 -- The rows of each kind of table.
-use Rattle.std.specs.Prelude.{◌≡◌, ◌+◌, ◌*◌, ◌<◌, ◌^◌, IfSome}
-use Rattle.elf_model.specs.Prelude.{DYNAMIC_SIZE, RELA_SIZE, SYMBOL_SIZE, VERSYM_SIZE, dynamic_at, dynamic_count, dynamic_row, e_phoff, name_bytes, relocation_row, relocation_row_with_version, section_at, segment_row, sh_link, sh_offset, strings_of, symbol_row, symbol_row_with_version}
+use Rattle.std.specs.Prelude.{◌≡◌, ◌==◌, ◌+◌, ◌*◌, ◌<◌, ◌^◌, IfSome}
+use Rattle.elf_model.specs.Prelude.{DYNAMIC_SIZE, RELA_SIZE, SHT_DYNSYM, SYMBOL_SIZE, VERSYM_SIZE, dynamic_at, dynamic_count, dynamic_row, e_phoff, name_bytes, relocation_row, relocation_row_with_version, section_at, segment_row, sh_link, sh_offset, sh_type, strings_of, symbol_row, symbol_row_with_version}
 use Rattle.elf_table.specs.Prelude.{RefersTo, StringsInBounds, SymbolTableInBounds, strings_in}
 use Rattle.elf_listing.specs.Numbered.{NumberedWithin, reported_row}
 use Rattle.elf_listing.specs.Strings.{AreOf, AreWithin, strings_reported}
@@ -33,7 +33,8 @@ symbol_layout rows = record {
   items = λ versions file style table_at. row_by versions (symbol_row file style rows.section (section_at file rows.section)) (symbol_row_with_version file style rows.section (section_at file rows.section));
   within = λ versions size. StringsInBounds size rows.names × IfSome versions (SuffixesWithin size);
   here = λ versions file table_at. (strings_in file rows.names ≡ strings_of file (section_at file rows.section))
-      × (table_at ≡ sh_offset file (section_at file rows.section)) × IfSome versions (AreSuffixes file rows.section);
+      × (table_at ≡ sh_offset file (section_at file rows.section)) × IfSome versions (AreSuffixes file rows.section)
+      × (rows.is_dynamic ≡ (sh_type file (section_at file rows.section) == SHT_DYNSYM));
 }
 
 -- the relocation entries of a section, with the versions of their symbols

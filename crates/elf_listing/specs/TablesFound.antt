@@ -1,6 +1,6 @@
 -- The tables of a section that were found to be as its header says.
-use Rattle.std.specs.Prelude.{ℕ, ◌≡◌, ◌<◌, true, List, Ok, IfSome}
-use Rattle.elf_model.specs.Prelude.{is_symbol_table, section_at, sh_type}
+use Rattle.std.specs.Prelude.{ℕ, ◌≡◌, ◌==◌, ◌<◌, true, List, Ok, IfSome}
+use Rattle.elf_model.specs.Prelude.{SHT_DYNSYM, is_symbol_table, section_at, sh_type}
 use Rattle.elf_table.specs.Files.{AnswersSection, table_in}
 use Rattle.elf_table.specs.Prelude.{HoldsSectionHeaders, Relocates, SymbolTableInBounds, TableInBounds, TableRange, row, symbols_at}
 use Rattle.elf_table.specs.declared.file.SectionView.{SectionView}
@@ -11,6 +11,7 @@ use Rattle.elf_listing.specs.declared.symbols.Symbols.{Symbols}
 pub record AreSymbolsOf (file : SectionView) (found : TableRange) (rows : Symbols) : Type 0 where
   pub kind : is_symbol_table (row file.store.now rows.section) 0 ≡ true
   pub typed : (bytes : List ℕ) → HoldsSectionHeaders bytes file.loaded file.store.now → is_symbol_table bytes (section_at bytes rows.section) ≡ true
+  pub dynamic : (bytes : List ℕ) → HoldsSectionHeaders bytes file.loaded file.store.now → rows.is_dynamic ≡ (sh_type bytes (section_at bytes rows.section) == SHT_DYNSYM)
   pub held : AnswersSection file rows.section (Ok (found, rows.names)) symbols_at
   pub table : Ok found ≡ table_in file rows.section 24
   pub within : SymbolTableInBounds file.loaded.size (found, rows.names)

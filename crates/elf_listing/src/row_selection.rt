@@ -1,9 +1,9 @@
 //! The selection of rows that end in the name of a symbol or of a version.
 ghost use Rattle.std.specs.Prelude.{◌≡◌, Bool, false as No, true as Yes};
-ghost use Rattle.elf_model.specs.Choice.{NoSuffix, chooses};
+ghost use Rattle.elf_model.specs.Prelude.{NoSuffix, chooses, narrowed, shows_symbol};
 ghost use Rattle.elf_table.specs.NamesRead.{shown_by};
 ghost use Rattle.elf_options.specs.Chosen.{choice_of};
-ghost use Rattle.elf_listing.specs.Choosing.{ShowsRows};
+ghost use Rattle.elf_listing.specs.Choosing.{ShowsRows, has_selection};
 ghost use Rattle.elf_listing.specs.Suffixed.{suffix_read};
 
 use crate::listing::Listing;
@@ -13,60 +13,78 @@ use elf_options::VersionSuffix;
 use elf_source::{Sink, Source};
 use elf_table::NameEnd;
 
-/// Whether rows are selected by name, known at compile time: if every row is shown, no name is
-/// looked up.
+/// Whether rows are selected, known at compile time: if every row is shown, no name is looked up
+/// and no symbol is tested.
 pub trait RowSelection {
-    /// Whether rows are selected by name.
-    const BY_NAME: bool;
+    /// Whether rows are selected.
+    const SELECTS: bool;
 
-    /// Whether rows are selected by name.
-    ghost BY_NAME: { Bool };
+    /// Whether rows are selected.
+    ghost SELECTS: { Bool };
 }
 
 /// Every row.
 pub struct AllRows;
 
 impl RowSelection for AllRows {
-    const BY_NAME: bool = false;
+    const SELECTS: bool = false;
 
-    ghost BY_NAME = { No };
+    ghost SELECTS = { No };
 }
 
-/// The rows with one of the given names.
-pub struct NamedRows;
+/// The rows with one of the given names, and the symbols that the style shows.
+pub struct SelectedRows;
 
-impl RowSelection for NamedRows {
-    const BY_NAME: bool = true;
+impl RowSelection for SelectedRows {
+    const SELECTS: bool = true;
 
-    ghost BY_NAME = { Yes };
+    ghost SELECTS = { Yes };
+}
+
+/// What decides whether a symbol is shown, besides its name.
+#[derive(Clone, Copy)]
+pub struct SymbolClass {
+    /// Whether it is defined.
+    pub is_defined: bool,
+    /// Whether it is of an SHT_DYNSYM section.
+    pub is_dynamic: bool,
 }
 
 impl<S: Source, W: Sink> Listing<'_, '_, '_, '_, S, W> {
+    /// Returns `true` if rows are selected by name, or not every symbol is shown.
+    pub(crate) fn has_selection(&self) -> bool
+        ensures { result ≡ has_selection self.now.style }
+    {
+        self.style.choice.by_name || self.style.symbols.is_narrow()
+    }
+
     /// Returns `true` if the row with the name that was read is shown.
+    #[tactic(auto, using(crate::proofs::SelectionLaws::every_row))]
     pub(crate) fn is_shown<C: RowSelection>(&self, end: NameEnd) -> bool
-        requires { ShowsRows C.BY_NAME self.now.style }
+        requires { ShowsRows C.SELECTS self.now.style }
         ensures { result ≡ chooses (choice_of self.now.style.choice)
             (shown_by end self.now.name) NoSuffix }
     {
-        !C::BY_NAME || self.style.choice.shows(self.name.bytes(), is_cut(end))
+        !C::SELECTS || self.style.choice.shows(self.name.bytes(), is_cut(end))
     }
 
     /// Returns `true` if the row with the name that was read is shown, with the version after it,
     /// if there is one.
+    #[tactic(auto, using(crate::proofs::SelectionLaws::every_row))]
     pub(crate) fn is_versioned_row_shown<C: RowSelection>(
         &self,
         end: NameEnd,
         suffix: Option<VersionSuffixEnd>,
         version: &[u8],
     ) -> bool
-        requires { ShowsRows C.BY_NAME self.now.style }
+        requires { ShowsRows C.SELECTS self.now.style }
         ensures { result ≡ chooses (choice_of self.now.style.choice)
             (shown_by end self.now.name) (suffix_read suffix version.now) }
     {
         let Some(read) = suffix else {
             return self.is_shown::<C>(end);
         };
-        if !C::BY_NAME {
+        if !C::SELECTS {
             return true;
         }
         let suffix = VersionSuffix {
@@ -76,5 +94,38 @@ impl<S: Source, W: Sink> Listing<'_, '_, '_, '_, S, W> {
         };
         let name = self.name.bytes();
         self.style.choice.shows_version(name, is_cut(end), &suffix)
+    }
+
+    /// Returns `true` if a symbol is shown, whatever its name.
+    #[tactic(auto, using(crate::proofs::SelectionLaws::every_symbol))]
+    fn is_symbol_shown<C: RowSelection>(&self, symbol: SymbolClass) -> bool
+        requires { ShowsRows C.SELECTS self.now.style }
+        ensures { result ≡ shows_symbol self.now.style.symbols
+            symbol.is_defined symbol.is_dynamic }
+    {
+        !C::SELECTS
+            || self
+                .style
+                .symbols
+                .shows(symbol.is_defined, symbol.is_dynamic)
+    }
+
+    /// Returns `true` if the row of a symbol with the name that was read is shown, with the version
+    /// after it, if there is one.
+    #[tactic(auto, using(elf_model::proofs::SelectionLaws::narrowed_chooses))]
+    pub(crate) fn is_symbol_row_shown<C: RowSelection>(
+        &self,
+        symbol: SymbolClass,
+        end: NameEnd,
+        suffix: Option<VersionSuffixEnd>,
+        version: &[u8],
+    ) -> bool
+        requires { ShowsRows C.SELECTS self.now.style }
+        ensures { let shown = shows_symbol self.now.style.symbols
+            symbol.is_defined symbol.is_dynamic in
+            result ≡ chooses (narrowed shown (choice_of self.now.style.choice))
+            (shown_by end self.now.name) (suffix_read suffix version.now) }
+    {
+        self.is_symbol_shown::<C>(symbol) && self.is_versioned_row_shown::<C>(end, suffix, version)
     }
 }

@@ -9,10 +9,11 @@ use crate::listed_kind::ListedKind;
 use crate::listing::Listing;
 use crate::name_versions::{FoundVersions, NameVersions, NoVersions};
 use crate::row_cursor::RowCursor;
-use crate::row_selection::RowSelection;
+use crate::row_selection::{RowSelection, SymbolClass};
 use crate::table_rows::{TableRows, list_rows};
 use elf_format::{LinePrefix, Render, symbol_prefix};
 use elf_note::NameIndex;
+use elf_record::numbers::SHT_DYNSYM;
 use elf_record::{Parts, Sym};
 use elf_source::{Sink, Source};
 use elf_table::{Cursor, NameBuf, Names, Row, RunFault, Table, holds_symbols};
@@ -24,6 +25,8 @@ pub struct Symbols {
     pub section: u16,
     /// The string table of their names.
     pub names: Names,
+    /// Whether the section is of type SHT_DYNSYM.
+    pub is_dynamic: bool,
 }
 
 impl TableRows for Symbols {
@@ -48,9 +51,12 @@ impl TableRows for Symbols {
             off,
             at: row.at,
         })?;
-        let is_defined = symbol.st_shndx != 0;
-        let suffix = versions.read(listing, row.index, is_defined)?;
-        if !listing.is_versioned_row_shown::<C>(end, suffix, versions.bytes()) {
+        let class = SymbolClass {
+            is_defined: symbol.st_shndx != 0,
+            is_dynamic: self.is_dynamic,
+        };
+        let suffix = versions.read(listing, row.index, class.is_defined)?;
+        if !listing.is_symbol_row_shown::<C>(class, end, suffix, versions.bytes()) {
             return Ok(());
         }
         symbol_prefix::<R>(front, self.section, row.index, &symbol, naming);
@@ -74,7 +80,8 @@ impl ListedKind for Symbols {
         listing: &mut Listing<'_, '_, '_, '_, S, W>,
         index: u16,
     ) -> Result<(), RunFault> {
-        if !holds_symbols(&listing.file.section(index)) {
+        let header = listing.file.section(index);
+        if !holds_symbols(&header) {
             return Ok(());
         }
         let found = listing.file.symbols(index)?;
@@ -82,6 +89,7 @@ impl ListedKind for Symbols {
         let rows = Symbols {
             section: index,
             names,
+            is_dynamic: header.sh_type == SHT_DYNSYM,
         };
         if listing.style.versions {
             return list_with_versions(listing, table, &rows);

@@ -6,7 +6,7 @@ ghost use Rattle.elf_listing.specs.TableRows.{BeginsTable, IsTableOf, ListsRow, 
 use crate::listing::Listing;
 use crate::name_versions::NameVersions;
 use crate::row_cursor::RowCursor;
-use crate::row_selection::{AllRows, NamedRows, RowSelection};
+use crate::row_selection::{AllRows, RowSelection, SelectedRows};
 use elf_format::{Columns, Json, LinePrefix, Render, Tabular};
 use elf_model::Format;
 use elf_source::{Sink, Source};
@@ -32,7 +32,7 @@ pub trait TableRows {
         row: &Row<'_>,
     ) -> Result<(), RunFault>
         requires format { R.FORMAT ≡ listing.old.style.format }
-        requires rows { ShowsRows C.BY_NAME listing.old.style }
+        requires rows { ShowsRows C.SELECTS listing.old.style }
         requires row { let lookup = V.lookup versions.old in
             RowFits listing.old.src.now.seen.size (layout self.now) lookup row.now }
         ensures keeps { V.lookup versions.new ≡ V.lookup versions.old }
@@ -72,8 +72,8 @@ fn rows_of<R: Render, K: TableRows, V: NameVersions, S: Source, W: Sink>(
     ensures { let lookup = V.lookup versions.old in
         ListsRows listing.old listing.new result (K.layout rows.now) lookup table }
 {
-    if listing.style.choice.by_name {
-        return rows_in::<R, NamedRows, K, V, S, W>(listing, table, rows, versions);
+    if listing.has_selection() {
+        return rows_in::<R, SelectedRows, K, V, S, W>(listing, table, rows, versions);
     }
     rows_in::<R, AllRows, K, V, S, W>(listing, table, rows, versions)
 }
@@ -88,7 +88,7 @@ fn rows_in<R: Render, C: RowSelection, K: TableRows, V: NameVersions, S: Source,
     versions: &mut V,
 ) -> Result<(), RunFault>
     requires format { R.FORMAT ≡ listing.old.style.format }
-    requires rows { ShowsRows C.BY_NAME listing.old.style }
+    requires rows { ShowsRows C.SELECTS listing.old.style }
     requires table { let lookup = V.lookup versions.old in
         IsTableOf listing.old.src.now.seen.size (K.layout rows.now) lookup table }
     ensures { let lookup = V.lookup versions.old in

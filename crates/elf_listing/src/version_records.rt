@@ -9,7 +9,7 @@ ghost use Rattle.elf_listing.specs.Versions.{ListsRecord, ListsRecords, ListsVer
 
 use crate::listed_kind::ListedKind;
 use crate::listing::Listing;
-use crate::row_selection::{AllRows, NamedRows, RowSelection};
+use crate::row_selection::{AllRows, RowSelection, SelectedRows};
 use elf_format::{Columns, Json, LinePrefix, Render, Tabular, version_prefix};
 use elf_model::Format;
 use elf_note::{NameIndex, VersionCursor, VersionRecord};
@@ -103,8 +103,8 @@ impl<S: Source, W: Sink> Listing<'_, '_, '_, '_, S, W> {
         requires strings { StringsInBounds self.old.src.now.seen.size names }
         ensures { ListsRecords self.old self.new result cursor.old section names }
     {
-        if self.style.choice.by_name {
-            return self.version_rows_in::<NamedRows>(cursor, section, names);
+        if self.has_selection() {
+            return self.version_rows_in::<SelectedRows>(cursor, section, names);
         }
         self.version_rows_in::<AllRows>(cursor, section, names)
     }
@@ -116,7 +116,7 @@ impl<S: Source, W: Sink> Listing<'_, '_, '_, '_, S, W> {
         section: u16,
         names: Names,
     ) -> Result<(), RunFault>
-        requires rows { ShowsRows C.BY_NAME self.old.style }
+        requires rows { ShowsRows C.SELECTS self.old.style }
         requires going { cursor.old.failed ≡ None }
         requires within { TableInBounds self.old.src.now.seen.size cursor.old.held.table }
         requires strings { StringsInBounds self.old.src.now.seen.size names }
@@ -136,7 +136,7 @@ impl<S: Source, W: Sink> Listing<'_, '_, '_, '_, S, W> {
         section: u16,
         names: Names,
     ) -> Result<(), RunFault>
-        requires rows { ShowsRows C.BY_NAME self.old.style }
+        requires rows { ShowsRows C.SELECTS self.old.style }
         requires within { StringsInBounds self.old.src.now.seen.size names }
         ensures { ListsRecord self.old self.new result given.now section names }
     {
@@ -155,7 +155,7 @@ impl<S: Source, W: Sink> Listing<'_, '_, '_, '_, S, W> {
         names: Names,
     ) -> Result<(), RunFault>
         requires format { R.FORMAT ≡ self.old.style.format }
-        requires rows { ShowsRows C.BY_NAME self.old.style }
+        requires rows { ShowsRows C.SELECTS self.old.style }
         requires within { StringsInBounds self.old.src.now.seen.size names }
         ensures { ListsRecord self.old self.new result given.now section names }
     {

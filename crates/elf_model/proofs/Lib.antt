@@ -40,6 +40,7 @@ pub mod Spellings
 pub mod StoreLemmas
 pub mod StyleLemmas
 pub mod SuffixLaws
+pub mod SelectionLaws
 pub mod ChoiceLemmas
 pub mod ValueLaws
 pub mod VersionLaws

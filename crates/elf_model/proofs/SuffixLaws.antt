@@ -1,6 +1,6 @@
 -- The versions after the names of symbols.
 use Rattle.std.proofs.Common.{◌≡◌, ℕ, zero, suc, ◌==◌, ◌&&◌, nat_lt, not, if◌then◌else◌, Bool, true, false, List, [], ◌∷◌, Option, None, Some, Result, Ok, Err, refl, sym, ap, ◌∙◌, append-nil}
-use Rattle.elf_model.specs.Prelude.{DisplayedName, Line, LinePrefix, ListingItem, ListingStyle, NoSuffix, RowFilter, SHT_GNU_VERDEF, SHT_GNU_VERNEED, Suffix, Suffixed, UndefinedHaveNoDefault, UnversionedEntriesArePlain, UnversionedSymbolsArePlain, VisitedRecord, after_refusal, all_checks, chooses, chosen_row, e_machine, each, entry_at, entry_count, first_refusal, has_symbols, is_default as is_default_of, line_named, line_suffixed, linked_at, name_index, name_member, name_text, named_at, named_line, number_in, or_refusal, r_sym, relocation_prefix, relocation_row, relocation_row_with_version, relocations, relocations_with_versions, section_at, sh_link, shown, st_name, st_shndx, strings_of, suffix_at, suffix_members, suffix_of, suffix_text, suffixed_line, suffixed_relocation_rows, suffixed_row, suffixed_symbol_rows, suffixed_symbols, suffixes_refusal, symbol_named, symbol_prefix, symbol_row, symbol_row_with_version, symbol_suffix, symbol_versions, symbols, version_named, version_numbers_of, version_strings, versym, walk_refusal, word_suffix}
+use Rattle.elf_model.specs.Prelude.{DisplayedName, Line, LinePrefix, ListingItem, ListingStyle, NoSuffix, RowFilter, SHT_GNU_VERDEF, SHT_GNU_VERNEED, Suffix, Suffixed, UndefinedHaveNoDefault, UnversionedEntriesArePlain, UnversionedSymbolsArePlain, VisitedRecord, after_refusal, all_checks, chooses, chosen_row, e_machine, each, entry_at, entry_count, first_refusal, has_symbols, is_default as is_default_of, line_named, line_suffixed, linked_at, name_index, name_member, name_text, named_at, named_line, number_in, or_refusal, r_sym, relocation_prefix, relocation_row, relocation_row_with_version, relocations, relocations_with_versions, section_at, sh_link, shown, st_name, st_shndx, strings_of, suffix_at, suffix_members, suffix_of, suffix_text, suffixed_line, suffixed_relocation_rows, suffixed_row, suffixed_symbol_rows, suffixed_symbols, suffixes_refusal, symbol_choice, symbol_named, symbol_prefix, symbol_row, symbol_row_with_version, symbol_suffix, symbol_versions, symbols, version_named, version_numbers_of, version_strings, versym, walk_refusal, word_suffix}
 use Rattle.elf_model.specs.declared.causes.Cause.{Cause}
 use Rattle.elf_model.specs.declared.formats.Format.TheVariants.{Columns, Object, Table}
 use Rattle.elf_model.specs.declared.versions.VersionKind.TheVariants.{Definition, File}
@@ -59,8 +59,8 @@ plain_symbol file style section at index none =
     let symbol_at : ℕ = entry_at file at 24 index in
     let front : LinePrefix = symbol_prefix style.format style.gnu (e_machine file) file symbol_at section index in
     let name : Result DisplayedName Cause = shown (strings_of file at) (st_name file symbol_at) style.cap in
-    ap (suffixed_row style.choice front symbol_at name) (no_suffix file style.cap section symbol_at index none)
-    ∙ unsuffixed_row style.choice front symbol_at name
+    ap (suffixed_row (symbol_choice file style at symbol_at) front symbol_at name) (no_suffix file style.cap section symbol_at index none)
+    ∙ unsuffixed_row (symbol_choice file style at symbol_at) front symbol_at name
 
 pub unversioned_symbols : UnversionedSymbolsArePlain
 unfolding suffixed_symbols symbols suffixed_symbol_rows

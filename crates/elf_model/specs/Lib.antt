@@ -4,6 +4,7 @@ pub mod Numbers
 pub mod Names
 pub mod ShownNames
 pub mod Choice
+pub mod SymbolFilters
 pub mod Style
 pub mod Searches
 pub mod Notes
@@ -30,6 +31,7 @@ pub mod SuffixLaws
 pub mod Report
 pub mod TableTexts
 pub mod ListingLaws
+pub mod SymbolFilterLaws
 pub mod StyleLaws
 pub mod ChoiceLaws
 pub mod OverlapLaws

@@ -100,7 +100,7 @@ unfoldable pub use Rattle.elf_model.specs.NeededVersions.{define_version, needed
 pub use Rattle.elf_model.specs.NoteLaws.{BeforeNulExactly, CutIsWalked, FitsOrIsCut, FittingIsWalked, IsAligned, IsNoteInTable, NoteShownCutExactly, NoteShownWholeExactly, OneListAtMost, RowsAligned, RowsStand, WalkedFits, WalkedIsCut}
 pub use Rattle.elf_model.specs.Notes.{AllPadded, CutAt, EndsInSpelling, EndsInZeros, IsNoteEncoding, NextNote, Note, NoteRow, NoteScan, Notes, OneNote, Padded, alignment_gap, are_zeros, before_nul, bytes_to_alignment, capped, descriptor_start, escaped_size, first_end, first_note, note_align, padded_size, with_note}
 unfoldable pub use Rattle.elf_model.specs.Notes.{next_note, note_rows, note_shown, walk_from, walked}
-pub use Rattle.elf_model.specs.Numbers.{DT_GNU_HASH, DT_HASH, DT_NULL, DT_RPATH, DT_RUNPATH, DT_SONAME, DT_STRSZ, DT_STRTAB, DT_SYMTAB, DT_VERDEF, DT_VERNEED, DT_VERSYM, EM_X86_64, ET_REL, PT_DYNAMIC, PT_NOTE, R_X86_64_NONE, SHN_ABS, SHN_COMMON, SHN_LORESERVE, SHN_UNDEF, SHT_DYNAMIC, SHT_GNU_HASH, SHT_GNU_VERDEF, SHT_GNU_VERNEED, SHT_GNU_VERSYM, SHT_HASH, SHT_NOTE, SHT_RELA, SHT_STRTAB, STB_GLOBAL, STB_GNU_UNIQUE, STB_WEAK, STT_COMMON, STT_FUNC, STT_GNU_IFUNC, STT_NOTYPE, STT_OBJECT, STT_TLS, STV_DEFAULT, STV_PROTECTED}
+pub use Rattle.elf_model.specs.Numbers.{DT_GNU_HASH, DT_HASH, DT_NULL, DT_RPATH, DT_RUNPATH, DT_SONAME, DT_STRSZ, DT_STRTAB, DT_SYMTAB, DT_VERDEF, DT_VERNEED, DT_VERSYM, EM_X86_64, ET_REL, PT_DYNAMIC, PT_NOTE, R_X86_64_NONE, SHN_ABS, SHN_COMMON, SHN_LORESERVE, SHN_UNDEF, SHT_DYNAMIC, SHT_DYNSYM, SHT_GNU_HASH, SHT_GNU_VERDEF, SHT_GNU_VERNEED, SHT_GNU_VERSYM, SHT_HASH, SHT_NOTE, SHT_RELA, SHT_STRTAB, STB_GLOBAL, STB_GNU_UNIQUE, STB_WEAK, STT_COMMON, STT_FUNC, STT_GNU_IFUNC, STT_NOTYPE, STT_OBJECT, STT_TLS, STV_DEFAULT, STV_PROTECTED}
 pub use Rattle.elf_model.specs.OverlapLaws.{NoPageIsShared, OverlapIsListedElsewhere, OverlapIsListedSecond}
 pub use Rattle.elf_model.specs.Overlaps.{first_page, page_behind, takes_memory}
 unfoldable pub use Rattle.elf_model.specs.Overlaps.{loads_from, overlap_checks, overlaps_from}
@@ -112,7 +112,7 @@ pub use Rattle.elf_model.specs.RecordLaws.{FieldsOfSlices, LinesOfSlices}
 pub use Rattle.elf_model.specs.Records.{ELF_MAGIC_SIZE, FILE_HEADER_SIZE, PROGRAM_HEADER_SIZE, SECTION_HEADER_SIZE, d_tag, d_un, e_entry, e_flags, e_machine, e_phentsize, e_phnum, e_phoff, e_shentsize, e_shnum, e_shoff, e_shstrndx, e_type, has_elf_magic, n_descsz, n_namesz, n_type, p_align, p_filesz, p_flags, p_memsz, p_offset, p_paddr, p_type, p_vaddr, r_addend, r_info, r_offset, r_sym, r_type, section_at, segment_at, sh_addr, sh_addralign, sh_entsize, sh_flags, sh_info, sh_link, sh_name, sh_offset, sh_size, sh_type, st_info, st_name, st_other, st_shndx, st_size, st_type, st_value, twos_complement, vd_aux, versym, vn_aux, vn_file, vn_next, vna_name}
 pub use Rattle.elf_model.specs.Report.{items, report, report_fault}
 unfoldable pub use Rattle.elf_model.specs.Report.{kinds_rows, listing, load_items, loaded_items, table_items, table_rows, view_checks}
-pub use Rattle.elf_model.specs.Rows.{chosen_row, is_string_tag, named_row, no_name, refused_row}
+pub use Rattle.elf_model.specs.Rows.{chosen_row, is_string_tag, named_row, no_name, refused_row, symbol_choice}
 unfoldable pub use Rattle.elf_model.specs.Rows.{dynamic_row, note_row, notes_rows, relocation_row, section_name, section_row, segment_row, symbol_named, symbol_row, walk_rows}
 pub use Rattle.elf_model.specs.Searches.{NulFound}
 pub use Rattle.elf_model.specs.ShownNames.{shown_as}
@@ -122,6 +122,8 @@ unfoldable pub use Rattle.elf_model.specs.Style.{tells_of_sections, without_sect
 pub use Rattle.elf_model.specs.SuffixLaws.{SuffixesAreWithinMost, UndefinedHaveNoDefault, UnversionedEntriesArePlain, UnversionedSymbolsArePlain}
 pub use Rattle.elf_model.specs.Suffixes.{after_refusal, first_numbers, is_default, or_refusal, suffix_of, suffixed_line, suffixed_row, version_numbers_of, version_sign}
 unfoldable pub use Rattle.elf_model.specs.Suffixes.{line_suffixed, relocation_row_with_version, suffix_at, suffix_members, suffix_text, suffixed_relocation_rows, suffixed_symbol_rows, suffixes_refusal, symbol_row_with_version, symbol_suffix, version_member, walk_refusal, word_suffix}
+pub use Rattle.elf_model.specs.SymbolFilterLaws.{EverySymbolIsShown, NarrowedChooses, SelectionsHideNoFault}
+pub use Rattle.elf_model.specs.SymbolFilters.{every_symbol, is_narrow, narrowed, shows_symbol}
 pub use Rattle.elf_model.specs.SysvWalk.{EndsAtWord, IsSysvWalk, fault_at, has_name, is_sysv_index, lookup_answer, parse_lookup, section_table_of, sysv_cycle, sysv_walked_by, sysv_word}
 pub use Rattle.elf_model.specs.SysvWalkLaws.{SysvFoundAnswers, SysvWalkAnswers, SysvWalkIsBounded, SysvWalkIsLookup, SysvWalkIsOne}
 unfoldable pub use Rattle.elf_model.specs.SysvWalk.{sysv_bucket_of, sysv_end, sysv_walk_end, sysv_walked, sysv_walked_at, sysv_word_at}

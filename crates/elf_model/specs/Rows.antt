@@ -1,11 +1,12 @@
 -- The rows of a listing. Each is a line, or the fault of its entry.
-use Rattle.std.specs.Prelude.{ℕ, ◌+◌, ◌==◌, ◌||◌, Bool, true, false, if◌then◌else◌, List, [], ◌∷◌, ◌++◌, length, Option, None, Some, Result, Ok, Err}
+use Rattle.std.specs.Prelude.{ℕ, ◌+◌, ◌==◌, ◌||◌, not, Bool, true, false, if◌then◌else◌, List, [], ◌∷◌, ◌++◌, length, Option, None, Some, Result, Ok, Err}
 use Rattle.elf_model.specs.Choice.{RowFilter, NoSuffix, chooses}
-use Rattle.elf_model.specs.Records.{e_machine, e_shstrndx, sh_name, section_at, segment_at, st_name, r_sym, d_tag, d_un}
-use Rattle.elf_model.specs.Numbers.{DT_NEEDED, DT_SONAME, DT_RPATH, DT_RUNPATH}
+use Rattle.elf_model.specs.Records.{e_machine, e_shstrndx, sh_name, section_at, segment_at, sh_type, st_name, st_shndx, r_sym, d_tag, d_un}
+use Rattle.elf_model.specs.Numbers.{DT_NEEDED, DT_SONAME, DT_RPATH, DT_RUNPATH, SHN_UNDEF, SHT_DYNSYM}
 use Rattle.elf_model.specs.Names.{DisplayedName, shown}
 use Rattle.elf_model.specs.Names.DisplayedName.{Whole}
 use Rattle.elf_model.specs.Style.{ListingStyle}
+use Rattle.elf_model.specs.SymbolFilters.{narrowed, shows_symbol}
 use Rattle.elf_model.specs.Notes.{Note, NoteScan, note_shown}
 use Rattle.elf_model.specs.Tables.{SYMBOL_SIZE, RELA_SIZE, section_bytes, strings_of, linked_at, entry_at, symbol_checks_of}
 use Rattle.elf_model.specs.Checks.{first_refusal}
@@ -52,12 +53,18 @@ section_row file style index =
 unfoldable pub segment_row : List ℕ → ListingStyle → ℕ → List ListingItem
 segment_row file style index = Line (segment_line style.format style.gnu file (segment_at file index) index) ∷ []
 
+-- the rows that are shown of the symbol at an offset, of the symbol table whose section's header is
+-- at another
+abbrev pub symbol_choice : List ℕ → ListingStyle → (at symbol_at : ℕ) → RowFilter
+symbol_choice file style at symbol_at =
+    narrowed (shows_symbol style.symbols (not (st_shndx file symbol_at == SHN_UNDEF)) (sh_type file at == SHT_DYNSYM)) style.choice
+
 -- the row of a symbol of the symbol table that a section header describes
 unfoldable pub symbol_row : List ℕ → ListingStyle → ℕ → ℕ → ℕ → List ListingItem
 symbol_row file style section at index =
     let symbol_at = entry_at file at SYMBOL_SIZE index in
     let front = symbol_prefix style.format style.gnu (e_machine file) file symbol_at section index in
-    chosen_row style.choice front symbol_at (shown (strings_of file at) (st_name file symbol_at) style.cap)
+    chosen_row (symbol_choice file style at symbol_at) front symbol_at (shown (strings_of file at) (st_name file symbol_at) style.cap)
 
 -- the offset of a fault and the name that is shown, for the symbol of an index that a relocation
 -- entry names, whose section's header is at an offset: symbol 0 has no name; any other is one of

@@ -12,7 +12,7 @@ use Rattle.elf_model.specs.Names.{DisplayedName, shown}
 use Rattle.elf_model.specs.Names.DisplayedName.{Whole, Cut}
 use Rattle.elf_model.specs.Numbers.{SHN_UNDEF, SHT_GNU_VERDEF, SHT_GNU_VERNEED, SHT_GNU_VERSYM}
 use Rattle.elf_model.specs.Records.{e_machine, r_sym, section_at, sh_link, sh_type, st_name, st_shndx, versym}
-use Rattle.elf_model.specs.Rows.{symbol_named}
+use Rattle.elf_model.specs.Rows.{symbol_choice, symbol_named}
 use Rattle.elf_model.specs.Style.{ListingStyle}
 use Rattle.elf_model.specs.Tables.{RELA_SIZE, SYMBOL_SIZE, all_checks, entry_at, entry_count, has_symbols, linked_at, strings_of}
 use Rattle.elf_model.specs.Text.{newline}
@@ -138,7 +138,8 @@ unfoldable pub symbol_row_with_version : List ℕ → ListingStyle → ℕ → �
 symbol_row_with_version file style section at index =
     let symbol_at = entry_at file at SYMBOL_SIZE index in
     let front = symbol_prefix style.format style.gnu (e_machine file) file symbol_at section index in
-    suffixed_row style.choice front symbol_at (shown (strings_of file at) (st_name file symbol_at) style.cap) (symbol_suffix file style.cap section symbol_at index)
+    suffixed_row (symbol_choice file style at symbol_at) front symbol_at (shown (strings_of file at) (st_name file symbol_at) style.cap)
+    (symbol_suffix file style.cap section symbol_at index)
 
 unfoldable pub suffixed_symbol_rows : List ℕ → ListingStyle → ℕ → ℕ → List ListingItem
 suffixed_symbol_rows file style section at =

@@ -2,8 +2,8 @@
 //! listing and the report.
 //!
 //! As code there are only the causes of a refusal, the states of a file and of a symbol, how a line
-//! is written, what a relocation type is, and functions with an empty body whose contracts are laws
-//! about the definitions.
+//! is written, which symbols are shown, what a relocation type is, and functions with an empty body
+//! whose contracts are laws about the definitions.
 #![tactic(auto)]
 
 mod apply_laws;
@@ -26,6 +26,8 @@ mod relocation_types;
 mod states;
 mod style_laws;
 mod suffix_laws;
+mod symbol_filter_laws;
+mod symbol_filters;
 mod sysv_walk_laws;
 mod table_laws;
 mod traits;
@@ -38,5 +40,6 @@ pub use formats::{Format, LinePlace, TableState};
 pub use missing::{LayoutAddress, MissingAddress};
 pub use relocation_types::{Formula, RelocationBase, RelocationType, ValueRange};
 pub use states::{BindingState, FileMagic, FileStatus, VersionState};
+pub use symbol_filters::SymbolFilter;
 pub use traits::{Hardening, ProgramKind, Relro, SearchPath, SegmentTraits, TraitColumn};
 pub use versions::VersionKind;

@@ -2,7 +2,7 @@
 ghost use Rattle.std.specs.Prelude.{◌≤◌};
 
 use crate::row_filter::RowFilter;
-use elf_model::Format;
+use elf_model::{Format, SymbolFilter};
 
 /// The maximum number of headers that may be allowed.
 const MAX_HEADERS: u16 = 65_279;
@@ -36,8 +36,8 @@ impl NameLimit {
 ///
 /// Says how many bytes of a name are shown, whether GNU-specific numbers have names besides those
 /// of the standards, by which headers tables are found, how a line is written, which rows that end
-/// in the name of a symbol or of a version are shown, and whether the version of a symbol follows
-/// its name.
+/// in the name of a symbol or of a version are shown, which symbols are, and whether the version of
+/// a symbol follows its name.
 #[derive(Clone, Copy)]
 pub struct ListingStyle<'n> {
     /// The number of bytes of a name that are shown.
@@ -50,6 +50,8 @@ pub struct ListingStyle<'n> {
     pub format: Format,
     /// Which rows that end in the name of a symbol or of a version are shown.
     pub choice: RowFilter<'n>,
+    /// Which symbols are shown, of those whose rows the choice shows.
+    pub symbols: SymbolFilter,
     /// Whether the version of a symbol follows its name.
     pub versions: bool,
 }
@@ -72,6 +74,7 @@ impl ListingStyle<'_> {
             by_segments: false,
             format: Format::Columns,
             choice: RowFilter::every_row(),
+            symbols: SymbolFilter::every_symbol(),
             versions: false,
         }
     }

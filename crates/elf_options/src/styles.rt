@@ -23,6 +23,7 @@ pub fn style_with_names<'n>(style: ListingStyle<'_>, names: &'n [&'n [u8]]) -> L
         by_segments: style.by_segments,
         format: style.format,
         choice: RowFilter::rows_of(names, style.versions),
+        symbols: style.symbols,
         versions: style.versions,
     }
 }

@@ -50,7 +50,7 @@ returns-in-None g c =
     let kind = c.requires.typed file belongs in
     let found = symbols-pass file at _ (sym (c.requires.held file belongs)) in
     let none = subst (λ (t : ℕ). SuffixesOr file t (Ok None)) section (rw c.in-None.is at (c.in_ok-found.ensures.read file held (rw section (same ∙ found.1.counted)))) in
-    let shown = rw (fetches.0.same_style, fetches.1) at (c.list_rows.ensures.shows file (fetches.2.reads.keeps.same_file ∙ held) (λ some. (ap (λ (n : StringTableRange). slice file n.at n.size) (found.1.named some), found.1.placed, tt))) in
+    let shown = rw (fetches.0.same_style, fetches.1) at (c.list_rows.ensures.shows file (fetches.2.reads.keeps.same_file ∙ held) (λ some. (ap (λ (n : StringTableRange). slice file n.at n.size) (found.1.named some), found.1.placed, tt, c.requires.dynamic file belongs))) in
     WroteSome-as _ _ _ (symbols_plain file (style_of c.args.listing.now.style) c.args.rows.now.section kind found.0 _ found.1.counted none) shown)
 
 pub returns-in-Some : goal.returns-in-Some
@@ -71,5 +71,5 @@ returns-in-Some g c =
     let kind = c.requires.typed file belongs in
     let found = symbols-pass file at _ (sym (c.requires.held file belongs)) in
     let some = subst (λ (t : ℕ). SuffixesOr file t (Ok (Some c.in-Some.lookup))) section (rw c.in-Some.is at (c.in_ok-found.ensures.read file held (rw section (same ∙ found.1.counted)))) in
-    let shown = rw (fetches.0.same_style, fetches.1) at (c.list_rows-in-Some.ensures.shows file (fetches.2.reads.keeps.same_file ∙ held) (λ rows. (ap (λ (n : StringTableRange). slice file n.at n.size) (found.1.named rows), found.1.placed, some.1))) in
+    let shown = rw (fetches.0.same_style, fetches.1) at (c.list_rows-in-Some.ensures.shows file (fetches.2.reads.keeps.same_file ∙ held) (λ rows. (ap (λ (n : StringTableRange). slice file n.at n.size) (found.1.named rows), found.1.placed, some.1, c.requires.dynamic file belongs))) in
     WroteSome-as _ _ _ (symbols_shown file (style_of c.args.listing.now.style) c.args.rows.now.section kind found.0 _ found.1.counted some.0) shown)

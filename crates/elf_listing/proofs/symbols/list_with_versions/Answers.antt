@@ -26,4 +26,4 @@ returns-then-is_none g c =
     let found = symbols-pass file at _ (sym (c.requires.held file belongs)) in
     let none = unnumbered file c.args.rows.now.section (sym (rw c.from-section.ensures at (c.version_numbers_of.ensures.held file belongs)) ∙ none_found _ _ c.is_none.ensures c.if-is_none.true) in
     WroteSome-as _ _ _ (symbols_plain file (style_of c.args.listing.now.style) c.args.rows.now.section kind found.0 _ found.1.counted none)
-    (c.list_rows.ensures.shows file held (λ some. (ap (λ (n : StringTableRange). slice file n.at n.size) (found.1.named some), found.1.placed, tt))))
+    (c.list_rows.ensures.shows file held (λ some. (ap (λ (n : StringTableRange). slice file n.at n.size) (found.1.named some), found.1.placed, tt, c.requires.dynamic file belongs))))
