@@ -1,5 +1,5 @@
 -- What is printed after a refusal of a section, and what that reads.
-use Rattle.std.specs.Prelude.{ℕ, ◌+◌, ◌-◌, ◌≤◌, max, Bool, false, List, Option, None, Result, Ok, Err, IfSome, option_map}
+use Rattle.std.specs.Prelude.{ℕ, ◌+◌, ◌≤◌, max, Bool, false, List, Option, None, Result, Ok, Err, IfSome}
 use Rattle.elf_model.specs.Prelude.{MissingEntry, explained}
 use Rattle.elf_model.specs.declared.causes.Refusal.{Refusal}
 use Rattle.elf_source.specs.Prelude.{CountedState, OutState, SinkTakes, SinkTakesPrefix}
@@ -18,10 +18,6 @@ unfoldable pub lack_in : List ℕ → Task → Refusal → Option MissingEntry
 lack_in file (Apply section layout explain) refusal = explained file section layout.now refusal
 lack_in file (Place section addresses explain) refusal = explained file section addresses.now refusal
 lack_in file _ refusal = None
-
--- what is left of a budget for all reads
-abbrev pub budget_rest : Option ℕ → ℕ → Option ℕ
-budget_rest budget asked = option_map (λ bytes. bytes - asked) budget
 
 -- WHAT IS REQUESTED besides what was requested before: at most n bytes, and within what is left of
 -- the budget for all of it
