@@ -45,7 +45,9 @@ pub(crate) fn clap_command_of<'a>(
     let mut whole = new_command(alloc, command.name, command.about, command.more);
     let arguments = all_arguments();
     for argument in arguments {
-        whole = with_argument(alloc, whole, argument, command.bit)?;
+        if argument.commands & command.bit == command.bit {
+            whole = with_argument(alloc, whole, argument, command.bit)?;
+        }
     }
     Ok(whole)
 }

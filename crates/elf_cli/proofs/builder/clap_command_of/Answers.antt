@@ -1,17 +1,35 @@
-use Rattle.std.proofs.Common.{subst, sym}
+use Rattle.std.proofs.Common.{◌≡◌, ◌∙◌, ◌==◌, ℕ, false, refl, subst, sym}
+use Rattle.std.specs.Int.RustNames.{bit_and}
+use Rattle.std.proofs.lemmas.Bool.{ne_eqb}
 use Rattle.std.proofs.lemmas.List.Sums.{fold_more}
-use Rattle.clap.specs.Simple.{new_app}
+use Rattle.clap.specs.Simple.{App, new_app}
+use Rattle.clap.specs.Walk.{Rule}
 use Rattle.elf_cli.specs.Building.{IsBuilt}
 use Rattle.elf_cli.specs.CommandLine.{with_argument}
 use Rattle.elf_cli.specs.Described.{argument_row}
 use Rattle.elf_cli.proofs.BuildingLaws.{all_taken}
 use Rattle.elf_cli.proofs.builder.clap_command_of.Goals as goal
+use Rattle.elf_cli.proofs.builder.clap_command_of.Goals.{then-argument-command+in_ok-whole, else-argument-command}
+
+-- an argument that the command does not have
+not_its : (bit : ℕ) (app : App) (argument : ℕ × Rule) → (bit_and argument.0 bit == bit) ≡ false → with_argument bit app argument ≡ app
+not_its bit app argument other = rw other refl
 
 pub loop-argument-preserved : goal.loop-argument-preserved
 loop-argument-preserved c =
-    subst (λ a. IsBuilt a c.in_ok-whole.whole)
-    (sym (fold_more (λ app word. with_argument c.args.command.now.bit app (argument_row word)) (new_app c.args.command.now.name.now) _ c.loop-argument.argument-index _ c.loop-argument-test.true))
-    (c.in_ok-whole.ensures _ c.loop-argument.invariant)
+    elim c.if-argument-command.branch [
+      | then-argument-command+in_ok-whole w ↦
+          rw w.whole-is
+          (subst (λ a. IsBuilt a w.in_ok-whole.whole)
+          (sym (fold_more (λ app word. with_argument c.args.command.now.bit app (argument_row word)) (new_app c.args.command.now.name.now) _ c.loop-argument.argument-index _ c.loop-argument-test.true))
+          (w.in_ok-whole.ensures _ c.loop-argument.invariant))
+      | else-argument-command w ↦
+          rw w.whole-is
+          (subst (λ a. IsBuilt a c.loop-argument.whole)
+          (sym (fold_more (λ app word. with_argument c.args.command.now.bit app (argument_row word)) (new_app c.args.command.now.name.now) _ c.loop-argument.argument-index _ c.loop-argument-test.true
+          ∙ not_its _ _ _ (ne_eqb _ _ w.if-argument-command.false)))
+          c.loop-argument.invariant)
+    ]
 
 pub returns : goal.returns
 returns c =
