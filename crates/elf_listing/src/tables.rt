@@ -19,10 +19,10 @@ use elf_table::RunFault;
 
 /// The kinds of tables that section headers describe, except those of versions, in the order of the
 /// definition's `section_kinds`.
-type SectionTables = (Symbols, (Relocations, OtherTables));
+type SectionTables = (Symbols, (Relocations, NotesAndDynamic));
 
 /// Those that are listed after the symbols and the relocation entries.
-type OtherTables = (SectionNotes, (SectionDynamic, ()));
+type NotesAndDynamic = (SectionNotes, (SectionDynamic, ()));
 
 /// The kinds of tables that program headers describe, if a file has no section headers, in the order
 /// of `segment_kinds`.
