@@ -1,7 +1,7 @@
 -- Many files listed, and archives checked: the line of a path, what a file is by its first bytes,
 -- and the fault of an archive.
 use Rattle.std.specs.Prelude.{ℕ, ◌≡◌, ◌^◌, ◌-◌, List, [], ◌∷◌, ◌++◌, codes, true, false, take, Option, None, Some}
-use Rattle.elf_model.specs.Prelude.{EveryRow, RowsOf, SYMBOLS, archive_fault, archive_of, bare_header, budget_after, file_magic, headed, library, list_status, little, member, members_alone, one_symbol_table, path_line, placed_after, standard, with_bytes}
+use Rattle.elf_model.specs.Prelude.{EveryRow, RowsOf, SYMBOLS, archive_fault, archive_of, bare_header, file_magic, headed, library, list_status, little, member, members_alone, one_symbol_table, path_line, placed_after, standard, with_bytes}
 use Rattle.elf_model.specs.declared.states.FileMagic.TheVariants.{Archive, Elf, Foreign}
 use Rattle.elf_model.specs.declared.causes.Cause.{Cause}
 use Rattle.elf_model.specs.declared.formats.Format.TheVariants.{Columns, Object}
@@ -44,12 +44,6 @@ FileSorts =
     × (file_magic true None (codes "!<arch>") ≡ Foreign) × (file_magic true (Some 4) (codes "!<arch>") ≡ Foreign)
     × (file_magic true (Some 8) (codes "!<thin>\n") ≡ ThinArchive) × (file_magic true (Some 7) (codes "!<thin>\n") ≡ Undecided)
     × (file_magic false None (codes "!<thin>\n") ≡ Foreign)
-
--- what is left of a budget after the bytes that decide what a file is
-abbrev pub BudgetsAfter : Type 0
-BudgetsAfter =
-    (budget_after None 4 ≡ None) × (budget_after (Some 100) 4 ≡ Some 96) × (budget_after (Some 4) 4 ≡ Some 0)
-    × (budget_after (Some 3) 4 ≡ Some 3)
 
 -- the fault of an archive of some members, with three headers allowed
 abbrev FaultIs : List ℕ → Option Refusal → Type 0

@@ -75,11 +75,6 @@ file_magic members budget file =
 abbrev pub undecided : Refusal
 undecided = record { at = 0; cause = Budget }
 
--- what is left of a budget after those bytes; unchanged if it does not have them all
-abbrev pub budget_after : Option ℕ → ℕ → Option ℕ
-budget_after None n = None
-budget_after (Some budget) n = Some (if nat_lt budget n then budget else budget - n)
-
 -- ARCHIVES CHECKED. A refusal of a member whose data begin at an offset, counted from the archive's
 -- first byte, as far as 64 bits go
 abbrev pub placed_after : ℕ → Refusal → Refusal

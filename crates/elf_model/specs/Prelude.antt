@@ -41,7 +41,7 @@ unfoldable pub use Rattle.elf_model.specs.Explain.{explained, has_entry, lack_of
 pub use Rattle.elf_model.specs.Fields.{ADDEND_WIDTH, CAUSE_WIDTH, Field, Fields, LinePrefix, cell, closed_line, front, name_or_value, sign_of, with_fields}
 pub use Rattle.elf_model.specs.Fields.Field.{ArgSpec, Decimal, Hexadecimal, NameOrDecimal, NameOrHexadecimal, NameOrNumber}
 unfoldable pub use Rattle.elf_model.specs.Fields.{begun, closing, member_key, quoted, signed_text, string_byte, string_text, with_field}
-pub use Rattle.elf_model.specs.FileLists.{budget_after, front_size, headed, list_status, may_read_bytes, member_fault, members_alone, path_line, placed_after}
+pub use Rattle.elf_model.specs.FileLists.{front_size, headed, list_status, may_read_bytes, member_fault, members_alone, path_line, placed_after}
 unfoldable pub use Rattle.elf_model.specs.FileLists.{archive_fault, file_magic, first_fault, path_front}
 pub use Rattle.elf_model.specs.Find.{has_64_bit_words, hash_checks_from}
 pub use Rattle.elf_model.specs.FindApplyAnswer.{IsAnswered, applied_status, applied_text, apply_answer, find_answer, lookup_status, lookup_text}
