@@ -3,7 +3,7 @@ use elf_fixtures::one_call;
 use elf_layout::{Item, Layout};
 use elf_record::{Cause, Refusal};
 use elf_reloc::{Applied, apply};
-use elf_source::{Counted, MemorySource, Out, SliceSink};
+use elf_source::{Counted, Limited as _, MemorySource, Out, SliceSink};
 use elf_table::{HeaderBuffer, HeaderStore, RunFault};
 use std::process::Abort;
 use std::test::Fail;
@@ -16,9 +16,11 @@ type Limited = (Result<Applied, RunFault>, u128, [u8; 128]);
 fn limited(rt: &impl Abort, layout: &Layout, store: &mut HeaderStore, budget: u64) -> Limited {
     let mut bytes = [9; 128];
     let mut src = Counted::new(MemorySource::new(one_call()));
-    src.limit(Some(budget));
     let mut out = Out::new(SliceSink::new(&mut bytes));
-    let answer = apply(&mut src, store, 1, layout, &mut out);
+    let answer = src.within(
+        Some(budget),
+        &mut |src| { apply(src, store, 1, layout, &mut out) },
+    );
     assert!(rt; src.left() == None);
     let asked = src.asked();
     (answer, asked, bytes)

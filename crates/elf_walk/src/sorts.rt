@@ -59,13 +59,12 @@ pub fn list_by_type<S: Source, W: Sink>(
             let alone = are_alone(&caps.style);
             show_archive(src, store, caps, parts, alone, out)
         }
-        FileMagic::Undecided => {
+        FileMagic::Undecided | FileMagic::Thin | FileMagic::Foreign => {
             src.limit(None);
-            Err(report_undecided(caps.style.format, out))
-        }
-        FileMagic::Thin | FileMagic::Foreign => {
-            src.limit(None);
-            Ok(false)
+            match sort {
+                FileMagic::Undecided => Err(report_undecided(caps.style.format, out)),
+                _ => Ok(false),
+            }
         }
     }
 }

@@ -30,9 +30,9 @@ returns-in-Archive-clause-lists g c = λ file held.
 pub returns-in-Archive-clause-cost : goal.returns-in-Archive-clause-cost
 returns-in-Archive-clause-cost g c = λ file held. rw c.in-Archive.is (c.show_archive.ensures.cost file held)
 
-pub returns-in-Undecided-clause-lists : goal.returns-in-Undecided-clause-lists
-returns-in-Undecided-clause-lists g c = λ file held.
-    rw c.in-Undecided.is (undecided_listed file c.args.caps.limits (style_of c.args.caps.style) c.args.parts.0 c.args.out.now c.report_undecided.new.out c.report_undecided.result c.report_undecided.ensures.tells)
+pub returns-in-Undecided-sort-clause-lists : goal.returns-in-Undecided-sort-clause-lists
+returns-in-Undecided-sort-clause-lists g c = λ file held.
+    rw c.in-Undecided-sort.is (undecided_listed file c.args.caps.limits (style_of c.args.caps.style) c.args.parts.0 c.args.out.now c.report_undecided.new.out c.report_undecided.result c.report_undecided.ensures.tells)
 
-pub returns-in-Undecided-clause-says : goal.returns-in-Undecided-clause-says
-returns-in-Undecided-clause-says g c = undecided_says c.args.caps.style.format c.args.src.now c.limit.new.self c.args.out.now c.report_undecided.new.out c.report_undecided.result c.report_undecided.ensures.tells
+pub returns-in-Undecided-sort-clause-says : goal.returns-in-Undecided-sort-clause-says
+returns-in-Undecided-sort-clause-says g c = undecided_says c.args.caps.style.format c.args.src.now c.limit.new.self c.args.out.now c.report_undecided.new.out c.report_undecided.result c.report_undecided.ensures.tells
