@@ -96,8 +96,10 @@ int main(int argc, char **argv) {
     uint8_t *room = malloc(room_len);
     if (!room) return fail(argv[1], "there is no memory for its headers");
     const char *name = argv[2], *version = name + name_len(name);
-    uint32_t flags = strncmp(version, "@@", 2) ? 0 : ELFSEE_DEFAULT_ONLY;
-    version += flags ? 2 : *version == '@';
+    int is_default = !strncmp(version, "@@", 2);
+    version += is_default ? 2 : *version == '@';
+    /* Section headers are not what a loader reads: those of an untrusted file may show other tables. */
+    uint32_t flags = ELFSEE_BY_SEGMENTS | (is_default ? ELFSEE_DEFAULT_ONLY : 0);
     uint32_t status = elfsee_look_up(file, len, &limits, flags, (const uint8_t *)name, name_len(name),
                                      (const uint8_t *)version, strlen(version), room, room_len, &found, &end);
     if (status == ELFSEE_OK) {
