@@ -8,16 +8,15 @@ use Rattle.elf_hash.specs.declared.lookup.Lookup.TheVariants.{Absent, Found}
 use Rattle.elf_hash.specs.declared.lookup.Lookup.{Lookup}
 use Rattle.elf_capi.specs.Ends.{ReturnsCause, ReturnsNone}
 use Rattle.elf_capi.specs.Limits.{AreInRange, budget_of, headers_of}
-use Rattle.elf_capi.specs.Symbols.{HasFields}
-use Rattle.elf_capi.specs.declared.symbol.Symbol.{Symbol}
+use Rattle.elf_record.specs.declared.sym.Sym.{Sym}
 use Rattle.elf_capi.specs.Wants.{IsWanting}
 use Rattle.elf_capi.specs.declared.end.CallEnd.{CallEnd}
 use Rattle.elf_capi.specs.declared.found.LookupFields.{LookupFields}
 use Rattle.elf_capi.specs.declared.limits.CallerLimits.{CallerLimits}
 
 -- a symbol of zeros, for a lookup that found none
-abbrev pub no_symbol : Symbol
-no_symbol = record { value = 0; size = 0; name = 0; section = 0; info = 0; other = 0 }
+abbrev pub no_symbol : Sym
+no_symbol = record { st_value = 0; st_size = 0; st_name = 0; st_shndx = 0; st_info = 0; st_other = 0 }
 
 -- nothing was found after n steps
 abbrev pub nothing_after : ℕ → LookupFields
@@ -50,7 +49,7 @@ CallLooks file limits room name asked (Some looked) = MayLook limits room name �
 -- the result as numbers
 abbrev pub ReturnsLooked : ℕ → LookupFields → CallEnd → Option (Result Lookup Refusal) → Type 0
 ReturnsLooked status found end (Some (Ok (Found section index symbol steps))) =
-    (status ≡ 0) × (found.section ≡ section) × (found.index ≡ index) × HasFields symbol found.symbol × (found.steps ≡ steps) × (found.none ≡ 0) × (found.none_behind ≡ 0) × ReturnsNone end
+    (status ≡ 0) × (found.section ≡ section) × (found.index ≡ index) × (found.symbol ≡ symbol) × (found.steps ≡ steps) × (found.none ≡ 0) × (found.none_behind ≡ 0) × ReturnsNone end
 ReturnsLooked status found end (Some (Ok (Absent steps))) = (status ≡ 2) × (found ≡ nothing_after steps) × ReturnsNone end
 ReturnsLooked status found end (Some (Err refusal)) = (status ≡ 1) × (found ≡ nothing_after 0) × ReturnsCause end refusal
 ReturnsLooked status found end None = (status ≡ 4) × (found ≡ nothing_after 0) × ReturnsNone end

@@ -1,14 +1,12 @@
 pub mod Causes
 pub mod DynamicTables
 pub mod Ends
-pub mod Entries
 pub mod Hashed
 pub mod ListedEntries
 pub mod LoadRefused
 pub mod TableOpenings
 pub mod Rows
 pub mod SegmentDynamic
-pub mod Symbols
 pub mod VersionRecords
 pub mod Applied
 pub mod Asked

@@ -4,7 +4,6 @@ pub use Rattle.elf_capi.specs.Asked.{AreLendableNames, AsksListing, BorrowedText
 pub use Rattle.elf_capi.specs.CallOpenings.{OpensNames, OpensRecords, OpensRows}
 pub use Rattle.elf_capi.specs.DynamicTables.{IsDynamicTable}
 pub use Rattle.elf_capi.specs.Ends.{ReturnsNone, ReturnsOpened, ReturnsRead}
-pub use Rattle.elf_capi.specs.Entries.{IsDynamic, IsRelocation}
 pub use Rattle.elf_capi.specs.Found.{CallLooks, HasLookup}
 pub use Rattle.elf_capi.specs.Hashed.{FindsHashed, PlacesHashed, ReturnsHashedRows, hashed_cost, hashed_of}
 pub use Rattle.elf_capi.specs.HashedRows.{HasHashed, OpensHashed, ReadsHashed, by_flags}
@@ -19,7 +18,6 @@ pub use Rattle.elf_capi.specs.Resolved.{IsResolved, Resolves, ResolvesIn, Return
 pub use Rattle.elf_capi.specs.Rows.{ReadsNext, StepsRows, next_at, rows_from_first}
 pub use Rattle.elf_capi.specs.SegmentDynamic.{ReadsSegmentDynamic}
 pub use Rattle.elf_capi.specs.Shown.{FillsMemory, HasAskedListing, HasListing, HasStyledListing, ListsInMemory, ShowsInMemory}
-pub use Rattle.elf_capi.specs.Symbols.{IsSymbol}
 pub use Rattle.elf_capi.specs.TableOpenings.{ReadsRows, holds}
 pub use Rattle.elf_capi.specs.Told.{IsStatus, status_from}
 pub use Rattle.elf_capi.specs.VersionRecords.{AreRecords, GoesOnTo, IsVersionWord, StepsRecord, bytes_within, first_kind, kind_number, record_names, records_left, stand_as, standing_in, starting}

@@ -10,7 +10,6 @@ use Rattle.elf_loader.specs.declared.found.VersionName.{VersionName}
 use Rattle.elf_model.specs.Prelude.{IsBudgetRefusal, SymbolQuery, is_hidden, loader_cost, loader_looked, looked_at, number_in}
 use Rattle.elf_model.specs.declared.causes.Refusal.{Refusal}
 use Rattle.elf_model.specs.Hash.{Refused}
-use Rattle.elf_capi.specs.Symbols.{HasFields}
 use Rattle.elf_table.specs.declared.names.NameEnd.TheVariants.{Cut, Whole}
 use Rattle.elf_table.specs.declared.names.NameEnd.{NameEnd}
 use Rattle.elf_capi.specs.Found.{no_symbol}
@@ -69,7 +68,7 @@ Resolves file limits room asks told asked (Some answer) =
 -- the numbers of a symbol
 abbrev pub HasSymbol : Resolved → FoundSymbol → Type 0
 HasSymbol resolved found =
-    HasFields found.symbol resolved.symbol × (resolved.index ≡ found.index) × (resolved.tried ≡ found.tried)
+    (resolved.symbol ≡ found.symbol) × (resolved.index ≡ found.index) × (resolved.tried ≡ found.tried)
     × (resolved.section ≡ found.section) × (resolved.none ≡ 0) × (resolved.none_behind ≡ 0)
 
 -- they are unchanged

@@ -2,14 +2,14 @@
 ghost use Rattle.std.specs.Prelude.{◌≡◌};
 ghost use Rattle.elf_capi.specs.Found.{no_symbol, nothing_after};
 
-use crate::symbol::Symbol;
+use elf_record::Sym;
 
 /// What a lookup found; all 0 if it found nothing, except the steps.
 #[repr(C)]
 #[derive(Clone, Copy)]
 pub struct LookupFields {
     /// The symbol.
-    pub symbol: Symbol,
+    pub symbol: Sym,
     /// Its index in its section.
     pub index: u32,
     /// How many names were compared.
@@ -39,15 +39,15 @@ impl LookupFields {
 }
 
 /// Returns a symbol of zeros, for a lookup that found none.
-pub fn no_symbol() -> Symbol
+pub fn no_symbol() -> Sym
     ensures { result ≡ no_symbol }
 {
-    Symbol {
-        value: 0,
-        size: 0,
-        name: 0,
-        section: 0,
-        info: 0,
-        other: 0,
+    Sym {
+        st_value: 0,
+        st_size: 0,
+        st_name: 0,
+        st_shndx: 0,
+        st_info: 0,
+        st_other: 0,
     }
 }

@@ -4,7 +4,7 @@ ghost use Rattle.elf_model.specs.Records.{e_shnum, section_at};
 ghost use Rattle.elf_record.specs.Prelude.{IsEhdr, IsShdr};
 ghost use Rattle.elf_table.specs.Prelude.{PassesLoadChecks, section_names};
 
-use elf_memory::chunk_at;
+use elf_memory::section_at;
 use elf_record::sizes::SECTION_HEADER_BYTES;
 use elf_record::{Ehdr, Shdr};
 use elf_table::Names;
@@ -22,14 +22,6 @@ pub(crate) struct MemoryFile<'a> {
     pub(crate) ghost same: { IsEhdr bytes.now 0 header },
     pub(crate) ghost within: { PassesLoadChecks (length bytes.now) 65535 header },
     pub(crate) ghost named: { names ≡ section_names bytes.now },
-}
-
-/// Returns the section header at an offset of the file.
-pub(crate) fn section_header(file: &[u8], at: usize) -> Shdr
-    requires { at + 64 ≤ length file.now }
-    ensures { IsShdr file.now at result }
-{
-    Shdr::decode(chunk_at(file, at))
 }
 
 impl MemoryFile<'_> {
@@ -62,6 +54,6 @@ impl MemoryFile<'_> {
         requires { section < self.now.header.e_shnum }
         ensures { IsShdr self.now.bytes.now (section_at self.now.bytes.now section) result }
     {
-        section_header(self.bytes, self.place(section) as usize)
+        section_at(self.bytes, self.place(section) as usize)
     }
 }

@@ -4,8 +4,8 @@ ghost use Rattle.elf_record.specs.Ehdr.{IsEhdr};
 ghost use Rattle.elf_table.specs.Load.{PassesLoadChecks};
 ghost use Rattle.elf_capi.specs.TableOpenings.{LoadsFile, NamesSections};
 
-use crate::held::{MemoryFile, section_header};
-use elf_memory::checked_header;
+use crate::held::MemoryFile;
+use elf_memory::{checked_header, section_at};
 use elf_record::sizes::SECTION_HEADER_BYTES;
 use elf_record::{Ehdr, Refusal};
 use elf_table::{Fault, Names, check_before_load, checked_strings};
@@ -44,7 +44,7 @@ fn names_of(file: &[u8], header: &Ehdr) -> Result<Option<Names>, Refusal>
         return Ok(None);
     }
     let place = header.e_shoff + SECTION_HEADER_BYTES * u64::from(header.e_shstrndx);
-    let section = section_header(file, place as usize);
+    let section = section_at(file, place as usize);
     match checked_strings(&section, file.len() as u64, place) {
         Ok(names) => Ok(Some(names)),
         Err(Fault::Refused(refusal)) => Err(refusal),

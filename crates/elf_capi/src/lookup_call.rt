@@ -8,7 +8,6 @@ use crate::counts::short;
 use crate::end::CallEnd;
 use crate::file_source::file_within;
 use crate::found::LookupFields;
-use crate::symbol::Symbol;
 use elf_hash::{Lookup, find};
 use elf_record::Refusal;
 use elf_table::{Fault, HeaderStore};
@@ -65,7 +64,7 @@ pub fn report_found(
                 },
             ),
         ) => {
-            found.symbol = Symbol::of(symbol);
+            found.symbol = *symbol;
             found.section = *section;
             found.index = *index;
             found.steps = *steps;

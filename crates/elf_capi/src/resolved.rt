@@ -3,10 +3,9 @@ ghost use Rattle.std.specs.Prelude.{◌≡◌, Some};
 ghost use Rattle.elf_capi.specs.Resolved.{HasSymbol, SameSymbol, ReturnsFoundVersion, nothing_resolved};
 
 use crate::found::no_symbol;
-use crate::symbol::Symbol;
 use elf_loader::{FoundSymbol, FoundVersion, VersionName};
 use elf_memory::ByteRange;
-use elf_record::version_number;
+use elf_record::{Sym, version_number};
 use elf_table::NameEnd;
 
 /// What a loader's lookup found; all 0 if it found nothing, except the number of symbols tried.
@@ -14,7 +13,7 @@ use elf_table::NameEnd;
 #[derive(Clone, Copy)]
 pub struct Resolved {
     /// The symbol.
-    pub symbol: Symbol,
+    pub symbol: Sym,
     /// Its index among the symbols.
     pub index: u64,
     /// How many symbols were tried.
@@ -68,7 +67,7 @@ impl Resolved {
         ensures symbol { HasSymbol self.new found.now }
         ensures version { ReturnsFoundVersion self.new told found.now.version }
     {
-        self.symbol = Symbol::of(&found.symbol);
+        self.symbol = found.symbol;
         self.index = found.index;
         self.tried = found.tried;
         self.section = found.section;

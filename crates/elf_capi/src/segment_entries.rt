@@ -1,16 +1,14 @@
 //! The dynamic entries of a segment that are listed.
-ghost use Rattle.std.specs.Prelude.{ℕ};
 ghost use Rattle.elf_capi.specs.ListedEntries.{ReadsListed};
 ghost use Rattle.elf_capi.specs.SegmentDynamic.{AreSegmentEntries, FindsEntries, ReadsSegmentDynamic};
-ghost use Rattle.elf_memory.specs.declared.segment.Segment.{Segment as IsOne};
 
 use crate::dynamic_table::{listed_rows, listed_within};
 use crate::rows::RowPosition;
-use elf_memory::{Segment, segment_at, segment_place};
+use elf_memory::{segment_at, segment_place};
 use elf_record::numbers::PT_DYNAMIC;
 use elf_record::sizes::DYNAMIC_BYTES;
-use elf_record::{Cause, Refusal};
-use elf_table::is_out_of_bounds;
+use elf_record::{Phdr, Refusal};
+use elf_table::{Fault, Names, checked_rows};
 
 /// Returns a position before the first dynamic entry of a segment of a file in memory, up to and
 /// including the first DT_NULL.
@@ -67,7 +65,7 @@ fn segment_table(file: &[u8], segment: u16) -> Result<Option<RowPosition>, Refus
         return Ok(None);
     };
     let header = segment_at(file, place);
-    if header.kind != PT_DYNAMIC {
+    if header.p_type != PT_DYNAMIC {
         return Ok(None);
     }
     entries(file, place as u64, &header)
@@ -75,28 +73,13 @@ fn segment_table(file: &[u8], segment: u16) -> Result<Option<RowPosition>, Refus
 
 /// Returns all entries that a program header describes, if its checks pass. Refusals are at
 /// `place`.
-fn entries(file: &[u8], place: u64, header: &Segment) -> Result<Option<RowPosition>, Refusal>
-    ensures { AreSegmentEntries file.now place header.now.offset header.now.filesz result }
+fn entries(file: &[u8], place: u64, header: &Phdr) -> Result<Option<RowPosition>, Refusal>
+    ensures { AreSegmentEntries file.now place header.now.p_offset header.now.p_filesz result }
 {
-    let (at, bytes) = (header.offset, header.filesz);
-    if bytes % DYNAMIC_BYTES != 0 {
-        return Err(Refusal {
-            at: place,
-            cause: Cause::SizeNotWhole,
-        });
+    let (at, bytes) = (header.p_offset, header.p_filesz);
+    match checked_rows(at, bytes, DYNAMIC_BYTES, file.len() as u64, place) {
+        Ok(table) => Ok(Some(RowPosition::of(table, Names::new(0, 0)))),
+        Err(Fault::Refused(refusal)) => Err(refusal),
+        Err(Fault::Source { .. }) => unreachable!(),
     }
-    if bytes != 0 && is_out_of_bounds(file.len() as u64, at, bytes) {
-        return Err(Refusal {
-            at: place,
-            cause: Cause::TableOutside,
-        });
-    }
-    Ok(Some(RowPosition {
-        at,
-        count: bytes / DYNAMIC_BYTES,
-        index: 0,
-        entry: DYNAMIC_BYTES,
-        strings_at: 0,
-        strings_len: 0,
-    }))
 }

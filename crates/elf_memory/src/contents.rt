@@ -1,13 +1,13 @@
 //! The range of a section's bytes in a file.
 ghost use Rattle.std.specs.Prelude.{◌≡◌, ℕ, List};
 ghost use Rattle.elf_model.specs.Apply.{has_no_bytes};
-ghost use Rattle.elf_memory.specs.Headers.{IsSection};
+ghost use Rattle.elf_record.specs.Shdr.{IsShdr};
 ghost use Rattle.elf_memory.specs.SectionBytes.{ReadsSectionBytes};
 
 use crate::name::ByteRange;
-use crate::section::{Section, section_at, section_place};
+use crate::section::{section_at, section_place};
 use elf_record::numbers::{SHT_NOBITS, SHT_NULL};
-use elf_record::{Cause, Refusal};
+use elf_record::{Cause, Refusal, Shdr};
 use elf_table::is_out_of_bounds;
 
 /// Returns the range of a section's bytes in a file in memory; `None` if the file has no such
@@ -27,22 +27,22 @@ pub fn section_bytes(file: &[u8], section: u16) -> Result<Option<ByteRange>, Ref
     if has_no_bytes(&header) {
         return Ok(None);
     }
-    if is_out_of_bounds(file.len() as u64, header.offset, header.size) {
+    if is_out_of_bounds(file.len() as u64, header.sh_offset, header.sh_size) {
         return Err(Refusal {
             at: place as u64,
             cause: Cause::TableOutside,
         });
     }
     Ok(Some(ByteRange {
-        at: header.offset,
-        len: header.size,
+        at: header.sh_offset,
+        len: header.sh_size,
     }))
 }
 
 /// Returns `true` if a section has no bytes in its file, by its type.
-fn has_no_bytes(header: &Section) -> bool
-    ensures { (file : List ℕ) (at : ℕ) → IsSection file at header.now →
+fn has_no_bytes(header: &Shdr) -> bool
+    ensures { (file : List ℕ) (at : ℕ) → IsShdr file at header.now →
         result ≡ has_no_bytes file at }
 {
-    header.kind == SHT_NOBITS || header.kind == SHT_NULL
+    header.sh_type == SHT_NOBITS || header.sh_type == SHT_NULL
 }

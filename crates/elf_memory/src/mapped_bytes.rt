@@ -1,17 +1,15 @@
 //! The range of the bytes at an address in a file, by the segments that load them.
-ghost use Rattle.std.specs.Prelude.{◌≡◌, ◌≤◌, ℕ, List, length, true};
-ghost use Rattle.elf_model.specs.Mapped.{is_mapped_by};
+ghost use Rattle.std.specs.Prelude.{length};
 ghost use Rattle.elf_record.specs.Ehdr.{IsEhdr};
 ghost use Rattle.elf_table.specs.Load.{PassesLoadChecks};
 ghost use Rattle.elf_memory.specs.Checked.{MAX_HEADERS};
-ghost use Rattle.elf_memory.specs.Headers.{IsSegment};
 ghost use Rattle.elf_memory.specs.MappedBytes.{FindsMapping, ReadsMapped};
 
 use crate::checked::checked_counts;
 use crate::name::ByteRange;
-use crate::segment::{Segment, segment_at};
-use elf_record::numbers::PT_LOAD;
-use elf_record::{Cause, Ehdr, Refusal};
+use crate::segment::segment_at;
+use elf_record::{Ehdr, Refusal};
+use elf_table::{Fault, checked_mapped, maps};
 
 /// Returns the range in a file in memory of the `size` bytes at an address, by the first LOAD
 /// program header whose bytes in the file include them all; `None` if there is none (gABI 5,
@@ -28,17 +26,14 @@ pub fn find_mapped(file: &[u8], address: u64, size: u64) -> Result<Option<ByteRa
         return Ok(None);
     };
     let segment = segment_at(file, place);
-    let offset = u128::from(segment.offset) + u128::from(address - segment.vaddr);
-    if offset + u128::from(size) > file.len() as u128 {
-        return Err(Refusal {
-            at: place as u64,
-            cause: Cause::TableOutside,
-        });
+    match checked_mapped(&segment, file.len() as u64, place as u64, address, size) {
+        Ok(bytes) => Ok(Some(ByteRange {
+            at: bytes.at(),
+            len: bytes.size(),
+        })),
+        Err(Fault::Refused(refusal)) => Err(refusal),
+        Err(Fault::Source { .. }) => unreachable!(),
     }
-    Ok(Some(ByteRange {
-        at: offset as u64,
-        len: size,
-    }))
 }
 
 /// Returns the offset of the first LOAD program header that holds `size` bytes at an address.
@@ -51,23 +46,10 @@ fn mapping(file: &[u8], header: &Ehdr, address: u64, size: u64) -> Option<usize>
     let mut segment: u16 = 0;
     'segments: while segment < header.e_phnum {
         let place = first + 56 * segment as usize;
-        if holds(&segment_at(file, place), address, size) {
+        if maps(&segment_at(file, place), address, size) {
             return Some(place);
         }
         segment += 1;
     }
     None
-}
-
-/// Returns `true` if a segment is a LOAD segment whose bytes in the file include the `size` bytes
-/// at an address. The sums do not wrap (gABI 5, Program Loading).
-fn holds(segment: &Segment, address: u64, size: u64) -> bool
-    ensures value { (file : List ℕ) (at : ℕ) → IsSegment file at segment.now →
-        result ≡ is_mapped_by file at address size }
-    ensures above { result ≡ true → segment.now.vaddr ≤ address }
-{
-    let end = u128::from(segment.vaddr) + u128::from(segment.filesz);
-    segment.kind == PT_LOAD
-        && segment.vaddr <= address
-        && u128::from(address) + u128::from(size) <= end
 }

@@ -22,13 +22,13 @@ pub fn section_notes(file: &[u8], section: u16) -> Result<Option<NotePosition>, 
         return Ok(None);
     };
     let header = section_at(file, place);
-    if header.kind != SHT_NOTE {
+    if header.sh_type != SHT_NOTE {
         return Ok(None);
     }
     let notes = NotePosition {
-        at: header.offset,
-        left: header.size,
-        align: header.addralign,
+        at: header.sh_offset,
+        left: header.sh_size,
+        align: header.sh_addralign,
         header: u32::from(section),
         none: 0,
     };
@@ -46,13 +46,13 @@ pub fn segment_notes(file: &[u8], segment: u16) -> Result<Option<NotePosition>, 
         return Ok(None);
     };
     let header = segment_at(file, place);
-    if header.kind != PT_NOTE {
+    if header.p_type != PT_NOTE {
         return Ok(None);
     }
     let notes = NotePosition {
-        at: header.offset,
-        left: header.filesz,
-        align: header.align,
+        at: header.p_offset,
+        left: header.p_filesz,
+        align: header.p_align,
         header: u32::from(segment),
         none: 0,
     };

@@ -5,6 +5,7 @@ use crate::fields::{i64_at, put_i64, put_u64, u64_at};
 use arrayvec::ArrayVec;
 
 /// A dynamic entry of an ELF64 file, 16 bytes (gABI 5, Dynamic Section).
+#[repr(C)]
 #[derive(Clone, Copy)]
 pub struct Dyn {
     /// The entry's tag, at 0, in two's complement.

@@ -19,8 +19,35 @@ const VERSION_CURRENT: u8 = 1;
 /// The file header of an ELF64 file, 64 bytes at offset 0 (gABI 4, ELF Header).
 ///
 /// Every byte is in a field, the padding of the identification too.
+#[repr(C)]
 #[derive(Clone, Copy)]
 pub struct Ehdr {
+    /// The virtual address of the entry point, at 24.
+    pub e_entry: u64,
+    /// The file offset of the program headers, at 32.
+    pub e_phoff: u64,
+    /// The file offset of the section headers, at 40.
+    pub e_shoff: u64,
+    /// The object file's version, at 20.
+    pub e_version: u32,
+    /// The machine's flags, at 48.
+    pub e_flags: u32,
+    /// The object file's type, at 16.
+    pub e_type: u16,
+    /// The machine, at 18.
+    pub e_machine: u16,
+    /// The size of the file header in bytes, at 52.
+    pub e_ehsize: u16,
+    /// The size of a program header in bytes, at 54.
+    pub e_phentsize: u16,
+    /// The number of program headers, at 56.
+    pub e_phnum: u16,
+    /// The size of a section header in bytes, at 58.
+    pub e_shentsize: u16,
+    /// The number of section headers, at 60.
+    pub e_shnum: u16,
+    /// The section of the section names, at 62.
+    pub e_shstrndx: u16,
     /// The magic number, bytes 0 to 3: 7f 45 4c 46.
     pub ident_magic: [u8; 4],
     /// The file's class, byte 4: 2 is 64-bit.
@@ -35,32 +62,6 @@ pub struct Ehdr {
     pub ident_abi_version: u8,
     /// The padding of the identification, bytes 9 to 15.
     pub ident_padding: [u8; 7],
-    /// The object file's type, at 16.
-    pub e_type: u16,
-    /// The machine, at 18.
-    pub e_machine: u16,
-    /// The object file's version, at 20.
-    pub e_version: u32,
-    /// The virtual address of the entry point, at 24.
-    pub e_entry: u64,
-    /// The file offset of the program headers, at 32.
-    pub e_phoff: u64,
-    /// The file offset of the section headers, at 40.
-    pub e_shoff: u64,
-    /// The machine's flags, at 48.
-    pub e_flags: u32,
-    /// The size of the file header in bytes, at 52.
-    pub e_ehsize: u16,
-    /// The size of a program header in bytes, at 54.
-    pub e_phentsize: u16,
-    /// The number of program headers, at 56.
-    pub e_phnum: u16,
-    /// The size of a section header in bytes, at 58.
-    pub e_shentsize: u16,
-    /// The number of section headers, at 60.
-    pub e_shnum: u16,
-    /// The section of the section names, at 62.
-    pub e_shstrndx: u16,
 }
 
 impl Ehdr {

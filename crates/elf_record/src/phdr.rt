@@ -5,12 +5,9 @@ use crate::fields::{put_u32, put_u64, u32_at, u64_at};
 use arrayvec::ArrayVec;
 
 /// A program header of an ELF64 file, 56 bytes (gABI 5, Program Header).
+#[repr(C)]
 #[derive(Clone, Copy)]
 pub struct Phdr {
-    /// The segment's type, at 0.
-    pub p_type: u32,
-    /// The segment's flags, at 4: the bits of a `SegmentFlags`.
-    pub p_flags: u32,
     /// The file offset of the segment's first byte, at 8.
     pub p_offset: u64,
     /// The virtual address of the segment's first byte, at 16.
@@ -23,6 +20,10 @@ pub struct Phdr {
     pub p_memsz: u64,
     /// The alignment of the segment in bytes, at 48; 0 and 1 mean none.
     pub p_align: u64,
+    /// The segment's type, at 0.
+    pub p_type: u32,
+    /// The segment's flags, at 4: the bits of a `SegmentFlags`.
+    pub p_flags: u32,
 }
 
 impl Phdr {

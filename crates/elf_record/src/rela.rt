@@ -5,6 +5,7 @@ use crate::fields::{i64_at, put_i64, put_u64, u64_at};
 use arrayvec::ArrayVec;
 
 /// A relocation entry with an addend, 24 bytes (gABI 4, Relocation).
+#[repr(C)]
 #[derive(Clone, Copy)]
 pub struct Rela {
     /// The place of the relocation, at 0: in a relocatable file an offset in bytes in the section

@@ -7,12 +7,9 @@ use crate::numbers::SHT_RELA;
 use arrayvec::ArrayVec;
 
 /// A section header of an ELF64 file, 64 bytes (gABI 4, Section Header).
+#[repr(C)]
 #[derive(Clone, Copy)]
 pub struct Shdr {
-    /// The offset of the section's name in the section name string table, at 0.
-    pub sh_name: u32,
-    /// The section's type, at 4.
-    pub sh_type: u32,
     /// The section's flags, at 8: the bits of a `SectionFlags`.
     pub sh_flags: u64,
     /// The virtual address of the section's first byte, at 16; 0 if it is not in memory.
@@ -21,15 +18,19 @@ pub struct Shdr {
     pub sh_offset: u64,
     /// The section's size in bytes, at 32, also of a section without bytes in the file.
     pub sh_size: u64,
-    /// The index of a section that this one refers to, at 40. Its meaning depends on the type.
-    pub sh_link: u32,
-    /// Further information, at 44. Its meaning depends on the type.
-    pub sh_info: u32,
     /// The alignment of the section's address in bytes, at 48; 0 and 1 mean none.
     pub sh_addralign: u64,
     /// The size of an entry in bytes, at 56, if the section is a table of fixed-size entries;
     /// otherwise 0.
     pub sh_entsize: u64,
+    /// The offset of the section's name in the section name string table, at 0.
+    pub sh_name: u32,
+    /// The section's type, at 4.
+    pub sh_type: u32,
+    /// The index of a section that this one refers to, at 40. Its meaning depends on the type.
+    pub sh_link: u32,
+    /// Further information, at 44. Its meaning depends on the type.
+    pub sh_info: u32,
 }
 
 impl Shdr {

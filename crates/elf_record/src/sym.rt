@@ -6,20 +6,21 @@ use crate::numbers::{SHN_ABS, SHN_COMMON, SHN_LORESERVE, SHN_UNDEF};
 use arrayvec::ArrayVec;
 
 /// A symbol of an ELF64 file, 24 bytes (gABI 4, Symbol Table).
+#[repr(C)]
 #[derive(Clone, Copy)]
 pub struct Sym {
-    /// The offset of the symbol's name in the string table, at 0.
-    pub st_name: u32,
-    /// The symbol's binding, in the high four bits, and its type, in the low four, at 4.
-    pub st_info: u8,
-    /// The symbol's visibility, in the low two bits, at 5.
-    pub st_other: u8,
-    /// The index of the section that the symbol is defined in, or a special index, at 6.
-    pub st_shndx: u16,
     /// The symbol's value, at 8: in a relocatable file its offset in bytes in its section.
     pub st_value: u64,
     /// The symbol's size in bytes, at 16; 0 if it has none or it is not known.
     pub st_size: u64,
+    /// The offset of the symbol's name in the string table, at 0.
+    pub st_name: u32,
+    /// The index of the section that the symbol is defined in, or a special index, at 6.
+    pub st_shndx: u16,
+    /// The symbol's binding, in the high four bits, and its type, in the low four, at 4.
+    pub st_info: u8,
+    /// The symbol's visibility, in the low two bits, at 5.
+    pub st_other: u8,
 }
 
 /// The section of a symbol (gABI 4, Special Section Indexes).

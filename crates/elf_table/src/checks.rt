@@ -33,8 +33,12 @@ pub fn checked_table(header: &Shdr, size: u64, place: u64, entry: u64) -> Result
 }
 
 /// Returns the `bytes` bytes at the offset `offset` as rows of `entry` bytes, in a file of `size`
-/// bytes. An empty range is not checked. Refusals point to `place`.
-pub(crate) fn checked_rows(
+/// bytes. An empty range is not checked.
+///
+/// # Errors
+/// Returns the first check that fails, at the offset `place`: `SizeNotWhole` if `bytes` is no
+/// multiple of `entry`, `TableOutside` if they end past the end of the file.
+pub fn checked_rows(
     offset: u64,
     bytes: u64,
     entry: u64,
@@ -58,8 +62,11 @@ pub(crate) fn checked_rows(
 }
 
 /// Returns the `bytes` bytes at the offset `offset` as rows of one byte, in a file of `size` bytes.
-/// An empty range is not checked. A refusal points to `place`.
-pub(crate) fn checked_bytes(offset: u64, bytes: u64, size: u64, place: u64) -> Result<Table, Fault>
+/// An empty range is not checked.
+///
+/// # Errors
+/// Returns `TableOutside` at the offset `place` if they end past the end of the file.
+pub fn checked_bytes(offset: u64, bytes: u64, size: u64, place: u64) -> Result<Table, Fault>
     ensures value { result ≡ byte_rows size offset bytes place }
     ensures lies { MatchResult result (Spans size 1 bytes) IsOfCheck }
 {

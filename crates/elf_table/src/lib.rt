@@ -35,7 +35,7 @@ mod table;
 mod window;
 
 pub use buffers::TABLE_BUFFER_BYTES;
-pub use checks::{checked_strings, checked_table, holds_symbols};
+pub use checks::{checked_bytes, checked_rows, checked_strings, checked_table, holds_symbols};
 pub use cursor::Cursor;
 pub use elf_options::{Caps, Limits, ListingStyle, NameLimit};
 pub use fault::{Fault, refusal_at, refused};
@@ -53,6 +53,7 @@ pub use ranges::is_out_of_bounds;
 pub use row::Row;
 pub use run_fault::RunFault;
 pub use section_load::{check_before_load, load};
+pub use segment_checks::{checked_mapped, maps};
 pub use segment_view::ExecutionView;
 pub use store::HeaderStore;
 pub use table::Table;

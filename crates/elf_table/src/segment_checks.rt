@@ -15,7 +15,7 @@ use elf_record::{Cause, Phdr};
 
 /// Returns `true` if the segment is a LOAD segment whose bytes in the file include the `size` bytes
 /// at the address `address` (gABI 5, Program Loading). The sums do not wrap.
-pub(crate) fn maps(header: &Phdr, address: u64, size: u64) -> bool
+pub fn maps(header: &Phdr, address: u64, size: u64) -> bool
     ensures value { (bytes : List ℕ) (at : ℕ) → IsPhdr bytes at header.now →
         result ≡ is_mapped_by bytes at address size }
     ensures above { result ≡ true → header.now.p_vaddr ≤ address }
@@ -29,8 +29,11 @@ pub(crate) fn maps(header: &Phdr, address: u64, size: u64) -> bool
 }
 
 /// Returns the string table of `bytes` bytes at an address that the segment holds, in a file of
-/// `size` bytes. A refusal points to `place`.
-pub(crate) fn checked_mapped(
+/// `size` bytes.
+///
+/// # Errors
+/// Returns `TableOutside` at the offset `place` if they end past the end of the file.
+pub fn checked_mapped(
     header: &Phdr,
     size: u64,
     place: u64,

@@ -3,13 +3,14 @@ ghost use Rattle.elf_memory.specs.Headers.{ReadsHeader, ReadsSection, ReadsSegme
 ghost use Rattle.elf_capi.specs.Ends.{ReturnsRead};
 
 use elf_capi::{CallEnd, report_row};
-use elf_memory::{Header, Section, Segment, read_header, read_section, read_segment};
+use elf_memory::{read_header, read_section, read_segment};
+use elf_record::{Ehdr, Phdr, Shdr};
 
 /// Reads the file header of a file in memory (gABI 4, ELF Header).
 ///
 /// Returns 0 if it was read, and 1 if a check of it fails, with the first that does in `end`.
 #[unsafe(no_mangle)]
-pub extern "C" fn elfsee_header(file: &[u8], header: &mut Header, end: &mut CallEnd) -> u32
+pub extern "C" fn elfsee_header(file: &[u8], header: &mut Ehdr, end: &mut CallEnd) -> u32
     ensures { ReturnsRead (ReadsHeader file.now) result header.old header.new end.new }
 {
     report_row(read_header(file), header, end)
@@ -25,7 +26,7 @@ pub extern "C" fn elfsee_header(file: &[u8], header: &mut Header, end: &mut Call
 pub extern "C" fn elfsee_section(
     file: &[u8],
     index: u16,
-    section: &mut Section,
+    section: &mut Shdr,
     end: &mut CallEnd,
 ) -> u32
     ensures { ReturnsRead (ReadsSection file.now index) result section.old section.new end.new }
@@ -39,7 +40,7 @@ pub extern "C" fn elfsee_section(
 pub extern "C" fn elfsee_segment(
     file: &[u8],
     index: u16,
-    segment: &mut Segment,
+    segment: &mut Phdr,
     end: &mut CallEnd,
 ) -> u32
     ensures { ReturnsRead (ReadsSegment file.now index) result segment.old segment.new end.new }

@@ -1,14 +1,14 @@
 //! The exports that read rows within a budget: what they read counts, over all tables.
 ghost use Rattle.std.specs.Prelude.{◌≤◌, IfSome, length};
-ghost use Rattle.elf_capi.specs.Prelude.{IsDynamic, IsRelocation, IsSymbol, IsVersionWord, OpensAlways, OpensEntries, OpensRows, ReadsSegmentDynamic, ReadsBudgeted, ReturnsEntries, budget_of};
+ghost use Rattle.elf_record.specs.Prelude.{IsDyn, IsRela, IsSym};
+ghost use Rattle.elf_capi.specs.Prelude.{IsVersionWord, OpensAlways, OpensEntries, OpensRows, ReadsSegmentDynamic, ReadsBudgeted, ReturnsEntries, budget_of};
 ghost use Rattle.elf_capi.specs.declared.kind.RowKind.TheVariants.{Dynamic as DynamicRows};
 
 use elf_capi::{
-    CallEnd, CallerLimits, Dynamic, Relocation, RowPosition, Symbol, Versym, checked_limits,
-    count_entries, dynamic_within, entries_left, next_within, report_opened,
-    segment_dynamic_within,
+    CallEnd, CallerLimits, RowPosition, Versym, checked_limits, count_entries, dynamic_within,
+    entries_left, next_within, report_opened, segment_dynamic_within,
 };
-use elf_record::Refusal;
+use elf_record::{Dyn, Refusal, Rela, Sym};
 
 /// Checks the table of dynamic entries that a section of a file holds, as
 /// [`elfsee_dynamic`](crate::tables::elfsee_dynamic) does, within the budget of the limits.
@@ -74,10 +74,10 @@ pub extern "C" fn elfsee_next_symbols_within(
     limits: &CallerLimits,
     asked: &mut u64,
     rows: &mut RowPosition,
-    out: &mut [Symbol],
+    out: &mut [Sym],
     end: &mut CallEnd,
 ) -> usize
-    ensures { ReadsBudgeted 24 IsSymbol file.now limits.now asked.old asked.new rows.old rows.new
+    ensures { ReadsBudgeted 24 IsSym file.now limits.now asked.old asked.new rows.old rows.new
         (length out.old) out.new result end.new }
 {
     next_within(file, limits, asked, rows, out, end)
@@ -90,10 +90,10 @@ pub extern "C" fn elfsee_next_relocations_within(
     limits: &CallerLimits,
     asked: &mut u64,
     rows: &mut RowPosition,
-    out: &mut [Relocation],
+    out: &mut [Rela],
     end: &mut CallEnd,
 ) -> usize
-    ensures { ReadsBudgeted 24 IsRelocation file.now limits.now asked.old asked.new rows.old rows.new
+    ensures { ReadsBudgeted 24 IsRela file.now limits.now asked.old asked.new rows.old rows.new
         (length out.old) out.new result end.new }
 {
     next_within(file, limits, asked, rows, out, end)
@@ -107,10 +107,10 @@ pub extern "C" fn elfsee_next_dynamic_within(
     limits: &CallerLimits,
     asked: &mut u64,
     rows: &mut RowPosition,
-    out: &mut [Dynamic],
+    out: &mut [Dyn],
     end: &mut CallEnd,
 ) -> usize
-    ensures { ReadsBudgeted 16 IsDynamic file.now limits.now asked.old asked.new rows.old rows.new
+    ensures { ReadsBudgeted 16 IsDyn file.now limits.now asked.old asked.new rows.old rows.new
         (length out.old) out.new result end.new }
 {
     next_within(file, limits, asked, rows, out, end)
