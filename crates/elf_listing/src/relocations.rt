@@ -136,10 +136,12 @@ fn list_versioned<S: Source, W: Sink>(
     ensures { ListsHeader (relocations_part true) listing.old listing.new result rows.now.section }
 {
     let link = listing.file.section(rows.section).sh_link;
-    let found = listing.linked_suffixes(link, &rows.linked)?;
+    let found = listing.linked_suffixes(link, &rows.linked);
+    // The lookup stays where it was written: moving it out would take its size on the stack again.
     match &found {
-        None => list_rows(listing, table, rows, &mut NoVersions),
-        Some(lookup) => {
+        Err(fault) => Err(RunFault::from(*fault)),
+        Ok(None) => list_rows(listing, table, rows, &mut NoVersions),
+        Ok(Some(lookup)) => {
             let name = NameBuf::new();
             let mut versions = FoundVersions { lookup, name };
             list_rows(listing, table, rows, &mut versions)
@@ -167,6 +169,7 @@ fn read_version<V: NameVersions, S: Source, W: Sink>(
 
 impl<S: Source, W: Sink> Listing<'_, '_, '_, '_, S, W> {
     /// Finds the versions of the symbols that entries refer to, if there are any.
+    #[inline(never)]
     fn linked_suffixes(
         &mut self,
         table: u32,

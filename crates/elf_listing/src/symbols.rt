@@ -125,10 +125,12 @@ fn list_versioned<S: Source, W: Sink>(
     requires { AreSymbolsOf listing.old.file table rows.now }
     ensures { ListsHeader (symbols_part true) listing.old listing.new result rows.now.section }
 {
-    let found = listing.suffixes(u32::from(rows.section), table.len())?;
+    let found = listing.suffixes(u32::from(rows.section), table.len());
+    // The lookup stays where it was written: moving it out would take its size on the stack again.
     match &found {
-        None => list_rows(listing, table, rows, &mut NoVersions),
-        Some(lookup) => {
+        Err(fault) => Err(RunFault::from(*fault)),
+        Ok(None) => list_rows(listing, table, rows, &mut NoVersions),
+        Ok(Some(lookup)) => {
             let name = NameBuf::new();
             let mut versions = FoundVersions { lookup, name };
             list_rows(listing, table, rows, &mut versions)
