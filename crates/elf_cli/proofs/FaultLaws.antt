@@ -8,7 +8,7 @@ use Rattle.clap.specs.Walk.{Text}
 use Rattle.clap.specs.declared.error.Error.{Error}
 use Rattle.clap.specs.declared.parser.matches.ArgMatches.{ArgMatches}
 use Rattle.clap.proofs.OnLiterals.{clap_on_literals}
-use Rattle.elf_cli.specs.Prelude.{AreRead, AreRefused, IsFaultOf, IsOneOf, program}
+use Rattle.elf_cli.specs.Prelude.{AreMatched, AreRejected, IsFaultOf, IsOneOf, program}
 use Rattle.elf_cli.specs.declared.faults.RequestFault.TheVariants.{BadItem, BadName, BadTrait, LayoutFull, LayoutRepeat, Memory, NamesFull, Words}
 use Rattle.elf_cli.specs.declared.faults.RequestFault.{RequestFault}
 
@@ -34,14 +34,14 @@ fault_told kinds error BadTrait is has = is
 
 -- an error of a command line that is that one
 pub refused : (app : App) (words : List Text) (error : Error) (fault : RequestFault) → app ≡ program
-    → (is_simple_and_free app ≡ true → HasKind (fault_of app words) error) → IsFaultOf error fault → AreRefused words fault
+    → (is_simple_and_free app ≡ true → HasKind (fault_of app words) error) → IsFaultOf error fault → AreRejected words fault
 refused app words error fault is kinds told = record {
   among = subst (λ a. IsOneOf (fault_of a words) fault) is (fault_told (fault_of app words) error fault told (kinds (ap is_simple_and_free is ∙ is_known)));
 }
 
 -- matches of such a command line: they are those of the arguments, for which it has no fault
 pub read : (app : App) (words : List Text) (m : ArgMatches) → app ≡ program
-    → (is_simple_and_free app ≡ true → fault_of app words ≡ []) → HasMatchesOf app words m → AreRead words (subcommand_rows_of m)
+    → (is_simple_and_free app ≡ true → fault_of app words ≡ []) → HasMatchesOf app words m → AreMatched words (subcommand_rows_of m)
 read app words m is taken matches = record {
   taken = subst (λ a. fault_of a words ≡ []) is (taken (ap is_simple_and_free is ∙ is_known));
   made = subst (λ a. subcommand_of a words ≡ subcommand_rows_of m) is (sym (matches (ap is_simple is ∙ has_known_matches)).1);

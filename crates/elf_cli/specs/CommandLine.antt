@@ -1,5 +1,5 @@
 -- The command line: its commands and their arguments, as the parser of the arguments sees them.
-use Rattle.std.specs.Prelude.{ℕ, ◌+◌, ◌==◌, if◌then◌else◌, bytes_eq, List, [], ◌∷◌, codes, get_or, pos, true, Some}
+use Rattle.std.specs.Prelude.{ℕ, ◌+◌, ◌==◌, ◌||◌, if◌then◌else◌, bytes_eq, List, [], ◌∷◌, codes, get_or, pos, true, Some}
 use Rattle.std.specs.Int.RustNames.{bit_and}
 use Rattle.std.specs.List.{fold}
 use Rattle.clap.specs.Walk.{Rule, Text}
@@ -15,6 +15,10 @@ use Rattle.elf_cli.specs.declared.command_sets.TheConstants.{SHOW, SAMPLE, FIND,
 -- an option that may also be given by a letter, as in -g
 abbrev pub by_letter : Text → Rule → Rule
 by_letter letter rule = record rule { short = Some (get_or letter 0 0) }
+
+-- one that other tools call so, by which name it may be given too
+abbrev pub also_named : Text → Rule → Rule
+also_named name rule = record rule { aliases = name ∷ [] }
 
 -- an option without a value, which is set if it is given
 abbrev pub flag : Text → Rule
@@ -68,16 +72,16 @@ selecting = SHOW + LIST + ARCHIVE
 -- and its rule
 abbrev pub argument_rows : List (ℕ × Rule)
 argument_rows =
-    (one_file + SAMPLE + many_files, numbered_option (codes "headers") (Signed (pos 1) (pos 65279)) (codes "4096"))
-    ∷ (listing, numbered_option (codes "names") (Signed (pos 1) (pos 4096)) (codes "256"))
+    (one_file + SAMPLE + many_files, also_named (codes "max-headers") (numbered_option (codes "headers") (Signed (pos 1) (pos 65279)) (codes "4096")))
+    ∷ (listing, also_named (codes "max-name-len") (numbered_option (codes "names") (Signed (pos 1) (pos 4096)) (codes "256")))
     ∷ (one_file + SAMPLE + many_files, option (codes "max-read") (Unsigned 0 9223372036854775807))
     ∷ (NEEDS, option (codes "max-tries") (Unsigned 0 9223372036854775807))
     ∷ (NEEDS, valued (codes "library-path"))
     ∷ (NEEDS, valued (codes "default"))
-    ∷ (NEEDS, valued (codes "root"))
+    ∷ (NEEDS, also_named (codes "sysroot") (valued (codes "root")))
     ∷ (NEEDS, valued (codes "cache"))
     ∷ (NEEDS, flag (codes "no-cache"))
-    ∷ (NEEDS, flag (codes "symbols"))
+    ∷ (NEEDS, also_named (codes "bindings") (flag (codes "symbols")))
     ∷ (NEEDS, flag (codes "unused"))
     ∷ (NEEDS, flag (codes "problems"))
     ∷ (TRAITS, valued (codes "require"))
@@ -85,8 +89,8 @@ argument_rows =
     ∷ (ARCHIVE, by_letter (codes "o") (option (codes "only") NonEmptyString))
     ∷ (listing, by_letter (codes "g") (flag (codes "gnu")))
     ∷ (FIND, by_letter (codes "g") (flag (codes "gnu")))
-    ∷ (listing, by_letter (codes "D") (flag (codes "by-segments")))
-    ∷ (FIND, by_letter (codes "D") (flag (codes "by-segments")))
+    ∷ (listing, also_named (codes "use-dynamic") (by_letter (codes "D") (flag (codes "by-segments"))))
+    ∷ (FIND, also_named (codes "use-dynamic") (by_letter (codes "D") (flag (codes "by-segments"))))
     ∷ (listing + FIND + TRAITS + NEEDS, by_letter (codes "j") (flag (codes "json")))
     ∷ (listing + FIND + TRAITS + NEEDS, by_letter (codes "t") (flag (codes "table")))
     ∷ (selecting + SAMPLE, flag (codes "versions"))
@@ -107,24 +111,24 @@ argument_rows =
     ∷ (EXPLAIN, any_words (codes "CAUSE"))
     ∷ []
 
--- a command's name, with what it is called here and its bit
+-- a command's name, with what it is called here, its bit, and its other names
 abbrev pub CommandRow : Type 0
-CommandRow = Text × CommandName × ℕ
+CommandRow = Text × CommandName × ℕ × List Text
 
 -- THE COMMANDS, in the order of help
 abbrev pub command_rows : List CommandRow
 command_rows =
-    (codes "show", command.Show, SHOW)
-    ∷ (codes "sample", command.Sample, SAMPLE)
-    ∷ (codes "find", command.Find, FIND)
-    ∷ (codes "apply", command.Apply, APPLY)
-    ∷ (codes "check", command.Check, CHECK)
-    ∷ (codes "list", command.List, LIST)
-    ∷ (codes "traits", command.Traits, TRAITS)
-    ∷ (codes "needs", command.Needs, NEEDS)
-    ∷ (codes "archive", command.Archive, ARCHIVE)
-    ∷ (codes "explain", command.Explain, EXPLAIN)
-    ∷ (codes "version", command.Version, VERSION)
+    (codes "show", command.Show, SHOW, [])
+    ∷ (codes "sample", command.Sample, SAMPLE, [])
+    ∷ (codes "find", command.Find, FIND, [])
+    ∷ (codes "apply", command.Apply, APPLY, [])
+    ∷ (codes "check", command.Check, CHECK, [])
+    ∷ (codes "list", command.List, LIST, [])
+    ∷ (codes "traits", command.Traits, TRAITS, codes "hardening" ∷ [])
+    ∷ (codes "needs", command.Needs, NEEDS, codes "deps" ∷ [])
+    ∷ (codes "archive", command.Archive, ARCHIVE, [])
+    ∷ (codes "explain", command.Explain, EXPLAIN, [])
+    ∷ (codes "version", command.Version, VERSION, [])
     ∷ []
 
 -- the command of a name, of those that the command line has
@@ -136,9 +140,13 @@ command_among (known ∷ rest) name = if bytes_eq name known.0 then known.1 else
 abbrev pub with_argument : ℕ → App → ℕ × Rule → App
 with_argument bit app argument = if bit_and argument.0 bit == bit then with_rule app argument.1 else app
 
+-- a command with its names
+abbrev pub named : CommandRow → App
+named known = let app = new_app known.0 in record app { top = record app.top { aliases = known.3 } }
+
 -- a command with its arguments
 abbrev pub described : CommandRow → App
-described known = fold (with_argument known.2) (new_app known.0) argument_rows
+described known = fold (with_argument known.2) (named known) argument_rows
 
 -- a program with one more command
 abbrev pub with_command : App → CommandRow → App
@@ -152,3 +160,9 @@ without_command = let app = new_app (codes "elfsee") in
 -- THE COMMAND LINE: the program with all its commands
 abbrev pub program : App
 program = fold with_command without_command command_rows
+
+-- the options that other programs have for their version: alone they are the command of that name
+abbrev pub spelled : List Text → List Text
+spelled (word ∷ []) =
+    if bytes_eq word (codes "--version") || bytes_eq word (codes "-V") then codes "version" ∷ [] else word ∷ []
+spelled words = words

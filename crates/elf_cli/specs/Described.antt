@@ -1,5 +1,5 @@
 -- What descriptions of commands and their arguments mean.
-use Rattle.std.specs.Prelude.{ℕ, List}
+use Rattle.std.specs.Prelude.{ℕ, List, [], ◌∷◌, Option, None, Some}
 use Rattle.std.specs.Borrow.{Bor}
 use Rattle.clap.specs.Walk.{Rule, Text}
 use Rattle.clap.specs.declared.builder.value_parser.ValueParser.TheVariants.{NonEmptyString}
@@ -22,9 +22,18 @@ rule_of_kind name Needed = required name
 rule_of_kind name (Index parser) = indexed name parser
 rule_of_kind name Any = any_words name
 
+-- another name, if there is one
+abbrev pub other_names : Option (Bor Text) → List Text
+other_names None = []
+other_names (Some name) = name.now ∷ []
+
 -- and with its letter
+abbrev pub lettered : ArgSpec → Rule
+lettered word = record (rule_of_kind word.name.now word.kind) { short = word.short }
+
+-- and with its other name
 abbrev pub rule_by : ArgSpec → Rule
-rule_by word = record (rule_of_kind word.name.now word.kind) { short = word.short }
+rule_by word = record (lettered word) { aliases = other_names word.alias }
 
 -- an argument as it is described, with the set of the commands that have it
 abbrev pub argument_row : ArgSpec → ℕ × Rule
@@ -32,7 +41,7 @@ argument_row word = (word.commands, rule_by word)
 
 -- a command as it is described
 abbrev pub command_row : CommandSpec → CommandRow
-command_row row = (row.name.now, row.command, row.bit)
+command_row row = (row.name.now, row.command, row.bit, other_names row.alias)
 
 -- a part's number and its name
 abbrev pub part_row : Bor Text × Parts → ℕ × List ℕ

@@ -7,4 +7,4 @@ pub use Rattle.elf_cli.specs.Faults.{IsFaultOf, IsOneOf, IsUnasked}
 pub use Rattle.elf_cli.specs.UsageFaults.{HasUsageFault, usage_fault, selects_rows}
 pub use Rattle.elf_cli.specs.Lines.{GivesFront}
 pub use Rattle.elf_cli.specs.Pieces.{pieces}
-pub use Rattle.elf_cli.specs.Reading.{AreRead, AreRefused}
+pub use Rattle.elf_cli.specs.Reading.{AreMatched, AreRead, AreRefused, AreRejected}

@@ -1,18 +1,21 @@
 //! Command arguments as data, and the `clap` arguments built from it.
+ghost use Rattle.std.specs.Prelude.{IfOk};
 ghost use Rattle.elf_cli.specs.Building.{IsArg};
 ghost use Rattle.elf_cli.specs.CommandLine.{any_words, flag, indexed, numbered_option};
 ghost use Rattle.elf_cli.specs.CommandLine.{option, repeated, required, valued};
-ghost use Rattle.elf_cli.specs.Described.{rule_by, rule_of_kind};
+ghost use Rattle.elf_cli.specs.Described.{lettered, rule_by, rule_of_kind};
 
 use clap::builder::ValueParser;
 use clap::{Arg, ArgAction};
-use std::alloc::Global;
+use std::alloc::{AllocError, Global};
 
 /// An argument of one or more commands.
 pub(crate) struct ArgSpec {
     pub(crate) name: &'static str,
     /// The letter of an option that may also be given as `-g`.
     pub(crate) short: Option<char>,
+    /// Another name, which other tools have for it.
+    pub(crate) alias: Option<&'static str>,
     pub(crate) kind: ArgKind,
     pub(crate) help: &'static str,
     /// The set of the commands that have it.
@@ -42,9 +45,23 @@ pub(crate) enum ArgKind {
 }
 
 /// Returns the `clap` argument for a specification.
+///
+/// # Errors
+/// Out of memory; nothing of it is kept then.
+pub(crate) fn clap_arg_of<'a>(alloc: Global, word: &ArgSpec) -> Result<Arg<'a>, AllocError>
+    ensures { IfOk result (IsArg (rule_by word.now)) }
+{
+    let arg = lettered(alloc, word);
+    match word.alias {
+        Some(name) => arg.visible_alias(name),
+        None => Ok(arg),
+    }
+}
+
+/// Returns the argument for a specification, without its other name.
 #[tactic(auto, using(crate::proofs::BuildingLaws::without_letter))]
-pub(crate) fn clap_arg_of<'a>(alloc: Global, word: &ArgSpec) -> Arg<'a>
-    ensures { IsArg (rule_by word.now) result }
+fn lettered<'a>(alloc: Global, word: &ArgSpec) -> Arg<'a>
+    ensures { IsArg (lettered word.now) result }
 {
     let arg = arg_of_kind(alloc, word);
     match word.short {
@@ -53,7 +70,7 @@ pub(crate) fn clap_arg_of<'a>(alloc: Global, word: &ArgSpec) -> Arg<'a>
     }
 }
 
-/// Returns the argument for a specification, without its letter.
+/// Returns the argument for a specification, without its letter and its other name.
 fn arg_of_kind<'a>(alloc: Global, word: &ArgSpec) -> Arg<'a>
     ensures { IsArg (rule_of_kind word.now.name.now word.now.kind) result }
 {

@@ -14,6 +14,7 @@ static ARGUMENTS: [ArgSpec; 37] = [
     ArgSpec {
         name: "headers",
         short: None,
+        alias: Some("max-headers"),
         kind: ArgKind::Count(ValueParser::Signed(1, 65279), "4096"),
         help: "Allow N section and N program headers,\n\
             1 to 65279",
@@ -22,6 +23,7 @@ static ARGUMENTS: [ArgSpec; 37] = [
     ArgSpec {
         name: "names",
         short: None,
+        alias: Some("max-name-len"),
         kind: ArgKind::Count(ValueParser::Signed(1, 4096), "256"),
         help: "Show at most N bytes of a name,\n\
             1 to 4096",
@@ -30,6 +32,7 @@ static ARGUMENTS: [ArgSpec; 37] = [
     ArgSpec {
         name: "max-read",
         short: None,
+        alias: None,
         kind: ArgKind::Number(ValueParser::Unsigned(0, 9_223_372_036_854_775_807)),
         help: "Read at most N bytes of the file:\n\
             0 to 9223372036854775807 [default: no limit]",
@@ -38,6 +41,7 @@ static ARGUMENTS: [ArgSpec; 37] = [
     ArgSpec {
         name: "max-tries",
         short: None,
+        alias: None,
         kind: ArgKind::Number(ValueParser::Unsigned(0, 9_223_372_036_854_775_807)),
         help: "Try at most N paths for a FILE:\n\
             0 to 9223372036854775807 [default: 100000]",
@@ -46,6 +50,7 @@ static ARGUMENTS: [ArgSpec; 37] = [
     ArgSpec {
         name: "library-path",
         short: None,
+        alias: None,
         kind: ArgKind::Value("DIRS"),
         help: "Also search these directories, like those of\n\
             LD_LIBRARY_PATH for a loader",
@@ -54,6 +59,7 @@ static ARGUMENTS: [ArgSpec; 37] = [
     ArgSpec {
         name: "default",
         short: None,
+        alias: None,
         kind: ArgKind::Value("DIRS"),
         help: "Search these directories last, instead of those of\n\
             a system",
@@ -62,6 +68,7 @@ static ARGUMENTS: [ArgSpec; 37] = [
     ArgSpec {
         name: "root",
         short: None,
+        alias: Some("sysroot"),
         kind: ArgKind::Value("DIR"),
         help: "Take each path that begins with a slash relative\n\
             to DIR",
@@ -70,6 +77,7 @@ static ARGUMENTS: [ArgSpec; 37] = [
     ArgSpec {
         name: "cache",
         short: None,
+        alias: None,
         kind: ArgKind::Value("FILE"),
         help: "Search the loader's cache FILE,\n\
             not /etc/ld.so.cache",
@@ -78,6 +86,7 @@ static ARGUMENTS: [ArgSpec; 37] = [
     ArgSpec {
         name: "no-cache",
         short: None,
+        alias: None,
         kind: ArgKind::Flag,
         help: "Search no loader's cache",
         commands: NEEDS,
@@ -85,13 +94,16 @@ static ARGUMENTS: [ArgSpec; 37] = [
     ArgSpec {
         name: "symbols",
         short: None,
+        alias: Some("bindings"),
         kind: ArgKind::Flag,
-        help: "Also print which object each symbol comes from",
+        help: "Also print which object each symbol comes\n\
+            from",
         commands: NEEDS,
     },
     ArgSpec {
         name: "unused",
         short: None,
+        alias: None,
         kind: ArgKind::Flag,
         help: "Also print which libraries FILE names itself and\n\
             uses nothing of",
@@ -100,6 +112,7 @@ static ARGUMENTS: [ArgSpec; 37] = [
     ArgSpec {
         name: "problems",
         short: None,
+        alias: None,
         kind: ArgKind::Flag,
         help: "Print only the lines that make the status 1",
         commands: NEEDS,
@@ -107,6 +120,7 @@ static ARGUMENTS: [ArgSpec; 37] = [
     ArgSpec {
         name: "require",
         short: None,
+        alias: None,
         kind: ArgKind::Value("WORDS"),
         help: "Print which of these words each program and\n\
             library lacks, as in stack=nx,relro=full",
@@ -115,6 +129,7 @@ static ARGUMENTS: [ArgSpec; 37] = [
     ArgSpec {
         name: "only",
         short: Some('o'),
+        alias: None,
         kind: ArgKind::Filled("PART"),
         help: "List these parts, separated by commas\n\
             [default: all] [possible values: header, sections,\n\
@@ -125,6 +140,7 @@ static ARGUMENTS: [ArgSpec; 37] = [
     ArgSpec {
         name: "only",
         short: Some('o'),
+        alias: None,
         kind: ArgKind::Filled("PART"),
         help: "List these parts, separated by commas\n\
             [default: all] [possible values: members, header,\n\
@@ -135,6 +151,7 @@ static ARGUMENTS: [ArgSpec; 37] = [
     ArgSpec {
         name: "gnu",
         short: Some('g'),
+        alias: None,
         kind: ArgKind::Flag,
         help: "Also name the numbers defined by GNU, and list\n\
             symbol versions",
@@ -144,6 +161,7 @@ static ARGUMENTS: [ArgSpec; 37] = [
     ArgSpec {
         name: "gnu",
         short: Some('g'),
+        alias: None,
         kind: ArgKind::Flag,
         help: "Find the symbol that glibc's dynamic loader picks;\n\
             NAME may have a version",
@@ -152,6 +170,7 @@ static ARGUMENTS: [ArgSpec; 37] = [
     ArgSpec {
         name: "by-segments",
         short: Some('D'),
+        alias: Some("use-dynamic"),
         kind: ArgKind::Flag,
         help: "Find tables by the program headers, as a loader\n\
             does",
@@ -161,6 +180,7 @@ static ARGUMENTS: [ArgSpec; 37] = [
     ArgSpec {
         name: "by-segments",
         short: Some('D'),
+        alias: Some("use-dynamic"),
         kind: ArgKind::Flag,
         help: "With --gnu: find the tables by the program\n\
             headers, as the loader does",
@@ -169,6 +189,7 @@ static ARGUMENTS: [ArgSpec; 37] = [
     ArgSpec {
         name: "json",
         short: Some('j'),
+        alias: None,
         kind: ArgKind::Flag,
         help: "Print each line as a JSON object",
         commands: LINES,
@@ -176,6 +197,7 @@ static ARGUMENTS: [ArgSpec; 37] = [
     ArgSpec {
         name: "table",
         short: Some('t'),
+        alias: None,
         kind: ArgKind::Flag,
         help: "Print a table with the names of its columns;\n\
             implies --gnu and --versions",
@@ -184,6 +206,7 @@ static ARGUMENTS: [ArgSpec; 37] = [
     ArgSpec {
         name: "versions",
         short: None,
+        alias: None,
         kind: ArgKind::Flag,
         help: "With --gnu: append its version to the name of a\n\
             symbol, as NAME@VERSION",
@@ -192,6 +215,7 @@ static ARGUMENTS: [ArgSpec; 37] = [
     ArgSpec {
         name: "name",
         short: Some('n'),
+        alias: None,
         kind: ArgKind::Repeated("NAME"),
         help: "Show only the rows with this name;\n\
             at most 64 times",
@@ -200,6 +224,7 @@ static ARGUMENTS: [ArgSpec; 37] = [
     ArgSpec {
         name: "name-list",
         short: None,
+        alias: None,
         kind: ArgKind::Value("LIST"),
         help: "Also show the rows with the names in the file\n\
             LIST, one per line",
@@ -208,6 +233,7 @@ static ARGUMENTS: [ArgSpec; 37] = [
     ArgSpec {
         name: "defined",
         short: None,
+        alias: None,
         kind: ArgKind::Flag,
         help: "Of symbols, show only the defined ones",
         commands: SELECTING,
@@ -215,6 +241,7 @@ static ARGUMENTS: [ArgSpec; 37] = [
     ArgSpec {
         name: "undefined",
         short: None,
+        alias: None,
         kind: ArgKind::Flag,
         help: "Of symbols, show only the undefined ones",
         commands: SELECTING,
@@ -222,6 +249,7 @@ static ARGUMENTS: [ArgSpec; 37] = [
     ArgSpec {
         name: "dynamic",
         short: None,
+        alias: None,
         kind: ArgKind::Flag,
         help: "Of symbols, show only those of dynamic tables",
         commands: SELECTING,
@@ -229,6 +257,7 @@ static ARGUMENTS: [ArgSpec; 37] = [
     ArgSpec {
         name: "layout",
         short: None,
+        alias: None,
         kind: ArgKind::Value("LIST"),
         help: "Also take the items in the file LIST, one per\n\
             line, any number of them",
@@ -237,6 +266,7 @@ static ARGUMENTS: [ArgSpec; 37] = [
     ArgSpec {
         name: "explain",
         short: None,
+        alias: None,
         kind: ArgKind::Flag,
         help: "If an address is missing, print the type, the\n\
             symbol and the item that would help",
@@ -245,6 +275,7 @@ static ARGUMENTS: [ArgSpec; 37] = [
     ArgSpec {
         name: "members",
         short: None,
+        alias: None,
         kind: ArgKind::Flag,
         help: "Also read the members of archives",
         commands: CHECK | LIST,
@@ -252,6 +283,7 @@ static ARGUMENTS: [ArgSpec; 37] = [
     ArgSpec {
         name: "files0-from",
         short: None,
+        alias: None,
         kind: ArgKind::Value("FILE"),
         help: "Also take the paths in FILE, each ended by a NUL\n\
             byte; - is standard input",
@@ -260,6 +292,7 @@ static ARGUMENTS: [ArgSpec; 37] = [
     ArgSpec {
         name: "FILE",
         short: None,
+        alias: None,
         kind: ArgKind::Needed,
         help: "The file to read; - is the one on standard input",
         commands: ONE_FILE,
@@ -267,6 +300,7 @@ static ARGUMENTS: [ArgSpec; 37] = [
     ArgSpec {
         name: "NAME",
         short: None,
+        alias: None,
         kind: ArgKind::Needed,
         help: "The name to look up: 1 to 4096 bytes",
         commands: FIND,
@@ -274,6 +308,7 @@ static ARGUMENTS: [ArgSpec; 37] = [
     ArgSpec {
         name: "SECTION",
         short: None,
+        alias: None,
         kind: ArgKind::Index(ValueParser::Signed(0, 65535)),
         help: "The index of the section to write: 0 to 65535",
         commands: APPLY,
@@ -281,6 +316,7 @@ static ARGUMENTS: [ArgSpec; 37] = [
     ArgSpec {
         name: "ITEM",
         short: None,
+        alias: None,
         kind: ArgKind::Any,
         help: "An address: at:INDEX=ADDR, def:NAME=ADDR,\n\
             plt:NAME=ADDR, got:NAME=ADDR or tpgot:NAME=ADDR",
@@ -289,6 +325,7 @@ static ARGUMENTS: [ArgSpec; 37] = [
     ArgSpec {
         name: "PATH",
         short: None,
+        alias: None,
         kind: ArgKind::Any,
         help: "A file or a directory; - is the file on standard input",
         commands: MANY_FILES,
@@ -296,6 +333,7 @@ static ARGUMENTS: [ArgSpec; 37] = [
     ArgSpec {
         name: "CAUSE",
         short: None,
+        alias: None,
         kind: ArgKind::Any,
         help: "A cause or a state that a line has, such as\n\
             table-outside; without any, all",

@@ -3,7 +3,7 @@ ghost use Rattle.std.specs.Prelude.{◌≡◌, IfOk};
 ghost use Rattle.clap.specs.Simple.{App, new_app};
 ghost use Rattle.clap.specs.Words.{app_of};
 ghost use Rattle.elf_cli.specs.Building.{IsBuilt};
-ghost use Rattle.elf_cli.specs.CommandLine.{described, with_argument, with_command};
+ghost use Rattle.elf_cli.specs.CommandLine.{described, named, with_argument, with_command};
 ghost use Rattle.elf_cli.specs.Described.{argument_row, command_row};
 
 use crate::arg_specs::{ArgSpec, clap_arg_of};
@@ -16,6 +16,8 @@ use std::alloc::{AllocError, Global};
 pub(crate) struct CommandSpec {
     pub(crate) name: &'static str,
     pub(crate) command: CommandName,
+    /// Another name, which says what it is for.
+    pub(crate) alias: Option<&'static str>,
     /// Its bit in a set of commands.
     pub(crate) bit: u16,
     /// What help prints before the arguments, and after them.
@@ -42,7 +44,7 @@ pub(crate) fn clap_command_of<'a>(
 ) -> Result<Command<'a>, AllocError>
     ensures { IfOk result (IsBuilt (described (command_row command.now))) }
 {
-    let mut whole = new_command(alloc, command.name, command.about, command.more);
+    let mut whole = named(alloc, command)?;
     let arguments = all_arguments();
     for argument in arguments {
         if argument.commands & command.bit == command.bit {
@@ -50,6 +52,17 @@ pub(crate) fn clap_command_of<'a>(
         }
     }
     Ok(whole)
+}
+
+/// Creates the command for a description, with its names and without arguments.
+fn named<'a>(alloc: Global, command: &CommandSpec) -> Result<Command<'a>, AllocError>
+    ensures { IfOk result (IsBuilt (named (command_row command.now))) }
+{
+    let built = new_command(alloc, command.name, command.about, command.more);
+    match command.alias {
+        Some(name) => built.visible_alias(name),
+        None => Ok(built),
+    }
 }
 
 /// Returns a command with one more argument, if the command with this bit has it.
@@ -65,7 +78,7 @@ fn with_argument<'a>(
     if argument.commands & bit != bit {
         return Ok(command);
     }
-    command.arg(clap_arg_of(alloc, argument))
+    command.arg(clap_arg_of(alloc, argument)?)
 }
 
 /// Returns a command with one more subcommand.

@@ -22,6 +22,7 @@ static COMMANDS: [CommandSpec; 11] = [
     CommandSpec {
         name: "show",
         command: CommandName::Show,
+        alias: None,
         bit: SHOW,
         about: "List a whole file or parts of it",
         more: SHOWN,
@@ -29,6 +30,7 @@ static COMMANDS: [CommandSpec; 11] = [
     CommandSpec {
         name: "sample",
         command: CommandName::Sample,
+        alias: None,
         bit: SAMPLE,
         about: "List a small file that is built into the program",
         more: SAMPLED,
@@ -36,6 +38,7 @@ static COMMANDS: [CommandSpec; 11] = [
     CommandSpec {
         name: "find",
         command: CommandName::Find,
+        alias: None,
         bit: FIND,
         about: "Look up a name in the file's own hash table",
         more: FOUND,
@@ -43,6 +46,7 @@ static COMMANDS: [CommandSpec; 11] = [
     CommandSpec {
         name: "apply",
         command: CommandName::Apply,
+        alias: None,
         bit: APPLY,
         about: "Write a section's bytes with its relocations applied",
         more: ITEMS,
@@ -50,6 +54,7 @@ static COMMANDS: [CommandSpec; 11] = [
     CommandSpec {
         name: "check",
         command: CommandName::Check,
+        alias: None,
         bit: CHECK,
         about: "Check many files: which are malformed, where and why",
         more: CHECKED,
@@ -57,6 +62,7 @@ static COMMANDS: [CommandSpec; 11] = [
     CommandSpec {
         name: "list",
         command: CommandName::List,
+        alias: None,
         bit: LIST,
         about: "List many files, whole or parts of each",
         more: LISTED,
@@ -64,6 +70,7 @@ static COMMANDS: [CommandSpec; 11] = [
     CommandSpec {
         name: "traits",
         command: CommandName::Traits,
+        alias: Some("hardening"),
         bit: TRAITS,
         about: "Print how each of many files is hardened",
         more: HARDENED,
@@ -71,13 +78,15 @@ static COMMANDS: [CommandSpec; 11] = [
     CommandSpec {
         name: "needs",
         command: CommandName::Needs,
+        alias: Some("deps"),
         bit: NEEDS,
-        about: "Print which libraries programs need, and where they are",
+        about: "Print which libraries programs need and where they are",
         more: NEEDED,
     },
     CommandSpec {
         name: "archive",
         command: CommandName::Archive,
+        alias: None,
         bit: ARCHIVE,
         about: "List the members of an archive, such as a static library",
         more: MEMBERS,
@@ -85,6 +94,7 @@ static COMMANDS: [CommandSpec; 11] = [
     CommandSpec {
         name: "explain",
         command: CommandName::Explain,
+        alias: None,
         bit: EXPLAIN,
         about: "Print what causes and states mean, and what to do about them",
         more: EXPLAINED,
@@ -92,6 +102,7 @@ static COMMANDS: [CommandSpec; 11] = [
     CommandSpec {
         name: "version",
         command: CommandName::Version,
+        alias: None,
         bit: VERSION,
         about: "Print the version of this program",
         more: "Example: elfsee version",

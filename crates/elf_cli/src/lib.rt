@@ -19,6 +19,7 @@ mod files;
 mod line_sink;
 mod listings;
 mod options;
+mod other_tools;
 mod outputs;
 mod parser;
 mod part_names;

@@ -8,11 +8,12 @@ ghost use Rattle.elf_cli.specs.declared.faults.RequestFault.TheVariants.{Memory}
 use crate::command_args::read_args;
 use crate::exit_lines::{BAD_WORDS, ExitLine, NOT_UTF8, OUT_OF_MEMORY, refused};
 use crate::faults::RequestFault;
+use crate::other_tools::show_tip;
 use crate::outputs::{ERROR_LINE_BYTES, write_rest};
 use crate::parser::parse_arguments;
 use crate::usage_errors::request_fault;
 use crate::usage_faults::usage_fault;
-use clap::ArgMatches;
+use clap::{ArgMatches, error};
 use elf_format::show_escaped_text;
 use elf_source::{Out, OutFault, Sink, WriteSink};
 use std::alloc::{AllocError, Global};
@@ -91,6 +92,9 @@ fn report_clap_error(
     };
     let mut out = Out::new(WriteSink::new(errors));
     let _ = show_marked(text.as_bytes(), marked.as_bytes(), &mut out);
+    if told.kind() == error::ErrorKind::UnknownArgument {
+        let _ = show_tip(words, &mut out);
+    }
     let _ = write_rest(out.into_inner().into_inner(), true);
     Ok(())
 }
