@@ -10,8 +10,8 @@ _elfsee_options() {
     list) set -- --headers --names --max-read --only --gnu --by-segments --json --table --versions --name --name-list --defined --undefined --dynamic --members --files0-from ;;
     find) set -- --headers --max-read --gnu --by-segments --json --table ;;
     apply) set -- --headers --max-read --layout --explain ;;
-    needs) set -- --headers --max-read --max-tries --library-path --default --root --cache --no-cache --symbols --unused --problems --json --table --files0-from ;;
-    traits) set -- --headers --max-read --require --json --table --files0-from ;;
+    needs | deps) set -- --headers --max-read --max-tries --library-path --default --root --cache --no-cache --symbols --unused --problems --json --table --files0-from ;;
+    traits | hardening) set -- --headers --max-read --require --json --table --files0-from ;;
     *) set -- ;;
     esac
     for option in "$@" --help; do
@@ -63,7 +63,7 @@ _elfsee() {
         else
             case $word in
             --) ended=1 before= ;;
-            --headers | --names | --max-read | --max-tries | --only | -o | --name | -n | --name-list | --layout | --require | --library-path | --default | --root | --cache | --files0-from) skip=1 ;;
+            --headers | --max-headers | --names | --max-name-len | --max-read | --max-tries | --only | -o | --name | -n | --name-list | --layout | --require | --library-path | --default | --root | --sysroot | --cache | --files0-from) skip=1 ;;
             -*) ;;
             *) if [[ $command ]]; then files=$((files + 1)); else command=$word; fi ;;
             esac
@@ -76,8 +76,8 @@ _elfsee() {
             mapfile -t COMPREPLY < <(compgen -W "$parts" -- "$current")
             return
             ;;
-        --headers | --names | --max-read | --max-tries | --name | -n | --require | --library-path | --default) return ;;
-        --name-list | --layout | --root | --cache | --files0-from)
+        --headers | --max-headers | --names | --max-name-len | --max-read | --max-tries | --name | -n | --require | --library-path | --default) return ;;
+        --name-list | --layout | --root | --sysroot | --cache | --files0-from)
             _elfsee_files
             return
             ;;
@@ -98,7 +98,7 @@ _elfsee() {
     '') mapfile -t COMPREPLY < <(compgen -W 'show sample find apply check list traits needs archive explain version help' -- "$current") ;;
     help) [[ $files != 0 ]] || mapfile -t COMPREPLY < <(compgen -W 'show sample find apply check list traits needs archive explain version' -- "$current") ;;
     show | find | archive) [[ $files != 0 ]] || _elfsee_files ;;
-    check | list | traits | needs) _elfsee_files ;;
+    check | list | traits | hardening | needs | deps) _elfsee_files ;;
     apply)
         case $files in
         0) _elfsee_files ;;

@@ -27,7 +27,7 @@ function __elfsee_plain_words
             set -a plain $word
         else if test "$word" = --
             set ended 1
-        else if contains -- $word --headers --names --max-read --max-tries --only --name --name-list --layout --require --library-path --default --root --cache --files0-from
+        else if contains -- $word --headers --max-headers --names --max-name-len --max-read --max-tries --only --name --name-list --layout --require --library-path --default --root --sysroot --cache --files0-from
             set skip 1
         else if not string match -q -- '-*' $word
             set -a plain $word
@@ -41,7 +41,7 @@ end
 function __elfsee_wants_file
     set -l plain (__elfsee_plain_words)
     test (count $plain) -eq 1; and contains -- $plain[1] show find apply archive; and return
-    test (count $plain) -ge 1; and contains -- $plain[1] check list traits needs
+    test (count $plain) -ge 1; and contains -- $plain[1] check list traits hardening needs deps
 end
 
 # Succeeds if items of a layout may follow.
@@ -64,7 +64,7 @@ complete -c elfsee -n "not __fish_seen_subcommand_from $commands" -a apply -d 'w
 complete -c elfsee -n "not __fish_seen_subcommand_from $commands" -a check -d 'check many files: which are malformed, where and why'
 complete -c elfsee -n "not __fish_seen_subcommand_from $commands" -a list -d 'list many files, whole or parts of each'
 complete -c elfsee -n "not __fish_seen_subcommand_from $commands" -a traits -d 'print how each of many files is hardened'
-complete -c elfsee -n "not __fish_seen_subcommand_from $commands" -a needs -d 'print which libraries programs need, and where they are'
+complete -c elfsee -n "not __fish_seen_subcommand_from $commands" -a needs -d 'print which libraries programs need and where they are'
 complete -c elfsee -n "not __fish_seen_subcommand_from $commands" -a archive -d 'list the members of an archive, and their contents'
 complete -c elfsee -n "not __fish_seen_subcommand_from $commands" -a explain -d 'print what causes and states mean'
 complete -c elfsee -n "not __fish_seen_subcommand_from $commands" -a version -d 'print the version of the program'

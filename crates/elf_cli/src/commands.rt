@@ -104,7 +104,7 @@ static COMMANDS: [CommandSpec; 11] = [
         command: CommandName::Version,
         alias: None,
         bit: VERSION,
-        about: "Print the version of this program",
+        about: "Print the version of this program, as -V does",
         more: "Example: elfsee version",
     },
 ];
