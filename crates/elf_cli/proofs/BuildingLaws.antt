@@ -48,7 +48,7 @@ with_another_name rule old new name is_shown is adds none =
     let names = λ (arg : Arg). map (λ (alias : Bor Text × Bool). alias.0.now) arg.aliases.items in
     let before : names old ≡ [] = ap (λ (r : Rule). r.aliases) is.0 ∙ none in
     let after : names new ≡ name.now ∷ [] =
-        ap (map (λ (alias : Bor Text × Bool). alias.0.now)) adds.1 ∙ map_push _ old.aliases.items (name, is_shown) ∙ ap (λ l. l ++ (name.now ∷ [])) before in
+    ap (map (λ (alias : Bor Text × Bool). alias.0.now)) adds.1 ∙ map_push _ old.aliases.items (name, is_shown) ∙ ap (λ l. l ++ (name.now ∷ [])) before in
     let others : rule_of new ≡ record (rule_of old) { aliases = names new } = ap rule_of adds.0 in
     (others ∙ ap (λ l. record (rule_of old) { aliases = l }) after ∙ ap (λ (r : Rule). record r { aliases = name.now ∷ [] }) is.0, ap (λ (a : Arg). a.global) adds.0 ∙ is.1)
 
@@ -58,10 +58,11 @@ command_with_another_name app old new name is_shown is adds none =
     let names = λ (command : Command). map (λ (alias : Bor Text × Bool). alias.0.now) (fields_of command).aliases.items in
     let before : names old ≡ [] = ap (λ (a : App). a.top.aliases) is.0 ∙ none in
     let after : names new ≡ name.now ∷ [] =
-        ap (map (λ (alias : Bor Text × Bool). alias.0.now)) adds.1 ∙ map_push _ (fields_of old).aliases.items (name, is_shown) ∙ ap (λ l. l ++ (name.now ∷ [])) before in
-    let others : app_of new ≡ record (app_of old) { top = record (app_of old).top { aliases = names new } } = ap app_of_fields adds.0 in
-    (others ∙ ap (λ l. record (app_of old) { top = record (app_of old).top { aliases = l } }) after ∙ ap (λ (a : App). record a { top = record a.top { aliases = name.now ∷ [] } }) is.0,
-        ap (λ f. f.has_globals) adds.0 ∙ is.1)
+    ap (map (λ (alias : Bor Text × Bool). alias.0.now)) adds.1 ∙ map_push _ (fields_of old).aliases.items (name, is_shown) ∙ ap (λ l. l ++ (name.now ∷ [])) before in
+    let others : app_of new ≡ record (app_of old) { top = record (app_of old).top { aliases = names new } } = ap app_of_fields adds.0 in (
+      others ∙ ap (λ l. record (app_of old) { top = record (app_of old).top { aliases = l } }) after ∙ ap (λ (a : App). record a { top = record a.top { aliases = name.now ∷ [] } }) is.0,
+      ap (λ f. f.has_globals) adds.0 ∙ is.1,
+    )
 
 pub is_named : (rule : Rule) (old : Arg) (result : Result Arg AllocError) (name : Bor Text) → IsArg rule old → rule.aliases ≡ [] → IfOk result (λ new. AddsAliases old new ((name, true) ∷ []))
     → IfOk result (IsArg (record rule { aliases = name.now ∷ [] }))

@@ -2,7 +2,7 @@
 use crate::explain::Explanation;
 
 /// What each cause means, in the order of the manual page.
-pub(crate) static CAUSES: [Explanation; 37] = [
+static CAUSES: [Explanation; 37] = [
     Explanation {
         word: "short",
         text: "    The file is shorter than a file header, 64 bytes. The offset is its size.
@@ -338,3 +338,8 @@ pub(crate) static CAUSES: [Explanation; 37] = [
 ",
     },
 ];
+
+/// Returns all causes with what they mean.
+pub(crate) fn all_causes() -> &'static [Explanation] {
+    &CAUSES
+}

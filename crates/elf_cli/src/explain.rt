@@ -2,10 +2,10 @@
 ghost use Rattle.std.specs.Prelude.{◌≡◌, ◌⊎◌, [], codes};
 ghost use Rattle.elf_cli.specs.Version.{VersionEnds};
 
-use crate::cause_texts::CAUSES;
+use crate::cause_texts::all_causes;
 use crate::exit_lines::{BAD_WORDS, ExitLine, OUT_OF_MEMORY};
 use crate::outputs::{ERROR_LINE_BYTES, OUTPUT_BYTES, end_answer, write_rest};
-use crate::state_texts::STATES;
+use crate::state_texts::all_states;
 use elf_format::show_escaped_text;
 use elf_source::{Out, OutFault, Sink, WriteSink};
 use elf_table::RunFault;
@@ -78,8 +78,8 @@ fn write_explanations<W: Sink>(words: &[&str], out: &mut Out<W>) -> Result<(), O
 /// # Errors
 /// A fault of the output.
 fn write_all<W: Sink>(out: &mut Out<W>) -> Result<(), OutFault> {
-    write_each(&CAUSES, out)?;
-    write_each(&STATES, out)
+    write_each(all_causes(), out)?;
+    write_each(all_states(), out)
 }
 
 /// Writes these explanations.
@@ -105,9 +105,9 @@ fn write_explanation<W: Sink>(row: &Explanation, out: &mut Out<W>) -> Result<(),
 
 /// Returns the explanation of a cause or a state.
 fn explanation_of(word: &str) -> Option<&'static Explanation> {
-    match explained(&CAUSES, word) {
+    match explained(all_causes(), word) {
         Some(found) => Some(found),
-        None => explained(&STATES, word),
+        None => explained(all_states(), word),
     }
 }
 
@@ -154,8 +154,8 @@ fn report_unknown(alloc: Global, word: &str, errors: Stderr) -> Result<(), Alloc
 /// # Errors
 /// Out of memory.
 fn nearest(alloc: Global, word: &str) -> Result<&'static str, AllocError> {
-    let (cause, edits) = nearest_of(alloc, &CAUSES, word)?;
-    let (state, others) = nearest_of(alloc, &STATES, word)?;
+    let (cause, edits) = nearest_of(alloc, all_causes(), word)?;
+    let (state, others) = nearest_of(alloc, all_states(), word)?;
     Ok(if others < edits { state } else { cause })
 }
 

@@ -2,7 +2,7 @@
 use crate::explain::Explanation;
 
 /// What each state means, by the lines that have it.
-pub(crate) static STATES: [Explanation; 16] = [
+static STATES: [Explanation; 16] = [
     Explanation {
         word: "ok",
         text: "    Line C: elfsee show with these options exits with status 0: the tables
@@ -115,3 +115,8 @@ pub(crate) static STATES: [Explanation; 16] = [
 ",
     },
 ];
+
+/// Returns all states with what they mean.
+pub(crate) fn all_states() -> &'static [Explanation] {
+    &STATES
+}

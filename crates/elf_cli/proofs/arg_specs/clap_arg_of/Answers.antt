@@ -11,10 +11,10 @@ returns-in-Some c =
     let word = c.args.word.now in
     let none = ap (λ (r : Rule). r.aliases) (sym (without_names word.name.now word.kind word.short)) in
     subst (λ (a : Option (Bor Text)). IfOk c.visible_alias.result (IsArg (record (lettered word) { aliases = other_names a }))) (sym c.in-Some.is)
-        (is_named (lettered word) c.lettered-arg.result c.visible_alias.result c.in-Some.name c.lettered-arg.ensures none c.visible_alias.ensures)
+    (is_named (lettered word) c.lettered-arg.result c.visible_alias.result c.in-Some.name c.lettered-arg.ensures none c.visible_alias.ensures)
 
 pub returns-in-None : goal.returns-in-None
 returns-in-None c =
     let word = c.args.word.now in
     subst (λ (a : Option (Bor Text)). IsArg (record (lettered word) { aliases = other_names a }) c.lettered-arg.result) (sym c.in-None.is)
-        (subst (λ (r : Rule). IsArg r c.lettered-arg.result) (sym (without_names word.name.now word.kind word.short)) c.lettered-arg.ensures)
+    (subst (λ (r : Rule). IsArg r c.lettered-arg.result) (sym (without_names word.name.now word.kind word.short)) c.lettered-arg.ensures)

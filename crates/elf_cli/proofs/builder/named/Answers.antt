@@ -11,4 +11,4 @@ pub returns-in-Some : goal.returns-in-Some
 returns-in-Some c =
     let app = new_app c.args.command.now.name.now in
     subst (λ (a : Option (Bor Text)). IfOk c.visible_alias.result (IsBuilt (record app { top = record app.top { aliases = other_names a } }))) (sym c.in-Some.is)
-        (command_is_named app c.new_command-built.result c.visible_alias.result c.in-Some.name c.new_command-built.ensures refl c.visible_alias.ensures)
+    (command_is_named app c.new_command-built.result c.visible_alias.result c.in-Some.name c.new_command-built.ensures refl c.visible_alias.ensures)
