@@ -8,7 +8,8 @@ use Rattle.elf_source.specs.Source.{counted}
 use Rattle.elf_table.specs.Ledger.{fault_of_result}
 use Rattle.elf_table.specs.declared.fault.Fault.{Fault}
 use Rattle.elf_table.specs.declared.fault.Fault.TheVariants.{Refused, Source}
-use Rattle.elf_needs.specs.Prelude.{AreObjectFiles, AskedFirst, AsksAll, BindsAcross, FailsIn, FaultLeaves, LookupObjectState, SameObject, SpendsAtMost, SpendsBudget, asked_of_all, reached}
+use Rattle.elf_needs.specs.Prelude.{AreObjectFiles, AskedFirst, AsksAll, BindsAcross, SameObject, asked_of_all, reached}
+use Rattle.elf_library.specs.Prelude.{FailsIn, FaultLeaves, LookupObjectState, SpendsAtMost, SpendsBudget}
 use Rattle.elf_needs.specs.declared.bind_name.BindFault.{BindFault}
 use Rattle.elf_needs.specs.declared.bind_name.BindResult.{BindResult}
 use Rattle.elf_needs.specs.Bound.{OnlyShort, UsesUp}

@@ -7,7 +7,8 @@ use Rattle.elf_model.specs.declared.causes.Refusal.{Refusal}
 use Rattle.elf_model.specs.Bindings as model
 use Rattle.elf_table.specs.declared.fault.Fault.{Fault}
 use Rattle.elf_table.specs.declared.fault.Fault.TheVariants.{Refused, Source}
-use Rattle.elf_needs.specs.Prelude.{AreObjectFiles, AskedFirst, AskedOf, BindsAcross, FailsIn, LooksInObject, LookupObjectState, ReturnsBinding, ReturnsDefiner, SpendsBudget, asked_of_all}
+use Rattle.elf_needs.specs.Prelude.{AreObjectFiles, AskedFirst, AskedOf, BindsAcross, ReturnsBinding, asked_of_all}
+use Rattle.elf_library.specs.Prelude.{FailsIn, LooksInObject, LookupObjectState, ReturnsDefiner, SpendsBudget}
 use Rattle.elf_needs.specs.declared.bind_name.BindResult.TheVariants.{Bound, Unbound}
 
 -- n were searched, and none of them defines the name

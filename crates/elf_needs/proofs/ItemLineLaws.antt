@@ -6,8 +6,8 @@ use Rattle.elf_model.specs.declared.causes.Refusal.{Refusal}
 use Rattle.elf_needs.specs.ItemLines.{IsCutText, ItemLines, ReturnsFault, WritesLines, WritesSoFar, failing_of}
 use Rattle.elf_needs.specs.declared.search_scope.WriteEnd.{WriteEnd}
 use Rattle.elf_needs.specs.declared.search_scope.WriteEnd.TheVariants.{Cut, Ended, Whole}
-use Rattle.elf_needs.specs.declared.walk.NeedsFault.{NeedsFault}
-use Rattle.elf_needs.specs.declared.walk.NeedsFault.TheVariants.{Open, Out, Read}
+use Rattle.elf_library.specs.declared.needs_fault.NeedsFault.{NeedsFault}
+use Rattle.elf_library.specs.declared.needs_fault.NeedsFault.TheVariants.{Open, Out, Read}
 use Rattle.elf_source.specs.Prelude.{OutState, SinkTakes, SinkTakesPrefix}
 use Rattle.elf_source.proofs.PutsLaws.{SinkTakes-nothing, SinkTakes-then, SinkTakesPrefix-more, SinkTakesPrefix-then}
 use Rattle.elf_table.specs.declared.fault.Fault.{Fault}

@@ -4,8 +4,8 @@ use Rattle.std.proofs.lemmas.List.Sums.{sum_by_push}
 use Rattle.elf_source.specs.Source.{CountedState, counted}
 use Rattle.elf_table.specs.declared.fault.Fault.{Fault}
 use Rattle.elf_needs.specs.Budget.{AsksFiles}
-use Rattle.elf_needs.specs.Opens.{OpensObject}
-use Rattle.elf_needs.specs.Prelude.{KeepsOne, LookupObjectState, SpendsBudget, SpendsBudgetAtLeast, asked_of_all}
+use Rattle.elf_library.specs.Prelude.{KeepsOne, LookupObjectState, OpensObject, SpendsBudget, SpendsBudgetAtLeast}
+use Rattle.elf_needs.specs.Prelude.{asked_of_all}
 
 pub pays_then : (l0 l1 l2 : Option ℕ) (a b c : ℕ) → SpendsBudget l0 l1 a b → SpendsBudget l1 l2 b c → SpendsBudget l0 l2 a c
 pays_then None None None a b c p q = tt

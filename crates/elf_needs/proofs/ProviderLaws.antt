@@ -9,8 +9,8 @@ use Rattle.elf_model.specs.declared.causes.Refusal.{Refusal}
 use Rattle.elf_model.specs.declared.states.VersionState.{VersionState}
 use Rattle.elf_model.specs.declared.states.VersionState.TheVariants as state
 use Rattle.elf_table.specs.declared.fault.Fault.{Fault}
-use Rattle.elf_needs.specs.Sought.{ReturnsAs}
-use Rattle.elf_needs.specs.declared.links.NeededLibrary.{NeededLibrary}
+use Rattle.elf_library.specs.Prelude.{ReturnsAs}
+use Rattle.elf_library.specs.declared.links.NeededLibrary.{NeededLibrary}
 
 -- WHETHER ONE OF THE ENTRIES that are left has a name: the next one has, or one of the others
 module _ (has : NeededLibrary → Bool) (needs : List NeededLibrary) where

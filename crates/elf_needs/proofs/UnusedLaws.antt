@@ -2,8 +2,8 @@
 use Rattle.std.proofs.Common.{ℕ, ◌<◌, List, length, get_or, set, Option, Result}
 use Rattle.elf_model.specs.Prelude.{SymbolQuery}
 use Rattle.elf_table.specs.declared.fault.Fault.{Fault}
-use Rattle.elf_needs.specs.Copied.{ReadsKept}
-use Rattle.elf_needs.specs.Prelude.{AsksAll, CountsHashed, LookupObjectState, LooksInObject}
+use Rattle.elf_library.specs.Prelude.{CountsHashed, LooksInObject, LookupObjectState, ReadsKept}
+use Rattle.elf_needs.specs.Prelude.{AsksAll}
 use Rattle.elf_needs.proofs.AskLaws.{asks_one, asks_then, spends_same}
 
 module _ {before objects : List LookupObjectState} {l0 l1 l2 : Option ℕ} (n : ℕ) (d new : LookupObjectState) (less : n < length objects) (asks : AsksAll before objects l0 l1) where

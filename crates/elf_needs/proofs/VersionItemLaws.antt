@@ -12,12 +12,11 @@ use Rattle.elf_table.specs.declared.fault.Fault.TheVariants.{Refused}
 use Rattle.elf_hash.specs.Prelude.{IsVersionRecordTable}
 use Rattle.elf_hash.specs.declared.symbols.VersionRecordTable.{VersionRecordTable}
 use Rattle.elf_needs.specs.ItemLines.{ReturnsFault, WritesLines}
-use Rattle.elf_needs.specs.NeedWalks.{ReturnsNeed}
+use Rattle.elf_library.specs.Prelude.{AreNeedsOf, AreRecordsAt, ReturnsNeed}
 use Rattle.elf_needs.specs.VersionLines.{needed_version_lines}
-use Rattle.elf_needs.specs.VersionTables.{AreNeedsOf, AreRecordsAt}
-use Rattle.elf_needs.specs.declared.needed_versions.NeedsWalk.{NeedsWalk}
+use Rattle.elf_library.specs.declared.needed_versions.NeedsWalk.{NeedsWalk}
 use Rattle.elf_needs.specs.declared.search_scope.WriteEnd.{WriteEnd}
-use Rattle.elf_needs.specs.declared.walk.NeedsFault.{NeedsFault}
+use Rattle.elf_library.specs.declared.needs_fault.NeedsFault.{NeedsFault}
 use Rattle.elf_needs.proofs.VersionWriteLaws.{faulted_versions}
 
 -- an object's items, by the records that are left

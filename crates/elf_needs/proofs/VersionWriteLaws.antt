@@ -10,12 +10,12 @@ use Rattle.elf_source.proofs.PutsLaws.{SinkTakes-nothing}
 use Rattle.elf_table.specs.declared.fault.Fault.{Fault}
 use Rattle.elf_table.specs.declared.fault.Fault.TheVariants.{Refused, Source}
 use Rattle.elf_needs.specs.ItemLines.{ReturnsFault, WritesLines, WritesSoFar}
-use Rattle.elf_needs.specs.Sought.{RefusesAs}
+use Rattle.elf_library.specs.Prelude.{RefusesAs}
 use Rattle.elf_needs.specs.VersionLines.{WritesNeed, WritesVersion, needed_version_lines}
 use Rattle.elf_needs.specs.declared.search_scope.WriteEnd.{WriteEnd}
 use Rattle.elf_needs.specs.declared.search_scope.WriteEnd.TheVariants.{Cut, Ended, Whole}
-use Rattle.elf_needs.specs.declared.walk.NeedsFault.{NeedsFault}
-use Rattle.elf_needs.specs.declared.walk.NeedsFault.TheVariants.{Out, Read}
+use Rattle.elf_library.specs.declared.needs_fault.NeedsFault.{NeedsFault}
+use Rattle.elf_library.specs.declared.needs_fault.NeedsFault.TheVariants.{Out, Read}
 use Rattle.elf_needs.proofs.ItemLineLaws.{AreItemLines, ends_cut, ends_fault, faulted, so_far_all, so_far_none}
 
 -- the text of items after others, and whether there is one

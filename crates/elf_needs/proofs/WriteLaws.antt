@@ -7,10 +7,11 @@ use Rattle.elf_needs.specs.ItemLines.{ReturnsFault, WritesLines, WritesSoFar}
 use Rattle.elf_needs.specs.ListedLines.{listed_binding, listed_line, listed_text}
 use Rattle.elf_needs.specs.declared.line_options.LineOptions.{LineOptions}
 use Rattle.elf_model.specs.declared.causes.Refusal.{Refusal}
-use Rattle.elf_needs.specs.Prelude.{AreObjectFiles, CountsHashed, LookupObjectState, RefusesAs}
+use Rattle.elf_needs.specs.Prelude.{AreObjectFiles}
+use Rattle.elf_library.specs.Prelude.{CountsHashed, LookupObjectState, RefusesAs}
 use Rattle.elf_needs.specs.declared.search_scope.WriteEnd.TheVariants.{Cut, Ended, Whole}
-use Rattle.elf_needs.specs.declared.walk.NeedsFault.{NeedsFault}
-use Rattle.elf_needs.specs.declared.walk.NeedsFault.TheVariants.{Out}
+use Rattle.elf_library.specs.declared.needs_fault.NeedsFault.{NeedsFault}
+use Rattle.elf_library.specs.declared.needs_fault.NeedsFault.TheVariants.{Out}
 use Rattle.elf_needs.specs.declared.search_scope.WriteEnd.{WriteEnd}
 use Rattle.elf_source.specs.Prelude.{IsOutFault, OutState, SinkTakes, SinkTakesPrefix}
 use Rattle.elf_source.specs.declared.faults.OutFault.{OutFault}

@@ -6,8 +6,7 @@ use Rattle.elf_model.specs.Bindings as model
 use Rattle.elf_table.specs.declared.fault.Fault.TheVariants.{Refused, Source}
 use Rattle.elf_loader.specs.Lookups.{lookup_bytes}
 use Rattle.elf_source.specs.Source.{KeepsSource, SameView}
-use Rattle.elf_needs.specs.Kept.{LookupObjectState}
-use Rattle.elf_needs.specs.Looks.{FailsIn, SpendsBudget, kept_cost}
+use Rattle.elf_library.specs.Prelude.{FailsIn, LookupObjectState, SpendsBudget, kept_cost}
 use Rattle.elf_needs.specs.declared.bind_name.BindResult.{BindResult}
 use Rattle.elf_needs.specs.declared.bind_name.BindResult.TheVariants.{Bound, Unbound}
 use Rattle.elf_needs.specs.declared.bind_name.BindFault.{BindFault}

@@ -8,19 +8,18 @@ use Rattle.elf_source.specs.Output.{OutState}
 use Rattle.elf_table.specs.declared.fault.Fault.{Fault}
 use Rattle.elf_table.specs.declared.fault.Fault.TheVariants.{Refused, Source}
 use Rattle.elf_needs.specs.Binds.{AreObjectFiles, asked_of_all}
-use Rattle.elf_needs.specs.Kept.{LookupObjectState}
-use Rattle.elf_needs.specs.Looks.{SpendsBudget}
+use Rattle.elf_library.specs.Prelude.{LookupObjectState, SpendsBudget}
 use Rattle.elf_needs.specs.ItemLines.{ItemLines, WritesLines, status_after}
 use Rattle.elf_needs.specs.ListedLines.{listed_text}
 use Rattle.elf_needs.specs.declared.line_options.LineOptions.{LineOptions}
-use Rattle.elf_needs.specs.declared.reference.SymbolReference.{SymbolReference}
+use Rattle.elf_library.specs.declared.reference.SymbolReference.{SymbolReference}
 use Rattle.elf_loader.specs.Naming.{IsFileIf}
 use Rattle.elf_needs.specs.Called.{called_by}
 use Rattle.elf_needs.specs.declared.search_scope.SearchScope.{SearchScope}
 use Rattle.elf_needs.specs.declared.search_scope.WriteEnd.{WriteEnd}
 use Rattle.elf_needs.specs.declared.search_scope.WriteEnd.TheVariants.{Cut, Ended, Whole}
 use Rattle.elf_needs.specs.declared.known_object.ObjectList.{ObjectList}
-use Rattle.elf_needs.specs.declared.walk.NeedsFault.{NeedsFault}
+use Rattle.elf_library.specs.declared.needs_fault.NeedsFault.{NeedsFault}
 
 -- the objects whose files these are, with a given number of headers allowed in each, their indices
 -- among all objects, and all objects

@@ -1,36 +1,8 @@
--- What is requested from files in a search for objects, and what that leaves of a budget that is
--- for all of them.
-use Rattle.std.specs.Prelude.{ℕ, ◌≡◌, ◌+◌, ◌≤◌, List, Option, None, Some, Result, Ok, Err}
-use Rattle.elf_source.specs.Source.{CountedState}
+-- What is requested from the files of objects, and what that leaves of a budget that is for all of
+-- them.
+use Rattle.std.specs.Prelude.{ℕ, ◌+◌, ◌≤◌, List, Option}
+use Rattle.elf_library.specs.Prelude.{LookupObjectState, SpendsBudgetAtLeast}
 use Rattle.elf_needs.specs.Binds.{asked_of_all}
-use Rattle.elf_needs.specs.Kept.{LookupObjectState}
-use Rattle.elf_needs.specs.Looks.{SpendsBudget}
-use Rattle.elf_needs.specs.Opens.{SpendsBudgetAtLeast}
-
--- WHAT A CALL REQUESTED FROM A FILE, for any source: what is left of the budget decreases by it
-pub record AsksFile (old new : CountedState) (left left_new : Option ℕ) : Type 0 where
-  pub grows : old.asked ≤ new.asked
-  pub pays : SpendsBudget left left_new old.asked new.asked
-
--- how many bytes were requested from a file that is found; none is found, and a search that fails
--- gives none
-abbrev pub asked_of_found : {E : Type 0} → Result (Option CountedState) E → ℕ
-asked_of_found (Ok (Some file)) = file.asked
-asked_of_found (Ok None) = 0
-asked_of_found (Err fault) = 0
-
--- WHAT A SEARCH FOR A FILE REQUESTED, for any sources: what is left of the budget decreases by at
--- least what was requested from the files that are skipped and closed, and from the one that is
--- found
-pub record AsksFound {E : Type 0} (left left_new : Option ℕ) (closed closed_new : ℕ) (result : Result (Option CountedState) E) : Type 0 where
-  pub closes : closed ≤ closed_new
-  pub pays : SpendsBudgetAtLeast left left_new closed (closed_new + asked_of_found result)
-
--- WHAT WAS REQUESTED FROM FILES THAT ARE CLOSED, for any sources: what is left of the budget
--- decreases by at least that, except n bytes that were read before
-pub record AsksClosed (n : ℕ) (left left_new : Option ℕ) (closed closed_new : ℕ) : Type 0 where
-  pub closes : closed ≤ closed_new
-  pub pays : SpendsBudgetAtLeast left left_new (closed + n) closed_new
 
 -- WHAT WAS REQUESTED FROM THE FILES OF OBJECTS, for any sources: what is left of the budget
 -- decreases by at least what was requested from all files closed since, and from all that are kept,

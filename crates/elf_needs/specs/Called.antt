@@ -1,8 +1,8 @@
 -- The names of the objects of a program.
-use Rattle.std.specs.Prelude.{ℕ, ◌≡◌, ◌^◌, ◌==◌, ◌&&◌, ◌||◌, if◌then◌else◌, nat_lt, Bool, false, List, [], codes, option_map, position, slice_get, slice_index_or, Option, None, Some}
+use Rattle.std.specs.Prelude.{ℕ, ◌≡◌, ◌^◌, ◌&&◌, ◌||◌, if◌then◌else◌, nat_lt, Bool, false, List, [], codes, option_map, position, slice_get, slice_index_or, Option, None, Some}
 use Rattle.std.specs.Str.{bytes_eq}
 use Rattle.elf_needs.specs.Searching.{IsDirOf}
-use Rattle.elf_needs.specs.declared.file_identity.FileIdentity.{FileIdentity}
+use Rattle.elf_library.specs.declared.file_identity.FileIdentity.{FileIdentity}
 use Rattle.elf_needs.specs.declared.known_object.KnownObject.{KnownObject}
 use Rattle.elf_needs.specs.declared.known_object.ObjectAlias.{ObjectAlias}
 use Rattle.elf_needs.specs.declared.known_object.ObjectList.{ObjectList}
@@ -58,11 +58,6 @@ first_called objects name = elim (alias_of objects name) [
 -- its index
 abbrev pub called_by : ObjectList → List ℕ → Option ℕ
 called_by objects name = index_by_short_name (first_called objects name)
-
--- a file that is known is a given one
-abbrev pub is_file : Option FileIdentity → FileIdentity → Bool
-is_file None file = false
-is_file (Some known) file = known.device == file.device && known.number == file.number
 
 -- an object is one; and the index of the first that is
 abbrev pub is_object_file : FileIdentity → KnownObject → Bool

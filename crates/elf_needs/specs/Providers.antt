@@ -4,7 +4,7 @@ use Rattle.std.specs.List.{list_any}
 use Rattle.elf_model.specs.Prelude.{InterpreterAlone, NoProvider, ProvidedBy, Provider, VersionedObjects}
 use Rattle.elf_needs.specs.Called.{called_by, is_interpreter_name, is_text}
 use Rattle.elf_needs.specs.declared.known_object.ObjectList.{ObjectList}
-use Rattle.elf_needs.specs.declared.links.NeededLibrary.{NeededLibrary}
+use Rattle.elf_library.specs.declared.links.NeededLibrary.{NeededLibrary}
 use Rattle.elf_needs.specs.declared.providers.LibraryProvider.{LibraryProvider}
 use Rattle.elf_needs.specs.declared.providers.LibraryProvider.TheVariants as leads
 use Rattle.elf_needs.specs.declared.search_scope.SearchScope.{SearchScope}

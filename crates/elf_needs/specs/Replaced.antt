@@ -2,9 +2,9 @@
 use Rattle.std.specs.Prelude.{ℕ, ◌≡◌, ◌==◌, ◌||◌, not, if◌then◌else◌, nat_eq, List, [], codes, drop, length, slice_get, slice_index_or, Option, Some}
 use Rattle.std.specs.List.{starts_with}
 use Rattle.elf_needs.specs.Called.{IsDirOfObject}
-use Rattle.elf_needs.specs.Held.{LinkInfoState}
+use Rattle.elf_library.specs.Prelude.{LinkInfoState}
 use Rattle.elf_needs.specs.Searching.{expanded, is_rooted}
-use Rattle.elf_needs.specs.declared.links.NeededLibrary.{NeededLibrary}
+use Rattle.elf_library.specs.declared.links.NeededLibrary.{NeededLibrary}
 
 -- a directory that begins with a root, by what follows that: it is below the root if that is empty
 -- or begins with a slash

@@ -5,14 +5,14 @@ use Rattle.elf_model.specs.declared.formats.Format.{Format}
 use Rattle.elf_model.specs.declared.causes.Refusal.{Refusal}
 use Rattle.elf_source.specs.Output.{OutState}
 use Rattle.elf_needs.specs.ItemLines.{ItemLines, WritesLines, WritesSoFar, failing_of, status_after}
-use Rattle.elf_needs.specs.NeedWalks.{IsNeedsOf, needs_left}
+use Rattle.elf_library.specs.Prelude.{IsNeedsOf, needs_left}
 use Rattle.elf_needs.specs.Providers.{versioned_among}
-use Rattle.elf_needs.specs.declared.needed_versions.NeedsWalk.{NeedsWalk}
+use Rattle.elf_library.specs.declared.needed_versions.NeedsWalk.{NeedsWalk}
 use Rattle.elf_needs.specs.declared.search_scope.SearchScope.{SearchScope}
 use Rattle.elf_needs.specs.declared.search_scope.WriteEnd.{WriteEnd}
 use Rattle.elf_needs.specs.declared.search_scope.WriteEnd.TheVariants.{Cut, Ended, Whole}
 use Rattle.elf_needs.specs.declared.walk.Listed.{Listed}
-use Rattle.elf_needs.specs.declared.walk.NeedsFault.{NeedsFault}
+use Rattle.elf_library.specs.declared.needs_fault.NeedsFault.{NeedsFault}
 
 -- how the lines of versions are written
 abbrev pub needed_version_lines : Format → ItemLines VersionItem
@@ -56,3 +56,11 @@ WritesAllVersions format all short old new before (Ok listed) =
     (end : WriteEnd) × WritesLines (needed_version_lines format) all short old new (Ok end) × (listed.status ≡ status_after end before)
     × (listed.whole ≡ is_some (failing_of end))
 WritesAllVersions format all short old new before (Err fault) = WritesLines (needed_version_lines format) all short old new (Err fault)
+
+-- a walk goes on after the lines of a record, unless these are the last
+abbrev pub GoesOnAfter : (size : ℕ) → (old new : NeedsWalk) → Result (Option WriteEnd) NeedsFault → Type 0
+GoesOnAfter size old new (Ok (Some (Whole fails))) = NeedsWalkGoesOn size old new
+GoesOnAfter size old new (Ok (Some Ended)) = Unit {0}
+GoesOnAfter size old new (Ok (Some Cut)) = Unit {0}
+GoesOnAfter size old new (Ok None) = Unit {0}
+GoesOnAfter size old new (Err fault) = Unit {0}

@@ -1,6 +1,6 @@
 -- The state of an object that was read.
 use Rattle.std.specs.Prelude.{ℕ}
-use Rattle.elf_needs.specs.Entries.{no_info}
+use Rattle.elf_library.specs.Prelude.{no_info}
 use Rattle.elf_format.specs.declared.needed_objects.ObjectState.{ObjectState}
 use Rattle.elf_format.specs.declared.needed_objects.ObjectState.TheVariants.{Found, Missing, Refused, Unused}
 use Rattle.elf_needs.specs.declared.object_reports.ObjectReport.{ObjectReport}

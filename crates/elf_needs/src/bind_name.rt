@@ -3,8 +3,7 @@ ghost use Rattle.elf_needs.specs.Binds.{BindsAcross};
 ghost use Rattle.elf_loader.specs.Lookups.{AreShort};
 ghost use Rattle.elf_options.specs.Wants.{query_of};
 
-use crate::kept_filter::filter_hash;
-use crate::object::LookupObject;
+use elf_library::{LookupObject, filter_hash};
 use elf_options::SymbolQuery;
 use elf_source::Source;
 use elf_table::Fault;

@@ -8,14 +8,12 @@ ghost use Rattle.elf_needs.specs.ItemLines.{ReturnsFault, WritesLines, status_af
 
 use crate::binding_states::is_unbound;
 use crate::bound_states::{DefinitionAt, item_of};
-use crate::faults::is_budget_fault;
-use crate::object::LookupObject;
 use crate::open_objects::OpenObjects;
 use crate::problem_rows::list_binding;
-use crate::reference_names::ReferenceNames;
 use crate::search_scope::{SearchScope, WriteEnd, either, failing, index_at};
-use crate::walk::{DependencyWalk, NeedsFault};
+use crate::walk::DependencyWalk;
 use elf_format::show_refusal;
+use elf_library::{LookupObject, NeedsFault, ReferenceNames, is_budget_fault};
 use elf_model::Format;
 use elf_source::{Out, Sink, Source};
 use elf_table::Fault;

@@ -1,7 +1,7 @@
 //! What binds a symbol that an object of a program references.
 ghost use Rattle.std.specs.Prelude.{◌≡◌, ◌<◌, ◌≤◌, ℕ, [], List, Option, None, Some, Ok, IfErr, get_or, length};
 ghost use Rattle.elf_needs.specs.Binds.{AreObjectFiles};
-ghost use Rattle.elf_needs.specs.Sought.{ReturnsAs, asked_if};
+ghost use Rattle.elf_library.specs.Prelude.{ReturnsAs, asked_if};
 ghost use Rattle.elf_model.specs.BoundSymbols.{bound_item, missing_version_requested, object_lacks, state_in};
 ghost use Rattle.elf_model.specs.Loader.{asked_name};
 ghost use Rattle.elf_model.specs.LoaderScope.{LookupTables as IsScopeOf, lookup_tables_of};
@@ -9,11 +9,8 @@ ghost use Rattle.elf_needs.specs.Bound.{AsksAll, OfSought, OnlyShort, ReturnsIte
 
 use crate::bind_name::{BindFault, BindResult, bind};
 use crate::binding_states::unbound_state;
-use crate::faults::is_reported_alone;
-use crate::object::LookupObject;
-use crate::reference::SymbolReference;
-use crate::reference_names::ReferenceNames;
 use crate::search_scope::{SearchScope, index_at, place_of};
+use elf_library::{LookupObject, ReferenceNames, SymbolReference, is_reported_alone};
 use elf_model::BindingState;
 use elf_source::Source;
 use elf_table::Fault;

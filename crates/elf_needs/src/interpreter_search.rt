@@ -1,23 +1,21 @@
 //! The search for the interpreter that a program names.
 ghost use Rattle.std.specs.Prelude.{◌≡◌, ◌++◌, [], IfSome, Some, length, slice_index_or};
-ghost use Rattle.elf_needs.specs.Budget.{AsksClosed, AsksFile, AsksFiles};
-ghost use Rattle.elf_needs.specs.Held.{with_text};
+ghost use Rattle.elf_library.specs.Prelude.{AsksClosed, AsksFile, with_text};
+ghost use Rattle.elf_needs.specs.Budget.{AsksFiles};
 ghost use Rattle.elf_needs.specs.Searching.{if_short, root_before};
 
-use crate::candidates::{FileSource, SearchEnd};
-use crate::faults::is_budget_fault;
-use crate::file_identity::FileIdentity;
 use crate::known_interpreter::Interpreter;
 use crate::known_object::MOST_OBJECTS;
-use crate::links::NeededLibrary;
-use crate::object_file::{ObjectFile, ObjectRole};
 use crate::object_reports::{ObjectPlace, ObjectReport, found_identity, report_alone};
 use crate::paths::named_path;
 use crate::problem_rows::list_object;
-use crate::system_files::{ClosedFiles, SystemFiles};
-use crate::walk::{DependencyWalk, NeedsFault, OpenFiles};
+use crate::walk::{DependencyWalk, OpenFiles};
 use crate::walk_needs::ControlFlow;
 use elf_format::{ObjectRow, ObjectState, show_interpreter, show_refusal};
+use elf_library::{
+    ClosedFiles, FileIdentity, FileSource, NeededLibrary, NeedsFault, ObjectFile, ObjectRole,
+    SearchEnd, SystemFiles, is_budget_fault,
+};
 use elf_source::{Sink, Source};
 use elf_table::Fault;
 use std::os::unix::fs::FileExt;

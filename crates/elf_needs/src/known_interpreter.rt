@@ -2,10 +2,10 @@
 ghost use Rattle.std.specs.Prelude.{◌≡◌, [], slice_index_or};
 ghost use Rattle.elf_needs.specs.Called.{interpreter_object, is_interpreter_file, is_interpreter_name};
 
-use crate::file_identity::{FileIdentity, is_file};
 use crate::known_object::{ObjectList, is_text};
 use crate::object_reports::{ObjectReport, report_alone};
 use elf_format::ObjectState;
+use elf_library::{FileIdentity, is_file};
 
 /// The interpreter that the program names. It is an object only if it is needed by name.
 #[derive(Clone, Copy)]

@@ -1,14 +1,12 @@
 //! The objects that are known so far.
 ghost use Rattle.std.specs.Prelude.{◌≡◌, ◌++◌, ◌∷◌, [], IfSome, is_some, length, option_map, position, slice_get, true};
-ghost use Rattle.elf_needs.specs.Held.{with_text};
+ghost use Rattle.elf_library.specs.Prelude.{with_text};
 ghost use Rattle.elf_needs.specs.Called.{HoldsNothing, IsDirOfObject, alias_of, aliased, called_by, first_called, is_alias, is_called, is_text, index_by_short_name, is_object_file, object_by_file, text_told};
 
-use crate::file_identity::{FileIdentity, is_file};
 use crate::known_interpreter::Interpreter;
-use crate::links::{LinkInfo, LinkInfoStore, NeededLibrary};
 use crate::paths::dir_of_path;
-use crate::texts::StringArena;
 use elf_format::FoundBy;
+use elf_library::{FileIdentity, LinkInfo, LinkInfoStore, NeededLibrary, StringArena, is_file};
 use std::alloc::{AllocError, Global};
 
 /// The maximum number of objects of a program.

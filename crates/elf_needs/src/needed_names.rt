@@ -1,7 +1,7 @@
 //! Tokens in the names of needed libraries.
 ghost use Rattle.std.specs.Prelude.{◌≡◌, None, Some, slice_get};
 ghost use Rattle.elf_needs.specs.Replaced.{ReplacesIn, after_root, within_root};
-ghost use Rattle.elf_needs.specs.declared.links.NeededLibrary.{NeededLibrary};
+ghost use Rattle.elf_library.specs.declared.links.NeededLibrary.{NeededLibrary};
 
 use crate::known_object::ObjectList;
 use crate::paths::{CandidatePath, is_rooted, put_expanded};

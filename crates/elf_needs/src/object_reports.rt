@@ -1,16 +1,14 @@
 //! The state of an object that was read.
 ghost use Rattle.std.specs.Prelude.{◌≡◌};
-ghost use Rattle.elf_needs.specs.Budget.{AsksFile, AsksFiles};
+ghost use Rattle.elf_library.specs.Prelude.{AsksFile};
+ghost use Rattle.elf_needs.specs.Budget.{AsksFiles};
 ghost use Rattle.elf_needs.specs.Walked.{report_alone, status_with};
 
-use crate::file_identity::FileIdentity;
 use crate::known_object::KnownObject;
-use crate::links::LinkInfo;
-use crate::object_file::{ObjectFile, ObjectRole};
 use crate::open_objects::OpenObjects;
-use crate::system_files::ClosedFiles;
-use crate::walk::{DependencyWalk, NeedsFault};
+use crate::walk::DependencyWalk;
 use elf_format::{FoundBy, ObjectState};
+use elf_library::{ClosedFiles, FileIdentity, LinkInfo, NeedsFault, ObjectFile, ObjectRole};
 use elf_source::{CachedSource, Sink, Source};
 use elf_table::Fault;
 

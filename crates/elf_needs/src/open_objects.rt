@@ -1,13 +1,9 @@
 //! The objects of a program whose files are kept open, so that names can be looked up in them.
 ghost use Rattle.std.specs.Prelude.{◌≡◌, [], IfOk};
 ghost use Rattle.elf_needs.specs.Budget.{AsksFiles};
-ghost use Rattle.elf_needs.specs.Looks.{SpendsBudget};
-ghost use Rattle.elf_needs.specs.Opens.{KeepsIndex, KeepsOne};
+ghost use Rattle.elf_library.specs.Prelude.{KeepsIndex, KeepsOne, SpendsBudget};
 
-use crate::link_reader::without_hash;
-use crate::object::LookupObject;
-use crate::object_file::{ObjectFile, OpenedObject};
-use crate::system_files::ClosedFiles;
+use elf_library::{ClosedFiles, LookupObject, ObjectFile, OpenedObject, without_hash};
 use elf_source::{CachedSource, PageCache, Source};
 use elf_table::{Fault, HeaderStore};
 use std::alloc::{AllocError, Global};

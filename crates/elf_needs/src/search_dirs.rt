@@ -1,20 +1,17 @@
 //! The search for a library.
 ghost use Rattle.std.specs.Prelude.{◌≡◌, ◌≤◌, length};
 ghost use Rattle.elf_needs.specs.Called.{above_of};
-ghost use Rattle.elf_needs.specs.Budget.{AsksFound};
+ghost use Rattle.elf_library.specs.Prelude.{AsksFound};
 
-use crate::candidates::{FileSource, SearchEnd, candidate};
 use crate::known_object::{KnownObject, MOST_OBJECTS, ObjectList};
 use crate::library_search::LibrarySearch;
 use crate::needers::{NeedingObject, SearchPaths, gather_dirs};
-use crate::object_file::ObjectFile;
 use crate::path_budget::PathBudget;
 use crate::paths::{CandidatePath, named_path};
 use crate::search_path_list::SearchPathList;
 use crate::system_dirs::is_below_default;
-use crate::system_files::SystemFiles;
-use crate::walk::NeedsFault;
 use elf_format::FoundBy;
+use elf_library::{FileSource, NeedsFault, ObjectFile, SearchEnd, SystemFiles, candidate};
 use elf_table::{Fault, NameBuf};
 use memchr::memchr;
 use std::os::unix::fs::FileExt;

@@ -3,17 +3,15 @@ ghost use Rattle.std.specs.Prelude.{◌<◌, ◌≡◌, length};
 ghost use Rattle.elf_needs.specs.Bound.{AsksAll};
 
 use crate::bound_states::{DefinitionAt, item_of};
-use crate::copied_symbols::RELA_BYTES;
-use crate::faults::is_reported_alone;
-use crate::kept_filter::filter_hash;
 use crate::known_object::MOST_OBJECTS;
-use crate::object::LookupObject;
 use crate::open_objects::OpenObjects;
 use crate::problem_rows::list_object;
-use crate::reference_names::ReferenceNames;
 use crate::search_scope::{SearchScope, index_at};
-use crate::walk::{DependencyWalk, NeedsFault};
+use crate::walk::DependencyWalk;
 use elf_format::{ObjectRow, ObjectState, show_refusal};
+use elf_library::{
+    LookupObject, NeedsFault, RELA_BYTES, ReferenceNames, filter_hash, is_reported_alone,
+};
 use elf_model::BindingState;
 use elf_source::{Sink, Source};
 use elf_table::{Fault, HeaderStore, Names};

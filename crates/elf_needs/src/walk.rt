@@ -4,18 +4,16 @@ ghost use Rattle.elf_needs.specs.Budget.{AsksFiles};
 ghost use Rattle.elf_needs.specs.Called.{HoldsNothing};
 
 use crate::buffers::NeedsBuffers;
-use crate::candidates::FileSource;
 use crate::known_object::{MOST_OBJECTS, ObjectList};
 use crate::line_options::LineOptions;
-use crate::object_file::ObjectFile;
 use crate::open_objects::OpenObjects;
 use crate::path_budget::PathBudget;
 use crate::paths::CandidatePath;
 use crate::search_dirs::{Search, SearchDirs};
-use crate::system_files::SystemFiles;
 use crate::walk_needs::ControlFlow;
 use elf_format::FoundBy;
-use elf_source::{CachedSource, Out, OutFault, Sink};
+use elf_library::{FileSource, NeedsFault, ObjectFile, SystemFiles};
+use elf_source::{CachedSource, Out, Sink};
 use elf_table::HeaderStore;
 use std::os::unix::fs::FileExt;
 use std::rt::Files;
@@ -25,17 +23,6 @@ pub type OpenFiles<F> = OpenObjects<CachedFile<F>>;
 
 /// The source of a file of the system that is kept open, with some of its pages.
 type CachedFile<F> = CachedSource<FileSource<F>>;
-
-/// Why a walk was not completed.
-#[derive(Clone, Copy)]
-pub enum NeedsFault {
-    /// A read failed.
-    Read,
-    /// A path cannot be opened, for a fault of the system.
-    Open,
-    /// The output failed.
-    Out(OutFault),
-}
 
 /// The parameters of a walk.
 #[derive(Clone, Copy)]

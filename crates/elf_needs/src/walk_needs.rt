@@ -2,16 +2,16 @@
 ghost use Rattle.std.specs.Prelude.{◌≡◌};
 ghost use Rattle.elf_needs.specs.Budget.{AsksFiles};
 
-use crate::candidates::{FileSource, SearchEnd};
 use crate::known_object::{KnownObject, MOST_OBJECTS};
-use crate::links::NeededLibrary;
-use crate::object_file::{ObjectFile, ObjectRole};
 use crate::object_reports::{NOWHERE, ObjectPlace, found_identity, report_alone};
 use crate::open_objects::OpenObjects;
 use crate::problem_rows::list_object;
-use crate::system_files::{ClosedFiles, SystemFiles};
-use crate::walk::{DependencyWalk, NeedsFault, OpenFiles};
+use crate::walk::{DependencyWalk, OpenFiles};
 use elf_format::{FoundBy, ObjectRow, ObjectState, show_too_many, show_too_many_paths};
+use elf_library::{
+    ClosedFiles, FileSource, NeededLibrary, NeedsFault, ObjectFile, ObjectRole, SearchEnd,
+    SystemFiles,
+};
 use elf_record::{Cause, Refusal};
 use elf_source::{CachedSource, Sink, Source};
 use memchr::memchr;

@@ -1,16 +1,16 @@
 //! The program whose objects are listed.
 ghost use Rattle.std.specs.Prelude.{◌≡◌};
-ghost use Rattle.elf_needs.specs.Budget.{AsksFile, AsksFiles};
+ghost use Rattle.elf_library.specs.Prelude.{AsksFile};
+ghost use Rattle.elf_needs.specs.Budget.{AsksFiles};
 
 use crate::needed_names::within_root;
-use crate::object_file::{ObjectFile, ObjectRole};
 use crate::object_reports::{ObjectPlace, ObjectReport, found_identity, report_alone};
 use crate::open_objects::OpenObjects;
 use crate::paths::named_path;
 use crate::problem_rows::list_object;
-use crate::system_files::ClosedFiles;
-use crate::walk::{DependencyWalk, NeedsFault};
+use crate::walk::DependencyWalk;
 use elf_format::{ObjectRow, ObjectState};
+use elf_library::{ClosedFiles, NeedsFault, ObjectFile, ObjectRole};
 use elf_record::{Cause, Refusal};
 use elf_source::{CachedSource, Sink, Source};
 use elf_table::{Fault, NameBuf};

@@ -6,9 +6,9 @@ use Rattle.elf_source.specs.Prelude.{CountedState, OutState}
 use Rattle.elf_source.specs.declared.faults.OutFault.{OutFault}
 use Rattle.elf_cli.specs.declared.outputs.RunEnd.{RunEnd}
 use Rattle.elf_cli.specs.declared.outputs.RunEnd.TheVariants.{Status, Told, Unwritten}
-use Rattle.elf_needs.specs.declared.walk.NeedsFault.{NeedsFault}
+use Rattle.elf_library.specs.declared.needs_fault.NeedsFault.{NeedsFault}
 use Rattle.elfsee.specs.declared.needs_report.NeedsRule.{NeedsRule}
-use Rattle.elf_needs.specs.declared.walk.NeedsFault.TheVariants.{Open, Out, Read}
+use Rattle.elf_library.specs.declared.needs_fault.NeedsFault.TheVariants.{Open, Out, Read}
 
 -- by the status of the walk, or by its fault
 abbrev pub EndsNeeds : Result ℕ NeedsFault → RunEnd → Type 0

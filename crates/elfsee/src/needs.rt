@@ -7,10 +7,10 @@ use elf_cli::{
     CANNOT_OPEN, CommandArgs, ExitLine, OUT_OF_MEMORY, READ_FAULT, RunEnd, allocate, end_run, open,
 };
 use elf_format::TableWriter;
+use elf_library::{LibraryCache, NeedsFault, SystemFiles};
 use elf_needs::{
-    DependencyWalk, LibraryCache, LineOptions, Listed, MOST_OBJECTS, NeedsBuffers, NeedsFault,
-    NeedsOptions, OpenFiles, OpenObjects, RootedFiles, SearchDirs, SystemFiles, default_dirs,
-    system_cache,
+    DependencyWalk, LineOptions, Listed, MOST_OBJECTS, NeedsBuffers, NeedsOptions, OpenFiles,
+    OpenObjects, RootedFiles, SearchDirs, default_dirs, system_cache,
 };
 use elf_source::{FileReader, Out, OutFault, Sink, Source, StreamSource, WriteSink, opened_path};
 use elf_table::HeaderStore;

@@ -1,15 +1,14 @@
 //! What a program among many needs, after the line of its path.
 ghost use Rattle.std.specs.Prelude.{◌≡◌, ◌-◌, ◌≤◌, ◌^◌, ℕ, List, Some, option_map};
-ghost use Rattle.elf_needs.specs.Prelude.{ReturnsLinked, linked_file};
+ghost use Rattle.elf_library.specs.Prelude.{ReturnsLinked, linked_file};
 ghost use Rattle.elf_walk.specs.Telling.{StandsWhole};
 ghost use Rattle.elfsee.specs.Needs.{AsksWithinBudget, is_of_other_type};
 
 use crate::needs::{list_after, open_program};
 use elf_format::show_check;
+use elf_library::{NeedsFault, SystemFiles, is_linked};
 use elf_model::{Cause, FileStatus};
-use elf_needs::{
-    DependencyWalk, NeedsBuffers, NeedsFault, NeedsOptions, OpenFiles, SystemFiles, is_linked,
-};
+use elf_needs::{DependencyWalk, NeedsBuffers, NeedsOptions, OpenFiles};
 use elf_source::{
     Counted, DeferredSink, FileReader, Limited, Out, OutFault, RangeSource, Sink, Source,
     StreamSource, opened_path,

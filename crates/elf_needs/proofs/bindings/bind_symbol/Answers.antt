@@ -1,7 +1,8 @@
 -- The symbol references nothing, its line is written, or the line of a fault.
 use Rattle.std.proofs.Common.{[], get_or}
 use Rattle.elf_model.specs.Prelude.{asked_name, bound_item}
-use Rattle.elf_needs.specs.Prelude.{IsBudgetShort, asked_if, bound_among}
+use Rattle.elf_needs.specs.Prelude.{IsBudgetShort, bound_among}
+use Rattle.elf_library.specs.Prelude.{asked_if}
 use Rattle.elf_needs.proofs.WriteLaws.{only_of, symbol_fault, symbol_none, symbol_out, symbol_told}
 use Rattle.elf_needs.proofs.bindings.bind_symbol.Goals as goal
 

@@ -2,7 +2,8 @@
 -- searched.
 use Rattle.std.proofs.Common.{[], get_or}
 use Rattle.std.proofs.lemmas.Result.{err_from_is_err_and}
-use Rattle.elf_needs.specs.Prelude.{asked_if, bound_among}
+use Rattle.elf_library.specs.Prelude.{asked_if}
+use Rattle.elf_needs.specs.Prelude.{bound_among}
 use Rattle.elf_options.specs.Wants.{query_of}
 use Rattle.elf_needs.proofs.AskLaws.{are_kept, asks_bind, asks_then, short_bind}
 use Rattle.elf_needs.proofs.StateLaws.{state_bound, state_fault, state_none, state_refused, wanted_is}

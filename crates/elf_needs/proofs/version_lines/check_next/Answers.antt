@@ -3,11 +3,11 @@ use Rattle.std.proofs.Common.{ℕ, [], Err, Ok, ap, get_or, refl, set, subst}
 use Rattle.std.proofs.lemmas.Result.{err_from_is_err_and}
 use Rattle.elf_model.specs.Prelude.{Needs, version_item, version_items_of}
 use Rattle.elf_needs.specs.Bound.{IsBudgetShort}
-use Rattle.elf_needs.specs.NeedWalks.{needed_of, needs_left}
+use Rattle.elf_library.specs.Prelude.{needed_of, needs_left}
 use Rattle.elf_needs.specs.Providers.{versioned_among}
 use Rattle.elf_needs.specs.VersionLines.{WritesVersion, left_versions}
 use Rattle.elf_needs.proofs.AskLaws.{are_kept, asks_one, asks_then, file_here, short_one, spends_same}
-use Rattle.elf_needs.proofs.NeedLaws.{goes_on}
+use Rattle.elf_needs.proofs.NeedWalkLaws.{goes_on}
 use Rattle.elf_needs.proofs.VersionItemLaws.{items_fault, items_needs, items_none}
 use Rattle.elf_needs.proofs.VersionWriteLaws.{faulted_versions, need_faults, need_passes, need_stops, need_told}
 use Rattle.elf_needs.proofs.WriteLaws.{only_of}

@@ -7,7 +7,7 @@ use Rattle.elf_needs.specs.Bound.{IsBudgetShort}
 use Rattle.elf_needs.specs.Providers.{versioned_among}
 use Rattle.elf_needs.specs.VersionLines.{left_versions, object_versions}
 use Rattle.elf_needs.proofs.AskLaws.{are_kept, asks_none, asks_then, file_here}
-use Rattle.elf_needs.proofs.NeedLaws.{steps_here}
+use Rattle.elf_needs.proofs.NeedWalkLaws.{steps_here}
 use Rattle.elf_needs.proofs.VersionItemLaws.{items_none, needs_none, needs_some, object_refused}
 use Rattle.elf_needs.proofs.ItemLineLaws.{ends_last, so_far_none, so_far_step}
 use Rattle.elf_needs.proofs.VersionWriteLaws.{version_listed, versions_are, walk_cut, walk_ends, walk_stops}

@@ -1,7 +1,7 @@
 -- The lines of the records before this one are written.
 use Rattle.std.proofs.Common.{ℕ, List, get_or}
-use Rattle.elf_needs.specs.Prelude.{AreObjectFiles, AsksAll, LookupObjectState}
-use Rattle.elf_needs.specs.NeedWalks.{StepsNeeds}
+use Rattle.elf_needs.specs.Prelude.{AreObjectFiles, AsksAll}
+use Rattle.elf_library.specs.Prelude.{LookupObjectState, StepsNeeds, need_records_left}
 use Rattle.elf_needs.specs.VersionLines.{WalksVersions}
 use Rattle.elf_needs.proofs.version_lines.check_object.Given as goal
 
@@ -13,4 +13,4 @@ invariant-needs g l = record {
 }
 
 abbrev pub decreases-needs : goal.decreases-needs
-decreases-needs g l = l.walk.cursor.left
+decreases-needs g l = need_records_left l.walk

@@ -2,7 +2,7 @@
 use Rattle.std.proofs.Common.{None, Some, ap, ◌∙◌}
 use Rattle.elf_model.specs.Prelude.{Needs, index_of_provider, state_of_needed, version_item}
 use Rattle.elf_needs.specs.Bound.{IsBudgetShort}
-use Rattle.elf_needs.specs.NeedWalks.{needed_of}
+use Rattle.elf_library.specs.Prelude.{needed_of}
 use Rattle.elf_needs.specs.Providers.{as_provider, provider_of, versioned_among}
 use Rattle.elf_needs.proofs.ProviderLaws.{version_by}
 use Rattle.elf_needs.proofs.VersionWriteLaws.{version_fault, version_listed, version_out, version_told}

@@ -1,7 +1,7 @@
 -- No object is asked, or one.
 use Rattle.std.proofs.Common.{◌<◌, [], length, get_or, sym, ap, ◌∙◌, arith, Ok}
 use Rattle.elf_table.proofs.Absent.{none-of}
-use Rattle.elf_needs.specs.NeedWalks.{needed_of}
+use Rattle.elf_library.specs.Prelude.{needed_of}
 use Rattle.elf_needs.specs.Providers.{versioned_among}
 use Rattle.elf_needs.proofs.AskLaws.{as_many, asks_one, file_here, short_if, spends_same}
 use Rattle.elf_needs.proofs.ProviderLaws.{returns_state, state_alone, state_nowhere, state_past, state_unplaced}

@@ -2,7 +2,7 @@
 use Rattle.std.proofs.Common.{◌≡◌, ℕ, List, zero-le, refl, ap, subst, ◌∙◌}
 use Rattle.elf_needs.specs.Replaced.{needed_name_of, within_root}
 use Rattle.elf_needs.specs.Searching.{expanded}
-use Rattle.elf_needs.specs.declared.links.NeededLibrary.{NeededLibrary}
+use Rattle.elf_library.specs.declared.links.NeededLibrary.{NeededLibrary}
 use Rattle.elf_needs.proofs.TokenLaws.{test_dollar, without_tokens}
 use Rattle.elf_needs.proofs.known_object.ObjectList.replace_name.Goals as goal
 

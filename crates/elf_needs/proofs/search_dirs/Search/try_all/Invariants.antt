@@ -1,7 +1,7 @@
 -- Each try leaves fewer, and what is left of the budget decreases by at least what was requested
 -- from the files before this one.
 use Rattle.std.proofs.Common.{◌≤◌, length}
-use Rattle.elf_needs.specs.Opens.{SpendsBudgetAtLeast}
+use Rattle.elf_library.specs.Prelude.{SpendsBudgetAtLeast}
 use Rattle.elf_needs.proofs.search_dirs.Search.try_all.Given as goal
 
 abbrev pub invariant-loop-search : goal.invariant-loop-search

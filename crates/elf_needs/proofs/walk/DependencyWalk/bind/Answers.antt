@@ -4,7 +4,7 @@ use Rattle.std.proofs.lemmas.Result.{err_from_is_err_and}
 use Rattle.elf_model.specs.BoundSymbols.{bound_items}
 use Rattle.elf_needs.specs.Bound.{IsBudgetShort, bound_lines, bound_of}
 use Rattle.elf_needs.specs.ItemLines.{WritesLines}
-use Rattle.elf_needs.specs.Kept.{LookupObjectState}
+use Rattle.elf_library.specs.Prelude.{LookupObjectState}
 use Rattle.elf_needs.proofs.AskLaws.{front_taken}
 use Rattle.elf_needs.proofs.walk.DependencyWalk.bind.Goals as goal
 

@@ -4,7 +4,7 @@ use Rattle.std.proofs.lemmas.Result.{err_from_is_err_and}
 use Rattle.elf_model.specs.Prelude.{version_items}
 use Rattle.elf_needs.specs.Bound.{IsBudgetShort}
 use Rattle.elf_needs.specs.ItemLines.{WritesLines}
-use Rattle.elf_needs.specs.Kept.{LookupObjectState}
+use Rattle.elf_library.specs.Prelude.{LookupObjectState}
 use Rattle.elf_needs.specs.Providers.{versioned_of}
 use Rattle.elf_needs.specs.VersionLines.{needed_version_lines}
 use Rattle.elf_needs.specs.declared.walk.Listed.{Listed}

@@ -1,4 +1,0 @@
-pub mod NameRankLaws
-pub mod CacheLaws
-pub mod CacheTextLaws
-pub mod SearchLaws

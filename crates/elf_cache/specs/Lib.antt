@@ -1,2 +1,0 @@
-pub mod CacheReads
-pub mod Prelude

@@ -1,0 +1,15 @@
+-- The name of a needed file, within what is left of a budget.
+use Rattle.std.proofs.Common.{of_calls}
+use Rattle.elf_library.proofs.ChargeLaws.{reads_file_name_within}
+use Rattle.elf_library.proofs.FilterLaws.{kept_between}
+use Rattle.elf_library.proofs.object.LookupObject.needed_file.Goals as goal
+
+pub returns : goal.returns
+returns g c =
+    let reads = c.charge.ensures.reads in
+    rw (← c.self.view_is) (reads_file_name_within reads.sets reads.frees c.charge.ensures.pays c.self.invariant.0 (search of_calls))
+
+pub invariant_of-self : goal.invariant_of-self
+invariant_of-self g c =
+    let reads = c.charge.ensures.reads in
+    kept_between reads.sets (search of_calls) reads.frees c.self.invariant
