@@ -4,6 +4,7 @@ pub use Rattle.elf_library.specs.CacheReads.{ReturnsCacheText, cache_cost}
 pub use Rattle.elf_library.specs.Copied.{ReadsKept}
 pub use Rattle.elf_library.specs.Definers.{DefinesAfter, ReturnsDefiner}
 pub use Rattle.elf_library.specs.Entries.{AreEntryValues, AreNeeds, HasFlags, IsHeldText, IsNeed, KeepsLinks, KeepsText, ReturnsLinks, ReturnsStrings, ReturnsText, first_index, no_info, text_by, with_index}
+pub use Rattle.elf_library.specs.FileIdentities.{is_file}
 pub use Rattle.elf_library.specs.Held.{LinkInfoState, with_text}
 pub use Rattle.elf_library.specs.Kept.{IsKept, IsReadyIn, LookupObjectState}
 pub use Rattle.elf_library.specs.Lacking.{definition_if, definitions_of}

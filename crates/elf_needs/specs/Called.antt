@@ -2,6 +2,7 @@
 use Rattle.std.specs.Prelude.{ℕ, ◌≡◌, ◌^◌, ◌&&◌, ◌||◌, if◌then◌else◌, nat_lt, Bool, false, List, [], codes, option_map, position, slice_get, slice_index_or, Option, None, Some}
 use Rattle.std.specs.Str.{bytes_eq}
 use Rattle.elf_needs.specs.Searching.{IsDirOf}
+use Rattle.elf_library.specs.Prelude.{is_file}
 use Rattle.elf_library.specs.declared.file_identity.FileIdentity.{FileIdentity}
 use Rattle.elf_needs.specs.declared.known_object.KnownObject.{KnownObject}
 use Rattle.elf_needs.specs.declared.known_object.ObjectAlias.{ObjectAlias}

@@ -5,7 +5,7 @@ use Rattle.elf_model.specs.declared.formats.Format.{Format}
 use Rattle.elf_model.specs.declared.causes.Refusal.{Refusal}
 use Rattle.elf_source.specs.Output.{OutState}
 use Rattle.elf_needs.specs.ItemLines.{ItemLines, WritesLines, WritesSoFar, failing_of, status_after}
-use Rattle.elf_library.specs.Prelude.{IsNeedsOf, needs_left}
+use Rattle.elf_library.specs.Prelude.{IsNeedsOf, NeedsWalkGoesOn, needs_left}
 use Rattle.elf_needs.specs.Providers.{versioned_among}
 use Rattle.elf_library.specs.declared.needed_versions.NeedsWalk.{NeedsWalk}
 use Rattle.elf_needs.specs.declared.search_scope.SearchScope.{SearchScope}
