@@ -3,33 +3,40 @@ ghost use Rattle.std.specs.Prelude.{◌≡◌};
 ghost use Rattle.elf_listing.specs.HeadersListed.{ListsTables};
 ghost use Rattle.elf_listing.specs.Viewed.{viewed_headers};
 
-use crate::dynamic::{SectionDynamic, SegmentDynamic};
 use crate::kind_list::KindList;
 use crate::listed_kind::list_kind;
 use crate::listing::Listing;
-use crate::notes::{SectionNotes, SegmentNotes};
-use crate::relocations::Relocations;
 use crate::section_headers::SectionHeaders;
 use crate::symbol_versions::SymbolVersions;
-use crate::symbols::Symbols;
-use crate::version_records::{Definitions, Needs};
 use elf_record::Parts;
 use elf_source::{Sink, Source};
 use elf_table::RunFault;
 
 /// The kinds of tables that section headers describe, except those of versions, in the order of the
 /// definition's `section_kinds`.
-type SectionTables = (Symbols, (Relocations, NotesAndDynamic));
+type SectionTables = (
+    crate::symbols::Symbols,
+    (crate::relocations::Relocations, NotesAndDynamic),
+);
 
 /// Those that are listed after the symbols and the relocation entries.
-type NotesAndDynamic = (SectionNotes, (SectionDynamic, ()));
+type NotesAndDynamic = (
+    crate::notes::SectionNotes,
+    (crate::dynamic::SectionDynamic, ()),
+);
 
 /// The kinds of tables that program headers describe, if a file has no section headers, in the order
 /// of `segment_kinds`.
-type SegmentTables = (SegmentNotes, (SegmentDynamic, ()));
+type SegmentTables = (
+    crate::notes::SegmentNotes,
+    (crate::dynamic::SegmentDynamic, ()),
+);
 
 /// The records of versions.
-type VersionTables = (Definitions, (Needs, ()));
+type VersionTables = (
+    crate::version_records::Definitions,
+    (crate::version_records::Needs, ()),
+);
 
 impl<S: Source, W: Sink> Listing<'_, '_, '_, '_, S, W> {
     /// Shows the tables of the file in order, those that `parts` has, up to the first refusal.
