@@ -3,7 +3,7 @@
 use Rattle.std.proofs.Common.{◌≡◌, ℕ, ◌==◌, Bool, true, false, List, refl}
 use Rattle.elf_model.specs.Prelude.{is_symbol_table, relocations, relocations_with_versions, sh_type, suffixed_symbols, symbols}
 use Rattle.elf_model.specs.Tables.{relocation_table, symbol_table}
-use Rattle.elf_listing.specs.Prelude.{relocations_kind, symbols_kind}
+use Rattle.elf_model.specs.TableKinds.{relocations_kind, symbols_kind}
 
 pub symbols_have : (versions : Bool) (file : List ℕ) (at : ℕ) → (symbols_kind versions).has_table file at ≡ is_symbol_table file at
 unfolding symbols suffixed_symbols

@@ -1,7 +1,8 @@
 -- The parts of a listing after the file header: what is listed of each section, and how much is
 -- read.
-use Rattle.std.specs.Prelude.{ℕ, ◌+◌, ◌-◌, ◌*◌, ◌==◌, ◌&&◌, ◌≡◌, not, Bool, true, false, List, [], ◌∷◌, length, take, Option, None, Some, Result}
-use Rattle.elf_model.specs.Prelude.{DisplayedName, HeaderTable, ListingItem, ListingStyle, SECTIONS, SEGMENTS, TableKind, cost_where, each, fault_of, has, held_headers, name_bytes, no_name, records_rows, relocations, relocations_with_versions, section_at, section_kinds, section_row, segment_at, segment_kinds, segment_row, shown, suffixed_symbols, sum_over, symbol_versions, symbols, table_cost, table_rows, version_definitions, version_needs}
+use Rattle.std.specs.Prelude.{ℕ, ◌+◌, ◌-◌, ◌*◌, ◌==◌, ◌&&◌, ◌≡◌, not, Bool, List, [], ◌∷◌, length, take, Option, None, Some, Result}
+use Rattle.elf_model.specs.Prelude.{DisplayedName, HeaderTable, ListingItem, ListingStyle, SECTIONS, SEGMENTS, TableKind, cost_where, each, fault_of, has, held_headers, name_bytes, no_name, records_rows, section_at, section_kinds, section_row, segment_at, segment_kinds, segment_row, shown, sum_over, symbol_versions, table_cost, table_rows, version_definitions, version_needs}
+use Rattle.elf_model.specs.TableKinds.{relocations_kind, symbols_kind}
 use Rattle.elf_model.specs.declared.causes.Cause.{Cause}
 use Rattle.elf_table.specs.Prelude.{LoadedFile, StoreState, StringTableRange, row, segment_bytes, strings_in}
 
@@ -57,12 +58,6 @@ program_headers_part = record {
 
 -- the symbols of sections and their relocation entries, with or without versions after the names of
 -- symbols
-abbrev pub symbols_kind : Bool → TableKind
-symbols_kind versions = elim versions [ true ↦ suffixed_symbols | false ↦ symbols ]
-
-abbrev pub relocations_kind : Bool → TableKind
-relocations_kind versions = elim versions [ true ↦ relocations_with_versions | false ↦ relocations ]
-
 abbrev pub symbols_part : Bool → PartListed
 symbols_part versions = of_sections (symbols_kind versions)
 

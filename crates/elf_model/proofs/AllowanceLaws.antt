@@ -2,7 +2,8 @@
 use Rattle.std.proofs.Common.{◌≡◌, ℕ, ◌+◌, ◌-◌, ◌*◌, ◌/◌, ◌≤◌, if◌then◌else◌, Bool, true, false, ap, arith}
 use Rattle.std.proofs.Math.Nat.{mul-le-mul_left, mul-le-mul_right, mul-add, add-mul}
 use Rattle.elf_model.specs.Prelude.{ListingStyle, allowance, archive_ceiling, data_most, long_name_bytes, name_bytes, style_ceiling, suffixes_most}
-use Rattle.elf_model.proofs.CostLemmas.{most_bound, style_ceiling-is}
+use Rattle.elf_model.proofs.CostLemmas.{style_ceiling-is}
+use Rattle.elf_model.proofs.TableBounds.{most_bound}
 
 -- an empty file has no data
 no_data : (versions : Bool) (cap : ℕ) → most_bound versions 0 cap ≡ 0

@@ -8,8 +8,12 @@ pub mod ChangeSteps
 pub mod CheckSteps
 pub mod SumLemmas
 pub mod CostLemmas
+pub mod DynamicKinds
 pub mod DynamicLaws
 pub mod GnuHashLaws
+pub mod HeldHeaders
+pub mod KindLists
+pub mod LawfulKinds
 pub mod ListingLemmas
 pub mod LoaderLaws
 pub mod LoaderScopes
@@ -19,6 +23,7 @@ pub mod LookupSteps
 pub mod NameLaws
 pub mod NameLemmas
 pub mod NameLoops
+pub mod NoteKinds
 pub mod NoteLaws
 pub mod NoteLoops
 pub mod NoteRowLaws
@@ -40,9 +45,11 @@ pub mod Spellings
 pub mod StoreLemmas
 pub mod StyleLemmas
 pub mod SuffixLaws
+pub mod SymbolKinds
 pub mod SelectionLaws
 pub mod ChoiceLemmas
 pub mod ValueLaws
+pub mod VersionKinds
 pub mod VersionLaws
 pub mod VersionNameLaws
 mod VersionCheckLaws
@@ -50,5 +57,6 @@ pub mod VersionRowLaws
 pub mod VersionSteps
 pub mod WalkLaws
 pub mod SysvWalkLaws
+pub mod TableBounds
 pub mod TableLaws
 pub mod Walks

@@ -6,7 +6,8 @@ use Rattle.std.proofs.lemmas.Nat.{le-div}
 use Rattle.elf_model.specs.Prelude.{ChainResult, DisplayedName, GnuTable, HashStyle, LoaderCostIsWithinCeiling, LoaderLookup, LookupTables, Meets, Misses, NumberNameSource, RecordCursorState, Refuses, SymbolQuery, SysvTable, TOLD_BYTES, VersionQuery, VersionRecordRead, VersionRecordTable, VersymTable, VisitedRecord, answers, asked_name, before_headers, compared_with, cost_where, counts_check, dynamic_segment_index, e_phnum, e_shnum, end_reading, first_refusal, found_in, gnu_hash, has_record, is_among, is_loadable, loaded_in, loader_ceiling, loader_cost, loader_looked, looked_by, lookup_asks, lookup_tables_of, max_records, meetings, name_index, named_by_record, names_version, names_version_index, naming_of, number_in, p_filesz, p_offset, pad64, pass, position_after, readings, readings_of, record_cost, same, segment_at, segment_dynamic_checks, segments_asked, shown, sysv_hash, sysv_nbucket, sysv_nchain, version_indices, versions_in, versym, versym_at, walk_in}
 use Rattle.elf_model.specs.declared.causes.Cause.{Cause}
 use Rattle.elf_model.specs.declared.causes.Refusal.{Refusal}
-use Rattle.elf_model.proofs.CostLemmas.{whole_within, loadable-within}
+use Rattle.elf_model.proofs.CostLemmas.{loadable-within}
+use Rattle.elf_model.proofs.TableBounds.{whole_within}
 use Rattle.elf_model.proofs.SumLemmas.{cost_where-le, cost_where-within}
 use Rattle.elf_model.proofs.GnuHashLaws.{gnu_lookup_is_bounded}
 use Rattle.elf_model.proofs.LoaderScopes.{max_records_of, IsInside, scope_inside}

@@ -1,13 +1,12 @@
 -- The first fault of a listing, whatever rows are shown.
 use Rattle.std.proofs.Common.{◌≡◌, ℕ, zero, suc, ◌==◌, ◌/◌, ◌&&◌, ◌||◌, not, nat_lt, if◌then◌else◌, Bool, true, false, List, [], ◌∷◌, ◌++◌, Option, None, Some, Result, Ok, Err, refl, sym, ap, ap₂, ◌∙◌}
-use Rattle.elf_model.specs.Prelude.{Check, DisplayedName, Fault, HeaderTable, Line, LinePrefix, ListingItem, ListingStyle, NoSuffix, Note, RowFilter, SECTIONS, SEGMENTS, Suffix, TableKind, VERSYM_SIZE, VisitedRecord, after_refusal, all_checks, chooses, chosen_row, dynamic_at, dynamic_count, dynamic_row, e_machine, e_phnum, e_shnum, each, entry_at, entry_count, fault_of, first_refusal, guarded, has, has_symbols, has_tables, header_checks, kinds_rows, known_parts, linked_at, listing, listing_cost, load_checks, load_items, loaded_items, mapped_strings, name_index, named_at, narrowed, no_name, note_align, note_row, notes_rows, number_in, numbered_row, or_refusal, p_align, p_filesz, p_offset, r_sym, refused_row, relocation_prefix, relocation_row, relocation_row_with_version, relocations, relocations_with_versions, section_dynamic, section_kinds, section_notes, section_row, section_versions, segment_dynamic, segment_notes, segment_row, sh_addralign, sh_link, sh_offset, sh_size, shown as shown_name, shows_symbol, slice, st_name, strings_of, suffixed_relocation_rows, suffixed_row, suffixed_symbol_rows, suffixed_symbols, suffixes_refusal, symbol_choice, symbol_named, symbol_prefix, symbol_row, symbol_row_with_version, symbol_suffix, symbol_version_prefix, symbol_version_row, symbol_version_rows, symbol_versions, symbols, table_headers, table_items, table_rows, version_definitions, version_named, version_needs, version_prefix, version_row, version_strings, versioned_count, versioned_symbols, versions_rows, versym, view_checks, viewed, walk_rows, walked}
-use Rattle.elf_model.specs.Cost.{tables_cost}
-use Rattle.elf_model.specs.TableKinds.{TableHeaders, by_sections, by_segments, dynamic_rows, segment_kinds}
+use Rattle.elf_model.specs.Prelude.{Check, DisplayedName, Fault, HeaderTable, Line, LinePrefix, ListingItem, ListingStyle, NoSuffix, Note, RowFilter, SECTIONS, SEGMENTS, Suffix, TableKind, VERSYM_SIZE, VisitedRecord, after_refusal, all_checks, chooses, chosen_row, dynamic_at, dynamic_count, dynamic_row, e_machine, e_phnum, e_shnum, each, entry_at, entry_count, fault_of, first_refusal, guarded, has, has_symbols, has_tables, header_checks, kinds_rows, known_parts, linked_at, listing, load_checks, load_items, loaded_items, mapped_strings, name_index, named_at, no_name, note_align, note_row, notes_rows, number_in, numbered_row, or_refusal, p_align, p_filesz, p_offset, r_sym, refused_row, relocation_prefix, relocation_row, relocation_row_with_version, relocations, relocations_with_versions, section_dynamic, section_notes, section_row, section_versions, segment_dynamic, segment_notes, segment_row, sh_addralign, sh_link, sh_offset, sh_size, shown as shown_name, slice, st_name, strings_of, suffixed_relocation_rows, suffixed_row, suffixed_symbol_rows, suffixed_symbols, suffixes_refusal, symbol_choice, symbol_named, symbol_prefix, symbol_row, symbol_row_with_version, symbol_suffix, symbol_version_prefix, symbol_version_row, symbol_version_rows, symbol_versions, symbols, table_headers, table_items, table_rows, version_definitions, version_named, version_needs, version_prefix, version_row, version_strings, versioned_count, versioned_symbols, versions_rows, versym, view_checks, viewed, walk_rows, walked}
+use Rattle.elf_model.specs.TableKinds.{dynamic_rows}
 use Rattle.elf_model.specs.VersionRows.{visited_rows}
 use Rattle.elf_model.specs.Versions.{flags_word, hash_word, number_word}
 use Rattle.elf_model.specs.declared.versions.VersionKind.TheVariants.{Definition, File}
 use Rattle.elf_model.specs.declared.causes.Cause.TheVariants.{VersionCut, VersionIndex}
-use Rattle.elf_model.specs.SymbolFilterLaws.{EverySymbolIsShown, NarrowedChooses, SelectionsHideNoFault}
+use Rattle.elf_model.specs.SymbolFilterLaws.{EverySymbolIsShown, NarrowedChooses}
 use Rattle.elf_model.specs.declared.causes.Cause.{Cause}
 use Rattle.elf_model.specs.declared.causes.Refusal.{Refusal}
 use Rattle.elf_model.specs.declared.symbol_filters.SymbolFilter.{SymbolFilter}
@@ -26,31 +25,31 @@ every_symbol_is_shown filter is_defined is_dynamic none = by filter.defined filt
     by true u y none = cc
 
 -- two listings have the same first fault
-record SameFault (a b : List ListingItem) : Type 0 where
-  same : fault_of a ≡ fault_of b
+pub record SameFault (a b : List ListingItem) : Type 0 where
+  pub same : fault_of a ≡ fault_of b
 
 -- the first fault of two listings one after another
-fault_split : (a b : List ListingItem) → fault_of (a ++ b) ≡ or_refusal (fault_of a) (fault_of b)
+pub fault_split : (a b : List ListingItem) → fault_of (a ++ b) ≡ or_refusal (fault_of a) (fault_of b)
 fault_split [] b = refl
 fault_split (Line text ∷ a) b = fault_split a b
 fault_split (Fault refusal ∷ a) b = refl
 
-alike : {a : List ListingItem} → SameFault a a
+pub alike : {a : List ListingItem} → SameFault a a
 alike = record { same = refl }
 
-equal : {a b : List ListingItem} → a ≡ b → SameFault a b
+pub equal : {a b : List ListingItem} → a ≡ b → SameFault a b
 equal is = record { same = ap fault_of is }
 
-appended : {a b c d : List ListingItem} → SameFault a b → SameFault c d → SameFault (a ++ c) (b ++ d)
+pub appended : {a b c d : List ListingItem} → SameFault a b → SameFault c d → SameFault (a ++ c) (b ++ d)
 appended {a} {b} {c} {d} first second = record { same = fault_split a c ∙ ap₂ or_refusal first.same second.same ∙ sym (fault_split b d) }
 
 -- of rows
-each_fault : (row other : ℕ → List ListingItem) → ((i : ℕ) → SameFault (row i) (other i)) → (first count : ℕ) → SameFault (each row first count) (each other first count)
+pub each_fault : (row other : ℕ → List ListingItem) → ((i : ℕ) → SameFault (row i) (other i)) → (first count : ℕ) → SameFault (each row first count) (each other first count)
 unfolding each
 each_fault row other rows first zero = alike
 each_fault row other rows first (suc count) = appended (rows first) (each_fault row other rows (suc first) count)
 
-guarded_fault : (checks : List Check) {a b : List ListingItem} → SameFault a b → SameFault (guarded checks a) (guarded checks b)
+pub guarded_fault : (checks : List Check) {a b : List ListingItem} → SameFault a b → SameFault (guarded checks a) (guarded checks b)
 guarded_fault checks {a} {b} items = by (first_refusal checks)
   where
     by : (first : Option Refusal)
@@ -59,27 +58,27 @@ guarded_fault checks {a} {b} items = by (first_refusal checks)
     by None = items
     by (Some refusal) = alike
 
-after_fault : (first : Option Refusal) {a b : List ListingItem} → SameFault a b → SameFault (after_refusal first a) (after_refusal first b)
+pub after_fault : (first : Option Refusal) {a b : List ListingItem} → SameFault a b → SameFault (after_refusal first a) (after_refusal first b)
 after_fault None items = items
 after_fault (Some refusal) items = alike
 
-where_fault : (asked : Bool) {a b : List ListingItem} → SameFault a b
+pub where_fault : (asked : Bool) {a b : List ListingItem} → SameFault a b
     → SameFault (elim asked as (λ _. List ListingItem) [ true ↦ a | false ↦ [] ]) (elim asked as (λ _. List ListingItem) [ true ↦ b | false ↦ [] ])
 where_fault true items = items
 where_fault false items = alike
 
 -- of a row with a name, whether it is shown or not
-line_fault : (one other : Bool) (line : List ℕ) → SameFault (if one then Line line ∷ [] else []) (if other then Line line ∷ [] else [])
+pub line_fault : (one other : Bool) (line : List ℕ) → SameFault (if one then Line line ∷ [] else []) (if other then Line line ∷ [] else [])
 line_fault true true line = record { same = refl }
 line_fault true false line = record { same = refl }
 line_fault false true line = record { same = refl }
 line_fault false false line = record { same = refl }
 
-chosen_fault : (one other : RowFilter) (front : LinePrefix) (at : ℕ) (name : Result DisplayedName Cause) → SameFault (chosen_row one front at name) (chosen_row other front at name)
+pub chosen_fault : (one other : RowFilter) (front : LinePrefix) (at : ℕ) (name : Result DisplayedName Cause) → SameFault (chosen_row one front at name) (chosen_row other front at name)
 chosen_fault one other front at (Ok name) = line_fault (chooses one name NoSuffix) (chooses other name NoSuffix) _
 chosen_fault one other front at (Err cause) = alike
 
-suffixed_fault : (one other : RowFilter) (front : LinePrefix) (at : ℕ) (name : Result DisplayedName Cause) (suffix : Result Suffix Refusal)
+pub suffixed_fault : (one other : RowFilter) (front : LinePrefix) (at : ℕ) (name : Result DisplayedName Cause) (suffix : Result Suffix Refusal)
     → SameFault (suffixed_row one front at name suffix) (suffixed_row other front at name suffix)
 suffixed_fault one other front at (Ok name) (Ok suffix) = line_fault (chooses one name suffix) (chooses other name suffix) _
 suffixed_fault one other front at (Ok name) (Err refusal) = alike
@@ -87,11 +86,11 @@ suffixed_fault one other front at (Err cause) suffix = alike
 
 -- THE ROWS OF TABLES in two styles that differ in what is shown alone
 module _ (file : List ℕ) (style : ListingStyle) (rows : RowFilter) (filter : SymbolFilter) where
-  abbrev selected : ListingStyle
+  abbrev pub selected : ListingStyle
   selected = record (style) { choice = rows; symbols = filter }
 
   -- the rows of a kind have the same first fault
-  abbrev IsSame : TableKind → Type 0
+  abbrev pub IsSame : TableKind → Type 0
   IsSame kind = (section at : ℕ) → SameFault (kind.rows file selected section at) (kind.rows file style section at)
 
   symbol_same : (section at index : ℕ) → SameFault (symbol_row file selected section at index) (symbol_row file style section at index)
@@ -101,7 +100,7 @@ module _ (file : List ℕ) (style : ListingStyle) (rows : RowFilter) (filter : S
       chosen_fault (symbol_choice file selected at symbol_at) (symbol_choice file style at symbol_at) (symbol_prefix style.format style.gnu (e_machine file) file symbol_at section index) symbol_at
       (shown_name (strings_of file at) (st_name file symbol_at) style.cap)
 
-  symbols_same : IsSame symbols
+  pub symbols_same : IsSame symbols
   unfolding symbols
   symbols_same section at = each_fault (symbol_row file selected section at) (symbol_row file style section at) (symbol_same section at) 0 (entry_count file at 24)
 
@@ -112,7 +111,7 @@ module _ (file : List ℕ) (style : ListingStyle) (rows : RowFilter) (filter : S
       let named = symbol_named file style.cap at rela_at (r_sym file rela_at) in
       chosen_fault rows style.choice (relocation_prefix style.format style.gnu (e_machine file) file rela_at section) named.0 named.1
 
-  relocations_same : IsSame relocations
+  pub relocations_same : IsSame relocations
   unfolding relocations
   relocations_same section at = each_fault (relocation_row file selected section at) (relocation_row file style section at) (relocation_same section at) 0 (entry_count file at 24)
 
@@ -123,7 +122,7 @@ module _ (file : List ℕ) (style : ListingStyle) (rows : RowFilter) (filter : S
       suffixed_fault (symbol_choice file selected at symbol_at) (symbol_choice file style at symbol_at) (symbol_prefix style.format style.gnu (e_machine file) file symbol_at section index) symbol_at
       (shown_name (strings_of file at) (st_name file symbol_at) style.cap) (symbol_suffix file style.cap section symbol_at index)
 
-  suffixed_symbols_same : IsSame suffixed_symbols
+  pub suffixed_symbols_same : IsSame suffixed_symbols
   unfolding suffixed_symbols suffixed_symbol_rows
   suffixed_symbols_same section at =
       after_fault (suffixes_refusal file section)
@@ -139,7 +138,7 @@ module _ (file : List ℕ) (style : ListingStyle) (rows : RowFilter) (filter : S
       (if symbol == 0 then Ok NoSuffix
       else symbol_suffix file style.cap (sh_link file at) (entry_at file (linked_at file at) 24 symbol) symbol)
 
-  suffixed_relocations_same : IsSame relocations_with_versions
+  pub suffixed_relocations_same : IsSame relocations_with_versions
   unfolding relocations_with_versions suffixed_relocation_rows
   suffixed_relocations_same section at =
       after_fault (if has_symbols file at && not (entry_count file at 24 == 0) then suffixes_refusal file (sh_link file at) else None)
@@ -150,13 +149,13 @@ module _ (file : List ℕ) (style : ListingStyle) (rows : RowFilter) (filter : S
   notes_are_same index [] = refl
   notes_are_same index (note ∷ notes) = ap (λ others. note_row style index note ∷ others) (notes_are_same index notes)
 
-  section_notes_same : IsSame section_notes
+  pub section_notes_same : IsSame section_notes
   unfolding section_notes walk_rows
   section_notes_same section at =
       let walk = walked (note_align (sh_addralign file at)) (slice file (sh_offset file at) (sh_size file at)) in
       appended (equal (notes_are_same section walk.notes)) alike
 
-  segment_notes_same : IsSame segment_notes
+  pub segment_notes_same : IsSame segment_notes
   unfolding segment_notes walk_rows
   segment_notes_same section at =
       let walk = walked (note_align (p_align file at)) (slice file (p_offset file at) (p_filesz file at)) in
@@ -172,11 +171,11 @@ module _ (file : List ℕ) (style : ListingStyle) (rows : RowFilter) (filter : S
       each_fault (λ i. dynamic_row file selected (strings count) (dynamic_at offset i) i) (λ i. dynamic_row file style (strings count) (dynamic_at offset i) i)
       (λ i. dynamic_same (strings count) (dynamic_at offset i) i) 0 count
 
-  section_dynamic_same : IsSame section_dynamic
+  pub section_dynamic_same : IsSame section_dynamic
   unfolding section_dynamic
   section_dynamic_same section at = dynamics_same (sh_offset file at) (entry_count file at 16) (λ n dynamic_at. Ok (strings_of file at))
 
-  segment_dynamic_same : IsSame segment_dynamic
+  pub segment_dynamic_same : IsSame segment_dynamic
   unfolding segment_dynamic
   segment_dynamic_same section at = dynamics_same (p_offset file at) (p_filesz file at / 16) (mapped_strings file (p_offset file at))
 
@@ -189,12 +188,12 @@ module _ (file : List ℕ) (style : ListingStyle) (rows : RowFilter) (filter : S
       (named_at file first) (shown_name strings (name_index file first) style.cap))
       (visited_same section strings others)
 
-  definitions_same : IsSame version_definitions
+  pub definitions_same : IsSame version_definitions
   unfolding version_definitions versions_rows
   definitions_same section at =
       appended (visited_same section (strings_of file at) (section_versions Definition file at).met) alike
 
-  needs_same : IsSame version_needs
+  pub needs_same : IsSame version_needs
   unfolding version_needs versions_rows
   needs_same section at =
       appended (visited_same section (strings_of file at) (section_versions File file at).met) alike
@@ -224,7 +223,7 @@ module _ (file : List ℕ) (style : ListingStyle) (rows : RowFilter) (filter : S
       let word : ℕ = versym file entry in
       numbered_same (symbol_version_prefix style.format section index word) entry (number_in word)
 
-  symbol_versions_same : IsSame symbol_versions
+  pub symbol_versions_same : IsSame symbol_versions
   unfolding symbol_versions symbol_version_rows
   symbol_versions_same section at = by (sh_size file at == 0)
     where
@@ -241,24 +240,9 @@ module _ (file : List ℕ) (style : ListingStyle) (rows : RowFilter) (filter : S
           alike
 
   -- the tables of some kinds
-  abbrev AreSame : List TableKind → Type 0
+  abbrev pub AreSame : List TableKind → Type 0
   AreSame [] = Unit {0}
   AreSame (kind ∷ kinds) = IsSame kind × AreSame kinds
-
-  sections_same : (versions : Bool) → AreSame (section_kinds versions)
-  sections_same true = (suffixed_symbols_same, (suffixed_relocations_same, (section_notes_same, (section_dynamic_same, (definitions_same, (needs_same, (symbol_versions_same, tt)))))))
-  sections_same false = (symbols_same, (relocations_same, (section_notes_same, (section_dynamic_same, (definitions_same, (needs_same, (symbol_versions_same, tt)))))))
-
-  segments_same : AreSame segment_kinds
-  segments_same = (segment_notes_same, (segment_dynamic_same, tt))
-
-  headers_same : (versions : Bool) → AreSame (table_headers versions file).kinds
-  unfolding table_headers
-  headers_same versions = by (e_shnum file == 0)
-    where
-      by : (none : Bool) → AreSame (elim none as (λ _. TableHeaders) [ true ↦ by_segments file | false ↦ by_sections versions file ]).kinds
-      by true = segments_same
-      by false = sections_same versions
 
   table_same : (kind : TableKind) → IsSame kind → (index at : ℕ) → SameFault (table_rows kind file selected index at) (table_rows kind file style index at)
   unfolding table_rows
@@ -279,21 +263,31 @@ module _ (file : List ℕ) (style : ListingStyle) (rows : RowFilter) (filter : S
   unfolding segment_row
   segment_same index = alike
 
-  tables_same : (parts : ℕ) → SameFault (table_items file selected parts) (table_items file style parts)
+  tables_same : AreSame (table_headers style.versions file).kinds → (parts : ℕ) → SameFault (table_items file selected parts) (table_items file style parts)
   unfolding table_items
-  tables_same parts =
+  tables_same same parts =
       let tables = table_headers style.versions file in
       appended
       (appended (where_fault (has parts SECTIONS) (each_fault (section_row file selected) (section_row file style) section_same 0 (e_shnum file)))
       (where_fault (has parts SEGMENTS) (each_fault (segment_row file selected) (segment_row file style) segment_same 0 (e_phnum file))))
-      (kinds_same tables.kinds tables.headers parts (headers_same style.versions))
+      (kinds_same tables.kinds tables.headers parts same)
 
-  loads_same : (headers parts : ℕ) → SameFault (load_items file headers selected parts) (load_items file headers style parts)
+  loads_same : AreSame (table_headers style.versions file).kinds → (headers parts : ℕ) → SameFault (load_items file headers selected parts) (load_items file headers style parts)
   unfolding load_items loaded_items view_checks
-  loads_same headers parts =
-      where_fault (has_tables parts) (guarded_fault (load_checks file headers) (guarded_fault (view_checks file style parts) (tables_same parts)))
+  loads_same same headers parts =
+      where_fault (has_tables parts) (guarded_fault (load_checks file headers) (guarded_fault (view_checks file style parts) (tables_same same parts)))
 
-pub selections_hide_no_fault : SelectionsHideNoFault
-unfolding listing listing_cost tables_cost
-selections_hide_no_fault file headers style parts rows filter =
-    ((guarded_fault (header_checks file) (appended alike (loads_same (viewed style file) style rows filter headers (known_parts style parts)))).same, refl)
+-- whatever rows are shown, the rows of a kind have the same first fault
+abbrev pub SelectsAlike : TableKind → Type 0
+SelectsAlike kind = (file : List ℕ) (style : ListingStyle) (rows : RowFilter) (filter : SymbolFilter) → IsSame file style rows filter kind
+
+-- and so has a listing, if the rows of each kind have
+abbrev kinds_of : List ℕ → ListingStyle → List TableKind
+kinds_of file style = (table_headers style.versions (viewed style file)).kinds
+
+pub hides_no_fault : (file : List ℕ) (headers : ℕ) (style : ListingStyle) (parts : ℕ) (rows : RowFilter) (filter : SymbolFilter)
+    → AreSame (viewed style file) style rows filter (kinds_of file style)
+    → fault_of (listing file headers (selected file style rows filter) parts) ≡ fault_of (listing file headers style parts)
+unfolding listing
+hides_no_fault file headers style parts rows filter same =
+    (guarded_fault (header_checks file) (appended alike (loads_same (viewed style file) style rows filter same headers (known_parts style parts)))).same

@@ -78,16 +78,6 @@ headers_within each_header n bound count headers tables few small within =
     let e : count * (each_header + bound) ≡ count * each_header + count * bound = mul-add count each_header bound in
     omega arith
 
--- a section is of one kind
-pub one_kind : (type bound : ℕ)
-    → cost_where (type == 2 || type == 11) bound + cost_where (type == 4) bound + cost_where (type == 7) bound + cost_where (type == 6) bound
-    + (cost_where (type == 0x6ffffffd) bound + cost_where (type == 0x6ffffffe) bound + cost_where (type == 0x6fffffff) bound) ≤ bound
-one_kind type bound = grind (arith, nat_tests)
-
--- and so it holds symbols or relocation entries, and not both
+-- a section holds symbols or relocation entries, and not both
 pub two_kinds : (type most : ℕ) → cost_where (type == 2 || type == 11) most + cost_where (type == 4) most ≤ most
 two_kinds type most = grind (arith, nat_tests)
-
--- a segment is of one kind
-pub one_segment_kind : (type size bound : ℕ) → size ≤ bound → cost_where (type == 4) size + cost_where (type == 2) bound ≤ bound
-one_segment_kind type size bound h = grind (arith, nat_tests)

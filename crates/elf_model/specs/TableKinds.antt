@@ -127,10 +127,10 @@ relocations_with_versions = record {
 }
 
 -- symbols, and relocation entries, with or without versions after the names of symbols
-abbrev symbols_kind : Bool → TableKind
+abbrev pub symbols_kind : Bool → TableKind
 symbols_kind versions = elim versions [ true ↦ suffixed_symbols | false ↦ symbols ]
 
-abbrev relocations_kind : Bool → TableKind
+abbrev pub relocations_kind : Bool → TableKind
 relocations_kind versions = elim versions [ true ↦ relocations_with_versions | false ↦ relocations ]
 
 -- the kinds of tables that section headers describe, with or without versions after the names of

@@ -1,4 +1,4 @@
-use Rattle.elf_model.proofs.SelectionLaws.{selections_hide_no_fault}
+use Rattle.elf_model.proofs.KindLists.{selections_hide_no_fault}
 use Rattle.elf_model.proofs.symbol_filter_laws.selections_hide_no_fault.Goals as goal
 
 pub returns : goal.returns

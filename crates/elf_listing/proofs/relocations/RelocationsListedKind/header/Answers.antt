@@ -5,7 +5,8 @@ use Rattle.std.proofs.lemmas.Bool.{eq-eqb, ne_eqb}
 use Rattle.std.proofs.lemmas.Result.{err_from_is_err_and}
 use Rattle.elf_model.specs.Prelude.{each, relocation_row, relocations, section_at}
 use Rattle.elf_listing.specs.HeadersListed.{ListsHeader}
-use Rattle.elf_listing.specs.Prelude.{relocations_kind, relocations_part}
+use Rattle.elf_model.specs.TableKinds.{relocations_kind}
+use Rattle.elf_listing.specs.Prelude.{relocations_part}
 use Rattle.elf_listing.proofs.NamedKinds.{relocations_checks, relocations_have}
 use Rattle.elf_listing.proofs.RowLaws.{WroteSome-as}
 use Rattle.elf_listing.proofs.SectionCosts.{section_within}

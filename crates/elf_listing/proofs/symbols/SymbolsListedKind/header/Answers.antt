@@ -6,7 +6,8 @@ use Rattle.elf_model.specs.Prelude.{each, is_symbol_table, section_at, slice, sy
 use Rattle.elf_table.specs.Prelude.{StringTableRange, row}
 use Rattle.elf_table.proofs.RelocationLaws.{symbols-fail, symbols-pass}
 use Rattle.elf_listing.specs.HeadersListed.{ListsHeader}
-use Rattle.elf_listing.specs.Prelude.{symbols_kind, symbols_part}
+use Rattle.elf_model.specs.TableKinds.{symbols_kind}
+use Rattle.elf_listing.specs.Prelude.{symbols_part}
 use Rattle.elf_listing.proofs.NamedKinds.{symbols_checks, symbols_have}
 use Rattle.elf_listing.proofs.RowLaws.{WroteSome-as}
 use Rattle.elf_listing.proofs.SectionCosts.{section_within}
