@@ -1,3 +1,4 @@
 pub mod CheckedLaws
 pub mod FoundNames
 pub mod NoteSteps
+pub mod RowsInPlace

@@ -1,13 +1,12 @@
 -- What a step over the notes of a file implies for those that are left.
 use Rattle.std.proofs.Common.{◌≡◌, ℕ, ◌+◌, ◌-◌, ◌<◌, ◌≤◌, min, true, false, List, length, drop, ap, sym, ◌∙◌, refl, arith}
-use Rattle.elf_model.specs.Prelude.{OneNote, alignment_gap, are_zeros, bytes_to_alignment, descriptor_start, first_end, first_note, n_descsz, n_namesz, slice, with_note}
+use Rattle.elf_model.specs.Prelude.{OneNote, are_zeros, bytes_to_alignment, descriptor_start, first_end, first_note, n_descsz, n_namesz, slice, with_note}
 use Rattle.elf_model.proofs.Slices.{slice-size, slice-slice, slice-rest}
 use Rattle.elf_model.proofs.Spellings.{next-ends, next-tails, next-past, next-found}
 use Rattle.elf_model.proofs.Walks.{walk, walk-ends, walk-broken, walk-found}
 use Rattle.elf_record.specs.Prelude.{IsNoteHead}
 use Rattle.elf_record.specs.declared.note_head.NoteHead.{NoteHead}
 use Rattle.elf_note.specs.NoteCursors.{notes_from, no_notes, cut_at, note_size}
-use Rattle.elf_note.proofs.Stepping.{size-parts}
 use Rattle.elf_memory.specs.Prelude.{IsNoteAt}
 use Rattle.elf_memory.specs.declared.notes.Note.{Note as Row}
 use Rattle.elf_memory.specs.declared.notes.NotePosition.{NotePosition}
@@ -65,12 +64,3 @@ tells a file old head row s fits whole place header kind namesz descsz name_at d
       name = ap (λ (x : ℕ). slice file x row.namesz) name_at ∙ ap (slice file (old.at + 12)) namesz ∙ sym n2 ∙ sym n1;
       descriptor = ap (λ (x : ℕ). slice file x row.descsz) desc_at ∙ ap (slice file (old.at + start)) descsz ∙ sym d2 ∙ sym d1;
     }
-
--- the end of a note's descriptor, by its parts
-pub end-of : (a n d gp end : ℕ) → gp ≡ alignment_gap a n d → end ≡ 12 + n + gp + d → end ≡ descriptor_start a n d + d
-end-of a n d gp end g e = e ∙ ap (λ (x : ℕ). 12 + n + x + d) g
-
--- its size in bytes
-pub sized : (a n d len gp pad end : ℕ) → gp ≡ alignment_gap a n d → end ≡ 12 + n + gp + d → pad ≡ min (bytes_to_alignment a end) (len - end) → end ≤ len → end + pad ≡ note_size a n d len
-sized a n d len gp pad end g e p fits =
-    ap (λ (x : ℕ). end + x) p ∙ sym (size-parts end (bytes_to_alignment a end) len fits) ∙ ap (λ (x : ℕ). min (x + bytes_to_alignment a x) len) (end-of a n d gp end g e)

@@ -1,5 +1,5 @@
 -- The headers of a file in memory, as C sees them.
-use Rattle.std.specs.Prelude.{ℕ, ◌≡◌, ◌+◌, ◌<◌, ◌≤◌, List, length, Option, None, Some, Result, Ok, Err}
+use Rattle.std.specs.Prelude.{ℕ, ◌≡◌, ◌<◌, ◌≤◌, List, Option, None, Some, Result, Ok, Err}
 use Rattle.elf_model.specs.Prelude.{e_phnum, e_shnum, first_refusal, header_checks, section_at, segment_at}
 use Rattle.elf_model.specs.declared.causes.Refusal.{Refusal}
 use Rattle.elf_record.specs.Prelude.{IsEhdr, IsPhdr, IsShdr}
@@ -14,16 +14,18 @@ ReadsHeader file (Ok (Some header)) = (first_refusal (header_checks file) ≡ No
 ReadsHeader file (Ok None) = ⊥
 ReadsHeader file (Err refusal) = first_refusal (header_checks file) ≡ Some refusal
 
--- the offset of the section header of an index, within the file; none if the file has no such
--- section; or the first failing check
-abbrev pub FindsSection : List ℕ → ℕ → Result (Option ℕ) Refusal → Type 0
-FindsSection file index (Ok (Some at)) = (first_refused file ≡ None) × (index < e_shnum file) × (at ≡ section_at file index) × (at + 64 ≤ length file)
+-- the section header of an index, after its offset; none if the file has no such section; or the
+-- first failing check
+abbrev pub FindsSection : List ℕ → ℕ → Result (Option (ℕ × Shdr)) Refusal → Type 0
+FindsSection file index (Ok (Some found)) =
+    (first_refused file ≡ None) × (index < e_shnum file) × (found.0 ≡ section_at file index) × IsShdr file (section_at file index) found.1
 FindsSection file index (Ok None) = (first_refused file ≡ None) × (e_shnum file ≤ index)
 FindsSection file index (Err refusal) = first_refused file ≡ Some refusal
 
 -- the same for the program header of an index
-abbrev pub FindsSegment : List ℕ → ℕ → Result (Option ℕ) Refusal → Type 0
-FindsSegment file index (Ok (Some at)) = (first_refused file ≡ None) × (index < e_phnum file) × (at ≡ segment_at file index) × (at + 56 ≤ length file)
+abbrev pub FindsSegment : List ℕ → ℕ → Result (Option (ℕ × Phdr)) Refusal → Type 0
+FindsSegment file index (Ok (Some found)) =
+    (first_refused file ≡ None) × (index < e_phnum file) × (found.0 ≡ segment_at file index) × IsPhdr file (segment_at file index) found.1
 FindsSegment file index (Ok None) = (first_refused file ≡ None) × (e_phnum file ≤ index)
 FindsSegment file index (Err refusal) = first_refused file ≡ Some refusal
 

@@ -1,5 +1,6 @@
 pub mod Checked
 pub mod Headers
+pub mod InPlace
 pub mod MappedBytes
 pub mod Names
 pub mod NoteRows

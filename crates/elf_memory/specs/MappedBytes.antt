@@ -1,16 +1,20 @@
 -- The range of the bytes at an address, in a file in memory.
-use Rattle.std.specs.Prelude.{ℕ, ◌≡◌, ◌+◌, ◌≤◌, ◌⊎◌, true, false, List, length, Option, None, Some, Result, Ok, Err}
-use Rattle.elf_model.specs.Prelude.{is_outside, mapped_at, mapped_offset, p_vaddr}
+use Rattle.std.specs.Prelude.{ℕ, ◌≡◌, ◌≤◌, ◌⊎◌, true, false, List, length, Option, None, Some, Result, Ok, Err}
+use Rattle.elf_model.specs.Prelude.{is_outside, mapped_at, mapped_offset}
 use Rattle.elf_model.specs.declared.causes.Refusal.{Refusal}
 use Rattle.elf_model.specs.declared.causes.Cause.TheVariants.{TableOutside}
+use Rattle.elf_record.specs.Prelude.{IsPhdr}
+use Rattle.elf_record.specs.declared.phdr.Phdr.{Phdr}
 use Rattle.elf_memory.specs.Checked.{first_refused}
 use Rattle.elf_memory.specs.declared.name.ByteRange.{ByteRange}
 
--- the offset of the first program header that holds `size` bytes at an address, within the file and
--- not above the address; or there is none
-abbrev pub FindsMapping : List ℕ → ℕ → ℕ → Option ℕ → Type 0
-FindsMapping file address size (Some at) = (mapped_at file address size ≡ Some at) × (at + 56 ≤ length file) × (p_vaddr file at ≤ address)
-FindsMapping file address size None = mapped_at file address size ≡ None
+-- the first program header that holds `size` bytes at an address, after its offset, and which
+-- begins not above the address; or there is none; or the first failing check
+abbrev pub FindsMapping : List ℕ → ℕ → ℕ → Result (Option (ℕ × Phdr)) Refusal → Type 0
+FindsMapping file address size (Ok (Some found)) =
+    (first_refused file ≡ None) × (mapped_at file address size ≡ Some found.0) × IsPhdr file found.0 found.1 × (found.1.p_vaddr ≤ address)
+FindsMapping file address size (Ok None) = (first_refused file ≡ None) × (mapped_at file address size ≡ None)
+FindsMapping file address size (Err refusal) = first_refused file ≡ Some refusal
 
 -- THE RESULT for an address: the range in the file of `size` bytes there, by the first program
 -- header that holds them; none if none does; or the first failing check, the last of which is that

@@ -4,8 +4,8 @@ ghost use Rattle.elf_model.specs.Apply.{has_no_bytes};
 ghost use Rattle.elf_record.specs.Shdr.{IsShdr};
 ghost use Rattle.elf_memory.specs.SectionBytes.{ReadsSectionBytes};
 
+use crate::header::find_section;
 use crate::name::ByteRange;
-use crate::section::{section_at, section_place};
 use elf_record::numbers::{SHT_NOBITS, SHT_NULL};
 use elf_record::{Cause, Refusal, Shdr};
 use elf_table::is_out_of_bounds;
@@ -20,16 +20,15 @@ use elf_table::is_out_of_bounds;
 pub fn section_bytes(file: &[u8], section: u16) -> Result<Option<ByteRange>, Refusal>
     ensures { ReadsSectionBytes file.now section result }
 {
-    let Some(place) = section_place(file, section)? else {
+    let Some((place, header)) = find_section(file, section)? else {
         return Ok(None);
     };
-    let header = section_at(file, place);
     if has_no_bytes(&header) {
         return Ok(None);
     }
     if is_out_of_bounds(file.len() as u64, header.sh_offset, header.sh_size) {
         return Err(Refusal {
-            at: place as u64,
+            at: place,
             cause: Cause::TableOutside,
         });
     }

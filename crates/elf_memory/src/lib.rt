@@ -6,23 +6,23 @@
 mod bytes;
 mod checked;
 mod contents;
+mod file_headers;
 mod header;
 mod mapped_bytes;
+mod memory_file;
 mod name;
 mod note_tables;
 mod notes;
 mod room;
-mod section;
-mod segment;
 
 pub use bytes::chunk_at;
 pub use checked::checked_header;
 pub use contents::section_bytes;
-pub use header::read_header;
+pub use file_headers::FileHeaders;
+pub use header::{find_segment, read_header, read_section, read_segment};
 pub use mapped_bytes::find_mapped;
+pub use memory_file::MemoryFile;
 pub use name::{ByteRange, bytes_of, find_name};
 pub use note_tables::{section_notes, segment_notes};
 pub use notes::{Note, NotePosition, next_note};
 pub use room::slots_for;
-pub use section::{read_section, section_at};
-pub use segment::{read_segment, segment_at, segment_place};

@@ -2,12 +2,11 @@
 ghost use Rattle.std.specs.Prelude.{◌≡◌};
 ghost use Rattle.elf_memory.specs.NoteRows.{InFile, ReadsSectionNotes, ReadsSegmentNotes};
 
+use crate::header::{find_section, find_segment};
 use crate::notes::NotePosition;
-use crate::section::{section_at, section_place};
-use crate::segment::{segment_at, segment_place};
+use elf_record::Refusal;
 use elf_record::numbers::{PT_NOTE, SHT_NOTE};
-use elf_record::{Cause, Refusal};
-use elf_table::is_out_of_bounds;
+use elf_table::{Fault, checked_bytes};
 
 /// Returns the position of the first note of a section of a file in memory; `None` if the file has
 /// no such section, or if its type is not NOTE (gABI 5, Note Section).
@@ -18,10 +17,9 @@ use elf_table::is_out_of_bounds;
 pub fn section_notes(file: &[u8], section: u16) -> Result<Option<NotePosition>, Refusal>
     ensures { ReadsSectionNotes file.now section result }
 {
-    let Some(place) = section_place(file, section)? else {
+    let Some((place, header)) = find_section(file, section)? else {
         return Ok(None);
     };
-    let header = section_at(file, place);
     if header.sh_type != SHT_NOTE {
         return Ok(None);
     }
@@ -32,7 +30,7 @@ pub fn section_notes(file: &[u8], section: u16) -> Result<Option<NotePosition>, 
         header: u32::from(section),
         none: 0,
     };
-    within(file.len() as u64, place as u64, notes)
+    within(file.len() as u64, place, notes)
 }
 
 /// Returns the position of the first note of a segment, as [`section_notes`] does for a section.
@@ -42,10 +40,9 @@ pub fn section_notes(file: &[u8], section: u16) -> Result<Option<NotePosition>, 
 pub fn segment_notes(file: &[u8], segment: u16) -> Result<Option<NotePosition>, Refusal>
     ensures { ReadsSegmentNotes file.now segment result }
 {
-    let Some(place) = segment_place(file, segment)? else {
+    let Some((place, header)) = find_segment(file, segment)? else {
         return Ok(None);
     };
-    let header = segment_at(file, place);
     if header.p_type != PT_NOTE {
         return Ok(None);
     }
@@ -56,18 +53,16 @@ pub fn segment_notes(file: &[u8], segment: u16) -> Result<Option<NotePosition>, 
         header: u32::from(segment),
         none: 0,
     };
-    within(file.len() as u64, place as u64, notes)
+    within(file.len() as u64, place, notes)
 }
 
 /// Checks that a table of notes lies within a file of `size` bytes; an empty table is not checked.
 fn within(size: u64, place: u64, notes: NotePosition) -> Result<Option<NotePosition>, Refusal>
     ensures { InFile size place notes result }
 {
-    if notes.left != 0 && is_out_of_bounds(size, notes.at, notes.left) {
-        return Err(Refusal {
-            at: place,
-            cause: Cause::TableOutside,
-        });
+    match checked_bytes(notes.at, notes.left, size, place) {
+        Ok(_) => Ok(Some(notes)),
+        Err(Fault::Refused(refusal)) => Err(refusal),
+        Err(Fault::Source { .. }) => unreachable!(),
     }
-    Ok(Some(notes))
 }

@@ -1,12 +1,11 @@
 //! Notes, and steps over them.
-ghost use Rattle.std.specs.Prelude.{◌≡◌, ◌<◌};
-ghost use Rattle.elf_model.specs.Prelude.{note_align};
+ghost use Rattle.std.specs.Prelude.{◌≡◌};
 ghost use Rattle.elf_model.specs.declared.causes.Cause.TheVariants.{NoteCut};
 ghost use Rattle.elf_memory.specs.NoteRows.{TakesNote};
 
 use crate::bytes::chunk_at;
 use crate::name::{ByteRange, bytes_of};
-use elf_note::{alignment_gap, are_zeros, padding};
+use elf_note::{are_zeros, note_align, note_parts};
 use elf_record::{Cause, NoteHead, Refusal};
 
 /// A position in a table of notes: plain numbers, as those of [`Rows`](crate::Rows).
@@ -66,35 +65,21 @@ pub fn next_note(file: &[u8], notes: &mut NotePosition) -> Result<Option<Note>, 
         return Err(cut(notes.at));
     }
     let head = NoteHead::decode(chunk_at(table, 0));
-    let align = note_align(notes.align);
-    let gap = alignment_gap(align, head.namesz, head.descsz);
-    let start = 12 + u64::from(head.namesz) + gap;
-    let end = start + u64::from(head.descsz);
-    let len = table.len() as u64;
-    if len < end {
+    let Some(parts) = note_parts(note_align(notes.align), &head, table.len() as u64) else {
         return Err(cut(notes.at));
-    }
-    let size = end + padding(align, end, len - end);
+    };
     let note = Note {
         at: notes.at,
         name_at: notes.at + 12,
-        desc_at: notes.at + start,
+        desc_at: notes.at + parts.descriptor,
         namesz: head.namesz,
         descsz: head.descsz,
         kind: head.kind,
         header: notes.header,
     };
-    notes.at += size;
-    notes.left -= size;
+    notes.at += parts.size;
+    notes.left -= parts.size;
     Ok(Some(note))
-}
-
-/// Returns the alignment of notes, by that of their header.
-fn note_align(align: u64) -> u64
-    ensures value { result ≡ note_align align }
-    ensures some { 0 < result }
-{
-    if align == 8 { 8 } else { 4 }
 }
 
 /// Returns the refusal of a table of notes at an offset.

@@ -119,22 +119,6 @@ found-tells file a cap old new head name_end name desc place desc_at shown here 
       },
     )
 
--- the places of a note's consecutive parts
-pub moved-by : (a at namesz descsz left behind place start moved : ℕ) → place ≡ at + descriptor_start a namesz descsz → start ≡ descriptor_start a namesz descsz
-    → descriptor_start a namesz descsz + descsz ≤ left → behind + descriptor_start a namesz descsz ≡ left
-    → moved ≡ place + descsz + min (bytes_to_alignment a (start + descsz)) (behind - descsz) → moved ≡ at + note_size a namesz descsz left
-moved-by a at namesz descsz left behind place start moved p s fits b m =
-    let size : ℕ = descriptor_start a namesz descsz + descsz in
-    let e : behind - descsz ≡ left - size = omega arith in
-    m ∙ ap (λ (x : ℕ). x + descsz + min (bytes_to_alignment a (start + descsz)) (behind - descsz)) p
-    ∙ ap (λ (x : ℕ). at + descriptor_start a namesz descsz + descsz + min (bytes_to_alignment a (x + descsz)) (behind - descsz)) s
-    ∙ ap (λ (x : ℕ). at + descriptor_start a namesz descsz + descsz + min (bytes_to_alignment a size) x) e
-    ∙ sum at (descriptor_start a namesz descsz) descsz (min (bytes_to_alignment a size) (left - size))
-    ∙ ap (λ (x : ℕ). at + x) (sym (size-parts size (bytes_to_alignment a size) left fits))
-  where
-    sum : (x y z w : ℕ) → x + y + z + w ≡ x + (y + z + w)
-    sum x y z w = omega arith
-
 -- what is left of a window once it moved over a note
 pub taken-size : (a : ℕ) (head : NoteHead) (old new : WindowState) → range_end new ≡ range_end old
     → new.at ≡ old.at + note_size a head.namesz head.descsz (bytes_left old)

@@ -9,8 +9,10 @@ use Rattle.elf_table.specs.declared.names.NameEnd.TheVariants.{Cut, Whole}
 use Rattle.elf_table.specs.declared.fault.Fault.{Fault}
 use Rattle.elf_table.specs.declared.names.NameEnd.{NameEnd}
 use Rattle.elf_table.specs.declared.fault.Fault.TheVariants.{Refused}
+use Rattle.elf_record.specs.declared.note_head.NoteHead.{NoteHead}
 use Rattle.elf_note.specs.declared.note.FoundNote.{FoundNote}
 use Rattle.elf_note.specs.declared.note_row.NoteRow.{NoteRow}
+use Rattle.elf_note.specs.declared.sizes.NoteParts.{NoteParts}
 
 -- a cursor: its table, the alignment of its notes, the bytes of the table that are left, the
 -- current note with the first bytes of its descriptor, and the fault if it failed
@@ -67,6 +69,14 @@ abbrev pub note_size : ℕ → ℕ → ℕ → ℕ → ℕ
 note_size a namesz descsz left =
     let size = descriptor_start a namesz descsz + descsz in
     min (size + bytes_to_alignment a size) left
+
+-- where the parts of the note of a header are, of whose table n bytes are left
+pub record AreNoteParts (a : ℕ) (head : NoteHead) (left : ℕ) (parts : NoteParts) : Type 0 where
+  pub descriptor : parts.descriptor ≡ descriptor_start a head.namesz head.descsz
+  pub fits : parts.descriptor + head.descsz ≤ left
+  pub size : parts.size ≡ note_size a head.namesz head.descsz left
+  pub within : parts.descriptor + head.descsz ≤ parts.size
+  pub most : parts.size ≤ left
 
 -- a note of a file at an offset as it is found, with its name as it is shown and the first bytes of
 -- its descriptor, which are the file's at that place

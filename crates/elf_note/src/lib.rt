@@ -35,7 +35,7 @@ pub use read_ahead::ReadAhead;
 pub use read_ahead_buffer::NAMES_BUFFER_BYTES;
 pub use record::VersionRecord;
 pub use record_position::{RecordPosition, record_bytes};
-pub use sizes::{alignment_gap, padding};
+pub use sizes::{NoteParts, note_align, note_parts};
 pub use string_values::{DynamicStrings, dynamic_strings, first_of};
 pub use table_buffer::VERSIONS_BUFFER_BYTES;
 pub use tail::are_zeros;

@@ -1,13 +1,13 @@
 //! The next note of a window.
 ghost use Rattle.std.specs.Prelude.{◌≡◌, ℕ, ◌+◌, ◌-◌, ◌^◌, ◌<◌, ◌≤◌, List, length, min};
 ghost use Rattle.std.specs.Prelude.{Some, IfErr, OnOk, IfOk};
-ghost use Rattle.elf_model.specs.Prelude.{bytes_to_alignment, slice};
+ghost use Rattle.elf_model.specs.Bytes.{slice};
 ghost use Rattle.elf_table.specs.Prelude.{HasLeft, HoldsBytes, RangeWithin, ReadsThrough, ReadsThroughWindow, bytes_left};
 ghost use Rattle.elf_note.specs.NoteCursors.{PassesNote, StopsNote, TakesNoteBytes, ReturnsNote, notes_left};
 ghost use Rattle.elf_note.specs.NoteCursors.{note_cut};
 
 use crate::note_names::read_name;
-use crate::sizes::{alignment_gap, padding};
+use crate::sizes::note_parts;
 use crate::tail::ends_in_zeros;
 use crate::window_bytes::take;
 use elf_record::{Cause, NoteHead, Refusal};
@@ -71,16 +71,15 @@ pub(crate) fn next_note<S: Source>(
     let mut bytes = [0; HEAD_BYTES];
     take(window, src, &mut bytes)?;
     let head = NoteHead::decode(&bytes);
-    let gap = alignment_gap(align, head.namesz, head.descsz);
-    if window.left() < u64::from(head.namesz) + gap + u64::from(head.descsz) {
+    let Some(parts) = note_parts(align, &head, HEAD_BYTES as u64 + window.left()) else {
         return Err(cut(at));
-    }
+    };
     let name_end = read_name(window, src, u64::from(head.namesz), cap, name)?;
-    window.skip(gap);
+    window.skip(parts.descriptor - HEAD_BYTES as u64 - u64::from(head.namesz));
     let desc_at = window.at();
     let shown = u64::from(head.descsz).min(SHOWN_DESCRIPTOR as u64);
     let first = &mut desc[..shown as usize];
-    read_rest(window, src, align, desc_at - at, head.descsz, first)?;
+    read_rest(window, src, parts.size - parts.descriptor, first)?;
     Ok(Some(FoundNote {
         at,
         head,
@@ -90,32 +89,24 @@ pub(crate) fn next_note<S: Source>(
     }))
 }
 
-// Reads the first bytes of a descriptor, at the given distance from its note's start, and skips the
-// others and the padding.
+// Reads the first bytes of a descriptor, and skips the others and the padding: all are `size` bytes.
 fn read_rest<S: Source>(
     window: &mut Window<WINDOW_BYTES>,
     src: &mut Counted<S>,
-    align: u64,
-    start: u64,
-    size: u32,
+    size: u64,
     desc: &mut [u8],
 ) -> Result<(), Fault>
-    requires aligned { 0 < align }
     requires few { length desc.old ≤ 32 }
     requires page { 32 ≤ window.old.page }
     requires part { length desc.old ≤ size }
     requires left { HasLeft src.old.seen.size window.old size }
-    requires ends { start + size < 2 ^ 64 }
     ensures reads { ReadsThrough S.one_read src.old src.new window.old window.new result }
-    ensures at { OnOk result (window.new.at ≡ window.old.at + size
-        + min (bytes_to_alignment align (start + size)) (bytes_left window.old - size)) }
+    ensures at { OnOk result (window.new.at ≡ window.old.at + size) }
     ensures read { (file : List ℕ) → src.old.seen.file ≡ Some file → HoldsBytes file window.old →
         OnOk result (desc.new ≡ slice file window.old.at (length desc.old)) }
 {
     take(window, src, desc)?;
-    window.skip(u64::from(size) - desc.len() as u64);
-    let padding = padding(align, start + u64::from(size), window.left());
-    window.skip(padding);
+    window.skip(size - desc.len() as u64);
     Ok(())
 }
 

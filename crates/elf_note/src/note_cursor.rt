@@ -6,6 +6,7 @@ ghost use Rattle.elf_note.specs.Steps.{StepReads};
 
 use crate::note::{FoundNote, SHOWN_DESCRIPTOR, next_note};
 use crate::note_row::NoteRow;
+use crate::sizes::note_align;
 use elf_record::NoteHead;
 use elf_source::{Counted, Source};
 use elf_table::{Fault, NameBuf, NameEnd, NameLimit, Table, WINDOW_BYTES, Window};
@@ -56,7 +57,7 @@ impl NoteCursor {
         let _ = table.entry();
         NoteCursor {
             table,
-            align: if align == 8 { 8 } else { 4 },
+            align: note_align(align),
             window: Window::new(table.at(), table.len(), WINDOW_BYTES as u64),
             found: no_note(),
             descriptor: [0; SHOWN_DESCRIPTOR],

@@ -8,7 +8,7 @@ use Rattle.elf_table.specs.Prelude.{AreRowSlices, rows_from}
 use Rattle.elf_table.specs.declared.fault.Fault.{Fault}
 
 -- the row of an index
-row_held : (bytes : List ℕ) (at entry count i : ℕ) → i < count → slice_index_or (rows_from bytes at entry count) i [] ≡ slice bytes (at + entry * i) entry
+pub row_held : (bytes : List ℕ) (at entry count i : ℕ) → i < count → slice_index_or (rows_from bytes at entry count) i [] ≡ slice bytes (at + entry * i) entry
 unfolding rows_from
 row_held bytes at entry zero i below = absurd (omega arith)
 row_held bytes at entry (suc count) zero below = ap (λ (x : ℕ). slice bytes x entry) (omega arith)

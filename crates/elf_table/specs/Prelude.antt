@@ -12,7 +12,7 @@ pub use Rattle.elf_table.specs.Stops.{stop_of}
 pub use Rattle.elf_table.specs.Store.{AreRowSlices, HoldsSections, HoldsSegments, StoreState, emptied, row, segment_bytes}
 unfoldable pub use Rattle.elf_table.specs.Store.{rows_from}
 pub use Rattle.elf_table.specs.Tables.{StringTableRange, StringsInBounds, SymbolTableInBounds, TableInBounds, TableRange, size_of, strings_in}
-pub use Rattle.elf_table.specs.Versions.{AreVersioned, Versioned, sections_in}
+pub use Rattle.elf_table.specs.Versions.{AreVersioned, Versioned, sections_in, sections_of}
 pub use Rattle.elf_table.specs.Views.{ChecksDecide, byte_table_at, dynamic_of, dynamic_table_at, first_of_kind, rest_mapped, rest_of, strings_mapped}
 pub use Rattle.elf_table.specs.WindowCalls.{HasLeft, ReadsThrough, ReadsThroughWindow, Skips}
 pub use Rattle.elf_table.specs.Windows.{HoldsBytes, HoldsCount, MovesOn, RangeWithin, StillHolds, WindowState, bytes_left, frontier, range_end}

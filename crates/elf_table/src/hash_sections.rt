@@ -11,6 +11,7 @@ ghost use Rattle.elf_table.specs.Tables.{SymbolTableInBounds};
 
 use crate::fault::Fault;
 use crate::file::SectionView;
+use crate::loaded_tables::links_to_symbols;
 use crate::names::Names;
 use crate::ranges::is_out_of_bounds;
 use crate::table::Table;
@@ -45,7 +46,7 @@ impl SectionView<'_> {
     {
         let header = self.section(section);
         let place = self.place(section);
-        let linked = self.links_to_symbols(section);
+        let linked = links_to_symbols(self.store, section);
         let size = self.loaded.size();
         let wide = holds_wide_words(self, &header);
         if let Some(refusal) = refused_front(&header, place, size, linked, least, wide) {

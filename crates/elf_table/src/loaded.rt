@@ -27,7 +27,7 @@ impl Model for Loaded {
 
 impl Loaded {
     /// Returns the file of `size` bytes with this file header, whose load checks passed.
-    pub(crate) fn new(size: u64, header: &Ehdr) -> Loaded
+    pub fn new(size: u64, header: &Ehdr) -> Loaded
         requires { PassesLoadChecks size 65279 header.now }
         ensures { result ≡ record { size = size; header = header.now } }
     {

@@ -10,6 +10,7 @@ ghost use Rattle.elf_table.specs.Load.{early_of, load_cost, PassesLoadChecks, Lo
 ghost use Rattle.elf_table.specs.Store.{emptied, HoldsSections};
 
 use crate::fault::{Fault, refusal_at};
+use crate::header_rows::{HeaderRows, section_place};
 use crate::loaded::Loaded;
 use crate::ranges::is_out_of_bounds;
 use crate::store::HeaderStore;
@@ -93,18 +94,19 @@ fn check_after_load(store: &mut HeaderStore, header: &Ehdr, size: u64) -> Option
 
 /// Returns the first failing check of the section of the section names; none if there is no such
 /// section (gABI 4, String Table).
-fn refused_names(store: &HeaderStore, header: &Ehdr, size: u64) -> Option<Refusal>
-    requires passes { PassesLoadChecks size store.now.slots header.now }
-    requires count { store.now.loaded ≡ header.now.e_shnum }
+pub fn refused_names<R: HeaderRows>(rows: &R, header: &Ehdr, size: u64) -> Option<Refusal>
+    requires passes { PassesLoadChecks size (R.state rows.now).slots header.now }
+    requires count { (R.state rows.now).loaded ≡ header.now.e_shnum }
     ensures checked { IfSome result (λ refusal. IsBudgetRefusal refusal → ⊥) }
     ensures held { (file : List ℕ) → length file ≡ size → IsEhdr file 0 header.now →
-        HoldsSections file store.now → result ≡ first_refusal (section_name_checks file) }
+        HoldsSections file (R.state rows.now) →
+        result ≡ first_refusal (section_name_checks file) }
 {
     if header.e_shnum == 0 || header.e_shstrndx == 0 {
         return None;
     }
-    let section = store.section(header.e_shstrndx);
-    let place = header.e_shoff + SECTION_HEADER_BYTES * u64::from(header.e_shstrndx);
+    let section = rows.section_header(header.e_shstrndx);
+    let place = section_place(header, header.e_shstrndx);
     if section.sh_type != SHT_STRTAB {
         return refusal_at(place, Cause::NotStrings);
     }

@@ -12,18 +12,13 @@ ghost use Rattle.elf_table.specs.Versions.{CountsVersions, LinksToSymbols, Versi
 ghost use Rattle.elf_table.specs.Store.{row};
 ghost use Rattle.elf_table.specs.Tables.{TableInBounds, Spans, StringsInBounds, SymbolTableInBounds, size_of};
 
-use crate::checks::{checked_strings, checked_table, holds_symbols};
-use crate::fault::{Fault, refused};
+use crate::fault::Fault;
 use crate::file::SectionView;
 use crate::linked_symbol::LinkedSymbolTable;
 use crate::names::Names;
-use crate::ranges::is_out_of_bounds;
 use crate::table::Table;
+use elf_record::Shdr;
 use elf_record::gnu_numbers::SHT_GNU_VERSYM;
-use elf_record::sizes::{
-    RELOCATION_BYTES, SECTION_HEADER_BYTES, SYMBOL_BYTES, SYMBOL_VERSION_BYTES,
-};
-use elf_record::{Cause, Shdr};
 
 impl SectionView<'_> {
     /// Returns the number of section headers.
@@ -82,12 +77,7 @@ impl SectionView<'_> {
         ensures lies { MatchResult result
             (Spans self.now.loaded.size entry (size_in self.now section)) IsOfCheck }
     {
-        checked_table(
-            &self.store.section(section),
-            self.loaded.size(),
-            self.place(section),
-            entry,
-        )
+        self.loaded.table(self.store, section, entry)
     }
 
     /// Returns the string table that a section links to by its sh_link. It is checked at every
@@ -105,16 +95,7 @@ impl SectionView<'_> {
             has_strings (sections_in self.now) section self.now.loaded.size ≡ true) }
         ensures refusal { IfErr result IsOfCheck }
     {
-        let link = self.store.section(section).sh_link;
-        if link == 0 || link >= u32::from(self.loaded.header().e_shnum) {
-            return refused(self.place(section), Cause::BadLink);
-        }
-        let link = link as u16;
-        checked_strings(
-            &self.store.section(link),
-            self.loaded.size(),
-            self.place(link),
-        )
+        self.loaded.strings(self.store, section)
     }
 
     /// Returns the string table of the section names; `None` if e_shnum or e_shstrndx is 0 (gABI 4,
@@ -130,14 +111,7 @@ impl SectionView<'_> {
         ensures none { self.now.loaded.header.e_shnum ≡ 0 → result ≡ None }
         ensures unnamed { self.now.loaded.header.e_shstrndx ≡ 0 → result ≡ None }
     {
-        if self.loaded.header().e_shnum == 0 || self.loaded.header().e_shstrndx == 0 {
-            return None;
-        }
-        let section = self.store.section(self.loaded.header().e_shstrndx);
-        if is_out_of_bounds(self.loaded.size(), section.sh_offset, section.sh_size) {
-            return None;
-        }
-        Some(Names::new(section.sh_offset, section.sh_size))
+        self.loaded.names(self.store)
     }
 
     /// Returns the symbols of a section, rows of 24 bytes, and the string table of their names; two
@@ -157,13 +131,7 @@ impl SectionView<'_> {
             has_names (sections_in self.now) section self.now.loaded.size ≡ true) }
         ensures refusal { IfErr result IsOfCheck }
     {
-        let table = self.table(section, SYMBOL_BYTES)?;
-        if table.is_empty() {
-            let none = Names::new(table.at(), 0);
-            return Ok((table, none));
-        }
-        let names = self.strings(section)?;
-        Ok((table, names))
+        self.loaded.symbols(self.store, section)
     }
 
     /// Returns the symbols that a section of relocations links to by its sh_link, with their names;
@@ -180,16 +148,7 @@ impl SectionView<'_> {
             IfSome linked (SymbolTableInBounds self.now.loaded.size)) }
         ensures refusal { IfErr result IsOfCheck }
     {
-        let link = self.store.section(section).sh_link;
-        if link >= u32::from(self.loaded.header().e_shnum) {
-            return Ok(None);
-        }
-        let link = link as u16;
-        if !holds_symbols(&self.store.section(link)) {
-            return Ok(None);
-        }
-        let symbols = self.symbols(link)?;
-        Ok(Some(symbols))
+        self.loaded.linked(self.store, section)
     }
 
     /// Returns the relocation entries of a section, rows of 24 bytes, and the symbols that they
@@ -211,12 +170,7 @@ impl SectionView<'_> {
             IfSome found.1 (SymbolTableInBounds self.now.loaded.size)) }
         ensures refusal { IfErr result IsOfCheck }
     {
-        let table = self.table(section, RELOCATION_BYTES)?;
-        if table.is_empty() {
-            return Ok((table, None));
-        }
-        let linked = self.linked(section)?;
-        Ok((table, linked))
+        self.loaded.relocations(self.store, section)
     }
 
     /// Returns the first section of a type, if there is one (gABI 4, Section Header).
@@ -267,34 +221,11 @@ impl SectionView<'_> {
             Versioned file (section_at file section) result }
         ensures table { IfOk result (λ found. Ok found.0 ≡ table_in self.now section 2) }
         ensures within { IfOk result (λ found. TableInBounds self.now.loaded.size found.0) }
-        ensures counts { IfOk result (λ found. CountsVersions self.now section found.0 found.1) }
+        ensures counts { IfOk result (λ found. CountsVersions self.now.store.now self.now.loaded.size section found.0
+            found.1) }
         ensures refusal { IfErr result IsOfCheck }
     {
-        let table = self.table(section, SYMBOL_VERSION_BYTES)?;
-        if self.store.section(section).sh_size == 0 {
-            return Ok((table, 0));
-        }
-        if !self.links_to_symbols(section) {
-            return refused(self.place(section), Cause::BadLink);
-        }
-        let link = self.store.section(section).sh_link as u16;
-        let symbols = self.symbols(link)?;
-        Ok((table, symbols.0.len()))
-    }
-
-    /// Returns `true` if a section links to a section of symbols, which is not the first.
-    pub(crate) fn links_to_symbols(&self, section: u16) -> bool
-        requires below { section < self.now.store.now.loaded }
-        ensures linked { IsTrue result → LinksToSymbols self.now section }
-        ensures held { (file : List ℕ) →
-            HoldsSectionHeaders file self.now.loaded self.now.store.now →
-            let at = section_at file section in
-            result ≡ not (sh_link file at == 0 || not (has_symbols file at)) }
-    {
-        let link = self.store.section(section).sh_link;
-        link != 0
-            && link < u32::from(self.sections())
-            && holds_symbols(&self.store.section(link as u16))
+        self.loaded.symbol_versions(self.store, section)
     }
 
     /// Returns the file offset of the section header of an index below e_shnum, in bytes (gABI 4,
@@ -303,7 +234,7 @@ impl SectionView<'_> {
         requires { section < self.now.loaded.header.e_shnum }
         ensures value { result ≡ section_place self.now.loaded.header section }
     {
-        self.loaded.header().e_shoff + SECTION_HEADER_BYTES * u64::from(section)
+        self.loaded.place(section)
     }
 }
 

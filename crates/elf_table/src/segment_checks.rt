@@ -1,12 +1,16 @@
 //! The checks of one segment by its program header.
-ghost use Rattle.std.specs.Prelude.{◌≡◌, ℕ, ◌+◌, ◌≤◌, List, IfOk, IfErr, MatchResult, true};
-ghost use Rattle.elf_model.specs.Mapped.{is_mapped_by, mapped_offset};
+ghost use Rattle.std.specs.Prelude.{◌≡◌, ℕ, ◌+◌, ◌≤◌, ◌<◌, List, IfOk, IfErr, IfSome, MatchResult, true};
+ghost use Rattle.std.specs.Option.{option_map};
+ghost use Rattle.elf_model.specs.Mapped.{is_mapped_by, mapped_at, mapped_offset};
+ghost use Rattle.elf_model.specs.Records.{e_phnum, segment_at};
 ghost use Rattle.elf_record.specs.Phdr.{IsPhdr};
 ghost use Rattle.elf_table.specs.Faults.{IsOfCheck};
+ghost use Rattle.elf_table.specs.Store.{HoldsSegments, segment_bytes};
 ghost use Rattle.elf_table.specs.Tables.{BytesWithin, StringsInBounds};
-ghost use Rattle.elf_table.specs.Views.{rest_of, strings_placed};
+ghost use Rattle.elf_table.specs.Views.{HoldsAddresses, rest_of, strings_placed};
 
 use crate::fault::{Fault, refused};
+use crate::header_rows::HeaderRows;
 use crate::names::Names;
 use crate::ranges::is_out_of_bounds;
 use crate::table::Table;
@@ -73,4 +77,25 @@ pub(crate) fn checked_rest(
     }
     let skipped = address - header.p_vaddr;
     Ok(Table::new(header.p_offset + skipped, header.p_filesz - skipped, 1))
+}
+
+/// Returns the index of the first LOAD program header that holds `size` bytes at an address, if
+/// there is one (gABI 5, Program Loading).
+pub fn mapping<R: HeaderRows>(rows: &R, address: u64, size: u64) -> Option<u16>
+    ensures held { (file : List ℕ) → HoldsSegments file (R.state rows.now) →
+        (R.state rows.now).segments ≡ e_phnum file →
+        mapped_at file address size ≡ option_map (segment_at file) result }
+    ensures below { IfSome result (λ segment. segment < (R.state rows.now).segments) }
+    ensures holds { IfSome result (λ segment.
+        HoldsAddresses (segment_bytes (R.state rows.now) segment) 0 address size) }
+{
+    let count = rows.segment_count();
+    let mut segment = 0;
+    'segments: while segment < count {
+        if maps(&rows.program_header(segment), address, size) {
+            return Some(segment);
+        }
+        segment += 1;
+    }
+    None
 }

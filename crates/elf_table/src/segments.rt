@@ -13,11 +13,12 @@ ghost use Rattle.elf_table.specs.Views.{first_of_kind, rest_mapped, segment_plac
 
 use crate::checks::{checked_bytes, checked_rows};
 use crate::fault::{Fault, refused};
+use crate::header_rows::segment_place;
 use crate::names::Names;
-use crate::segment_checks::{checked_mapped, checked_rest, maps};
+use crate::segment_checks::{checked_mapped, checked_rest, mapping};
 use crate::segment_view::ExecutionView;
 use crate::table::Table;
-use elf_record::sizes::{DYNAMIC_BYTES, PROGRAM_HEADER_BYTES};
+use elf_record::sizes::DYNAMIC_BYTES;
 use elf_record::{Cause, Phdr};
 
 impl ExecutionView<'_> {
@@ -46,7 +47,7 @@ impl ExecutionView<'_> {
         requires { segment < self.now.loaded.header.e_phnum }
         ensures value { result ≡ segment_place self.now.loaded.header segment }
     {
-        self.loaded.header().e_phoff + PROGRAM_HEADER_BYTES * u64::from(segment)
+        segment_place(&self.loaded.header(), segment)
     }
 
     /// Returns the dynamic entries of a segment, rows of 16 bytes. A segment of size 0 is not
@@ -161,14 +162,6 @@ impl ExecutionView<'_> {
         ensures holds { IfSome result (λ segment.
             HoldsAddresses (segment_bytes self.now.store.now segment) 0 address size) }
     {
-        let count = self.segments();
-        let mut segment = 0;
-        'segments: while segment < count {
-            if maps(&self.segment(segment), address, size) {
-                return Some(segment);
-            }
-            segment += 1;
-        }
-        None
+        mapping(self.store, address, size)
     }
 }

@@ -1,11 +1,11 @@
 use Rattle.std.proofs.Common.{◌≡◌, ℕ, ◌+◌, ◌-◌, ◌<◌, ◌≤◌, min, length, inl, ap, sym, ◌∙◌, arith, rules}
 use Rattle.std.proofs.lemmas.List.{take_at}
 use Rattle.std.proofs.lemmas.Result.{err_from_is_err_and}
-use Rattle.elf_model.specs.Prelude.{bytes_to_alignment, descriptor_start, slice}
+use Rattle.elf_model.specs.Prelude.{descriptor_start, slice}
 use Rattle.elf_record.specs.NoteHead.{IsNoteHead}
 use Rattle.elf_table.specs.Windows.{bytes_left, range_end}
 use Rattle.elf_note.specs.NoteCursors.{note_size}
-use Rattle.elf_note.proofs.Stepping.{left-zeros, left-few, left-short, moved-by, found-tells, no-cut, taken-size}
+use Rattle.elf_note.proofs.Stepping.{left-zeros, left-few, left-short, found-tells, no-cut, taken-size}
 use Rattle.elf_table.proofs.ThroughLaws.{through_err, through_ok, through_skip, through_then}
 use Rattle.elf_note.proofs.note.next_note.Given.{Over}
 use Rattle.elf_note.proofs.note.next_note.Goals.{In_ok-read_rest}
@@ -19,8 +19,8 @@ pub returns-then-left-clause-tells : goal.returns-then-left-clause-tells
 returns-then-left-clause-tells g c = λ file h a f.
     left-few c.args.align file c.args.window.now (search rules) (sym (c.in_ok-ends_in_zeros.ensures.zeros file h a) ∙ c.if-branch.false)
 
-pub returns-then-left-from-clause-tells : goal.returns-then-left-from-clause-tells
-returns-then-left-from-clause-tells g c = λ file h a f.
+pub returns-in_default-clause-tells : goal.returns-in_default-clause-tells
+returns-in_default-clause-tells g c = λ file h a f.
     let w = c.args.window.now in
     let head = c.decode-head.result in
     let many : 12 ≤ bytes_left w = search rules in
@@ -31,12 +31,9 @@ returns-then-left-from-clause-tells g c = λ file h a f.
     let tm = c.in_ok-take.ensures.reads.went.moves.same_end in
     let ta = c.in_ok-take.ensures.at in
     let lf = c.left-2.ensures.value in
-    let gap = c.alignment_gap-gap.ensures.value in
-    let f1 = c.from.ensures in
-    let f2 = c.from-2.ensures in
-    let test = c.if-left-from.true in
-    let few : bytes_left w < 12 + head.namesz + c.alignment_gap-gap.result + head.descsz = omega arith in
-    left-short c.args.align file w head stands ends many (rw gap at few)
+    let short = c.in_default.ensures in
+    let few : bytes_left w < descriptor_start c.args.align head.namesz head.descsz + head.descsz = omega arith in
+    left-short c.args.align file w head stands ends many few
 
 -- the offsets of the parts of a note that is read, and the window after it
 laid : (g : Over) (c : In_ok-read_rest g)
@@ -48,31 +45,31 @@ laid : (g : Over) (c : In_ok-read_rest g)
 laid g c =
     let w = c.args.window.now in
     let head = c.decode-head.result in
-    let gp = c.alignment_gap-gap.result in
-    let gap = c.alignment_gap-gap.ensures.value in
+    let start : ℕ = descriptor_start c.args.align head.namesz head.descsz in
+    let parts = c.in-Some.parts in
+    let are = c.in-Some.ensures in
     let ta : c.take.new.window.at ≡ w.at + 12 = c.in_ok-take.ensures.at in
     let te : range_end c.take.new.window ≡ range_end w = c.in_ok-take.ensures.reads.went.moves.same_end in
     let lf : c.left-2.result ≡ bytes_left c.take.new.window = c.left-2.ensures.value in
     let f1 : c.from.result ≡ head.namesz = c.from.ensures in
-    let f2 : c.from-2.result ≡ head.descsz = c.from-2.ensures in
-    let f3 : c.from-3.result ≡ head.namesz = c.from-3.ensures in
-    let test : c.from.result + gp + c.from-2.result ≤ c.left-2.result = c.if-left-from.false in
-    let na : c.read_name.new.window.at ≡ c.take.new.window.at + c.from-3.result = c.in_ok-name_end.ensures.at in
+    let f2 : c.from-2.result ≡ head.namesz = c.from-2.ensures in
+    let na : c.read_name.new.window.at ≡ c.take.new.window.at + c.from.result = c.in_ok-name_end.ensures.at in
     let ne : range_end c.read_name.new.window ≡ range_end c.take.new.window = c.in_ok-name_end.ensures.reads.went.moves.same_end in
-    let sa : c.skip.new.self.at ≡ c.read_name.new.window.at + gp = c.skip.ensures.at in
+    let sa : c.skip.new.self.at ≡ c.read_name.new.window.at + (parts.descriptor - 12 - c.from-2.result) = c.skip.ensures.at in
     let se : range_end c.skip.new.self ≡ range_end c.read_name.new.window = c.skip.ensures.end in
     let da : c.at-desc_at.result ≡ c.skip.new.self.at = c.at-desc_at.ensures.value in
-    let at0 : c.at-at.result ≡ w.at = c.at-at.ensures.value in
-    let fit : 12 + head.namesz + gp + head.descsz ≤ bytes_left w = omega arith in
-    let place : c.at-desc_at.result ≡ w.at + (12 + head.namesz + gp) = omega arith in
-    let start : c.at-desc_at.result - c.at-at.result ≡ 12 + head.namesz + gp = omega arith in
-    let behind : bytes_left c.skip.new.self + (12 + head.namesz + gp) ≡ bytes_left w = omega arith in (
-      rw gap at place,
-      rw gap at fit,
+    let left : 12 + c.left-2.result ≡ bytes_left w = omega (arith, ta, te, lf) in
+    let begins : parts.descriptor ≡ start = are.descriptor in
+    let place : c.skip.new.self.at ≡ w.at + start = omega (arith, ta, f1, f2, na, sa, begins) in
+    let fits : start + head.descsz ≤ bytes_left w = omega (arith, are.fits, begins, left) in
+    let size : parts.size ≡ note_size c.args.align head.namesz head.descsz (bytes_left w) = are.size ∙ ap (note_size c.args.align head.namesz head.descsz) left in
+    let within = are.within in
+    let rest : c.read_rest.new.window.at ≡ c.skip.new.self.at + (parts.size - parts.descriptor) = c.in_ok-read_rest.ensures.at in
+    let moved : c.read_rest.new.window.at ≡ w.at + parts.size = omega (arith, rest, place, begins, within) in (
+      da ∙ place,
+      fits,
       c.in_ok-read_rest.ensures.reads.went.moves.same_end ∙ se ∙ ne ∙ te,
-      moved-by c.args.align w.at head.namesz head.descsz (bytes_left w) (bytes_left c.skip.new.self) c.at-desc_at.result (c.at-desc_at.result - c.at-at.result) c.read_rest.new.window.at
-          (rw gap at place) (rw gap at start) (rw gap at fit) (rw gap at behind)
-          (c.in_ok-read_rest.ensures.at ∙ ap (λ (x : ℕ). x + head.descsz + min (bytes_to_alignment c.args.align (c.at-desc_at.result - c.at-at.result + head.descsz)) (bytes_left c.skip.new.self - head.descsz)) (sym da)),
+      moved ∙ ap (λ (n : ℕ). w.at + n) size,
     )
 
 pub returns-clause-tells : goal.returns-clause-tells
@@ -89,14 +86,14 @@ returns-clause-tells g c = λ file h a.
     let some = c.requires.within (omega arith) in
     let ends : range_end w ≤ length file = omega arith in
     let stands : IsNoteHead file w.at head = c.decode-head.ensures.stands file w.at (c.in_ok-take.ensures.taken file h a) in
-    let f3 : c.from-3.result ≡ head.namesz = c.from-3.ensures in
+    let f3 : c.from.result ≡ head.namesz = c.from.ensures in
     let size : length c.read_rest.new.desc ≡ c.min-shown.result = search (rules, c.read_rest.auto.desc) in
     let rest : c.read_rest.new.desc ≡ slice file c.at-desc_at.result c.min-shown.result =
     c.in_ok-read_rest.ensures.read file h2 a2 ∙ ap (slice file c.skip.new.self.at) (sym c.read_rest.auto.desc ∙ size) ∙ ap (λ (x : ℕ). slice file x c.min-shown.result) (sym c.at-desc_at.ensures.value) in
     found-tells file c.args.align c.args.cap.bytes w c.read_rest.new.window head c.in_ok-name_end.name_end c.read_name.new.name _ c.at-at.result c.at-desc_at.result c.min-shown.result
     c.at-at.ensures.value stands ends many all.1 all.2 all.3
     (λ note n l. c.in_ok-name_end.ensures.read file h1 a1 note (n ∙ ap (λ (x : ℕ). slice file x head.namesz) (sym c.in_ok-take.ensures.at) ∙ ap (slice file c.take.new.window.at) (sym f3)) (l ∙ sym f3))
-    all.0 (c.min-shown.ensures ∙ ap (λ (x : ℕ). min x 32) c.from-4.ensures) (take_at c.read_rest.new.desc _ c.min-shown.result size ∙ rest)
+    all.0 (c.min-shown.ensures ∙ ap (λ (x : ℕ). min x 32) c.from-3.ensures) (take_at c.read_rest.new.desc _ c.min-shown.result size ∙ rest)
 
 pub returns-clause-sized : goal.returns-clause-sized
 returns-clause-sized g c =

@@ -10,6 +10,4 @@ returns-in_err-take g c =
 
 pub returns-clause-reads : goal.returns-clause-reads
 returns-clause-reads g c =
-    let s = c.skip.ensures in
-    let t = c.skip-2.ensures in
-    record { went = through_skip (through_skip c.in_ok-take.ensures.reads.went s) t; fault = tt }
+    record { went = through_skip c.in_ok-take.ensures.reads.went c.skip.ensures; fault = tt }

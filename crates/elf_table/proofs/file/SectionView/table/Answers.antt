@@ -1,5 +1,0 @@
--- The size is that of the section header in the store.
-use Rattle.elf_table.proofs.file.SectionView.table.Goals as goal
-
-pub returns-clause-lies : goal.returns-clause-lies
-returns-clause-lies c = rw (c.section.ensures.fields.sh_size, c.size.ensures) at c.checked_table.ensures.lies
