@@ -29,6 +29,7 @@ mod OneRule
 pub mod OverlapLemmas
 pub mod PatchLaws
 pub mod Pigeons
+pub mod PlaceLaws
 pub mod ReadingLaws
 pub mod RecordLemmas
 pub mod RestLaws
