@@ -5,7 +5,7 @@ use Rattle.std.specs.Borrow.{Bor}
 use Rattle.std.specs.Cmp.Lexicographic.{slice_cmp}
 use Rattle.std.specs.Int.RustNames.{bit_and}
 use Rattle.std.specs.Ordering.{is_lt, nat_cmp}
-use Rattle.elf_model.specs.Prelude.{EveryRow, ListingStyle, RELOCS, SYMBOLS, VERSIONS, all_parts, are_all, every_symbol, field, has}
+use Rattle.elf_model.specs.Prelude.{EveryRow, ListingStyle, RELOCS, SYMBOLS, VERSIONS, all_parts, are_all, every_place, every_symbol, field, has}
 use Rattle.elf_model.specs.declared.formats.Format.TheVariants.{Columns, Object}
 use Rattle.elf_model.specs.declared.formats.Format.{Format}
 use Rattle.elf_options.specs.Prelude.{IsRowName, NeverDescend, named_style, texts_of}
@@ -43,6 +43,7 @@ style_of_flags asked cap = record {
   format = format_in (flags_in asked);
   choice = EveryRow;
   symbols = every_symbol;
+  place = every_place;
   versions = has_versions_in asked;
 }
 
@@ -93,6 +94,7 @@ every_row_of listing cap = record {
   format = listing.format;
   choice = EveryRow;
   symbols = every_symbol;
+  place = every_place;
   versions = listing.versions;
 }
 

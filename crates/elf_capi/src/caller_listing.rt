@@ -1,7 +1,7 @@
 //! A listing, as a caller requests it.
 ghost use Rattle.elf_options.specs.Names.{NeverDescend};
 
-use elf_model::{Format, SymbolFilter};
+use elf_model::{Format, PlaceFilter, SymbolFilter};
 use elf_options::{RowFilter, style_with_names};
 use elf_record::Parts;
 use elf_table::{ListingStyle, NameLimit};
@@ -61,6 +61,7 @@ impl<'n> CallerListing<'n> {
             format: self.format,
             choice: RowFilter::every_row(),
             symbols: SymbolFilter::every_symbol(),
+            place: PlaceFilter::every_place(),
             versions: self.versions,
         };
         if self.by_name {

@@ -1,6 +1,6 @@
 -- Worked examples of the rows of some names.
 use Rattle.std.specs.Prelude.{◌≡◌, ℕ, List, [], ◌∷◌, ◌++◌, codes, map, true, false}
-use Rattle.elf_model.specs.Prelude.{ListingStyle, RELOCS, RowsOf, SECTIONS, SYMBOLS, VERSIONS, archive_items, archive_of, cost, every_symbol, listing, listing_cost, little, member, most_bytes, one_call, one_symbol_table, report_of, standard, versioned_library, wanted_text, with_bytes}
+use Rattle.elf_model.specs.Prelude.{ListingStyle, RELOCS, RowsOf, SECTIONS, SYMBOLS, VERSIONS, archive_items, archive_of, cost, every_place, every_symbol, listing, listing_cost, little, member, most_bytes, one_call, one_symbol_table, report_of, standard, versioned_library, wanted_text, with_bytes}
 use Rattle.elf_model.specs.declared.formats.Format.TheVariants.{Columns}
 
 -- how the rows of some names are shown: with as many bytes of a name as the longest has
@@ -12,6 +12,7 @@ rows_named names = record {
   format = Columns;
   choice = RowsOf (map (wanted_text false) names);
   symbols = every_symbol;
+  place = every_place;
   versions = false;
 }
 
@@ -76,7 +77,7 @@ FaultsAreListed =
 abbrev pub OtherRowsStand : Type 0
 OtherRowsStand =
     named_listed SECTIONS (codes "main" ∷ []) one_symbol_table
-    ≡ report_of Columns (listing one_symbol_table 8 (record { cap = 4; gnu = true; by_segments = false; format = Columns; choice = (standard 4).choice; symbols = every_symbol; versions = false }) SECTIONS)
+    ≡ report_of Columns (listing one_symbol_table 8 (record { cap = 4; gnu = true; by_segments = false; format = Columns; choice = (standard 4).choice; symbols = every_symbol; place = every_place; versions = false }) SECTIONS)
 
 -- of an archive the line of each member is listed, its name cut as every name is, followed by the
 -- rows of the names

@@ -1,13 +1,13 @@
 -- Worked examples of the versions after the names of symbols.
 use Rattle.std.specs.Prelude.{◌≡◌, ℕ, ◌+◌, ◌*◌, List, [], ◌∷◌, ◌++◌, codes, map, true, false}
-use Rattle.elf_model.specs.Prelude.{EveryRow, ListingStyle, RELOCS, RowFilter, RowsOf, SYMBOLS, every_symbol, listing, listing_cost, little, report_of, section_at, style_ceiling, suffixed_relocation_rows, suffixed_symbol_rows, versioned_library, wanted_text, with_bytes}
+use Rattle.elf_model.specs.Prelude.{EveryRow, ListingStyle, RELOCS, RowFilter, RowsOf, SYMBOLS, every_place, every_symbol, listing, listing_cost, little, report_of, section_at, style_ceiling, suffixed_relocation_rows, suffixed_symbol_rows, versioned_library, wanted_text, with_bytes}
 use Rattle.elf_model.specs.declared.formats.Format.TheVariants.{Columns, Object}
 use Rattle.elf_model.specs.declared.formats.Format.{Format}
 
 -- how rows are shown: with versions, with this limit on bytes of a name, by a format and a row
 -- filter
 unfoldable pub with_versions : ℕ → Format → RowFilter → ListingStyle
-with_versions cap format choice = record { cap = cap; gnu = true; by_segments = false; format = format; choice = choice; symbols = every_symbol; versions = true }
+with_versions cap format choice = record { cap = cap; gnu = true; by_segments = false; format = format; choice = choice; symbols = every_symbol; place = every_place; versions = true }
 
 -- the symbols of a library: all, and those that some texts select
 unfoldable pub symbols_listed : List ℕ → List ℕ

@@ -1,12 +1,12 @@
 -- Worked examples of the rows of symbol versions.
 use Rattle.std.specs.Prelude.{◌≡◌, ℕ, ◌+◌, ◌-◌, ◌==◌, List, [], ◌∷◌, ◌++◌, length, drop, take, replicate, filter, codes, true, false}
 use Rattle.std.specs.List.{concat}
-use Rattle.elf_model.specs.Prelude.{ALL, EveryRow, GNU_ALL, HEADER, ListingStyle, VERSIONS, cost, every_symbol, hostile_library, listing, listing_cost, little, one_table, report_of, standard, versioned_library, versioned_without_sections, with_bytes}
+use Rattle.elf_model.specs.Prelude.{ALL, EveryRow, GNU_ALL, HEADER, ListingStyle, VERSIONS, cost, every_place, every_symbol, hostile_library, listing, listing_cost, little, one_table, report_of, standard, versioned_library, versioned_without_sections, with_bytes}
 use Rattle.elf_model.specs.declared.formats.Format.TheVariants.{Columns}
 
 -- how rows are shown here: 63 bytes of a name, and the names of GNU numbers
 abbrev standard_style : ListingStyle
-standard_style = record { cap = 63; gnu = true; by_segments = false; format = Columns; choice = EveryRow; symbols = every_symbol; versions = false }
+standard_style = record { cap = 63; gnu = true; by_segments = false; format = Columns; choice = EveryRow; symbols = every_symbol; place = every_place; versions = false }
 
 -- the listing of some parts of a file, with eight headers allowed, and of its symbol versions alone
 unfoldable pub parts_listed : ℕ → List ℕ → List ℕ

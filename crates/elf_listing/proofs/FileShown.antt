@@ -1,7 +1,7 @@
 -- The items of a whole listing: the file header's, and what follows it.
 use Rattle.std.proofs.lemmas.Bool.{cases_Bool, eqb-true, or_left, or_right}
 use Rattle.std.proofs.Common.{◌≡◌, ℕ, ◌==◌, ◌||◌, inl, inr, true, List, [], ◌∷◌, ◌++◌, None, Err, false, sym, ap, ◌∙◌, refl, append-nil, append_assoc}
-use Rattle.elf_model.specs.Prelude.{DYNAMIC, Fault, HEADER, IsBudgetRefusal, Line, ListingItem, ListingStyle, NOTES, SEGMENTS, TableHeaders, TableKind, HeaderTable, VERSIONS, table_rows, e_phnum, e_shnum, each, fault_of, file_sections, file_segments, first_refusal, has, has_tables, header_checks, header_line, kinds_rows, known_parts, listing, load_checks, load_items, loaded_items, records_rows, segment_dynamic, segment_kinds, segment_notes, segment_row, symbol_versions, table_headers, table_items, version_definitions, version_needs, view_checks, viewed as view_of, where_asked}
+use Rattle.elf_model.specs.Prelude.{DYNAMIC, Fault, HEADER, HeaderTable, IsBudgetRefusal, ListingItem, ListingStyle, NOTES, SEGMENTS, TableHeaders, TableKind, VERSIONS, e_phnum, e_shnum, each, fault_of, file_sections, file_segments, first_refusal, has, has_tables, header_checks, header_row, kinds_rows, known_parts, listing, load_checks, load_items, loaded_items, records_rows, segment_dynamic, segment_kinds, segment_notes, segment_row, symbol_versions, table_headers, table_items, table_rows, version_definitions, version_needs, view_checks, viewed as view_of, where_asked}
 use Rattle.elf_model.specs.declared.formats.Format.{Format}
 use Rattle.elf_model.specs.declared.causes.Refusal.{Refusal}
 use Rattle.elf_model.proofs.VersionNameLaws.{back-none, front-none, records-none}
@@ -13,12 +13,12 @@ use Rattle.elf_table.specs.declared.fault.Fault.TheVariants.{Refused}
 use Rattle.elf_listing.specs.Prelude.{ChecksView, PartListed, first_kinds, kinds_items, kinds_listed, of_sections, of_segments, part_items, record_kinds, section_headers_part, sections_listed, segments_parts, viewed_headers}
 
 -- the file header's part
-abbrev pub header_part : Format → List ℕ → ℕ → List ListingItem
-header_part format file parts = where_asked parts HEADER (Line (header_line format file) ∷ [])
+abbrev pub header_part : ListingStyle → List ℕ → ℕ → List ListingItem
+header_part style file parts = where_asked parts HEADER (header_row style file)
 
-pub items_are : (file : List ℕ) (headers : ℕ) (style : ListingStyle) (parts : ℕ) → first_refusal (header_checks file) ≡ None → listing file headers style parts ≡ header_part style.format file parts ++ load_items (view_of style file) headers style (known_parts style parts)
+pub items_are : (file : List ℕ) (headers : ℕ) (style : ListingStyle) (parts : ℕ) → first_refusal (header_checks file) ≡ None → listing file headers style parts ≡ header_part style file parts ++ load_items (view_of style file) headers style (known_parts style parts)
 unfolding listing
-items_are file headers style parts passed = guarded-passes (header_checks file) (header_part style.format file parts ++ load_items (view_of style file) headers style (known_parts style parts)) passed
+items_are file headers style parts passed = guarded-passes (header_checks file) (header_part style file parts ++ load_items (view_of style file) headers style (known_parts style parts)) passed
 
 -- a refusal of the file header is all that is listed
 pub header_alone : (file : List ℕ) (headers : ℕ) (style : ListingStyle) (parts : ℕ) (fault : TableFault) → HeaderRead file (Err fault) → (refusal : Refusal) → fault ≡ Refused refusal
@@ -26,7 +26,7 @@ pub header_alone : (file : List ℕ) (headers : ℕ) (style : ListingStyle) (par
 unfolding listing
 header_alone file headers style parts fault read refusal is other =
     let first = rw is at read in
-    guarded-fault (header_checks file) (header_part style.format file parts ++ load_items (view_of style file) headers style (known_parts style parts)) refusal (first other)
+    guarded-fault (header_checks file) (header_part style file parts ++ load_items (view_of style file) headers style (known_parts style parts)) refusal (first other)
 
 -- a refusal of the load is all that is listed after the file header
 pub load_alone : (file : List ℕ) (headers : ℕ) (style : ListingStyle) (parts : ℕ) (fault : TableFault) (store : StoreState) → LoadedAs file (Err fault) store → store.slots ≡ headers → has_tables parts ≡ true

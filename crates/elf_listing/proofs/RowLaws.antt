@@ -1,7 +1,8 @@
 -- The items of one row, by the line that was written.
-use Rattle.elf_model.specs.Prelude.{DisplayedName, Fault as FaultItem, IsBudgetRefusal, Line, LinePrefix, ListingItem, ListingStyle, NoSuffix, RowFilter, Suffix, chooses, chosen_row, e_machine, e_phoff, entry_at, lines_of, named_row, r_sym, relocation_prefix, relocation_row, section_at, segment_at, segment_line, segment_row, sh_offset, shown, st_name, strings_of, symbol_choice, symbol_named, symbol_prefix, symbol_row}
+use Rattle.elf_model.specs.Prelude.{DisplayedName, Fault as FaultItem, IsBudgetRefusal, Line, LinePrefix, ListingItem, ListingStyle, NoSuffix, RowFilter, Suffix, chooses, chosen_row, e_machine, e_phoff, entry_at, lines_of, named_row, place_of_segment, placed_line, r_sym, relocation_choice, relocation_prefix, relocation_row, section_at, segment_at, segment_line, segment_row, sh_offset, shown, shows_place, st_name, strings_of, symbol_choice, symbol_named, symbol_prefix, symbol_row}
 use Rattle.elf_model.specs.declared.causes.Cause.{Cause}
 use Rattle.elf_model.specs.declared.causes.Refusal.{Refusal}
+use Rattle.elf_model.specs.declared.place_filters.RowPlace.{RowPlace}
 use Rattle.std.proofs.Common.{◌≡◌, ℕ, ◌+◌, ◌*◌, List, [], ◌∷◌, Bool, true, false, Result, Ok, Err, refl, sym, ap, ◌∙◌, subst, arith, append-nil}
 use Rattle.elf_source.specs.Output.{OutState, SinkTakes, SinkTakesPrefix}
 use Rattle.elf_source.proofs.PutsLaws.{SinkTakes-nothing}
@@ -10,8 +11,6 @@ use Rattle.elf_table.specs.declared.names.NameEnd.TheVariants.{Cut as NameCut, W
 use Rattle.elf_table.specs.declared.fault.Fault.{Fault}
 use Rattle.elf_table.specs.declared.names.NameEnd.{NameEnd}
 use Rattle.elf_table.specs.declared.run_fault.RunFault.{RunFault}
-use Rattle.elf_options.specs.Prelude.{choice_of}
-use Rattle.elf_options.specs.declared.caps.ListingStyle.{ListingStyle as Shape}
 use Rattle.elf_table.specs.declared.fault.Fault.TheVariants.{Refused, Source}
 use Rattle.elf_listing.specs.Shows.{WroteItems, WrotePrefix, WroteUntilRefusal, WroteUntilStop, WroteSome}
 
@@ -56,11 +55,6 @@ pub chosen-hidden : (choice : RowFilter) (front : LinePrefix) (at : ℕ) (end : 
 chosen-hidden choice front at NameWhole name answer read is = rw read (rw is refl)
 chosen-hidden choice front at NameCut name answer read is = rw read (rw is refl)
 
--- the result for a name, in a style that is the same
-pub chosen-as : (style now : Shape) (name : DisplayedName) (after : Suffix) (answer b : Bool) → now ≡ style → answer ≡ chooses (choice_of now.choice) name after → answer ≡ b
-    → chooses (choice_of style.choice) name after ≡ b
-chosen-as style now name after answer b same is shows = rw (← same) (sym is ∙ shows)
-
 -- a name that could not be read for a row
 pub WroteUntilStop-chosen : (a : OutState) (choice : RowFilter) (front : LinePrefix) (at : ℕ) (fault : Fault) (name : List ℕ) (answer : Result DisplayedName Cause) → NameRead at (Err fault) name answer
     → WroteUntilStop a a (stop_of fault) (chosen_row choice front at answer)
@@ -70,22 +64,21 @@ WroteUntilStop-chosen a choice front at (Refused refusal) name answer read =
     ap (chosen_row choice front at) is.1 ∙ ap (λ (place : ℕ). FaultItem (record { at = place; cause = refusal.cause }) ∷ []) (sym is.0))
 WroteUntilStop-chosen a choice front at (Source fault offset) name answer read = WrotePrefix-none a (chosen_row choice front at answer)
 
--- a name that could not be read
-pub WroteUntilStop-name : (a : OutState) (front : LinePrefix) (at : ℕ) (fault : Fault) (name : List ℕ) (answer : Result DisplayedName Cause) → NameRead at (Err fault) name answer
-    → WroteUntilStop a a (stop_of fault) (named_row front at answer)
-WroteUntilStop-name a front at (Refused refusal) name answer read =
-    Ends-first a refusal (named_row front at answer) (λ other.
-    let is = read other in
-    ap (named_row front at) is.1 ∙ ap (λ (place : ℕ). FaultItem (record { at = place; cause = refusal.cause }) ∷ []) (sym is.0))
-WroteUntilStop-name a front at (Source fault offset) name answer read = WrotePrefix-none a (named_row front at answer)
-
 -- a program header's line at its place
 pub segment_is : (file line : List ℕ) (style : ListingStyle) (at index : ℕ) → line ≡ segment_line style.format style.gnu file at index → at ≡ e_phoff file + index * 56
-    → segment_row file style index ≡ Line line ∷ []
+    → segment_row file style index ≡ placed_line style (place_of_segment file at) line
 unfolding segment_row
 segment_is file line style at index same here =
     let place : at ≡ segment_at file index = omega arith in
-    sym (ap (λ text. Line text ∷ []) same ∙ ap (λ p. Line (segment_line style.format style.gnu file p index) ∷ []) place)
+    sym (ap (λ text. placed_line style (place_of_segment file at) text) same
+    ∙ ap (λ p. placed_line style (place_of_segment file p) (segment_line style.format style.gnu file p index)) place)
+
+-- a row without a name is its line if it is shown, otherwise nothing
+pub line-shown : (style : ListingStyle) (place : RowPlace) (line : List ℕ) → shows_place style.place place ≡ true → placed_line style place line ≡ Line line ∷ []
+line-shown style place line is = rw is refl
+
+pub line-hidden : (style : ListingStyle) (place : RowPlace) (line : List ℕ) → shows_place style.place place ≡ false → placed_line style place line ≡ []
+line-hidden style place line is = rw is refl
 
 -- a symbol's row at its place
 pub symbol_is : (file : List ℕ) (style : ListingStyle) (section index at : ℕ) (front : LinePrefix) (table : List ℕ) (off : ℕ) → front ≡ symbol_prefix style.format style.gnu (e_machine file) file at section index
@@ -103,10 +96,10 @@ symbol_is file style section index at front table off same_front same_table same
 -- a relocation entry's row at its place
 pub relocation_is : (file : List ℕ) (front : LinePrefix) (style : ListingStyle) (section at entry symbol index : ℕ) → entry ≡ sh_offset file at + index * 24
     → front ≡ relocation_prefix style.format style.gnu (e_machine file) file entry section → symbol ≡ r_sym file entry
-    → relocation_row file style section at index ≡ chosen_row style.choice front (symbol_named file style.cap at entry symbol).0 (symbol_named file style.cap at entry symbol).1
+    → relocation_row file style section at index ≡ chosen_row (relocation_choice file style entry) front (symbol_named file style.cap at entry symbol).0 (symbol_named file style.cap at entry symbol).1
 unfolding relocation_row
 relocation_is file front style section at entry symbol index here same names =
     let place : entry ≡ entry_at file at 24 index = omega arith in
-    let row : LinePrefix → ℕ → ℕ → List ListingItem = λ text e k. chosen_row style.choice text (symbol_named file style.cap at e k).0 (symbol_named file style.cap at e k).1 in
+    let row : LinePrefix → ℕ → ℕ → List ListingItem = λ text e k. chosen_row (relocation_choice file style e) text (symbol_named file style.cap at e k).0 (symbol_named file style.cap at e k).1 in
     sym (ap (λ text. row text entry symbol) same ∙ (ap (λ k. row (relocation_prefix style.format style.gnu (e_machine file) file entry section) entry k) names
     ∙ ap (λ e. row (relocation_prefix style.format style.gnu (e_machine file) file e section) e (r_sym file e)) place))

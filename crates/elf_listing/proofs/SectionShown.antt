@@ -1,5 +1,5 @@
 -- The items of one header, by what the store and the checks of a loaded file return.
-use Rattle.elf_model.specs.Prelude.{Check, DT_STRSZ, LinePrefix, ListingItem, ListingStyle, TableKind, all_checks, dynamic_at, dynamic_count, dynamic_row, dynamic_table_checks, e_machine, e_shnum, e_shoff, e_shstrndx, each, entry_count, first_refusal, guarded, listed_value, mapped_strings, named_row, no_name, p_filesz, p_offset, range_checks_of, section_at, section_dynamic, section_name, section_prefix, section_row, segment_dynamic_checks, sh_link, sh_name, sh_offset, sh_size, shown, slice, strings_at as strings_mapped, strings_checks, strings_of, table_checks, table_rows, unless_empty}
+use Rattle.elf_model.specs.Prelude.{Check, DT_STRSZ, EveryRow, LinePrefix, ListingItem, ListingStyle, TableKind, all_checks, chosen_row, dynamic_at, dynamic_count, dynamic_row, dynamic_table_checks, e_machine, e_shnum, e_shoff, e_shstrndx, each, entry_count, first_refusal, guarded, listed_value, mapped_strings, no_name, p_filesz, p_offset, place_of_section, placed_choice, range_checks_of, section_at, section_dynamic, section_name, section_prefix, section_row, segment_dynamic_checks, sh_link, sh_name, sh_offset, sh_size, shown, slice, strings_at as strings_mapped, strings_checks, strings_of, table_checks, table_rows, unless_empty}
 use Rattle.elf_model.specs.declared.causes.Refusal.{Refusal}
 use Rattle.std.proofs.Common.{◌≡◌, ℕ, ◌+◌, ◌*◌, ◌/◌, ◌<◌, ◌==◌, ◌&&◌, not, Bool, true, false, inl, inr, if◌then◌else◌, List, [], ◌++◌, length, Option, None, Some, Result, Ok, Err, refl, sym, ap, ◌∙◌, subst, arith}
 use Rattle.std.proofs.lemmas.Bool.{cases_Bool, eqb-true}
@@ -53,11 +53,11 @@ some_sections n h = grind (arith)
 -- the row of a section header, by its prefix and its name
 pub section_is : (file : List ℕ) (front : LinePrefix) (names : Option StringTableRange) (off at index : ℕ) (style : ListingStyle) → names ≡ section_names file → 0 < e_shnum file → at ≡ section_at file index
     → off ≡ sh_name file (section_at file index) → front ≡ section_prefix style.format style.gnu (e_machine file) file (section_at file index) index
-    → section_row file style index ≡ named_row front at (shown_in file names off style.cap)
+    → section_row file style index ≡ chosen_row (placed_choice style (place_of_section file (section_at file index)) EveryRow) front at (shown_in file names off style.cap)
 unfolding section_row section_name
 section_is file front names off at index style same some place is before =
     rw (before, place, is, same)
-    (ap (named_row (section_prefix style.format style.gnu (e_machine file) file (section_at file index) index) (section_at file index))
+    (ap (chosen_row (placed_choice style (place_of_section file (section_at file index)) EveryRow) (section_prefix style.format style.gnu (e_machine file) file (section_at file index) index) (section_at file index))
     (sym (name_by_cases file (e_shnum file == 0) (e_shstrndx file == 0) (names_at file (section_at file (e_shstrndx file))) _ style.cap (some_sections (e_shnum file) some))))
 
 -- a range that a header gives is the file's, since a load knows the file's size and the header's

@@ -1,5 +1,5 @@
 -- The string of a dynamic entry, by whether it refers to one.
-use Rattle.elf_model.specs.Prelude.{DisplayedName, Fault as FaultItem, LinePrefix, ListingItem, ListingStyle, d_tag, d_un, dynamic_prefix, dynamic_row, first_refusal, is_string_tag, mapped_checks, mapped_place, named_row, no_name, shown, strings_at}
+use Rattle.elf_model.specs.Prelude.{DisplayedName, EveryRow, Fault as FaultItem, LinePrefix, ListingItem, ListingStyle, RowFilter, chosen_row, d_tag, d_un, dynamic_prefix, dynamic_row, first_refusal, is_string_tag, mapped_checks, mapped_place, no_name, place_of_dynamic, placed_choice, shown, strings_at}
 use Rattle.elf_model.specs.declared.causes.Cause.{Cause}
 use Rattle.elf_model.specs.declared.causes.Refusal.{Refusal}
 use Rattle.std.proofs.Common.{◌≡◌, ℕ, Bool, true, false, List, [], ◌∷◌, Option, None, Some, Result, Ok, Err, refl, sym, ap, ◌∙◌, subst}
@@ -9,40 +9,44 @@ use Rattle.elf_table.specs.declared.fault.Fault.{Fault}
 use Rattle.elf_table.specs.declared.names.NameEnd.{NameEnd}
 use Rattle.elf_table.specs.declared.fault.Fault.TheVariants.{Refused}
 use Rattle.elf_listing.specs.Prelude.{StringsFound, ToldRead, WroteUntilStop, string_told, string_told_by}
-use Rattle.elf_listing.proofs.RowLaws.{Ends-first, WroteUntilStop-name}
+use Rattle.elf_listing.proofs.RowLaws.{Ends-first, WroteUntilStop-chosen}
 
 -- the row of an entry by its bytes before the name, and its string
-abbrev pub reported_row : LinePrefix → ℕ → Result (Result DisplayedName Cause) Refusal → List ListingItem
-reported_row front at (Ok answer) = named_row front at answer
-reported_row front at (Err refusal) = FaultItem refusal ∷ []
+abbrev pub reported_row : RowFilter → LinePrefix → ℕ → Result (Result DisplayedName Cause) Refusal → List ListingItem
+reported_row choice front at (Ok answer) = chosen_row choice front at answer
+reported_row choice front at (Err refusal) = FaultItem refusal ∷ []
 
-row_by_cases : (tells : Bool) (table : Result (List ℕ) Refusal) (front : LinePrefix) (at : ℕ) (name : List ℕ → Result DisplayedName Cause)
+row_by_cases : (tells : Bool) (table : Result (List ℕ) Refusal) (choice : RowFilter) (front : LinePrefix) (at : ℕ) (name : List ℕ → Result DisplayedName Cause)
     → (elim tells as (λ _. List ListingItem) [
-      | false ↦ named_row front at no_name
-      | true ↦ elim table as (λ _. List ListingItem) [ Err refusal ↦ FaultItem refusal ∷ [] | Ok strings ↦ named_row front at (name strings) ]
+      | false ↦ chosen_row choice front at no_name
+      | true ↦ elim table as (λ _. List ListingItem) [ Err refusal ↦ FaultItem refusal ∷ [] | Ok strings ↦ chosen_row choice front at (name strings) ]
     ])
-    ≡ reported_row front at (string_told_by tells table name)
-row_by_cases false table front at name = refl
-row_by_cases true (Ok strings) front at name = refl
-row_by_cases true (Err refusal) front at name = refl
+    ≡ reported_row choice front at (string_told_by tells table name)
+row_by_cases false table choice front at name = refl
+row_by_cases true (Ok strings) choice front at name = refl
+row_by_cases true (Err refusal) choice front at name = refl
+
+-- the rows that are shown of the entry at an offset
+abbrev pub dynamic_choice : ListingStyle → ℕ → RowFilter
+dynamic_choice style at = placed_choice style (place_of_dynamic at) EveryRow
 
 pub row_told : (file : List ℕ) (style : ListingStyle) (strings : ℕ → Result (List ℕ) Refusal) (at index : ℕ)
-    → dynamic_row file style strings at index ≡ reported_row (dynamic_prefix style.format style.gnu file at index) at (string_told strings file style.cap at)
+    → dynamic_row file style strings at index ≡ reported_row (dynamic_choice style at) (dynamic_prefix style.format style.gnu file at index) at (string_told strings file style.cap at)
 unfolding dynamic_row
 row_told file style strings at index =
-    row_by_cases (is_string_tag (d_tag file at)) (strings at) (dynamic_prefix style.format style.gnu file at index) at (λ table. shown table (d_un file at) style.cap)
+    row_by_cases (is_string_tag (d_tag file at)) (strings at) (dynamic_choice style at) (dynamic_prefix style.format style.gnu file at index) at (λ table. shown table (d_un file at) style.cap)
 
 -- the row of an entry at its place, by its prefix
 pub entry_is : (file : List ℕ) (front : LinePrefix) (style : ListingStyle) (at index place : ℕ) (strings : ℕ → Result (List ℕ) Refusal) → front ≡ dynamic_prefix style.format style.gnu file at index → at ≡ place
-    → dynamic_row file style strings place index ≡ reported_row front at (string_told strings file style.cap at)
+    → dynamic_row file style strings place index ≡ reported_row (dynamic_choice style at) front at (string_told strings file style.cap at)
 entry_is file front style at index place strings same here =
-    ap (λ p. dynamic_row file style strings p index) (sym here) ∙ (row_told file style strings at index ∙ ap (λ text. reported_row text at (string_told strings file style.cap at)) (sym same))
+    ap (λ p. dynamic_row file style strings p index) (sym here) ∙ (row_told file style strings at index ∙ ap (λ text. reported_row (dynamic_choice style at) text at (string_told strings file style.cap at)) (sym same))
 
 -- a string that could not be read
-pub WroteUntilStop-told : (a : OutState) (front : LinePrefix) (at : ℕ) (fault : Fault) (name : List ℕ) (told : Result (Result DisplayedName Cause) Refusal) → ToldRead at (Err fault) name told
-    → WroteUntilStop a a (stop_of fault) (reported_row front at told)
-WroteUntilStop-told a front at fault name (Ok answer) read = WroteUntilStop-name a front at fault name answer read
-WroteUntilStop-told a front at fault name (Err refusal) read =
+pub WroteUntilStop-told : (a : OutState) (choice : RowFilter) (front : LinePrefix) (at : ℕ) (fault : Fault) (name : List ℕ) (told : Result (Result DisplayedName Cause) Refusal) → ToldRead at (Err fault) name told
+    → WroteUntilStop a a (stop_of fault) (reported_row choice front at told)
+WroteUntilStop-told a choice front at fault name (Ok answer) read = WroteUntilStop-chosen a choice front at fault name answer read
+WroteUntilStop-told a choice front at fault name (Err refusal) read =
     let is : fault ≡ Refused refusal = cc in
     let P : Fault → Type 0 = λ f. WroteUntilStop a a (stop_of f) (FaultItem refusal ∷ []) in
     subst P (sym is) (Ends-first a refusal (FaultItem refusal ∷ []) (λ other. refl))

@@ -2,7 +2,7 @@
 -- refusal, or its own.
 use Rattle.std.proofs.Common.{◌≡◌, ℕ, ◌+◌, ◌<◌, ◌≤◌, nat_lt, ◌==◌, ◌&&◌, not, if◌then◌else◌, Bool, true, false, List, [], ◌∷◌, Option, None, Some, Result, Ok, Err, ◌⊎◌, inl, inr, refl, sym, ap, ◌∙◌, arith}
 use Rattle.std.proofs.lemmas.Bool.{le-ltb, ne_eqb}
-use Rattle.elf_model.specs.Prelude.{DisplayedName, LinePrefix, ListingItem, ListingStyle, NoSuffix, RowFilter, Suffix, after_refusal, all_checks, chosen_row, e_machine, each, entry_at, entry_count, first_refusal, has_symbols, is_symbol_table, linked_at, r_sym, refuse, relocation_prefix, relocation_row, relocation_row_with_version, relocations, relocations_with_versions, section_at, sh_link, sh_type, suffixed_relocation_rows, suffixed_row, suffixed_symbol_rows, suffixed_symbols, suffixes_refusal, symbol_checks_of, symbol_named, symbol_row, symbol_row_with_version, symbol_suffix, symbol_table, symbols, table_rows}
+use Rattle.elf_model.specs.Prelude.{DisplayedName, LinePrefix, ListingItem, ListingStyle, NoSuffix, RowFilter, Suffix, after_refusal, all_checks, chosen_row, e_machine, each, entry_at, entry_count, first_refusal, has_symbols, is_symbol_table, linked_at, r_sym, refuse, relocation_choice, relocation_prefix, relocation_row, relocation_row_with_version, relocations, relocations_with_versions, section_at, sh_link, sh_type, suffixed_relocation_rows, suffixed_row, suffixed_symbol_rows, suffixed_symbols, suffixes_refusal, symbol_checks_of, symbol_named, symbol_row, symbol_row_with_version, symbol_suffix, symbol_table, symbols, table_rows}
 use Rattle.elf_model.specs.declared.causes.Cause.TheVariants.{BadLink, SymbolIndex}
 use Rattle.elf_model.specs.declared.causes.Cause.{Cause}
 use Rattle.elf_model.specs.declared.causes.Refusal.{Refusal}
@@ -106,16 +106,16 @@ unfolding relocation_row_with_version relocation_row
 unnamed_entry file style section at index unnamed = by_symbol (r_sym file (entry_at file at 24 index) == 0) refl
   where
     by_symbol : (first : Bool) → (r_sym file (entry_at file at 24 index) == 0) ≡ first
-        → suffixed_row style.choice (relocation_prefix style.format style.gnu (e_machine file) file (entry_at file at 24 index) section)
+        → suffixed_row (relocation_choice file style (entry_at file at 24 index)) (relocation_prefix style.format style.gnu (e_machine file) file (entry_at file at 24 index) section)
         (symbol_named file style.cap at (entry_at file at 24 index) (r_sym file (entry_at file at 24 index))).0
         (symbol_named file style.cap at (entry_at file at 24 index) (r_sym file (entry_at file at 24 index))).1
         (if first then Ok NoSuffix
         else symbol_suffix file style.cap (sh_link file at) (entry_at file (linked_at file at) 24 (r_sym file (entry_at file at 24 index))) (r_sym file (entry_at file at 24 index)))
-        ≡ chosen_row style.choice (relocation_prefix style.format style.gnu (e_machine file) file (entry_at file at 24 index) section)
+        ≡ chosen_row (relocation_choice file style (entry_at file at 24 index)) (relocation_prefix style.format style.gnu (e_machine file) file (entry_at file at 24 index) section)
         (symbol_named file style.cap at (entry_at file at 24 index) (r_sym file (entry_at file at 24 index))).0
         (symbol_named file style.cap at (entry_at file at 24 index) (r_sym file (entry_at file at 24 index))).1
-    by_symbol true is = unsuffixed_row style.choice _ _ _
-    by_symbol false is = refused_name style.choice _ _ _ _ _ (named_fails file at (entry_at file at 24 index) unnamed (r_sym file (entry_at file at 24 index)) is style.cap)
+    by_symbol true is = unsuffixed_row (relocation_choice file style (entry_at file at 24 index)) _ _ _
+    by_symbol false is = refused_name (relocation_choice file style (entry_at file at 24 index)) _ _ _ _ _ (named_fails file at (entry_at file at 24 index) unnamed (r_sym file (entry_at file at 24 index)) is style.cap)
 
 -- what refuses the versions, of a section that refers to symbols and has entries
 abbrev linked_refusal : (has empty : Bool) → Option Refusal → Option Refusal

@@ -5,7 +5,7 @@ use Rattle.std.proofs.lemmas.Bool.{cases_Bool}
 use Rattle.std.proofs.lemmas.List.Elements.{All-nil}
 use Rattle.std.specs.Prelude.{All}
 use Rattle.std.specs.Result.{is_ok}
-use Rattle.elf_model.specs.Prelude.{DisplayedName, Fault as FaultItem, LinePrefix, ListingItem, ListingStyle, RowFilter, SHT_GNU_VERDEF, SHT_GNU_VERNEED, TableKind, VERSYM_SIZE, VisitedRecord, all_checks, chosen_row, e_shnum, each, end_rows, entry_count, fault_of, file_sections, first_of_type, first_refusal, first_strings, first_versions, header_field, kinds_rows, name_index, named_at, named_by, number_in, numbered_row, records_rows, refused_row, section_at, section_versions, sh_offset, sh_size, sh_type, shown, strings_of, symbol_version_prefix, symbol_version_row, symbol_version_rows, symbol_versions, table_rows, version_definitions, version_named, version_needs, version_of, version_strings, versioned_symbols, versions_rows, versym, visited_rows}
+use Rattle.elf_model.specs.Prelude.{DisplayedName, Fault as FaultItem, LinePrefix, ListingItem, ListingStyle, RowFilter, SHT_GNU_VERDEF, SHT_GNU_VERNEED, TableKind, VERSYM_SIZE, VisitedRecord, all_checks, chosen_row, e_shnum, each, end_rows, entry_count, fault_of, file_sections, first_of_type, first_refusal, first_strings, first_versions, header_field, kinds_rows, name_index, named_at, named_by, number_in, numbered_row, place_of_record, placed_choice, records_rows, refused_row, section_at, section_versions, sh_offset, sh_size, sh_type, shown, strings_of, symbol_version_prefix, symbol_version_row, symbol_version_rows, symbol_versions, table_rows, version_definitions, version_named, version_needs, version_of, version_strings, versioned_symbols, versions_rows, versym, visited_rows}
 use Rattle.elf_model.specs.declared.causes.Cause.{Cause}
 use Rattle.elf_model.specs.declared.versions.VersionKind.TheVariants.{Definition, File, Need}
 use Rattle.elf_model.specs.declared.causes.Refusal.{Refusal}
@@ -123,10 +123,10 @@ module _ (file : List ℕ) (style : ListingStyle) (numbered : VersionStrings) (p
   abbrev listed : Option VisitedRecord → List ListingItem
   listed named = elim named [
     | None ↦ refused_row entry VersionIndex
-    | Some met ↦ chosen_row style.choice front (named_at file met) (shown (version_strings file met.kind) (name_index file met) style.cap)
+    | Some met ↦ chosen_row (placed_choice style (place_of_record entry 2) style.choice) front (named_at file met) (shown (version_strings file met.kind) (name_index file met) style.cap)
   ]
 
-  by_name : (few : nat_lt number 2 ≡ false) (named : Option VisitedRecord) → named_by file number all ≡ named → (name : VersionNameRef) → IsNameOfRecord file named name → chosen_row style.choice front entry (told name) ≡ listed named
+  by_name : (few : nat_lt number 2 ≡ false) (named : Option VisitedRecord) → named_by file number all ≡ named → (name : VersionNameRef) → IsNameOfRecord file named name → chosen_row (placed_choice style (place_of_record entry 2) style.choice) front entry (told name) ≡ listed named
   unfolding all version_named version_of
   by_name few None is Nowhere fits = refl
   by_name few None is (Defined index) fits = absurd fits
@@ -136,14 +136,14 @@ module _ (file : List ℕ) (style : ListingStyle) (numbered : VersionStrings) (p
       let strings : strings_in file numbered.defined ≡ version_strings file met.kind =
       are.defined (some-definitions file number (first_versions Definition SHT_GNU_VERDEF file) met is fits.0) ∙ sym (strings-defined file met.kind fits.0) in
       let ok = names_are_shown file style number met no_fault (rw few is) in
-      rw (strings, fits.1) (shown-anywhere style.choice front entry (named_at file met) _ ok)
+      rw (strings, fits.1) (shown-anywhere (placed_choice style (place_of_record entry 2) style.choice) front entry (named_at file met) _ ok)
   by_name few (Some met) is (Needed index) fits =
       let strings : strings_in file numbered.needed ≡ version_strings file met.kind =
       are.needed (some-needs file number (first_versions File SHT_GNU_VERNEED file) met is fits.0) ∙ sym (strings-needed file met.kind fits.0) in
       let ok = names_are_shown file style number met no_fault (rw few is) in
-      rw (strings, fits.1) (shown-anywhere style.choice front entry (named_at file met) _ ok)
+      rw (strings, fits.1) (shown-anywhere (placed_choice style (place_of_record entry 2) style.choice) front entry (named_at file met) _ ok)
 
-  pub number-is : chosen_row style.choice front entry (version_told numbered file style.cap number) ≡ numbered_row file style front entry number
+  pub number-is : chosen_row (placed_choice style (place_of_record entry 2) style.choice) front entry (version_told numbered file style.cap number) ≡ numbered_row file style front entry number
   unfolding version_told numbered_row version_named version_of all
   number-is = elim (cases_Bool (nat_lt number 2)) [
     | inl few ↦ rw few refl

@@ -1,6 +1,6 @@
 -- The rows of symbol versions, by what is left of a walk over their records.
 use Rattle.std.proofs.Common.{◌≡◌, ℕ, ◌+◌, ◌-◌, ◌*◌, ◌≤◌, List, [], ◌++◌, Option, None, Some, Ok, Err, refl, ap, ◌∙◌, append_assoc, append-nil, arith}
-use Rattle.elf_model.specs.Prelude.{ListingItem, ListingStyle, Versions, VisitedRecord, chosen_row, end_rows, no_versions, shown, version_prefix, version_row, visited_rows, with_visited}
+use Rattle.elf_model.specs.Prelude.{ListingItem, ListingStyle, Versions, VisitedRecord, chosen_row, end_rows, no_versions, place_of_version, placed_choice, shown, version_prefix, version_row, visited_rows, with_visited}
 use Rattle.elf_model.specs.declared.causes.Refusal.{Refusal}
 use Rattle.elf_table.specs.Prelude.{CallDid, stop_of}
 use Rattle.elf_table.specs.declared.fault.Fault.{Fault}
@@ -18,7 +18,7 @@ use Rattle.elf_listing.proofs.NotesShown.{before_more, before_stopped}
 -- the row of a record as returned
 pub record_is : (file : List ℕ) (style : ListingStyle) (section : ℕ) (strings : List ℕ) (met : VisitedRecord) (given : VersionRecord) → IsVersion file met given
     → version_row file style section strings met
-    ≡ chosen_row style.choice (version_prefix style.format given.kind section given.number given.flags given.hash) given.named_at (shown strings given.name style.cap)
+    ≡ chosen_row (placed_choice style (place_of_version file met) style.choice) (version_prefix style.format given.kind section given.number given.flags given.hash) given.named_at (shown strings given.name style.cap)
 unfolding version_row
 record_is file style section strings met given is =
     let kind = is.kind in

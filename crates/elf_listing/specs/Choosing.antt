@@ -1,11 +1,11 @@
--- Which rows that end in the name of a symbol or of a version are shown.
+-- Whether rows are selected.
 use Rattle.std.specs.Prelude.{◌≡◌, ◌||◌, Bool}
-use Rattle.elf_model.specs.Prelude.{is_narrow}
+use Rattle.elf_model.specs.Prelude.{is_narrow, is_placed}
 use Rattle.elf_options.specs.declared.caps.ListingStyle.{ListingStyle}
 
--- rows are selected by name, or not every symbol is shown
+-- rows are selected by name or by where they are, or not every symbol is shown
 abbrev pub has_selection : ListingStyle → Bool
-has_selection style = style.choice.by_name || is_narrow style.symbols
+has_selection style = style.choice.by_name || (is_narrow style.symbols || is_placed style.place)
 
 -- rows are selected, or every row is shown, as a style says
 abbrev pub ShowsRows : Bool → ListingStyle → Type 0

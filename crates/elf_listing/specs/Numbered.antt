@@ -1,6 +1,6 @@
 -- Where the names of version indices are.
 use Rattle.std.specs.Prelude.{ℕ, ◌≡◌, nat_lt, if◌then◌else◌, List, Some, Result, Err}
-use Rattle.elf_model.specs.Prelude.{DisplayedName, ListingItem, ListingStyle, chosen_row, name_bytes, no_name, number_in, shown, symbol_version_prefix, versym}
+use Rattle.elf_model.specs.Prelude.{DisplayedName, ListingItem, ListingStyle, VERSYM_SIZE, chosen_row, name_bytes, no_name, number_in, place_of_record, placed_choice, shown, symbol_version_prefix, versym}
 use Rattle.elf_model.specs.declared.causes.Cause.{Cause}
 use Rattle.elf_model.specs.declared.causes.Cause.TheVariants.{VersionIndex}
 use Rattle.elf_table.specs.Prelude.{NameRead, StringsInBounds, strings_in}
@@ -34,7 +34,8 @@ version_told numbered file cap number =
 unfoldable pub reported_row : List ℕ → ListingStyle → VersionStrings → (section entry_at index : ℕ) → List ListingItem
 reported_row file style numbered section entry_at index =
     let word = versym file entry_at in
-    chosen_row style.choice (symbol_version_prefix style.format section index word) entry_at (version_told numbered file style.cap (number_in word))
+    chosen_row (placed_choice style (place_of_record entry_at VERSYM_SIZE) style.choice)
+    (symbol_version_prefix style.format section index word) entry_at (version_told numbered file style.cap (number_in word))
 
 -- the effect of a call that reads the name of a version index, for the entry at an offset
 pub record FetchesVersion {S W : Type 0} {s : Sources S} {w : Sinks W} (old new : Listing S W s w) (result : Result NameEnd Fault) (numbered : VersionStrings) (number at : ℕ) : Type 0 where

@@ -12,6 +12,7 @@ use crate::row_cursor::RowCursor;
 use crate::row_selection::RowSelection;
 use crate::table_rows::{TableRows, list_rows};
 use elf_format::{LinePrefix, Render, dynamic_prefix};
+use elf_model::RowPlace;
 use elf_note::{dynamic_rows, dynamic_strings};
 use elf_record::numbers::{PT_DYNAMIC, SHT_DYNAMIC};
 use elf_record::sizes::DYNAMIC_BYTES;
@@ -51,6 +52,10 @@ impl<'f> TableRows for DynamicEntries<'f> {
         let gnu = listing.style.gnu;
         let entry = Dyn::decode(row.whole());
         let end = listing.read_string(&entry, &self.strings, row.at)?;
+        let place = RowPlace::record(row.at, DYNAMIC_BYTES);
+        if !listing.is_place_shown::<C>(&place) {
+            return Ok(());
+        }
         dynamic_prefix::<R>(front, row.index, &entry, gnu);
         listing.named_line(front, end)
     }

@@ -17,6 +17,7 @@ mod program_headers;
 mod read_suffix;
 mod relocations;
 mod row_cursor;
+mod row_places;
 mod row_selection;
 mod section_headers;
 mod show_file;

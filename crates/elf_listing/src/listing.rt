@@ -1,6 +1,6 @@
 //! The state of a listing.
 ghost use Rattle.std.specs.Prelude.{◌≡◌, ℕ, List, Some};
-ghost use Rattle.elf_model.specs.Records.{e_machine};
+ghost use Rattle.elf_model.specs.Records.{e_machine, e_type};
 ghost use Rattle.elf_note.specs.Ahead.{AgreesWith};
 ghost use Rattle.elf_listing.specs.Viewed.{IsViewed};
 ghost use Rattle.elf_table.specs.Load.{IsOpen};
@@ -43,5 +43,13 @@ impl<S: Source, W: Sink> Listing<'_, '_, '_, '_, S, W> {
             gnu: self.style.gnu,
             machine: self.file.loaded.header().e_machine,
         }
+    }
+
+    /// Returns the type of the file.
+    pub(crate) fn file_type(&self) -> u16
+        ensures { (file : List ℕ) → self.now.src.now.seen.file ≡ Some file →
+            result ≡ e_type file }
+    {
+        self.file.loaded.header().e_type
     }
 }

@@ -8,6 +8,7 @@ ghost use Rattle.elf_listing.specs.Parts.{of_sections, of_segments};
 use crate::listed_kind::ListedKind;
 use crate::listing::Listing;
 use crate::name_lines::is_cut;
+use crate::row_places::place_of_note;
 use elf_format::{Columns, Json, LinePrefix, Render, Tabular, note_prefix, show_note};
 use elf_model::Format;
 use elf_note::{NoteCursor, NoteRow};
@@ -86,29 +87,39 @@ impl<S: Source, W: Sink> Listing<'_, '_, '_, '_, S, W> {
     {
         let mut cursor = NoteCursor::new(table, align);
         'notes: while cursor.advance(self.src, self.style.cap, &mut self.name)? {
-            self.note_row(&cursor.row(), index)?;
+            self.note_row(&cursor.row(), align == 8, index)?;
         }
         Ok(())
     }
 
-    /// Shows a note whose name was read: its `N` line.
-    fn note_row(&mut self, row: &NoteRow<'_>, index: u16) -> Result<(), RunFault>
+    /// Shows a note whose name was read: its `N` line. Notes are aligned to 8 bytes if `is_wide` is
+    /// `true`, otherwise to 4.
+    fn note_row(&mut self, row: &NoteRow<'_>, is_wide: bool, index: u16) -> Result<(), RunFault>
         requires { length row.now.desc.now ≤ 32 }
-        ensures { ListsNote self.old self.new result row.now index }
+        ensures { ListsNote self.old self.new result row.now is_wide index }
     {
         match self.style.format {
-            Format::Columns => self.note_line::<Columns>(row, index),
-            Format::Object => self.note_line::<Json>(row, index),
-            Format::Table => self.note_line::<Tabular>(row, index),
+            Format::Columns => self.note_line::<Columns>(row, is_wide, index),
+            Format::Object => self.note_line::<Json>(row, is_wide, index),
+            Format::Table => self.note_line::<Tabular>(row, is_wide, index),
         }
     }
 
     /// Shows a note in the rendering of the style.
-    fn note_line<R: Render>(&mut self, row: &NoteRow<'_>, index: u16) -> Result<(), RunFault>
+    fn note_line<R: Render>(
+        &mut self,
+        row: &NoteRow<'_>,
+        is_wide: bool,
+        index: u16,
+    ) -> Result<(), RunFault>
         requires format { R.FORMAT ≡ self.old.style.format }
         requires few { length row.now.desc.now ≤ 32 }
-        ensures { ListsNote self.old self.new result row.now index }
+        ensures { ListsNote self.old self.new result row.now is_wide index }
     {
+        let place = place_of_note(is_wide, row.at, &row.head);
+        if !self.style.place.shows(&place) {
+            return Ok(());
+        }
         let is_cut = is_cut(row.name_end);
         let name = self.name.bytes();
         let mut front = LinePrefix::new();

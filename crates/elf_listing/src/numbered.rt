@@ -9,7 +9,9 @@ use crate::row_cursor::RowCursor;
 use crate::row_selection::RowSelection;
 use crate::table_rows::TableRows;
 use elf_format::{LinePrefix, Render, symbol_version_prefix};
+use elf_model::RowPlace;
 use elf_note::{NameIndex, VersionNameRef, VersionNames};
+use elf_record::sizes::SYMBOL_VERSION_BYTES;
 use elf_record::{Cause, u16_at, version_number};
 use elf_source::{Sink, Source};
 use elf_table::{Cursor, Fault, NameEnd, Names, Row, RunFault, Table, refused};
@@ -51,7 +53,8 @@ impl<'v> TableRows for VersionIndices<'v> {
         let word = u16_at(row.bytes, 0);
         let number = version_number(word);
         let end = listing.read_version(self.numbered, number, row.at)?;
-        if !listing.is_shown::<C>(end) {
+        let place = RowPlace::record(row.at, SYMBOL_VERSION_BYTES);
+        if !listing.is_row_shown::<C>(&place, end, None, &[]) {
             return Ok(());
         }
         symbol_version_prefix::<R>(front, self.section, row.index, word);

@@ -9,6 +9,7 @@ use crate::listed_kind::{ListedKind, list_headers};
 use crate::listing::Listing;
 use crate::name_versions::{NameVersions, NoVersions};
 use crate::row_cursor::RowCursor;
+use crate::row_places::place_of_segment;
 use crate::row_selection::RowSelection;
 use crate::table_rows::{TableRows, list_rows};
 use bitflags::Flags;
@@ -61,6 +62,9 @@ impl TableRows for ProgramHeaders {
         row: &Row<'_>,
     ) -> Result<(), RunFault> {
         let header = Phdr::decode(row.whole());
+        if !listing.is_place_shown::<C>(&place_of_segment(row.at, &header)) {
+            return Ok(());
+        }
         let gnu = listing.style.gnu;
         listing
             .out
@@ -105,6 +109,10 @@ impl<'f, S: Source, W: Sink> Listing<'_, '_, 'f, '_, S, W> {
         ensures { ListsHeader program_headers_part self.old self.new result segment }
     {
         let header = self.view().segment(segment);
+        let place = self.view().place(segment);
+        if !self.style.place.shows(&place_of_segment(place, &header)) {
+            return Ok(());
+        }
         self.out
             .put(&segment_row::<R>(segment, &header, self.style.gnu))?;
         Ok(())

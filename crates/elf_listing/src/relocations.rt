@@ -13,6 +13,7 @@ use crate::listing::Listing;
 use crate::name_versions::{FoundVersions, NameVersions, NoVersions};
 use crate::read_suffix::VersionSuffixEnd;
 use crate::row_cursor::RowCursor;
+use crate::row_places::place_of_relocation;
 use crate::row_selection::RowSelection;
 use crate::suffixes::VersionLookup;
 use crate::table_rows::{TableRows, list_rows};
@@ -62,7 +63,8 @@ impl TableRows for Relocations {
         let symbol = entry.symbol();
         let read = listing.read_linked(self.linked, symbol, row.at)?;
         let suffix = read_version(listing, versions, symbol, read.is_defined)?;
-        if !listing.is_versioned_row_shown::<C>(read.end, suffix, versions.bytes()) {
+        let place = place_of_relocation(listing.file_type(), row.at, &entry);
+        if !listing.is_row_shown::<C>(&place, read.end, suffix, versions.bytes()) {
             return Ok(());
         }
         relocation_prefix::<R>(front, self.section, &entry, naming);

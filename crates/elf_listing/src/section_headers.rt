@@ -5,6 +5,7 @@ ghost use Rattle.elf_listing.specs.Parts.{section_headers_part};
 
 use crate::listed_kind::ListedKind;
 use crate::listing::Listing;
+use crate::row_places::place_of_section;
 use elf_format::{Columns, Json, LinePrefix, Render, Tabular, section_prefix};
 use elf_model::Format;
 use elf_record::Parts;
@@ -51,6 +52,9 @@ impl<S: Source, W: Sink> Listing<'_, '_, '_, '_, S, W> {
         let names = self.file.names();
         let off = header.sh_name;
         let end = self.read_section_name(names, off, place)?;
+        if !self.style.place.shows(&place_of_section(place, &header)) {
+            return Ok(());
+        }
         let mut front = LinePrefix::new();
         section_prefix::<R>(&mut front, section, &header, naming);
         self.named_line(&mut front, end)

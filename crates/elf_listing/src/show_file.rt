@@ -2,7 +2,7 @@
 ghost use Rattle.elf_source.specs.Growth.{OutGrows};
 ghost use Rattle.std.specs.Prelude.{◌≡◌, ◌+◌, ◌-◌, ◌^◌, ◌≤◌, [], ◌∷◌, true, false, ℕ, List};
 ghost use Rattle.std.specs.Prelude.{Some, None, Ok, IfErr};
-ghost use Rattle.elf_model.specs.Prelude.{HEADER, Line as LineItem, after_header, e_shnum, first_refusal, has, has_tables, header_line, known_parts, length_checks, listing as listed_items, listing_cost, load_items, style_ceiling, table_items, viewed as view_of, where_asked};
+ghost use Rattle.elf_model.specs.Prelude.{HEADER, after_header, e_shnum, first_refusal, has, has_tables, header_row, known_parts, length_checks, listing as listed_items, listing_cost, load_items, style_ceiling, table_items, viewed as view_of, where_asked};
 ghost use Rattle.elf_model.specs.declared.causes.Refusal.{Refusal as Refuses};
 ghost use Rattle.elf_record.specs.Ehdr.{IsEhdr};
 ghost use Rattle.elf_listing.specs.Parts.{tables_listed};
@@ -14,6 +14,7 @@ ghost use Rattle.elf_listing.specs.Shows.{ListingCosts, IsOfOutput, WroteSome};
 
 use crate::fault_line::show_stop;
 use crate::listing::Listing;
+use crate::row_places::place_of_header;
 use crate::table_view::load_view;
 use bitflags::Flags;
 use elf_format::{Columns, Json, Tabular, header_row};
@@ -108,26 +109,27 @@ pub fn list<S: Source, W: Sink>(
         (listed_items file store.old.slots (style_of style.entry) parts.0) }
 {
     let header = header(src)?;
-    list_header(&header, style.format, parts, out)?;
+    list_header(&header, style, parts, out)?;
     list_by_segments(src, store, &header, style, parts.known(style.gnu), out)
 }
 
-/// Lists the file header, if `parts` has it: its `H` line (gABI 4, ELF Header).
+/// Lists the file header, if `parts` has it and its row is shown: its `H` line (gABI 4, ELF
+/// Header).
 fn list_header<W: Sink>(
     header: &Ehdr,
-    format: Format,
+    style: ListingStyle,
     parts: Parts,
     out: &mut Out<W>,
 ) -> Result<(), RunFault>
     ensures grows { OutGrows out.old out.new }
     ensures fails { IfErr result (IsOfOutput out.new) }
     ensures text { (file : List ℕ) → IsEhdr file 0 header.now → WroteSome out.old out.new result
-        (where_asked parts.0 HEADER (LineItem (header_line format file) ∷ [])) }
+        (where_asked parts.0 HEADER (header_row (style_of style.entry) file)) }
 {
-    if !parts.contains(Parts::HEADER) {
+    if !parts.contains(Parts::HEADER) || !style.place.shows(&place_of_header()) {
         return Ok(());
     }
-    let line = match format {
+    let line = match style.format {
         Format::Columns => header_row::<Columns>(header),
         Format::Object => header_row::<Json>(header),
         Format::Table => header_row::<Tabular>(header),

@@ -9,6 +9,7 @@ use crate::listed_kind::ListedKind;
 use crate::listing::Listing;
 use crate::name_versions::{FoundVersions, NameVersions, NoVersions};
 use crate::row_cursor::RowCursor;
+use crate::row_places::place_of_symbol;
 use crate::row_selection::{RowSelection, SymbolClass};
 use crate::table_rows::{TableRows, list_rows};
 use elf_format::{LinePrefix, Render, symbol_prefix};
@@ -52,11 +53,12 @@ impl TableRows for Symbols {
             at: row.at,
         })?;
         let class = SymbolClass {
+            place: place_of_symbol(row.at, &symbol),
             is_defined: symbol.st_shndx != 0,
             is_dynamic: self.is_dynamic,
         };
         let suffix = versions.read(listing, row.index, class.is_defined)?;
-        if !listing.is_symbol_row_shown::<C>(class, end, suffix, versions.bytes()) {
+        if !listing.is_symbol_row_shown::<C>(&class, end, suffix, versions.bytes()) {
             return Ok(());
         }
         symbol_prefix::<R>(front, self.section, row.index, &symbol, naming);

@@ -9,6 +9,7 @@ ghost use Rattle.elf_listing.specs.Versions.{ListsRecord, ListsRecords, ListsVer
 
 use crate::listed_kind::ListedKind;
 use crate::listing::Listing;
+use crate::row_places::place_of_version;
 use crate::row_selection::{AllRows, RowSelection, SelectedRows};
 use elf_format::{Columns, Json, LinePrefix, Render, Tabular, version_prefix};
 use elf_model::Format;
@@ -164,7 +165,8 @@ impl<S: Source, W: Sink> Listing<'_, '_, '_, '_, S, W> {
             off: u64::from(given.name),
             at: given.named_at,
         })?;
-        if !self.is_shown::<C>(end) {
+        let place = place_of_version(given);
+        if !self.is_row_shown::<C>(&place, end, None, &[]) {
             return Ok(());
         }
         let mut front = LinePrefix::new();

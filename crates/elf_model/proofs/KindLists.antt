@@ -3,6 +3,7 @@ use Rattle.std.proofs.Common.{◌≡◌, ℕ, ◌<◌, ◌≤◌, ◌==◌, Bool
 use Rattle.elf_model.specs.Prelude.{HeaderTable, ListingStyle, RowFilter, TableHeaders, by_sections, by_segments, e_shnum, held_headers, kinds_cost, listing_cost, p_type, section_kinds, segment_kinds, sh_type, table_headers, viewed}
 use Rattle.elf_model.specs.Cost.{tables_cost}
 use Rattle.elf_model.specs.SymbolFilterLaws.{SelectionsHideNoFault}
+use Rattle.elf_model.specs.declared.place_filters.PlaceFilter.{PlaceFilter}
 use Rattle.elf_model.specs.declared.symbol_filters.SymbolFilter.{SymbolFilter}
 use Rattle.elf_model.proofs.DynamicKinds.{on_dynamic_entries, section_dynamic_lawful, segment_dynamic_lawful}
 use Rattle.elf_model.proofs.HeldHeaders.{AreHeld}
@@ -48,15 +49,15 @@ pub segment_kinds-held : (all : HeaderTable) (row : ℕ → List ℕ) → AreHel
 segment_kinds-held = kinds-held p_type 56 table_bound segment_kinds segment_kinds_lawful
 
 -- the rows of a file's tables, whatever rows are shown
-kinds_same : (versions : Bool) (file : List ℕ) (style : ListingStyle) (rows : RowFilter) (filter : SymbolFilter) → AreSame file style rows filter (table_headers versions file).kinds
+kinds_same : (versions : Bool) (file : List ℕ) (style : ListingStyle) (rows : RowFilter) (filter : SymbolFilter) (place : PlaceFilter) → AreSame file style rows filter place (table_headers versions file).kinds
 unfolding table_headers
-kinds_same versions file style rows filter = by_sections_or_segments (e_shnum file == 0)
+kinds_same versions file style rows filter place = by_sections_or_segments (e_shnum file == 0)
   where
-    by_sections_or_segments : (none : Bool) → AreSame file style rows filter (elim none as (λ _. TableHeaders) [ true ↦ by_segments file | false ↦ by_sections versions file ]).kinds
-    by_sections_or_segments true = kinds-same p_type 56 table_bound segment_kinds segment_kinds_lawful file style rows filter
-    by_sections_or_segments false = kinds-same sh_type 64 (most_bound versions) (section_kinds versions) (section_kinds_lawful versions) file style rows filter
+    by_sections_or_segments : (none : Bool) → AreSame file style rows filter place (elim none as (λ _. TableHeaders) [ true ↦ by_segments file | false ↦ by_sections versions file ]).kinds
+    by_sections_or_segments true = kinds-same p_type 56 table_bound segment_kinds segment_kinds_lawful file style rows filter place
+    by_sections_or_segments false = kinds-same sh_type 64 (most_bound versions) (section_kinds versions) (section_kinds_lawful versions) file style rows filter place
 
 pub selections_hide_no_fault : SelectionsHideNoFault
 unfolding listing_cost tables_cost
-selections_hide_no_fault file headers style parts rows filter =
-    (hides_no_fault file headers style parts rows filter (kinds_same style.versions (viewed style file) style rows filter), refl)
+selections_hide_no_fault file headers style parts rows filter place =
+    (hides_no_fault file headers style parts rows filter place (kinds_same style.versions (viewed style file) style rows filter place), refl)

@@ -2,6 +2,7 @@
 use Rattle.std.proofs.Common.{◌≡◌, ℕ, ◌+◌, ◌<◌, ◌≤◌, ◌==◌, ◌&&◌, ◌||◌, not, Bool, true, false, List, [], ◌∷◌, refl, ap, ap₂, ◌∙◌, arith}
 use Rattle.std.proofs.lemmas.Bool.{eqb-true}
 use Rattle.elf_model.specs.Prelude.{HeaderTable, ListingStyle, RowFilter, TableKind, cost_where, has, header_field, held_headers, kinds_cost, p_type, pass, sh_type, table_cost}
+use Rattle.elf_model.specs.declared.place_filters.PlaceFilter.{PlaceFilter}
 use Rattle.elf_model.specs.declared.symbol_filters.SymbolFilter.{SymbolFilter}
 use Rattle.elf_model.proofs.HeldHeaders.{AreHeld}
 use Rattle.elf_model.proofs.SelectionLaws.{AreSame, SelectsAlike}
@@ -126,6 +127,6 @@ module _ (type : List ℕ → ℕ → ℕ) (width : ℕ) (bound : ℕ → ℕ �
 
   -- whatever rows are shown, their first fault is the same
   pub kinds-same : (kinds : List TableKind) → AreLawful type width bound kinds
-      → (file : List ℕ) (style : ListingStyle) (rows : RowFilter) (filter : SymbolFilter) → AreSame file style rows filter kinds
-  kinds-same [] laws file style rows filter = tt
-  kinds-same (kind ∷ kinds) (law, laws) file style rows filter = (law.same file style rows filter, kinds-same kinds laws file style rows filter)
+      → (file : List ℕ) (style : ListingStyle) (rows : RowFilter) (filter : SymbolFilter) (place : PlaceFilter) → AreSame file style rows filter place kinds
+  kinds-same [] laws file style rows filter place = tt
+  kinds-same (kind ∷ kinds) (law, laws) file style rows filter place = (law.same file style rows filter place, kinds-same kinds laws file style rows filter place)

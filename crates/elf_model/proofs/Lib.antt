@@ -34,6 +34,7 @@ mod OneRule
 pub mod OverlapLemmas
 pub mod PatchLaws
 pub mod Pigeons
+pub mod PlaceLaws
 pub mod ReadingLaws
 pub mod RecordLemmas
 pub mod RestLaws

@@ -1,9 +1,9 @@
 -- How listings are concatenated.
 use Rattle.std.proofs.lemmas.Nat.{and_assoc}
 use Rattle.std.specs.Int.RustNames.{bit_and}
-use Rattle.elf_model.specs.Prelude.{Check, FILE_HEADER_SIZE, Fault, HEADER, HeaderAloneIsListed, HeaderFaultIsListedAlone, LastRowIsLast, Line, ListingItem, ListingStyle, ListingsAppend, LoadFaultIsListedSecond, NothingAfterTheFault, OtherBitsMeanNothing, RowsSplit, after_header, all_parts, each, fault_of, file_header_items, first_refusal, guarded, has, has_tables, header_checks, header_line, known_parts, lines_of, listing, listing_cost, load_checks, load_items, loaded_items, refusal_line, report_of, viewed, where_asked}
+use Rattle.elf_model.specs.Prelude.{Check, FILE_HEADER_SIZE, Fault, HEADER, HeaderAloneIsListed, HeaderFaultIsListedAlone, LastRowIsLast, Line, ListingItem, ListingStyle, ListingsAppend, LoadFaultIsListedSecond, NothingAfterTheFault, OtherBitsMeanNothing, RowsSplit, after_header, all_parts, each, fault_of, file_header_items, first_refusal, guarded, has, has_tables, header_checks, header_line, place_of_header, header_row, known_parts, lines_of, listing, listing_cost, load_checks, load_items, loaded_items, refusal_line, report_of, shows_place, viewed, where_asked}
 use Rattle.elf_model.specs.declared.causes.Refusal.{Refusal}
-use Rattle.std.proofs.Common.{◌≡◌, ℕ, suc, zero, ◌+◌, ◌==◌, Bool, true, false, List, [], ◌∷◌, ◌++◌, Some, None, arith, refl, ap, sym, ◌∙◌, append-nil, append_assoc, add-zero, zero-add}
+use Rattle.std.proofs.Common.{◌≡◌, ℕ, suc, zero, ◌+◌, ◌==◌, Bool, true, false, List, [], ◌∷◌, ◌++◌, Some, None, if◌then◌else◌, arith, refl, ap, sym, ◌∙◌, append-nil, append_assoc, add-zero, zero-add}
 
 -- rows are concatenated
 pub rows_split : RowsSplit
@@ -55,29 +55,39 @@ load_some file headers style parts h = by_cases (has_tables parts) (guarded (loa
 pub header_alone : HeaderAloneIsListed
 unfolding listing file_header_items
 header_alone file headers style parts h =
-    let line : List ListingItem = where_asked parts HEADER (Line (header_line style.format file) ∷ []) in
+    let line : List ListingItem = where_asked parts HEADER (header_row style file) in
     ap (guarded (header_checks file)) (ap (λ more. line ++ more) (load_none (viewed style file) headers style (known_parts style parts) h) ∙ append-nil line)
 
 pub header_fault : HeaderFaultIsListedAlone
 unfolding listing
 header_fault file headers style parts refusal h =
     let e : listing file headers style parts ≡ Fault refusal ∷ [] =
-    guarded-fault (header_checks file) (where_asked parts HEADER (Line (header_line style.format file) ∷ []) ++ load_items (viewed style file) headers style (known_parts style parts)) refusal h in
+    guarded-fault (header_checks file) (where_asked parts HEADER (header_row style file) ++ load_items (viewed style file) headers style (known_parts style parts)) refusal h in
     (ap (report_of style.format) e, ap fault_of e)
+
+-- a fault after the file header's row
+pub row_then_fault : (style : ListingStyle) (file : List ℕ) (refusal : Refusal)
+    → report_of style.format (header_row style file ++ Fault refusal ∷ []) ≡ lines_of (header_row style file) ++ refusal_line style.format refusal
+row_then_fault style file refusal = by (shows_place style.place place_of_header) (header_line style.format file)
+  where
+    by : (shown : Bool) (line : List ℕ)
+        → report_of style.format ((if shown then Line line ∷ [] else []) ++ Fault refusal ∷ []) ≡ lines_of (if shown then Line line ∷ [] else []) ++ refusal_line style.format refusal
+    by true line = refl
+    by false line = refl
 
 pub load_fault : LoadFaultIsListedSecond
 unfolding listing
 load_fault file headers style parts refusal h l p t =
     let view : List ℕ = viewed style file in
     let known : ℕ = known_parts style parts in
-    let line : List ListingItem = where_asked parts HEADER (Line (header_line style.format file) ∷ []) in
+    let line : List ListingItem = where_asked parts HEADER (header_row style file) in
     let passes : listing file headers style parts ≡ line ++ load_items view headers style known =
     guarded-passes (header_checks file) (line ++ load_items view headers style known) h in
     let fault : load_items view headers style known ≡ Fault refusal ∷ [] =
     load_some view headers style known t ∙ guarded-fault (load_checks view headers) (loaded_items view style known) refusal l in
-    let e : listing file headers style parts ≡ Line (header_line style.format file) ∷ Fault refusal ∷ [] =
-    passes ∙ ap (λ more. line ++ more) fault ∙ ap (λ first. first ++ Fault refusal ∷ []) (asked-true parts HEADER (Line (header_line style.format file) ∷ []) p) in
-    ap (report_of style.format) e ∙ ap (λ text. text ++ refusal_line style.format refusal) (append-nil (header_line style.format file))
+    let e : listing file headers style parts ≡ header_row style file ++ Fault refusal ∷ [] =
+    passes ∙ ap (λ more. line ++ more) fault ∙ ap (λ first. first ++ Fault refusal ∷ []) (asked-true parts HEADER (header_row style file) p) in
+    ap (report_of style.format) e ∙ row_then_fault style file refusal
 
 pub nothing_after : NothingAfterTheFault
 nothing_after [] back refusal h = cc
@@ -115,7 +125,7 @@ listing_known : (file : List ℕ) (headers : ℕ) (style : ListingStyle) (parts 
 unfolding listing
 listing_known file headers style parts =
     let view : List ℕ = viewed style file in
-    let line : List ListingItem = Line (header_line style.format file) ∷ [] in
+    let line : List ListingItem = header_row style file in
     ap (λ asked. guarded (header_checks file) ((elim asked as (λ _. List ListingItem) [ true ↦ line | false ↦ [] ]) ++ load_items view headers style (known_parts style (known_parts style parts))))
     (header_known style parts)
     ∙ ap (λ known. guarded (header_checks file) (where_asked parts HEADER line ++ load_items view headers style known)) (known_once style parts)

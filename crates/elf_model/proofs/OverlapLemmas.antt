@@ -3,9 +3,9 @@ use Rattle.std.proofs.Common.{◌≡◌, ℕ, suc, zero, ◌+◌, ◌/◌, ◌�
 use Rattle.std.proofs.Math.Nat.{div-mul-le_self}
 use Rattle.std.proofs.lemmas.Bool.{ltb-false}
 use Rattle.std.proofs.lemmas.Nat.{le-div}
-use Rattle.elf_model.specs.Prelude.{Check, Fault, HEADER, Line, ListingItem, ListingStyle, NoPageIsShared, OverlapIsListedElsewhere, OverlapIsListedSecond, e_phnum, first_page, first_refusal, header_checks, header_line, known_parts, listing, load_checks, load_items, loaded_items, loads_from, needs_segments, overlap_checks, overlaps_from, p_memsz, p_vaddr, page_behind, pass, refusal_line, report_of, segment_at, table_items, takes_memory, view_checks, viewed, where_asked}
+use Rattle.elf_model.specs.Prelude.{Check, Fault, HEADER, Line, ListingItem, ListingStyle, NoPageIsShared, OverlapIsListedElsewhere, OverlapIsListedSecond, e_phnum, first_page, first_refusal, header_checks, header_row, known_parts, listing, load_checks, load_items, loaded_items, loads_from, needs_segments, overlap_checks, overlaps_from, p_memsz, p_vaddr, page_behind, pass, refusal_line, report_of, segment_at, table_items, takes_memory, view_checks, viewed, where_asked}
 use Rattle.elf_model.specs.declared.causes.Cause.TheVariants.{LoadOverlap}
-use Rattle.elf_model.proofs.ListingLemmas.{guarded-fault, guarded-passes, asked-true, load_some}
+use Rattle.elf_model.proofs.ListingLemmas.{guarded-fault, guarded-passes, asked-true, load_some, row_then_fault}
 
 -- a segment ends after the page that it begins on, or on it
 page_grows : (file : List ℕ) (at : ℕ) → first_page file at ≤ page_behind file at
@@ -133,13 +133,13 @@ unfolding listing loaded_items
 overlap_second file headers style parts refusal h l b n o p t =
     let view : List ℕ = viewed style file in
     let known : ℕ = known_parts style parts in
-    let line : List ListingItem = where_asked parts HEADER (Line (header_line style.format file) ∷ []) in
+    let line : List ListingItem = where_asked parts HEADER (header_row style file) in
     let passes : listing file headers style parts ≡ line ++ load_items view headers style known =
     guarded-passes (header_checks file) (line ++ load_items view headers style known) h in
     let loaded : loaded_items view style known ≡ Fault refusal ∷ [] =
     guarded-fault (view_checks view style known) (table_items view style known) refusal (ap first_refusal (view_asked view style known b n) ∙ o) in
     let fault : load_items view headers style known ≡ Fault refusal ∷ [] =
     load_some view headers style known t ∙ guarded-passes (load_checks view headers) (loaded_items view style known) l ∙ loaded in
-    let e : listing file headers style parts ≡ Line (header_line style.format file) ∷ Fault refusal ∷ [] =
-    passes ∙ ap (λ more. line ++ more) fault ∙ ap (λ first. first ++ Fault refusal ∷ []) (asked-true parts HEADER (Line (header_line style.format file) ∷ []) p) in
-    ap (report_of style.format) e ∙ ap (λ text. text ++ refusal_line style.format refusal) (append-nil (header_line style.format file))
+    let e : listing file headers style parts ≡ header_row style file ++ Fault refusal ∷ [] =
+    passes ∙ ap (λ more. line ++ more) fault ∙ ap (λ first. first ++ Fault refusal ∷ []) (asked-true parts HEADER (header_row style file) p) in
+    ap (report_of style.format) e ∙ row_then_fault style file refusal

@@ -1,6 +1,6 @@
 -- The first fault of a listing, whatever rows are shown.
 use Rattle.std.proofs.Common.{◌≡◌, ℕ, zero, suc, ◌==◌, ◌/◌, ◌&&◌, ◌||◌, not, nat_lt, if◌then◌else◌, Bool, true, false, List, [], ◌∷◌, ◌++◌, Option, None, Some, Result, Ok, Err, refl, sym, ap, ap₂, ◌∙◌}
-use Rattle.elf_model.specs.Prelude.{Check, DisplayedName, Fault, HeaderTable, Line, LinePrefix, ListingItem, ListingStyle, NoSuffix, Note, RowFilter, SECTIONS, SEGMENTS, Suffix, TableKind, VERSYM_SIZE, VisitedRecord, after_refusal, all_checks, chooses, chosen_row, dynamic_at, dynamic_count, dynamic_row, e_machine, e_phnum, e_shnum, each, entry_at, entry_count, fault_of, first_refusal, guarded, has, has_symbols, has_tables, header_checks, kinds_rows, known_parts, linked_at, listing, load_checks, load_items, loaded_items, mapped_strings, name_index, named_at, no_name, note_align, note_row, notes_rows, number_in, numbered_row, or_refusal, p_align, p_filesz, p_offset, r_sym, refused_row, relocation_prefix, relocation_row, relocation_row_with_version, relocations, relocations_with_versions, section_dynamic, section_notes, section_row, section_versions, segment_dynamic, segment_notes, segment_row, sh_addralign, sh_link, sh_offset, sh_size, shown as shown_name, slice, st_name, strings_of, suffixed_relocation_rows, suffixed_row, suffixed_symbol_rows, suffixed_symbols, suffixes_refusal, symbol_choice, symbol_named, symbol_prefix, symbol_row, symbol_row_with_version, symbol_suffix, symbol_version_prefix, symbol_version_row, symbol_version_rows, symbol_versions, symbols, table_headers, table_items, table_rows, version_definitions, version_named, version_needs, version_prefix, version_row, version_strings, versioned_count, versioned_symbols, versions_rows, versym, view_checks, viewed, walk_rows, walked}
+use Rattle.elf_model.specs.Prelude.{Check, DisplayedName, EveryRow, Fault, HEADER, HeaderTable, Line, LinePrefix, ListingItem, ListingStyle, NoSuffix, NoteRow, RowFilter, SECTIONS, SEGMENTS, Suffix, TableKind, VERSYM_SIZE, VisitedRecord, after_refusal, all_checks, chooses, chosen_row, d_tag, d_un, dynamic_at, dynamic_count, dynamic_prefix, dynamic_row, e_machine, e_phnum, e_shnum, each, entry_at, entry_count, fault_of, first_refusal, guarded, has, has_symbols, has_tables, header_checks, header_row, is_string_tag, kinds_rows, known_parts, linked_at, listing, load_checks, load_items, loaded_items, mapped_strings, name_index, named_at, narrowed, no_name, note_align, note_row, note_rows, notes_rows, number_in, numbered_row, or_refusal, p_align, p_filesz, p_offset, padded_size, place_of_dynamic, place_of_header, place_of_record, place_of_section, place_of_segment, place_of_version, placed_choice, r_sym, refused_row, relocation_choice, relocation_prefix, relocation_row, relocation_row_with_version, relocations, relocations_with_versions, section_at, section_dynamic, section_name, section_notes, section_prefix, section_row, section_versions, segment_at, segment_dynamic, segment_notes, segment_row, sh_addralign, sh_link, sh_offset, sh_size, shown as shown_name, shows_place, shows_symbol, slice, st_name, strings_of, suffixed_relocation_rows, suffixed_row, suffixed_symbol_rows, suffixed_symbols, suffixes_refusal, symbol_choice, symbol_named, symbol_prefix, symbol_row, symbol_row_with_version, symbol_suffix, symbol_version_prefix, symbol_version_row, symbol_version_rows, symbol_versions, symbols, table_headers, table_items, table_rows, version_definitions, version_named, version_needs, version_prefix, version_row, version_strings, versioned_count, versioned_symbols, versions_rows, versym, view_checks, viewed, walk_rows, walked}
 use Rattle.elf_model.specs.TableKinds.{dynamic_rows}
 use Rattle.elf_model.specs.VersionRows.{visited_rows}
 use Rattle.elf_model.specs.Versions.{flags_word, hash_word, number_word}
@@ -9,6 +9,7 @@ use Rattle.elf_model.specs.declared.causes.Cause.TheVariants.{VersionCut, Versio
 use Rattle.elf_model.specs.SymbolFilterLaws.{EverySymbolIsShown, NarrowedChooses}
 use Rattle.elf_model.specs.declared.causes.Cause.{Cause}
 use Rattle.elf_model.specs.declared.causes.Refusal.{Refusal}
+use Rattle.elf_model.specs.declared.place_filters.PlaceFilter.{PlaceFilter}
 use Rattle.elf_model.specs.declared.symbol_filters.SymbolFilter.{SymbolFilter}
 
 pub narrowed_chooses : NarrowedChooses
@@ -85,9 +86,9 @@ suffixed_fault one other front at (Ok name) (Err refusal) = alike
 suffixed_fault one other front at (Err cause) suffix = alike
 
 -- THE ROWS OF TABLES in two styles that differ in what is shown alone
-module _ (file : List ℕ) (style : ListingStyle) (rows : RowFilter) (filter : SymbolFilter) where
+module _ (file : List ℕ) (style : ListingStyle) (rows : RowFilter) (filter : SymbolFilter) (place : PlaceFilter) where
   abbrev pub selected : ListingStyle
-  selected = record (style) { choice = rows; symbols = filter }
+  selected = record (style) { choice = rows; symbols = filter; place = place }
 
   -- the rows of a kind have the same first fault
   abbrev pub IsSame : TableKind → Type 0
@@ -109,7 +110,7 @@ module _ (file : List ℕ) (style : ListingStyle) (rows : RowFilter) (filter : S
   relocation_same section at index =
       let rela_at : ℕ = entry_at file at 24 index in
       let named = symbol_named file style.cap at rela_at (r_sym file rela_at) in
-      chosen_fault rows style.choice (relocation_prefix style.format style.gnu (e_machine file) file rela_at section) named.0 named.1
+      chosen_fault (relocation_choice file selected rela_at) (relocation_choice file style rela_at) (relocation_prefix style.format style.gnu (e_machine file) file rela_at section) named.0 named.1
 
   pub relocations_same : IsSame relocations
   unfolding relocations
@@ -134,7 +135,7 @@ module _ (file : List ℕ) (style : ListingStyle) (rows : RowFilter) (filter : S
       let rela_at : ℕ = entry_at file at 24 index in
       let symbol : ℕ = r_sym file rela_at in
       let named = symbol_named file style.cap at rela_at symbol in
-      suffixed_fault rows style.choice (relocation_prefix style.format style.gnu (e_machine file) file rela_at section) named.0 named.1
+      suffixed_fault (relocation_choice file selected rela_at) (relocation_choice file style rela_at) (relocation_prefix style.format style.gnu (e_machine file) file rela_at section) named.0 named.1
       (if symbol == 0 then Ok NoSuffix
       else symbol_suffix file style.cap (sh_link file at) (entry_at file (linked_at file at) 24 symbol) symbol)
 
@@ -144,26 +145,50 @@ module _ (file : List ℕ) (style : ListingStyle) (rows : RowFilter) (filter : S
       after_fault (if has_symbols file at && not (entry_count file at 24 == 0) then suffixes_refusal file (sh_link file at) else None)
       (each_fault (relocation_row_with_version file selected section at) (relocation_row_with_version file style section at) (suffixed_relocation_same section at) 0 (entry_count file at 24))
 
-  notes_are_same : (index : ℕ) (notes : List Note) → notes_rows selected index notes ≡ notes_rows style index notes
+  notes_same : (index a : ℕ) (notes : List NoteRow) → SameFault (notes_rows selected index a notes) (notes_rows style index a notes)
   unfolding notes_rows note_row
-  notes_are_same index [] = refl
-  notes_are_same index (note ∷ notes) = ap (λ others. note_row style index note ∷ others) (notes_are_same index notes)
+  notes_same index a [] = alike
+  notes_same index a (row ∷ others) =
+      appended (line_fault (shows_place place (place_of_record row.at (padded_size a row.note))) (shows_place style.place (place_of_record row.at (padded_size a row.note))) _) (notes_same index a others)
 
   pub section_notes_same : IsSame section_notes
   unfolding section_notes walk_rows
   section_notes_same section at =
-      let walk = walked (note_align (sh_addralign file at)) (slice file (sh_offset file at) (sh_size file at)) in
-      appended (equal (notes_are_same section walk.notes)) alike
+      let a = note_align (sh_addralign file at) in
+      appended (notes_same section a (note_rows a (sh_offset file at) (walked a (slice file (sh_offset file at) (sh_size file at))).notes)) alike
 
   pub segment_notes_same : IsSame segment_notes
   unfolding segment_notes walk_rows
   segment_notes_same section at =
-      let walk = walked (note_align (p_align file at)) (slice file (p_offset file at) (p_filesz file at)) in
-      appended (equal (notes_are_same section walk.notes)) alike
+      let a = note_align (p_align file at) in
+      appended (notes_same section a (note_rows a (p_offset file at) (walked a (slice file (p_offset file at) (p_filesz file at))).notes)) alike
 
   dynamic_same : (strings : ℕ → Result (List ℕ) Refusal) (at index : ℕ) → SameFault (dynamic_row file selected strings at index) (dynamic_row file style strings at index)
   unfolding dynamic_row
-  dynamic_same strings at index = alike
+  dynamic_same strings at index = by (is_string_tag (d_tag file at)) (strings at)
+    where
+      front : LinePrefix
+      front = dynamic_prefix style.format style.gnu file at index
+
+      here : ListingStyle → RowFilter
+      here shown = placed_choice shown (place_of_dynamic at) EveryRow
+
+      rest : ListingStyle → Result (List ℕ) Refusal → List ListingItem
+      rest shown table =
+          elim table as (λ _. List ListingItem) [
+            | Err refusal ↦ Fault refusal ∷ []
+            | Ok table ↦ chosen_row (here shown) front at (shown_name table (d_un file at) shown.cap)
+          ]
+
+      by_table : (table : Result (List ℕ) Refusal) → SameFault (rest selected table) (rest style table)
+      by_table (Err refusal) = alike
+      by_table (Ok table) = chosen_fault (here selected) (here style) front at (shown_name table (d_un file at) style.cap)
+
+      by : (string : Bool) (table : Result (List ℕ) Refusal)
+          → SameFault (elim string as (λ _. List ListingItem) [ false ↦ chosen_row (here selected) front at no_name | true ↦ rest selected table ])
+          (elim string as (λ _. List ListingItem) [ false ↦ chosen_row (here style) front at no_name | true ↦ rest style table ])
+      by false table = chosen_fault (here selected) (here style) front at no_name
+      by true table = by_table table
 
   dynamics_same : (offset entries : ℕ) (strings : ℕ → ℕ → Result (List ℕ) Refusal) → SameFault (dynamic_rows file selected offset entries strings) (dynamic_rows file style offset entries strings)
   dynamics_same offset entries strings =
@@ -184,7 +209,7 @@ module _ (file : List ℕ) (style : ListingStyle) (rows : RowFilter) (filter : S
   visited_same section strings [] = alike
   visited_same section strings (first ∷ others) =
       appended
-      (chosen_fault rows style.choice (version_prefix style.format first.kind section (number_word file first) (flags_word file first) (hash_word file first))
+      (chosen_fault (placed_choice selected (place_of_version file first) rows) (placed_choice style (place_of_version file first) style.choice) (version_prefix style.format first.kind section (number_word file first) (flags_word file first) (hash_word file first))
       (named_at file first) (shown_name strings (name_index file first) style.cap))
       (visited_same section strings others)
 
@@ -202,19 +227,22 @@ module _ (file : List ℕ) (style : ListingStyle) (rows : RowFilter) (filter : S
   unfolding numbered_row
   numbered_same front entry number = by (nat_lt number 2) (version_named file number)
     where
+      here : ListingStyle → RowFilter
+      here shown = placed_choice shown (place_of_record entry 2) shown.choice
+
       listed : ListingStyle → Bool → Option VisitedRecord → List ListingItem
       listed shown few named =
-          if few then chosen_row shown.choice front entry no_name
+          if few then chosen_row (here shown) front entry no_name
           else elim named as (λ _. List ListingItem) [
             | None ↦ refused_row entry VersionIndex
-            | Some met ↦ chosen_row shown.choice front (named_at file met) (shown_name (version_strings file met.kind) (name_index file met) shown.cap)
+            | Some met ↦ chosen_row (here shown) front (named_at file met) (shown_name (version_strings file met.kind) (name_index file met) shown.cap)
           ]
 
       by : (few : Bool) (named : Option VisitedRecord) → SameFault (listed selected few named) (listed style few named)
-      by true named = chosen_fault rows style.choice front entry no_name
+      by true named = chosen_fault (here selected) (here style) front entry no_name
       by false None = alike
       by false (Some met) =
-          chosen_fault rows style.choice front (named_at file met) (shown_name (version_strings file met.kind) (name_index file met) style.cap)
+          chosen_fault (here selected) (here style) front (named_at file met) (shown_name (version_strings file met.kind) (name_index file met) style.cap)
 
   symbol_version_same : (section at index : ℕ) → SameFault (symbol_version_row file selected section at index) (symbol_version_row file style section at index)
   unfolding symbol_version_row
@@ -257,11 +285,19 @@ module _ (file : List ℕ) (style : ListingStyle) (rows : RowFilter) (filter : S
 
   section_same : (index : ℕ) → SameFault (section_row file selected index) (section_row file style index)
   unfolding section_row
-  section_same index = alike
+  section_same index =
+      let at : ℕ = section_at file index in
+      chosen_fault (placed_choice selected (place_of_section file at) EveryRow) (placed_choice style (place_of_section file at) EveryRow)
+      (section_prefix style.format style.gnu (e_machine file) file at index) at (section_name file at style.cap)
 
   segment_same : (index : ℕ) → SameFault (segment_row file selected index) (segment_row file style index)
   unfolding segment_row
-  segment_same index = alike
+  segment_same index =
+      let at : ℕ = segment_at file index in
+      line_fault (shows_place place (place_of_segment file at)) (shows_place style.place (place_of_segment file at)) _
+
+  header_same : SameFault (header_row selected file) (header_row style file)
+  header_same = line_fault (shows_place place place_of_header) (shows_place style.place place_of_header) _
 
   tables_same : AreSame (table_headers style.versions file).kinds → (parts : ℕ) → SameFault (table_items file selected parts) (table_items file style parts)
   unfolding table_items
@@ -279,15 +315,15 @@ module _ (file : List ℕ) (style : ListingStyle) (rows : RowFilter) (filter : S
 
 -- whatever rows are shown, the rows of a kind have the same first fault
 abbrev pub SelectsAlike : TableKind → Type 0
-SelectsAlike kind = (file : List ℕ) (style : ListingStyle) (rows : RowFilter) (filter : SymbolFilter) → IsSame file style rows filter kind
+SelectsAlike kind = (file : List ℕ) (style : ListingStyle) (rows : RowFilter) (filter : SymbolFilter) (place : PlaceFilter) → IsSame file style rows filter place kind
 
 -- and so has a listing, if the rows of each kind have
 abbrev kinds_of : List ℕ → ListingStyle → List TableKind
 kinds_of file style = (table_headers style.versions (viewed style file)).kinds
 
-pub hides_no_fault : (file : List ℕ) (headers : ℕ) (style : ListingStyle) (parts : ℕ) (rows : RowFilter) (filter : SymbolFilter)
-    → AreSame (viewed style file) style rows filter (kinds_of file style)
-    → fault_of (listing file headers (selected file style rows filter) parts) ≡ fault_of (listing file headers style parts)
+pub hides_no_fault : (file : List ℕ) (headers : ℕ) (style : ListingStyle) (parts : ℕ) (rows : RowFilter) (filter : SymbolFilter) (place : PlaceFilter)
+    → AreSame (viewed style file) style rows filter place (kinds_of file style)
+    → fault_of (listing file headers (selected file style rows filter place) parts) ≡ fault_of (listing file headers style parts)
 unfolding listing
-hides_no_fault file headers style parts rows filter same =
-    (guarded_fault (header_checks file) (appended alike (loads_same (viewed style file) style rows filter same headers (known_parts style parts)))).same
+hides_no_fault file headers style parts rows filter place same =
+    (guarded_fault (header_checks file) (appended (where_fault (has parts HEADER) (header_same file style rows filter place)) (loads_same (viewed style file) style rows filter place same headers (known_parts style parts)))).same

@@ -1,6 +1,6 @@
 -- The versions after the names of symbols.
 use Rattle.std.proofs.Common.{◌≡◌, ℕ, zero, suc, ◌==◌, ◌&&◌, nat_lt, not, if◌then◌else◌, Bool, true, false, List, [], ◌∷◌, Option, None, Some, Result, Ok, Err, refl, sym, ap, ◌∙◌, append-nil}
-use Rattle.elf_model.specs.Prelude.{DisplayedName, Line, LinePrefix, ListingItem, ListingStyle, NoSuffix, RowFilter, SHT_GNU_VERDEF, SHT_GNU_VERNEED, Suffix, Suffixed, UndefinedHaveNoDefault, UnversionedEntriesArePlain, UnversionedSymbolsArePlain, VisitedRecord, after_refusal, all_checks, chooses, chosen_row, e_machine, each, entry_at, entry_count, first_refusal, has_symbols, is_default as is_default_of, line_named, line_suffixed, linked_at, name_index, name_member, name_text, named_at, named_line, number_in, or_refusal, r_sym, relocation_prefix, relocation_row, relocation_row_with_version, relocations, relocations_with_versions, section_at, sh_link, shown, st_name, st_shndx, strings_of, suffix_at, suffix_members, suffix_of, suffix_text, suffixed_line, suffixed_relocation_rows, suffixed_row, suffixed_symbol_rows, suffixed_symbols, suffixes_refusal, symbol_choice, symbol_named, symbol_prefix, symbol_row, symbol_row_with_version, symbol_suffix, symbol_versions, symbols, version_named, version_numbers_of, version_strings, versym, walk_refusal, word_suffix}
+use Rattle.elf_model.specs.Prelude.{DisplayedName, Line, LinePrefix, ListingItem, ListingStyle, NoSuffix, RowFilter, SHT_GNU_VERDEF, SHT_GNU_VERNEED, Suffix, Suffixed, UndefinedHaveNoDefault, UnversionedEntriesArePlain, UnversionedSymbolsArePlain, VisitedRecord, after_refusal, all_checks, chooses, chosen_row, e_machine, each, entry_at, entry_count, first_refusal, has_symbols, is_default as is_default_of, line_named, line_suffixed, linked_at, name_index, name_member, name_text, named_at, named_line, number_in, or_refusal, r_sym, relocation_choice, relocation_prefix, relocation_row, relocation_row_with_version, relocations, relocations_with_versions, section_at, sh_link, shown, st_name, st_shndx, strings_of, suffix_at, suffix_members, suffix_of, suffix_text, suffixed_line, suffixed_relocation_rows, suffixed_row, suffixed_symbol_rows, suffixed_symbols, suffixes_refusal, symbol_choice, symbol_named, symbol_prefix, symbol_row, symbol_row_with_version, symbol_suffix, symbol_versions, symbols, version_named, version_numbers_of, version_strings, versym, walk_refusal, word_suffix}
 use Rattle.elf_model.specs.declared.causes.Cause.{Cause}
 use Rattle.elf_model.specs.declared.formats.Format.TheVariants.{Columns, Object, Table}
 use Rattle.elf_model.specs.declared.versions.VersionKind.TheVariants.{Definition, File}
@@ -79,7 +79,7 @@ plain_entry file style section at index none =
     let behind : Result Suffix Refusal = symbol_suffix file style.cap (sh_link file at) (entry_at file (linked_at file at) 24 symbol) symbol in
     let has_none : (if symbol == 0 then Ok NoSuffix else behind) ≡ Ok NoSuffix =
     by_symbol (symbol == 0) behind (no_suffix file style.cap (sh_link file at) (entry_at file (linked_at file at) 24 symbol) symbol none) in
-    ap (suffixed_row style.choice front named.0 named.1) has_none ∙ unsuffixed_row style.choice front named.0 named.1
+    ap (suffixed_row (relocation_choice file style rela_at) front named.0 named.1) has_none ∙ unsuffixed_row (relocation_choice file style rela_at) front named.0 named.1
   where
     by_symbol : (first : Bool) (suffix : Result Suffix Refusal) → suffix ≡ Ok NoSuffix → (if first then Ok NoSuffix else suffix) ≡ Ok NoSuffix
     by_symbol true suffix is = refl

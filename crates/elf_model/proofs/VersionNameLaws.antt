@@ -3,7 +3,7 @@ use Rattle.std.proofs.Common.{◌≡◌, ℕ, zero, suc, ◌+◌, ◌<◌, ◌�
 use Rattle.std.proofs.lemmas.Bool.{cases_Bool}
 use Rattle.std.proofs.lemmas.List.Elements.{All-nil, All-cons, All-head, All-tail, All-append}
 use Rattle.std.specs.Result.{is_ok}
-use Rattle.elf_model.specs.Prelude.{Check, DisplayedName, Fault, Line, LinePrefix, ListingItem, ListingStyle, NamesOfNumbersAreShown, RecordCursorState, RowFilter, SHT_GNU_VERDEF, SHT_GNU_VERNEED, TableKind, VisitedRecord, all_checks, along, along_needs, chosen_row, e_shnum, each, end_rows, fault_of, file_sections, first_of_type, first_position, first_refusal, first_strings, first_versions, guarded, header_field, kinds_rows, max_records, name_index, named_at, named_by, names_version_index, next_position, next_word, record_checks, records_rows, section_at, section_versions, sh_offset, sh_size, sh_type, shown, strings_of, table_rows, version_definitions, version_named, version_needs, version_of, version_row, version_strings, versions_in, versions_rows, visited_at, visited_from, visited_rows, vn_aux, vn_next}
+use Rattle.elf_model.specs.Prelude.{Check, DisplayedName, Fault, Line, LinePrefix, ListingItem, ListingStyle, NamesOfNumbersAreShown, RecordCursorState, RowFilter, SHT_GNU_VERDEF, SHT_GNU_VERNEED, TableKind, VisitedRecord, all_checks, along, along_needs, chosen_row, e_shnum, each, end_rows, fault_of, file_sections, first_of_type, first_position, first_refusal, first_strings, first_versions, guarded, header_field, kinds_rows, max_records, name_index, named_at, named_by, names_version_index, next_position, next_word, place_of_version, placed_choice, record_checks, records_rows, section_at, section_versions, sh_offset, sh_size, sh_type, shown, strings_of, table_rows, version_definitions, version_named, version_needs, version_of, version_row, version_strings, versions_in, versions_rows, visited_at, visited_from, visited_rows, vn_aux, vn_next}
 use Rattle.elf_model.specs.declared.causes.Cause.{Cause}
 use Rattle.elf_model.specs.declared.versions.VersionKind.TheVariants.{Definition, File, Need}
 use Rattle.elf_model.specs.declared.causes.Refusal.{Refusal}
@@ -62,7 +62,7 @@ rows-shown file style section strings [] h = All-nil _
 rows-shown file style section strings (met ∷ others) h =
     let row : List ListingItem = version_row file style section strings met in
     let more : List ListingItem = visited_rows file style section strings others in
-    All-cons (IsShown file style.cap strings) met others (row-shown style.choice _ (named_at file met) _ (front-none row more h))
+    All-cons (IsShown file style.cap strings) met others (row-shown (placed_choice style (place_of_version file met) style.choice) _ (named_at file met) _ (front-none row more h))
     (rows-shown file style section strings others (back-none row more h))
 
 met-none : (kind : VersionKind) (file : List ℕ) (style : ListingStyle) (section at : ℕ) → fault_of (versions_rows kind file style section at) ≡ None

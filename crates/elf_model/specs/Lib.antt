@@ -5,6 +5,7 @@ pub mod Names
 pub mod ShownNames
 pub mod Choice
 pub mod SymbolFilters
+pub mod PlaceFilters
 pub mod Style
 pub mod Searches
 pub mod Notes
@@ -18,6 +19,7 @@ pub mod LineFronts
 pub mod Lines
 pub mod Checks
 pub mod Tables
+pub mod RowPlaces
 pub mod Listing
 pub mod Mapped
 pub mod Overlaps

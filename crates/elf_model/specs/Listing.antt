@@ -3,9 +3,12 @@ use Rattle.std.specs.Prelude.{ℕ, suc, zero, ◌==◌, not, Bool, true, false, 
 use Rattle.std.specs.Int.RustNames.{bit_and}
 use Rattle.elf_model.specs.Checks.{Check, first_refusal, header_checks}
 use Rattle.elf_model.specs.Lines.{header_line, refusal_line}
+use Rattle.elf_model.specs.PlaceFilters.{shows_place}
+use Rattle.elf_model.specs.RowPlaces.{place_of_header}
 use Rattle.elf_model.specs.Style.{ListingStyle}
 use Rattle.elf_model.specs.declared.causes.Refusal.{Refusal}
 use Rattle.elf_model.specs.declared.formats.Format.{Format}
+use Rattle.elf_model.specs.declared.place_filters.RowPlace.{RowPlace}
 
 -- a member of a listing: a line, or a fault
 pub data ListingItem : Type 0 where
@@ -99,8 +102,15 @@ has_tables parts = not (bit_and parts TABLES == 0)
 abbrev pub where_asked : ℕ → ℕ → List ListingItem → List ListingItem
 where_asked parts part items = elim (has parts part) [ true ↦ items | false ↦ [] ]
 
--- the file header's part: the first of its checks that fails, otherwise its line if the parts have
+-- a row without a fault: its line, if a style shows the rows at its place
+abbrev pub placed_line : ListingStyle → RowPlace → List ℕ → List ListingItem
+placed_line style place text = if shows_place style.place place then Line text ∷ [] else []
+
+-- the row of the file header
+abbrev pub header_row : ListingStyle → List ℕ → List ListingItem
+header_row style file = placed_line style place_of_header (header_line style.format file)
+
+-- the file header's part: the first of its checks that fails, otherwise its row if the parts have
 -- it
-unfoldable pub file_header_items : Format → List ℕ → ℕ → List ListingItem
-file_header_items format file parts =
-    guarded (header_checks file) (where_asked parts HEADER (Line (header_line format file) ∷ []))
+unfoldable pub file_header_items : ListingStyle → List ℕ → ℕ → List ListingItem
+file_header_items style file parts = guarded (header_checks file) (where_asked parts HEADER (header_row style file))

@@ -2,8 +2,8 @@
 use Rattle.std.specs.Prelude.{◌≡◌, ℕ, ◌+◌, ◌≤◌, true, false, List, ◌++◌, Option, None, Some}
 use Rattle.elf_model.specs.Budget.{IsReport, IsBudgeted}
 use Rattle.elf_model.specs.Checks.{first_refusal, header_checks, load_checks}
-use Rattle.elf_model.specs.Lines.{header_line, refusal_line}
-use Rattle.elf_model.specs.Listing.{ListingItem, each, lines_of, fault_of, has, report_of, has_tables, file_header_items, known_parts, HEADER}
+use Rattle.elf_model.specs.Lines.{refusal_line}
+use Rattle.elf_model.specs.Listing.{ListingItem, each, lines_of, fault_of, has, header_row, report_of, has_tables, file_header_items, known_parts, HEADER}
 use Rattle.elf_model.specs.Cost.{listing_cost}
 use Rattle.elf_model.specs.Report.{listing}
 use Rattle.elf_model.specs.Style.{ListingStyle, viewed}
@@ -25,7 +25,7 @@ abbrev pub HeaderAloneIsListed : Type 0
 HeaderAloneIsListed =
     (file : List ℕ) → (headers : ℕ) → (style : ListingStyle) → (parts : ℕ)
     → has_tables (known_parts style parts) ≡ false
-    → listing file headers style parts ≡ file_header_items style.format file parts
+    → listing file headers style parts ≡ file_header_items style file parts
 
 -- if a check of the file header fails, the listing is that fault's line alone, under any parts
 abbrev pub HeaderFaultIsListedAlone : Type 0
@@ -35,14 +35,14 @@ HeaderFaultIsListedAlone =
     → (report_of style.format (listing file headers style parts) ≡ refusal_line style.format refusal)
     × (fault_of (listing file headers style parts) ≡ Some refusal)
 
--- if a load check of the file that the style lists fails, the listing is the file header's line and
+-- if a load check of the file that the style lists fails, the listing is the file header's row and
 -- that fault's line, under any parts with the file header's and another that the style knows
 abbrev pub LoadFaultIsListedSecond : Type 0
 LoadFaultIsListedSecond =
     (file : List ℕ) → (headers : ℕ) → (style : ListingStyle) → (parts : ℕ) → (refusal : Refusal)
     → first_refusal (header_checks file) ≡ None → first_refusal (load_checks (viewed style file) headers) ≡ Some refusal
     → has parts HEADER ≡ true → has_tables (known_parts style parts) ≡ true
-    → report_of style.format (listing file headers style parts) ≡ header_line style.format file ++ refusal_line style.format refusal
+    → report_of style.format (listing file headers style parts) ≡ lines_of (header_row style file) ++ refusal_line style.format refusal
 
 -- what follows the first fault of a listing is not shown
 abbrev pub NothingAfterTheFault : Type 0

@@ -73,6 +73,9 @@ PT_DYNAMIC = 2
 abbrev pub PT_NOTE : ℕ
 PT_NOTE = 4
 
+abbrev pub PT_TLS : ℕ
+PT_TLS = 7
+
 -- dynamic array tags (gABI 5, Dynamic Section)
 abbrev pub DT_NULL : ℕ
 DT_NULL = 0
@@ -114,7 +117,11 @@ DT_VERDEF = 0x6ffffffc
 abbrev pub DT_VERNEED : ℕ
 DT_VERNEED = 0x6ffffffe
 
--- the section flag of bytes that are compressed (gABI 4, Section Attribute Flags)
+-- the section flags of bytes that take memory while a program runs, and of bytes that are
+-- compressed (gABI 4, Section Attribute Flags)
+abbrev pub SHF_ALLOC : ℕ
+SHF_ALLOC = 0x2
+
 abbrev pub SHF_COMPRESSED : ℕ
 SHF_COMPRESSED = 0x800
 
@@ -150,6 +157,12 @@ STT_OBJECT = 1
 
 abbrev pub STT_FUNC : ℕ
 STT_FUNC = 2
+
+abbrev pub STT_SECTION : ℕ
+STT_SECTION = 3
+
+abbrev pub STT_FILE : ℕ
+STT_FILE = 4
 
 abbrev pub STT_COMMON : ℕ
 STT_COMMON = 5

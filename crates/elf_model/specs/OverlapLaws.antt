@@ -2,8 +2,8 @@
 use Rattle.std.specs.Prelude.{◌≡◌, ℕ, ◌<◌, ◌≤◌, true, false, List, ◌++◌, None, Some}
 use Rattle.elf_model.specs.Checks.{pass, first_refusal, header_checks, load_checks}
 use Rattle.elf_model.specs.Cost.{needs_segments}
-use Rattle.elf_model.specs.Lines.{header_line, refusal_line}
-use Rattle.elf_model.specs.Listing.{has, has_tables, known_parts, report_of, HEADER}
+use Rattle.elf_model.specs.Lines.{refusal_line}
+use Rattle.elf_model.specs.Listing.{has, has_tables, header_row, known_parts, lines_of, report_of, HEADER}
 use Rattle.elf_model.specs.Overlaps.{overlap_checks, takes_memory, first_page, page_behind}
 use Rattle.elf_model.specs.Records.{e_phnum, segment_at}
 use Rattle.elf_model.specs.Report.{listing, loaded_items, table_items}
@@ -20,8 +20,8 @@ NoPageIsShared =
     → page_behind file (segment_at file earlier) ≤ first_page file (segment_at file later)
 
 -- if a style finds tables by the program headers and the parts need these, a file that passes the
--- other checks with overlapping LOAD segments has a listing of the file header's line and the
--- fault's
+-- other checks with overlapping LOAD segments has a listing of the file header's row and the fault's
+-- line
 abbrev pub OverlapIsListedSecond : Type 0
 OverlapIsListedSecond =
     (file : List ℕ) → (headers : ℕ) → (style : ListingStyle) → (parts : ℕ) → (refusal : Refusal)
@@ -29,7 +29,7 @@ OverlapIsListedSecond =
     → style.by_segments ≡ true → needs_segments (viewed style file) (known_parts style parts) ≡ true
     → first_refusal (overlap_checks (viewed style file)) ≡ Some refusal
     → has parts HEADER ≡ true → has_tables (known_parts style parts) ≡ true
-    → report_of style.format (listing file headers style parts) ≡ header_line style.format file ++ refusal_line style.format refusal
+    → report_of style.format (listing file headers style parts) ≡ lines_of (header_row style file) ++ refusal_line style.format refusal
 
 -- any other style lists such a file as it lists others
 abbrev pub OverlapIsListedElsewhere : Type 0

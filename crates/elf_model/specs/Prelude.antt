@@ -74,7 +74,7 @@ unfoldable pub use Rattle.elf_model.specs.Lines.{told_line}
 unfoldable pub use Rattle.elf_model.specs.Lines.{descriptor_text, escaped, header_line, hex_bytes, line_described, line_named, name_byte_text, name_text, note_tail, refusal_line, segment_line, steps_line}
 pub use Rattle.elf_model.specs.Links.{LINK_TEXT_BYTES, LinkState, NeededName, TextRoom, first_text, has_room, is_link, no_link_info, room_after}
 unfoldable pub use Rattle.elf_model.specs.Links.{link_text, linked_by, linked_from, linked_in, linked_with, links_by_segments, links_ceiling, links_of, loaded_links, lookup_refusal, machine_in}
-pub use Rattle.elf_model.specs.Listing.{ALL, DYNAMIC, Fault, GNU_ALL, HEADER, Line, ListingItem, NOTES, RELOCS, SECTIONS, SEGMENTS, SYMBOLS, VERSIONS, all_parts, end_text, fault_of, guarded, has, has_tables, known_parts, lines_of, report_of, where_asked}
+pub use Rattle.elf_model.specs.Listing.{ALL, DYNAMIC, Fault, GNU_ALL, HEADER, Line, ListingItem, NOTES, RELOCS, SECTIONS, SEGMENTS, SYMBOLS, VERSIONS, all_parts, end_text, fault_of, guarded, has, has_tables, header_row, known_parts, lines_of, placed_line, report_of, where_asked}
 pub use Rattle.elf_model.specs.ListingLaws.{HeaderAloneIsListed, HeaderFaultIsListedAlone, LastRowIsLast, ListingsAppend, LoadFaultIsListedSecond, NothingAfterTheFault, OtherBitsMeanNothing, RowsSplit}
 unfoldable pub use Rattle.elf_model.specs.Listing.{each, file_header_items}
 pub use Rattle.elf_model.specs.Loader.{AT_SIGN, CompareResult, DefaultVersion, DynamicSymbols, Meets, Misses, NoVersion, NumberNameSource, Refuses, SymbolQuery, Version, VersionQuery, VersionRecordRead, VersionRecordTable, VersymTable, asked_after, asked_name, compared_until, end_reading, has_record, is_among, is_hidden, one_later, one_more, symbol_offset, versym_at, with_number}
@@ -104,6 +104,7 @@ pub use Rattle.elf_model.specs.Numbers.{DT_GNU_HASH, DT_HASH, DT_NULL, DT_RPATH,
 pub use Rattle.elf_model.specs.OverlapLaws.{NoPageIsShared, OverlapIsListedElsewhere, OverlapIsListedSecond}
 pub use Rattle.elf_model.specs.Overlaps.{first_page, page_behind, takes_memory}
 unfoldable pub use Rattle.elf_model.specs.Overlaps.{loads_from, overlap_checks, overlaps_from}
+pub use Rattle.elf_model.specs.PlaceFilters.{every_place, is_placed, nowhere, range_has, range_if, shows_place}
 pub use Rattle.elf_model.specs.Placing.{Compared, Layout, NameSearch, Searched, named_or, no_items, placed_at, undefined_value}
 unfoldable pub use Rattle.elf_model.specs.Placing.{address_in, address_named, base_value, entry_value, has_base, is_system_specific, place_value, plt_entry_value, section_symbol_value, symbol_value, system_value, unnamed_value}
 pub use Rattle.elf_model.specs.Properties.{GNU_PROPERTY_X86_FEATURE_1_AND, ListEnds, NoProperty, OneProperty, PROPERTY_HEAD_SIZE, Property, PropertyList, PropertyWalk, bare_property, is_gnu_name, is_property_note, padded_property, pr_datasz, pr_type, property_word, with_property}
@@ -112,7 +113,8 @@ pub use Rattle.elf_model.specs.RecordLaws.{FieldsOfSlices, LinesOfSlices}
 pub use Rattle.elf_model.specs.Records.{ELF_MAGIC_SIZE, FILE_HEADER_SIZE, PROGRAM_HEADER_SIZE, SECTION_HEADER_SIZE, d_tag, d_un, e_entry, e_flags, e_machine, e_phentsize, e_phnum, e_phoff, e_shentsize, e_shnum, e_shoff, e_shstrndx, e_type, has_elf_magic, n_descsz, n_namesz, n_type, p_align, p_filesz, p_flags, p_memsz, p_offset, p_paddr, p_type, p_vaddr, r_addend, r_info, r_offset, r_sym, r_type, section_at, segment_at, sh_addr, sh_addralign, sh_entsize, sh_flags, sh_info, sh_link, sh_name, sh_offset, sh_size, sh_type, st_info, st_name, st_other, st_shndx, st_size, st_type, st_value, twos_complement, vd_aux, versym, vn_aux, vn_file, vn_next, vna_name}
 pub use Rattle.elf_model.specs.Report.{items, report, report_fault}
 unfoldable pub use Rattle.elf_model.specs.Report.{kinds_rows, listing, load_items, loaded_items, table_items, table_rows, view_checks}
-pub use Rattle.elf_model.specs.Rows.{chosen_row, is_string_tag, named_row, no_name, refused_row, symbol_choice}
+pub use Rattle.elf_model.specs.RowPlaces.{is_address, is_in_memory_type, place_of_dynamic, place_of_header, place_of_record, place_of_relocation, place_of_section, place_of_segment, place_of_symbol}
+pub use Rattle.elf_model.specs.Rows.{chosen_row, is_string_tag, named_row, no_name, placed_choice, refused_row, relocation_choice, symbol_choice}
 unfoldable pub use Rattle.elf_model.specs.Rows.{dynamic_row, note_row, notes_rows, relocation_row, section_name, section_row, segment_row, symbol_named, symbol_row, walk_rows}
 pub use Rattle.elf_model.specs.Searches.{NulFound}
 pub use Rattle.elf_model.specs.ShownNames.{shown_as}
@@ -122,7 +124,7 @@ unfoldable pub use Rattle.elf_model.specs.Style.{tells_of_sections, without_sect
 pub use Rattle.elf_model.specs.SuffixLaws.{SuffixesAreWithinMost, UndefinedHaveNoDefault, UnversionedEntriesArePlain, UnversionedSymbolsArePlain}
 pub use Rattle.elf_model.specs.Suffixes.{after_refusal, first_numbers, is_default, or_refusal, suffix_of, suffixed_line, suffixed_row, version_numbers_of, version_sign}
 unfoldable pub use Rattle.elf_model.specs.Suffixes.{line_suffixed, relocation_row_with_version, suffix_at, suffix_members, suffix_text, suffixed_relocation_rows, suffixed_symbol_rows, suffixes_refusal, symbol_row_with_version, symbol_suffix, version_member, walk_refusal, word_suffix}
-pub use Rattle.elf_model.specs.SymbolFilterLaws.{EverySymbolIsShown, NarrowedChooses, SelectionsHideNoFault}
+pub use Rattle.elf_model.specs.SymbolFilterLaws.{EveryPlaceIsShown, EverySymbolIsShown, NarrowedChooses, SelectionsHideNoFault}
 pub use Rattle.elf_model.specs.SymbolFilters.{every_symbol, is_narrow, narrowed, shows_symbol}
 pub use Rattle.elf_model.specs.SysvWalk.{EndsAtWord, IsSysvWalk, fault_at, has_name, is_sysv_index, lookup_answer, parse_lookup, section_table_of, sysv_cycle, sysv_walked_by, sysv_word}
 pub use Rattle.elf_model.specs.SysvWalkLaws.{SysvFoundAnswers, SysvWalkAnswers, SysvWalkIsBounded, SysvWalkIsLookup, SysvWalkIsOne}
@@ -144,7 +146,7 @@ unfoldable pub use Rattle.elf_model.specs.Values.{fits_in_range, kind_in, kind_o
 pub use Rattle.elf_model.specs.VersionCost.{has_strings, has_symbol_table, is_inside, links, versioned_rows}
 unfoldable pub use Rattle.elf_model.specs.VersionCost.{versioned_cost, walk_cost, walks_cost}
 pub use Rattle.elf_model.specs.VersionLaws.{CheckedRowsAreCounted, FirstListNamesFirst, NamedIsFirst, NamesOfNumbersAreShown, NumbersAreSmall, RecordIsRefused, RecordIsVisited, RecordsAreBounded, RecordsStand, RowsAreSymbols, StandsInTable, UnnamedHasNone, records_rows}
-pub use Rattle.elf_model.specs.VersionRows.{end_rows, first_of_type, first_strings, first_versions, section_versions, symbols_checks, version_records, version_table, versioned_count, versioned_symbols}
+pub use Rattle.elf_model.specs.VersionRows.{end_rows, first_of_type, first_strings, first_versions, section_versions, place_of_version, symbols_checks, version_records, version_table, versioned_count, versioned_symbols}
 unfoldable pub use Rattle.elf_model.specs.VersionRows.{kind_text, numbered_row, symbol_version_prefix, symbol_version_row, symbol_version_rows, symbol_versions, version_definitions, version_named, version_needs, version_prefix, version_row, version_strings, versions_rows, visited_rows}
 pub use Rattle.elf_model.specs.Versions.{DEFINED_NAME_SIZE, DEFINITION_SIZE, NEED_SIZE, RecordCursorState, VERSION_NUMBERS, VERSYM_SIZE, Versions, VisitedRecord, along, along_needs, first_position, max_records, named_at, names_version_index, no_versions, number_in, record_size, visited_at, with_visited, word_checks}
 unfoldable pub use Rattle.elf_model.specs.Versions.{flags_word, hash_word, name_distance, name_end, name_index, named_by, names_version, next_position, next_word, number_word, record_checks, version_of, version_word, versions_in, visited_from}

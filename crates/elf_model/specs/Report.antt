@@ -4,8 +4,7 @@ use Rattle.elf_model.specs.Records.{e_shnum, e_phnum}
 use Rattle.elf_model.specs.Checks.{Check, header_checks, load_checks}
 use Rattle.elf_model.specs.Cost.{needs_segments}
 use Rattle.elf_model.specs.HeaderTables.{HeaderTable, TableKind}
-use Rattle.elf_model.specs.Lines.{header_line}
-use Rattle.elf_model.specs.Listing.{ListingItem, Line, guarded, each, where_asked, has_tables, known_parts, report_of, fault_of, HEADER, SECTIONS, SEGMENTS}
+use Rattle.elf_model.specs.Listing.{ListingItem, guarded, header_row, each, where_asked, has_tables, known_parts, report_of, fault_of, HEADER, SECTIONS, SEGMENTS}
 use Rattle.elf_model.specs.Overlaps.{overlap_checks}
 use Rattle.elf_model.specs.Rows.{section_row, segment_row}
 use Rattle.elf_model.specs.Style.{ListingStyle, standard, viewed}
@@ -57,7 +56,7 @@ load_items file headers style parts =
 unfoldable pub listing : List ℕ → ℕ → ListingStyle → ℕ → List ListingItem
 listing file headers style parts =
     guarded (header_checks file)
-    (where_asked parts HEADER (Line (header_line style.format file) ∷ []) ++ load_items (viewed style file) headers style (known_parts style parts))
+    (where_asked parts HEADER (header_row style file) ++ load_items (viewed style file) headers style (known_parts style parts))
 
 -- the listing with this limit on bytes of a name, in the standards' names, by the section headers
 -- if there are any, in columns

@@ -1,22 +1,25 @@
 -- The rows of a listing. Each is a line, or the fault of its entry.
-use Rattle.std.specs.Prelude.{ℕ, ◌+◌, ◌==◌, ◌||◌, not, Bool, true, false, if◌then◌else◌, List, [], ◌∷◌, ◌++◌, length, Option, None, Some, Result, Ok, Err}
-use Rattle.elf_model.specs.Choice.{RowFilter, NoSuffix, chooses}
+use Rattle.std.specs.Prelude.{ℕ, ◌+◌, ◌==◌, ◌&&◌, ◌||◌, not, Bool, true, false, if◌then◌else◌, List, [], ◌∷◌, ◌++◌, length, Option, None, Some, Result, Ok, Err}
+use Rattle.elf_model.specs.Choice.{RowFilter, EveryRow, NoSuffix, chooses}
 use Rattle.elf_model.specs.Records.{e_machine, e_shstrndx, sh_name, section_at, segment_at, sh_type, st_name, st_shndx, r_sym, d_tag, d_un}
 use Rattle.elf_model.specs.Numbers.{DT_NEEDED, DT_SONAME, DT_RPATH, DT_RUNPATH, SHN_UNDEF, SHT_DYNSYM}
 use Rattle.elf_model.specs.Names.{DisplayedName, shown}
 use Rattle.elf_model.specs.Names.DisplayedName.{Whole}
+use Rattle.elf_model.specs.PlaceFilters.{shows_place}
+use Rattle.elf_model.specs.RowPlaces.{place_of_dynamic, place_of_record, place_of_relocation, place_of_section, place_of_segment, place_of_symbol}
 use Rattle.elf_model.specs.Style.{ListingStyle}
 use Rattle.elf_model.specs.SymbolFilters.{narrowed, shows_symbol}
-use Rattle.elf_model.specs.Notes.{Note, NoteScan, note_shown}
+use Rattle.elf_model.specs.Notes.{NoteRow, NoteScan, note_rows, note_shown, padded_size}
 use Rattle.elf_model.specs.Tables.{SYMBOL_SIZE, RELA_SIZE, section_bytes, strings_of, linked_at, entry_at, symbol_checks_of}
 use Rattle.elf_model.specs.Checks.{first_refusal}
 use Rattle.elf_model.specs.Fields.{LinePrefix}
 use Rattle.elf_model.specs.LineFronts.{section_prefix, symbol_prefix, relocation_prefix, note_prefix, dynamic_prefix}
 use Rattle.elf_model.specs.Lines.{named_line, note_line, segment_line}
-use Rattle.elf_model.specs.Listing.{ListingItem, Line, Fault}
+use Rattle.elf_model.specs.Listing.{ListingItem, Line, Fault, placed_line}
 use Rattle.elf_model.specs.declared.causes.Cause.{Cause}
 use Rattle.elf_model.specs.declared.causes.Cause.TheVariants.{NoteCut}
 use Rattle.elf_model.specs.declared.causes.Refusal.{Refusal}
+use Rattle.elf_model.specs.declared.place_filters.RowPlace.{RowPlace}
 
 -- a row that is refused, at an offset
 abbrev pub refused_row : ℕ → Cause → List ListingItem
@@ -33,6 +36,10 @@ abbrev pub chosen_row : RowFilter → LinePrefix → ℕ → Result DisplayedNam
 chosen_row choice front at (Ok name) = if chooses choice name NoSuffix then Line (named_line front name) ∷ [] else []
 chosen_row choice front at (Err cause) = refused_row at cause
 
+-- the rows that a style shows of those at a place, among some rows
+abbrev pub placed_choice : ListingStyle → RowPlace → RowFilter → RowFilter
+placed_choice style place choice = narrowed (shows_place style.place place) choice
+
 -- the empty name
 abbrev pub no_name : Result DisplayedName Cause
 no_name = Ok (Whole [])
@@ -47,17 +54,23 @@ section_name file at cap =
 unfoldable pub section_row : List ℕ → ListingStyle → ℕ → List ListingItem
 section_row file style index =
     let at = section_at file index in
-    named_row (section_prefix style.format style.gnu (e_machine file) file at index) at (section_name file at style.cap)
+    chosen_row (placed_choice style (place_of_section file at) EveryRow)
+    (section_prefix style.format style.gnu (e_machine file) file at index) at (section_name file at style.cap)
 
 -- the row of a program header
 unfoldable pub segment_row : List ℕ → ListingStyle → ℕ → List ListingItem
-segment_row file style index = Line (segment_line style.format style.gnu file (segment_at file index) index) ∷ []
+segment_row file style index =
+    let at = segment_at file index in
+    placed_line style (place_of_segment file at) (segment_line style.format style.gnu file at index)
 
 -- the rows that are shown of the symbol at an offset, of the symbol table whose section's header is
 -- at another
 abbrev pub symbol_choice : List ℕ → ListingStyle → (at symbol_at : ℕ) → RowFilter
 symbol_choice file style at symbol_at =
-    narrowed (shows_symbol style.symbols (not (st_shndx file symbol_at == SHN_UNDEF)) (sh_type file at == SHT_DYNSYM)) style.choice
+    narrowed
+    (shows_symbol style.symbols (not (st_shndx file symbol_at == SHN_UNDEF)) (sh_type file at == SHT_DYNSYM)
+    && shows_place style.place (place_of_symbol file symbol_at))
+    style.choice
 
 -- the row of a symbol of the symbol table that a section header describes
 unfoldable pub symbol_row : List ℕ → ListingStyle → ℕ → ℕ → ℕ → List ListingItem
@@ -79,32 +92,38 @@ symbol_named file cap header_at rela_at symbol =
       | None ↦ (symbol_at, shown (strings_of file table_at) (st_name file symbol_at) cap)
     ]
 
+-- the rows that are shown of the relocation entry at an offset
+abbrev pub relocation_choice : List ℕ → ListingStyle → ℕ → RowFilter
+relocation_choice file style rela_at = placed_choice style (place_of_relocation file rela_at) style.choice
+
 -- the row of a relocation entry with the name of its symbol
 unfoldable pub relocation_row : List ℕ → ListingStyle → ℕ → ℕ → ℕ → List ListingItem
 relocation_row file style section at index =
     let rela_at = entry_at file at RELA_SIZE index in
     let symbol = symbol_named file style.cap at rela_at (r_sym file rela_at) in
-    chosen_row style.choice (relocation_prefix style.format style.gnu (e_machine file) file rela_at section) symbol.0 symbol.1
+    chosen_row (relocation_choice file style rela_at) (relocation_prefix style.format style.gnu (e_machine file) file rela_at section) symbol.0 symbol.1
 
--- the row of a note
-unfoldable pub note_row : ListingStyle → ℕ → Note → ListingItem
-note_row style index note =
+-- the row of a note of an alignment: its record has its padding
+unfoldable pub note_row : ListingStyle → (index a : ℕ) → NoteRow → List ListingItem
+note_row style index a row =
+    let note = row.note in
     let front = note_prefix style.format index note.kind (length note.name) (length note.descriptor) in
-    Line (note_line front (note_shown style.cap note) note.descriptor)
+    placed_line style (place_of_record row.at (padded_size a note)) (note_line front (note_shown style.cap note) note.descriptor)
 
 -- the rows of notes
-unfoldable pub notes_rows : ListingStyle → ℕ → List Note → List ListingItem
-notes_rows style index [] = []
-notes_rows style index (note ∷ notes) = note_row style index note ∷ notes_rows style index notes
+unfoldable pub notes_rows : ListingStyle → (index a : ℕ) → List NoteRow → List ListingItem
+notes_rows style index a [] = []
+notes_rows style index a (row ∷ rows) = note_row style index a row ++ notes_rows style index a rows
 
 -- the end of a table of notes at an offset: a fault at the offset where it is cut
 abbrev cut_rows : ℕ → Option ℕ → List ListingItem
 cut_rows table_at None = []
 cut_rows table_at (Some place) = refused_row (table_at + place) NoteCut
 
--- the rows of a table of notes at an offset, up to the offset where it is cut, if it is
-unfoldable pub walk_rows : ListingStyle → ℕ → ℕ → NoteScan → List ListingItem
-walk_rows style index table_at walk = notes_rows style index walk.notes ++ cut_rows table_at walk.cut
+-- the rows of a table of notes of an alignment at an offset, up to the offset where it is cut, if
+-- it is
+unfoldable pub walk_rows : ListingStyle → (index a table_at : ℕ) → NoteScan → List ListingItem
+walk_rows style index a table_at walk = notes_rows style index a (note_rows a table_at walk.notes) ++ cut_rows table_at walk.cut
 
 -- the value of an entry with this tag is a string table index (gABI 5, Dynamic Section)
 abbrev pub is_string_tag : ℕ → Bool
@@ -115,10 +134,11 @@ is_string_tag tag = tag == DT_NEEDED || tag == DT_SONAME || tag == DT_RPATH || t
 unfoldable pub dynamic_row : List ℕ → ListingStyle → (ℕ → Result (List ℕ) Refusal) → ℕ → ℕ → List ListingItem
 dynamic_row file style strings dynamic_at index =
     let front = dynamic_prefix style.format style.gnu file dynamic_at index in
+    let choice = placed_choice style (place_of_dynamic dynamic_at) EveryRow in
     elim (is_string_tag (d_tag file dynamic_at)) [
-      | false ↦ named_row front dynamic_at no_name
+      | false ↦ chosen_row choice front dynamic_at no_name
       | true ↦ elim (strings dynamic_at) [
         | Err refusal ↦ Fault refusal ∷ []
-        | Ok table ↦ named_row front dynamic_at (shown table (d_un file dynamic_at) style.cap)
+        | Ok table ↦ chosen_row choice front dynamic_at (shown table (d_un file dynamic_at) style.cap)
       ]
     ]

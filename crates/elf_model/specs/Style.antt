@@ -1,15 +1,17 @@
 -- How a listing is made, besides how many headers are allowed and which parts it has.
 use Rattle.std.specs.Prelude.{ℕ, suc, ◌&&◌, ◌||◌, nat_le, nat_lt, if◌then◌else◌, Bool, true, false, List, [], ◌∷◌}
 use Rattle.elf_model.specs.Choice.{RowFilter, EveryRow}
+use Rattle.elf_model.specs.PlaceFilters.{every_place}
 use Rattle.elf_model.specs.SymbolFilters.{every_symbol}
 use Rattle.elf_model.specs.declared.formats.Format.{Format}
 use Rattle.elf_model.specs.declared.formats.Format.TheVariants.{Columns}
+use Rattle.elf_model.specs.declared.place_filters.PlaceFilter.{PlaceFilter}
 use Rattle.elf_model.specs.declared.symbol_filters.SymbolFilter.{SymbolFilter}
 
 -- HOW ROWS ARE SHOWN: how many bytes of a name, whether GNU numbers have names too, whether tables
 -- are found by the program headers even if there are section headers, how a line is written, which
--- rows that end in the name of a symbol or of a version are shown, which symbols are, and whether
--- the version of a symbol follows its name
+-- rows that end in the name of a symbol or of a version are shown, which symbols are, which rows
+-- are by where they are, and whether the version of a symbol follows its name
 pub record ListingStyle : Type 0 where
   pub cap : ℕ
   pub gnu : Bool
@@ -17,12 +19,13 @@ pub record ListingStyle : Type 0 where
   pub format : Format
   pub choice : RowFilter
   pub symbols : SymbolFilter
+  pub place : PlaceFilter
   pub versions : Bool
 
 -- this limit on bytes of a name, with the standards' names alone, by the section headers if there
 -- are any, in columns, and every row
 abbrev pub standard : ℕ → ListingStyle
-standard cap = record { cap = cap; gnu = false; by_segments = false; format = Columns; choice = EveryRow; symbols = every_symbol; versions = false }
+standard cap = record { cap = cap; gnu = false; by_segments = false; format = Columns; choice = EveryRow; symbols = every_symbol; place = every_place; versions = false }
 
 -- the positions of a file header that locate section headers: e_shoff, and e_shnum followed by
 -- e_shstrndx

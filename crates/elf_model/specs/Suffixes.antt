@@ -12,7 +12,7 @@ use Rattle.elf_model.specs.Names.{DisplayedName, shown}
 use Rattle.elf_model.specs.Names.DisplayedName.{Whole, Cut}
 use Rattle.elf_model.specs.Numbers.{SHN_UNDEF, SHT_GNU_VERDEF, SHT_GNU_VERNEED, SHT_GNU_VERSYM}
 use Rattle.elf_model.specs.Records.{e_machine, r_sym, section_at, sh_link, sh_type, st_name, st_shndx, versym}
-use Rattle.elf_model.specs.Rows.{symbol_choice, symbol_named}
+use Rattle.elf_model.specs.Rows.{relocation_choice, symbol_choice, symbol_named}
 use Rattle.elf_model.specs.Style.{ListingStyle}
 use Rattle.elf_model.specs.Tables.{RELA_SIZE, SYMBOL_SIZE, all_checks, entry_at, entry_count, has_symbols, linked_at, strings_of}
 use Rattle.elf_model.specs.Text.{newline}
@@ -155,7 +155,8 @@ relocation_row_with_version file style section at index =
     let suffix =
     if symbol == 0 then Ok NoSuffix
     else symbol_suffix file style.cap (sh_link file at) (entry_at file (linked_at file at) SYMBOL_SIZE symbol) symbol in
-    suffixed_row style.choice (relocation_prefix style.format style.gnu (e_machine file) file rela_at section) named.0 named.1 suffix
+    suffixed_row (relocation_choice file style rela_at)
+    (relocation_prefix style.format style.gnu (e_machine file) file rela_at section) named.0 named.1 suffix
 
 unfoldable pub suffixed_relocation_rows : List ℕ → ListingStyle → ℕ → ℕ → List ListingItem
 suffixed_relocation_rows file style section at =

@@ -84,7 +84,8 @@ notes_of has_table offset size align = record {
   };
   asks = each_entry size (λ cap. 1);
   rows = λ file style index at.
-      walk_rows style index (offset file at) (walked (note_align (align file at)) (slice file (offset file at) (size file at)));
+      walk_rows style index (note_align (align file at)) (offset file at)
+      (walked (note_align (align file at)) (slice file (offset file at) (size file at)));
 }
 
 -- the notes of a section, and of a segment

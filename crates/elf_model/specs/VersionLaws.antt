@@ -8,6 +8,7 @@ use Rattle.elf_model.specs.Choice.{EveryRow}
 use Rattle.elf_model.specs.HeaderTables.{file_sections}
 use Rattle.elf_model.specs.Listing.{ListingItem, VERSIONS, fault_of}
 use Rattle.elf_model.specs.Names.{shown}
+use Rattle.elf_model.specs.PlaceFilters.{is_placed}
 use Rattle.elf_model.specs.Records.{section_at, sh_size}
 use Rattle.elf_model.specs.Report.{kinds_rows}
 use Rattle.elf_model.specs.Style.{ListingStyle}
@@ -87,7 +88,8 @@ FirstListNamesFirst =
 -- before the symbols one more that says so; entries past the last symbol have none
 abbrev pub RowsAreSymbols : Type 0
 RowsAreSymbols =
-    (file : List ℕ) (style : ListingStyle) (section at : ℕ) → style.choice ≡ EveryRow → (sh_size file at == 0) ≡ false
+    (file : List ℕ) (style : ListingStyle) (section at : ℕ) → style.choice ≡ EveryRow → is_placed style.place ≡ false
+    → (sh_size file at == 0) ≡ false
     → length (symbol_version_rows file style section at)
     ≡ (if nat_lt (entry_count file at VERSYM_SIZE) (versioned_symbols file at) then entry_count file at VERSYM_SIZE + 1
     else versioned_symbols file at)

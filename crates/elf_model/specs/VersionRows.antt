@@ -8,14 +8,17 @@ use Rattle.elf_model.specs.Listing.{ListingItem, Fault, VERSIONS, each}
 use Rattle.elf_model.specs.Names.{shown, name_bytes}
 use Rattle.elf_model.specs.Numbers.{SHT_GNU_VERDEF, SHT_GNU_VERNEED, SHT_GNU_VERSYM}
 use Rattle.elf_model.specs.Records.{sh_type, sh_offset, sh_size, sh_link, section_at, versym}
-use Rattle.elf_model.specs.Rows.{chosen_row, no_name, refused_row}
+use Rattle.elf_model.specs.PlaceFilters.{nowhere}
+use Rattle.elf_model.specs.RowPlaces.{place_of_record}
+use Rattle.elf_model.specs.Rows.{chosen_row, no_name, placed_choice, refused_row}
 use Rattle.elf_model.specs.Style.{ListingStyle}
 use Rattle.elf_model.specs.Tables.{SYMBOL_SIZE, TableChecks, section_table, linked_at, strings_of, entry_count, entry_at, has_symbols, symbol_table_checks}
 use Rattle.elf_model.specs.VersionCost.{versioned_cost}
-use Rattle.elf_model.specs.Versions.{VERSYM_SIZE, DEFINITION_SIZE, DEFINED_NAME_SIZE, NEED_SIZE, VisitedRecord, Versions, number_in, number_word, flags_word, hash_word, named_at, name_index, versions_in, version_of}
+use Rattle.elf_model.specs.Versions.{VERSYM_SIZE, DEFINITION_SIZE, DEFINED_NAME_SIZE, NEED_SIZE, VisitedRecord, Versions, number_in, number_word, flags_word, hash_word, named_at, name_index, record_size, versions_in, version_of}
 use Rattle.elf_model.specs.declared.causes.Cause.TheVariants.{BadLink, VersionCut, VersionIndex}
 use Rattle.elf_model.specs.declared.causes.Refusal.{Refusal}
 use Rattle.elf_model.specs.declared.formats.Format.{Format}
+use Rattle.elf_model.specs.declared.place_filters.RowPlace.{RowPlace}
 use Rattle.elf_model.specs.declared.versions.VersionKind.{VersionKind}
 use Rattle.elf_model.specs.declared.versions.VersionKind.TheVariants.{Definition, File, Need}
 
@@ -43,10 +46,19 @@ unfoldable pub version_prefix : Format → VersionKind → (section number flags
 version_prefix format kind section number flags hash =
     front format (codes "name") (version_fields kind section number flags hash)
 
+-- a visited record: a definition also describes its first name, whose bytes have the index
+abbrev pub place_of_version : List ℕ → VisitedRecord → RowPlace
+place_of_version file met = record {
+  entry = record { start = met.at; size = record_size met.kind };
+  bytes = record { start = named_at file met; size = DEFINED_NAME_SIZE };
+  memory = nowhere;
+}
+
 -- the row of a visited record, with its name in a string table
 unfoldable pub version_row : List ℕ → ListingStyle → (section : ℕ) → (strings : List ℕ) → VisitedRecord → List ListingItem
 version_row file style section strings met =
-    chosen_row style.choice (version_prefix style.format met.kind section (number_word file met) (flags_word file met) (hash_word file met))
+    chosen_row (placed_choice style (place_of_version file met) style.choice)
+    (version_prefix style.format met.kind section (number_word file met) (flags_word file met) (hash_word file met))
     (named_at file met) (shown strings (name_index file met) style.cap)
 
 -- the rows of visited records
@@ -120,10 +132,11 @@ symbol_version_prefix format section index word = front format (codes "name") (s
 -- name, 0 and 1 have none, and any other is refused at the entry
 unfoldable pub numbered_row : List ℕ → ListingStyle → (front : LinePrefix) → (entry_at number : ℕ) → List ListingItem
 numbered_row file style front entry_at number =
-    if nat_lt number 2 then chosen_row style.choice front entry_at no_name
+    let choice = placed_choice style (place_of_record entry_at VERSYM_SIZE) style.choice in
+    if nat_lt number 2 then chosen_row choice front entry_at no_name
     else elim (version_named file number) [
       | None ↦ refused_row entry_at VersionIndex
-      | Some met ↦ chosen_row style.choice front (named_at file met) (shown (version_strings file met.kind) (name_index file met) style.cap)
+      | Some met ↦ chosen_row choice front (named_at file met) (shown (version_strings file met.kind) (name_index file met) style.cap)
     ]
 
 -- the row of a symbol's version in the section whose header is at an offset

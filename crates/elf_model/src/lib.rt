@@ -2,7 +2,7 @@
 //! listing and the report.
 //!
 //! As code there are only the causes of a refusal, the states of a file and of a symbol, how a line
-//! is written, which symbols are shown, what a relocation type is, and functions with an empty body
+//! is written, which rows are shown, what a relocation type is, and functions with an empty body
 //! whose contracts are laws about the definitions.
 #![tactic(auto)]
 
@@ -21,6 +21,7 @@ mod missing;
 mod names;
 mod notes;
 mod overlap_laws;
+mod place_filters;
 mod record_laws;
 mod relocation_types;
 mod states;
@@ -38,6 +39,7 @@ mod versions;
 pub use causes::{Cause, Refusal};
 pub use formats::{Format, LinePlace, TableState};
 pub use missing::{LayoutAddress, MissingAddress};
+pub use place_filters::{PlaceRange, PlaceFilter, RowPlace};
 pub use relocation_types::{Formula, RelocationBase, RelocationType, ValueRange};
 pub use states::{BindingState, FileMagic, FileStatus, VersionState};
 pub use symbol_filters::SymbolFilter;

@@ -1,5 +1,5 @@
 //! The laws of which rows are shown.
-ghost use Rattle.elf_model.specs.SymbolFilterLaws.{EverySymbolIsShown, NarrowedChooses, SelectionsHideNoFault};
+ghost use Rattle.elf_model.specs.SymbolFilterLaws.{EveryPlaceIsShown, EverySymbolIsShown, NarrowedChooses, SelectionsHideNoFault};
 
 /// Of the same rows, or none, those are shown that are among them.
 #[tactic(auto, using(crate::proofs::SelectionLaws::narrowed_chooses))]
@@ -11,6 +11,12 @@ pub fn narrowed_chooses()
 #[tactic(auto, using(crate::proofs::SelectionLaws::every_symbol_is_shown))]
 pub fn every_symbol_is_shown()
     ensures { EverySymbolIsShown }
+{}
+
+/// If no place is given, every row is shown.
+#[tactic(auto, using(crate::proofs::PlaceLaws::every_place_is_shown))]
+pub fn every_place_is_shown()
+    ensures { EveryPlaceIsShown }
 {}
 
 /// Whatever rows and symbols are shown, the first fault of a listing is the same, and so is its

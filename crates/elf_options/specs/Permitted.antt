@@ -9,7 +9,7 @@ use Rattle.elf_options.specs.Chosen.{choice_of}
 
 -- a style as the definitions of listings have it
 abbrev pub style_of : ListingStyle → Styled
-style_of style = record { cap = style.cap.bytes; gnu = style.gnu; by_segments = style.by_segments; format = style.format; choice = choice_of style.choice; symbols = style.symbols; versions = style.versions }
+style_of style = record { cap = style.cap.bytes; gnu = style.gnu; by_segments = style.by_segments; format = style.format; choice = choice_of style.choice; symbols = style.symbols; place = style.place; versions = style.versions }
 
 -- how many headers may be allowed
 abbrev pub AreHeaders : ℕ → Type 0

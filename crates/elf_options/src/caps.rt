@@ -2,7 +2,7 @@
 ghost use Rattle.std.specs.Prelude.{◌≤◌};
 
 use crate::row_filter::RowFilter;
-use elf_model::{Format, SymbolFilter};
+use elf_model::{Format, PlaceFilter, SymbolFilter};
 
 /// The maximum number of headers that may be allowed.
 const MAX_HEADERS: u16 = 65_279;
@@ -36,8 +36,8 @@ impl NameLimit {
 ///
 /// Says how many bytes of a name are shown, whether GNU-specific numbers have names besides those
 /// of the standards, by which headers tables are found, how a line is written, which rows that end
-/// in the name of a symbol or of a version are shown, which symbols are, and whether the version of
-/// a symbol follows its name.
+/// in the name of a symbol or of a version are shown, which symbols are, which rows are by where
+/// they are, and whether the version of a symbol follows its name.
 #[derive(Clone, Copy)]
 pub struct ListingStyle<'n> {
     /// The number of bytes of a name that are shown.
@@ -52,6 +52,8 @@ pub struct ListingStyle<'n> {
     pub choice: RowFilter<'n>,
     /// Which symbols are shown, of those whose rows the choice shows.
     pub symbols: SymbolFilter,
+    /// Which rows are shown, by where they are, of those that are shown otherwise.
+    pub place: PlaceFilter,
     /// Whether the version of a symbol follows its name.
     pub versions: bool,
 }
@@ -75,6 +77,7 @@ impl ListingStyle<'_> {
             format: Format::Columns,
             choice: RowFilter::every_row(),
             symbols: SymbolFilter::every_symbol(),
+            place: PlaceFilter::every_place(),
             versions: false,
         }
     }

@@ -24,6 +24,7 @@ pub fn style_with_names<'n>(style: ListingStyle<'_>, names: &'n [&'n [u8]]) -> L
         format: style.format,
         choice: RowFilter::rows_of(names, style.versions),
         symbols: style.symbols,
+        place: style.place,
         versions: style.versions,
     }
 }

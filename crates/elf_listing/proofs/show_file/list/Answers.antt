@@ -53,7 +53,7 @@ returns-in_err-list_header-clause-text g c = λ file held.
     let p = err_from_is_err_and c.from_residual-in_err-list_header.result c.from_residual-in_err-list_header.ensures.1 in
     let read = c.in_ok-header.ensures.read file held in
     rw (p.1, p.2, items_are file c.args.store.now.slots (style_of c.args.style) c.args.parts.0 read.0)
-    (WroteUntilStop-more _ _ _ (header_part c.args.style.format file c.args.parts.0) _ (c.in_err-list_header.ensures.text file read.1))
+    (WroteUntilStop-more _ _ _ (header_part (style_of c.args.style) file c.args.parts.0) _ (c.in_err-list_header.ensures.text file read.1))
 
 pub returns-clause-ceiling : goal.returns-clause-ceiling
 returns-clause-ceiling g c =
@@ -75,7 +75,7 @@ returns-clause-text g c = λ file held.
     let read = c.in_ok-header.ensures.read file held in
     let first = c.in_ok-list_header.ensures.text file read.1 in
     WroteSome-as _ _ _ (items_are file c.args.store.now.slots (style_of c.args.style) c.args.parts.0 read.0)
-    (WroteSome-then _ _ _ _ (header_part c.args.style.format file c.args.parts.0) (load_items (view_of (style_of c.args.style) file) c.args.store.now.slots (style_of c.args.style) (known_parts (style_of c.args.style) c.args.parts.0)) first
+    (WroteSome-then _ _ _ _ (header_part (style_of c.args.style) file c.args.parts.0) (load_items (view_of (style_of c.args.style) file) c.args.store.now.slots (style_of c.args.style) (known_parts (style_of c.args.style) c.args.parts.0)) first
     (rw c.known.ensures at (c.list_by_segments.ensures.text file (c.header.ensures.reads.keeps.same_file ∙ held))))
 
 pub returns-clause-grows : goal.returns-clause-grows

@@ -8,7 +8,7 @@ use Rattle.elf_note.proofs.SpendsLaws.{SpendsAtMost-none}
 use Rattle.elf_table.proofs.OpenLaws.{still_open}
 use Rattle.elf_listing.proofs.LoopLaws.{account_kept, at_most, spent_unread, step_last, step_more, step_stopped}
 use Rattle.elf_listing.proofs.ViewedLaws.{still_viewed}
-use Rattle.elf_note.specs.NoteCursors.{notes_left}
+use Rattle.elf_note.specs.NoteCursors.{notes_from, notes_left}
 use Rattle.elf_listing.specs.Notes.{note_items}
 use Rattle.elf_listing.proofs.NotesShown.{all_left, before_all, before_fault, before_none, note_given, note_more, note_stopped, table_rows}
 use Rattle.elf_source.proofs.GrowthLaws.{grows_not, grows_then}
@@ -31,7 +31,7 @@ notes-init g c =
           let align = note_align c.args.align in
           let style = style_of c.args.self.now.style in
           let all = all_left align file c.new-cursor.result.ahead c.args.table.at c.args.table.count 4096 n.ahead in
-          before_all _ _ _ (sym (ap (note_items style c.args.index) all ∙ table_rows style align c.args.index c.args.table.at (slice file c.args.table.at c.args.table.count)));
+          before_all _ _ _ (sym (ap (note_items style c.args.index align c.new-cursor.result.ahead.at) all ∙ ap (λ place. note_items style c.args.index align place (notes_from align c.args.table.at (slice file c.args.table.at c.args.table.count))) (ap (λ w. w.at) n.ahead) ∙ table_rows style align c.args.index c.args.table.at (slice file c.args.table.at c.args.table.count)));
     }
 
 pub returns-in_err-advance : goal.returns-in_err-advance
@@ -54,7 +54,7 @@ returns-in_err-advance g c = record {
       let now = known.spends.reads.keeps.same_file ∙ held in
       let step = c.in_err-advance.ensures.steps in
       let tells = rw known.same_align at (step.tells file now (known.agrees file held) known.not_failed) in
-      rw (p.1, p.2) (before_fault _ _ _ (style_of c.args.self.now.style) c.args.index _ _ _ (step.leaves.1 known.not_failed) tells (known.text file held));
+      rw (p.1, p.2) (before_fault _ _ _ (style_of c.args.self.now.style) c.args.index (note_align c.args.align) c.notes.cursor.ahead.at _ _ _ (step.leaves.1 known.not_failed) tells (known.text file held));
 }
 
 pub returns-in_err-note_row : goal.returns-in_err-note_row
@@ -81,9 +81,9 @@ returns-in_err-note_row g c =
       shows = λ file held.
           let now = known.spends.reads.keeps.same_file ∙ held in
           let align = note_align c.args.align in
-          let step = note_given _ align c.args.self.now.style c.notes.self.style old new _ c.row.result _ c.if-branch.true known.same_align known.keeps.same_style a.steps c.row.ensures.shows in
+          let step = note_given _ align c.args.self.now.style c.notes.self.style old new _ c.row.result _ c.if-branch.true known.same_align known.keeps.same_style a.keeps.moves.same_end a.steps c.row.ensures.shows in
           rw (p.1, p.2)
-          (note_stopped _ _ _ _ (style_of c.args.self.now.style) c.args.index _ (notes_left align file old.ahead) (notes_left align file new.ahead) c.row.result _
+          (note_stopped _ _ _ _ (style_of c.args.self.now.style) c.args.index align old.ahead.at new.ahead.at _ (notes_left align file old.ahead) (notes_left align file new.ahead) c.row.result _
           (step.gives file now (known.agrees file held)) (known.text file held) (rw known.keeps.same_style at row.shows));
     }
 
@@ -94,7 +94,7 @@ notes-preserved g c =
     let old = c.notes.cursor in
     let new = c.advance.new.self in
     let align = note_align c.args.align in
-    let step = note_given _ align c.args.self.now.style c.notes.self.style old new _ c.row.result _ c.if-branch.true known.same_align known.keeps.same_style a.steps c.row.ensures.shows in
+    let step = note_given _ align c.args.self.now.style c.notes.self.style old new _ c.row.result _ c.if-branch.true known.same_align known.keeps.same_style a.keeps.moves.same_end a.steps c.row.ensures.shows in
     let row = c.in_ok-note_row.ensures in
     let lists = row.keeps in
     let asks = row.spent.0 in
@@ -117,7 +117,7 @@ notes-preserved g c =
       grows = grows_then known.grows row.grows;
       text = λ file held.
           let now = known.spends.reads.keeps.same_file ∙ held in
-          note_more _ _ _ (style_of c.args.self.now.style) c.args.index _ (notes_left align file old.ahead) (notes_left align file new.ahead) c.row.result _
+          note_more _ _ _ (style_of c.args.self.now.style) c.args.index align old.ahead.at new.ahead.at _ (notes_left align file old.ahead) (notes_left align file new.ahead) c.row.result _
           (step.gives file now (known.agrees file held)) (known.text file held) (rw known.keeps.same_style at row.shows);
     }
 
@@ -134,7 +134,7 @@ returns g c =
           let now = known.spends.reads.keeps.same_file ∙ held in
           let step = rw c.if-branch.false at a.steps in
           let tells = rw known.same_align at (step.tells file now (known.agrees file held)) in
-          before_none (style_of c.args.self.now.style) c.args.index _ _ tells (known.text file held);
+          before_none (style_of c.args.self.now.style) c.args.index (note_align c.args.align) c.notes.cursor.ahead.at _ _ tells (known.text file held);
     }
 
 pub invariant_of-self : goal.invariant_of-self

@@ -23,8 +23,8 @@ invariant-notes g l =
       grows : OutGrows l.fn.self.out.now l.self.out.now;
       text : (file : List ℕ) → l.fn.self.src.now.seen.file ≡ Some file
           → WrittenBefore l.fn.self.out.now l.self.out.now
-          (walk_rows style l.fn.index l.fn.table.at (walked align (slice file l.fn.table.at l.fn.table.count)))
-          (note_items style l.fn.index (notes_left align file l.cursor.ahead));
+          (walk_rows style l.fn.index align l.fn.table.at (walked align (slice file l.fn.table.at l.fn.table.count)))
+          (note_items style l.fn.index align l.cursor.ahead.at (notes_left align file l.cursor.ahead));
     }
 
 abbrev pub decreases-notes : goal.decreases-notes

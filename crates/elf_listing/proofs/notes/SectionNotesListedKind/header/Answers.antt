@@ -49,5 +49,5 @@ returns g c =
     let value = range_of_file belongs.size stands.sh_offset stands.sh_size place c.in_ok-table.ensures.value in
     let found = range_passes file _ (sh_size file at) at _ value in
     WroteSome-as _ _ _ (table_passes section_notes file style c.args.index at (eq-eqb _ _ kind) found.0
-    ∙ ap (λ (t : TableRange). walk_rows style c.args.index t.at (walked (note_align (sh_addralign file at)) (slice file t.at t.count))) found.1)
+    ∙ ap (λ (t : TableRange). walk_rows style c.args.index (note_align (sh_addralign file at)) t.at (walked (note_align (sh_addralign file at)) (slice file t.at t.count))) found.1)
     (rw stands.sh_addralign at (c.notes.ensures.shows file held)))

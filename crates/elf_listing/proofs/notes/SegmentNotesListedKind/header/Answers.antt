@@ -55,5 +55,5 @@ returns g c =
     let value = range_of_file belongs.size stands.p_offset stands.p_filesz place c.in_ok-table.ensures.value in
     let found = range_passes file _ (p_filesz file at) at _ value in
     WroteSome-as _ _ _ (table_passes segment_notes file style c.args.index at (eq-eqb _ _ kind) found.0
-    ∙ ap (λ (t : TableRange). walk_rows style c.args.index t.at (walked (note_align (p_align file at)) (slice file t.at t.count))) found.1)
+    ∙ ap (λ (t : TableRange). walk_rows style c.args.index (note_align (p_align file at)) t.at (walked (note_align (p_align file at)) (slice file t.at t.count))) found.1)
     (rw stands.p_align at (c.notes.ensures.shows file held)))

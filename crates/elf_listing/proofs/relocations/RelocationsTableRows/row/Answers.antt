@@ -2,11 +2,12 @@
 use Rattle.std.proofs.Common.{◌≡◌, ◌+◌, ◌*◌, ◌/◌, ◌^◌, refl, sym, ap, ◌∙◌, [], Ok, Err, arith}
 use Rattle.std.proofs.lemmas.Result.{err_from_is_err_and}
 use Rattle.elf_options.specs.Permitted.{style_of}
-use Rattle.elf_model.specs.Prelude.{entry_at, linked_at, name_bytes, section_at, sh_link, sh_offset}
+use Rattle.elf_model.specs.Prelude.{entry_at, linked_at, name_bytes, place_of_relocation, relocation_choice, section_at, sh_link, sh_offset}
 use Rattle.elf_table.specs.declared.names.NameEnd.{NameEnd}
 use Rattle.elf_table.specs.declared.names.NameEnd.TheVariants.{Whole}
 use Rattle.elf_listing.specs.Suffixed.{suffix_cost}
-use Rattle.elf_listing.proofs.RowLaws.{WroteSome-as, chosen-as}
+use Rattle.elf_listing.proofs.RowLaws.{WroteSome-as}
+use Rattle.elf_listing.proofs.SelectionLaws.{placed-chosen-as}
 use Rattle.elf_listing.proofs.ListsLaws.{ListingCalls-hidden, ListingCalls-named, ListingCalls-unread}
 use Rattle.elf_listing.proofs.ShowLaws.{Whole-none}
 use Rattle.elf_listing.proofs.SuffixShown.{ListingReads-then, WroteUntilStop-suffix, WroteUntilStop-unnamed, suffixed-hidden, suffixed-shown, relocation_row_is}
@@ -21,7 +22,7 @@ returns-in_err-read-clause-lists g c =
     let here : c.args.row.now.at ≡ sh_offset file at + c.args.row.now.index * 24 = omega (arith, of_kind.1, row.here) in
     let symbol = c.symbol-symbol.ensures ∙ ap (λ n. n / 2 ^ 32) decoded.r_info in
     rw (relocation_row_is (g.V.NameVersions.lookup c.args.versions.now) file _ (style_of c.args.listing.now.style) c.args.self.now.section at c.args.row.now.at _ c.args.row.now.index here refl symbol, c.in_err-read.ensures.fetches.1)
-    (WroteUntilStop-unnamed _ _ _ _ _ [] _ _ (c.in_err-read.ensures.read file at held of_kind.0))))
+    (WroteUntilStop-unnamed _ (relocation_choice file (style_of c.args.listing.now.style) c.args.row.now.at) _ _ _ [] _ _ (c.in_err-read.ensures.read file at held of_kind.0))))
 
 pub returns-in_err-suffix-clause-lists : goal.returns-in_err-suffix-clause-lists
 returns-in_err-suffix-clause-lists g c =
@@ -39,10 +40,10 @@ returns-in_err-suffix-clause-lists g c =
     let defined = c.in_ok-read.ensures.defined file at held of_kind.0 in
     let after = rw same at (c.in_err-suffix.ensures.reads.read file (first.2.reads.keeps.same_file ∙ held) (sh_link file at) (entry_at file (linked_at file at) 24 c.symbol-symbol.result) of_kind.2 defined) in
     rw (relocation_row_is (g.V.NameVersions.lookup c.args.versions.now) file _ (style_of c.args.listing.now.style) c.args.self.now.section at c.args.row.now.at _ c.args.row.now.index here refl symbol, both.1)
-    (WroteUntilStop-suffix _ _ _ _ c.in_ok-read.read.end _ _ _ _ _ read after)))
+    (WroteUntilStop-suffix _ (relocation_choice file (style_of c.args.listing.now.style) c.args.row.now.at) _ _ c.in_ok-read.read.end _ _ _ _ _ read after)))
 
-pub returns-then-not-is_versioned_row_shown-clause-lists : goal.returns-then-not-is_versioned_row_shown-clause-lists
-returns-then-not-is_versioned_row_shown-clause-lists g c =
+pub returns-then-not-is_row_shown-clause-lists : goal.returns-then-not-is_row_shown-clause-lists
+returns-then-not-is_row_shown-clause-lists g c =
     let first = c.in_ok-read.ensures.fetches in
     let same = first.0.same_style in
     let cap = c.args.listing.now.style.cap.bytes in
@@ -55,11 +56,12 @@ returns-then-not-is_versioned_row_shown-clause-lists g c =
     let read = c.in_ok-read.ensures.read file at held of_kind.0 in
     let defined = c.in_ok-read.ensures.defined file at held of_kind.0 in
     let after = rw same at (c.in_ok-suffix.ensures.reads.read file (first.2.reads.keeps.same_file ∙ held) (sh_link file at) (entry_at file (linked_at file at) 24 c.symbol-symbol.result) of_kind.2 defined) in
-    let hidden = rw c.in_ok-suffix.ensures.reads.kept at (chosen-as c.args.listing.now.style _ _ _ _ _ both.0.same_style (rw c.bytes.ensures.value at c.is_versioned_row_shown.ensures) c.if-not-is_versioned_row_shown.true) in
+    let placed = c.place_of_relocation-place.ensures file (c.file_type.ensures file (both.2.reads.keeps.same_file ∙ held)) decoded in
+    let hidden = rw c.in_ok-suffix.ensures.reads.kept at (placed-chosen-as c.args.listing.now.style _ _ (place_of_relocation file c.args.row.now.at) _ _ _ _ both.0.same_style placed (rw c.bytes.ensures.value at c.is_row_shown.ensures) c.if-not-is_row_shown.true) in
     rw both.1
     (WroteSome-as {X = Unit {0}} _ _ (Ok tt)
     (relocation_row_is (g.V.NameVersions.lookup c.args.versions.now) file _ (style_of c.args.listing.now.style) c.args.self.now.section at c.args.row.now.at _ c.args.row.now.index here refl symbol
-    ∙ suffixed-hidden _ _ _ c.in_ok-read.read.end _ _ _ c.in_ok-suffix.suffix _ read after hidden)
+    ∙ suffixed-hidden (relocation_choice file (style_of c.args.listing.now.style) c.args.row.now.at) _ _ c.in_ok-read.read.end _ _ _ c.in_ok-suffix.suffix _ read after hidden)
     (Whole-none _)))
 
 pub returns-clause-lists : goal.returns-clause-lists
@@ -77,8 +79,9 @@ returns-clause-lists g c =
     let defined = c.in_ok-read.ensures.defined file at held of_kind.0 in
     let front = rw (c.requires.format, c.naming-naming.ensures.gnu, c.naming-naming.ensures.machine file held) at (c.relocation_prefix.ensures.front file c.args.row.now.at decoded) in
     let after = rw same at (c.in_ok-suffix.ensures.reads.read file (first.2.reads.keeps.same_file ∙ held) (sh_link file at) (entry_at file (linked_at file at) 24 c.symbol-symbol.result) of_kind.2 defined) in
-    let shown = rw c.in_ok-suffix.ensures.reads.kept at (chosen-as c.args.listing.now.style _ _ _ _ _ both.0.same_style (rw c.bytes.ensures.value at c.is_versioned_row_shown.ensures) c.if-not-is_versioned_row_shown.false) in
+    let placed = c.place_of_relocation-place.ensures file (c.file_type.ensures file (both.2.reads.keeps.same_file ∙ held)) decoded in
+    let shown = rw c.in_ok-suffix.ensures.reads.kept at (placed-chosen-as c.args.listing.now.style _ _ (place_of_relocation file c.args.row.now.at) _ _ _ _ both.0.same_style placed (rw c.bytes.ensures.value at c.is_row_shown.ensures) c.if-not-is_row_shown.false) in
     let now = rw (sym c.in_ok-suffix.ensures.reads.kept) at read in
     rw (← both.1)
-    (WroteSome-as _ _ _ (relocation_row_is (g.V.NameVersions.lookup c.args.versions.now) file _ (style_of c.args.listing.now.style) c.args.self.now.section at c.args.row.now.at _ c.args.row.now.index here front symbol ∙ suffixed-shown _ _ _ c.in_ok-read.read.end _ _ _ c.in_ok-suffix.suffix _ read after shown)
+    (WroteSome-as _ _ _ (relocation_row_is (g.V.NameVersions.lookup c.args.versions.now) file _ (style_of c.args.listing.now.style) c.args.self.now.section at c.args.row.now.at _ c.args.row.now.index here front symbol ∙ suffixed-shown (relocation_choice file (style_of c.args.listing.now.style) c.args.row.now.at) _ _ c.in_ok-read.read.end _ _ _ c.in_ok-suffix.suffix _ read after shown)
     ((rw c.bytes-2.ensures.value at c.suffixed_line.ensures).shows _ _ now)))

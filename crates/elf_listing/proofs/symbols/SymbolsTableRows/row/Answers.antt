@@ -49,7 +49,7 @@ returns-then-not-is_symbol_row_shown-clause-lists g c =
     let defined = ap (λ (n : ℕ). not (n == 0)) decoded.st_shndx in
     let read = c.in_ok-end.ensures.read file held in
     let after = rw same at (c.in_ok-suffix.ensures.reads.read file (first.2.reads.keeps.same_file ∙ held) c.args.self.now.section c.args.row.now.at of_kind.2 defined) in
-    let hidden = rw c.in_ok-suffix.ensures.reads.kept at (symbol-chosen-as c.args.listing.now.style _ file _ c.args.row.now.at _ _ _ _ _ _ both.0.same_style defined of_kind.3 (rw c.bytes.ensures.value at c.is_symbol_row_shown.ensures) c.if-not-is_symbol_row_shown.true) in
+    let hidden = rw c.in_ok-suffix.ensures.reads.kept at (symbol-chosen-as c.args.listing.now.style _ file _ c.args.row.now.at _ _ _ _ _ _ _ both.0.same_style defined of_kind.3 (c.place_of_symbol.ensures file decoded) (rw c.bytes.ensures.value at c.is_symbol_row_shown.ensures) c.if-not-is_symbol_row_shown.true) in
     rw both.1
     (WroteSome-as {X = Unit {0}} _ _ (Ok tt)
     (symbol_row_is (g.V.NameVersions.lookup c.args.versions.now) file (style_of c.args.listing.now.style) _ _ _ _ _ _ refl of_kind.0 (c.from-off.ensures ∙ decoded.st_name) here
@@ -69,7 +69,7 @@ returns-clause-lists g c =
     let front = rw (c.requires.format, c.naming-naming.ensures.gnu, c.naming-naming.ensures.machine file held) at (c.symbol_prefix.ensures.front file c.args.row.now.at decoded) in
     let read = c.in_ok-end.ensures.read file held in
     let after = rw same at (c.in_ok-suffix.ensures.reads.read file (first.2.reads.keeps.same_file ∙ held) c.args.self.now.section c.args.row.now.at of_kind.2 defined) in
-    let shown = rw c.in_ok-suffix.ensures.reads.kept at (symbol-chosen-as c.args.listing.now.style _ file _ c.args.row.now.at _ _ _ _ _ _ both.0.same_style defined of_kind.3 (rw c.bytes.ensures.value at c.is_symbol_row_shown.ensures) c.if-not-is_symbol_row_shown.false) in
+    let shown = rw c.in_ok-suffix.ensures.reads.kept at (symbol-chosen-as c.args.listing.now.style _ file _ c.args.row.now.at _ _ _ _ _ _ _ both.0.same_style defined of_kind.3 (c.place_of_symbol.ensures file decoded) (rw c.bytes.ensures.value at c.is_symbol_row_shown.ensures) c.if-not-is_symbol_row_shown.false) in
     let now = rw (sym c.in_ok-suffix.ensures.reads.kept) at read in
     rw (← both.1)
     (WroteSome-as _ _ _ (symbol_row_is (g.V.NameVersions.lookup c.args.versions.now) file (style_of c.args.listing.now.style) _ _ _ _ _ _ front of_kind.0 (c.from-off.ensures ∙ decoded.st_name) here ∙ suffixed-shown (symbol_choice file (style_of c.args.listing.now.style) (section_at file c.args.self.now.section) c.args.row.now.at) _ _ c.in_ok-end.end _ _ _ c.in_ok-suffix.suffix _ read after shown)
