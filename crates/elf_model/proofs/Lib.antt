@@ -28,6 +28,7 @@ pub mod OnLoader
 mod OneRule
 pub mod OverlapLemmas
 pub mod PatchLaws
+pub mod PieceLaws
 pub mod Pigeons
 pub mod ReadingLaws
 pub mod RecordLemmas
