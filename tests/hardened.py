@@ -45,7 +45,8 @@ class Traits:
         phoff, = struct.unpack_from("<Q", self.content, 32)
         phnum, = struct.unpack_from("<H", self.content, 56)
         self.segments = [Segment(self.content, phoff + 56 * index) for index in range(phnum)]
-        check_overlaps(self.segments)
+        if self.first_segment(DYNAMIC) is not None:
+            check_overlaps(self.segments)
         self.rows = self.dynamic_rows()
 
     def first_segment(self, kind):
@@ -82,6 +83,8 @@ class Traits:
         return "full" if is_full else "partial"
 
     def stack(self):
+        if self.kind() == "core":
+            return "-"
         segment = self.first_segment(STACK)
         return "exec" if segment is None or segment.flags & EXECUTES else "nx"
 
@@ -252,7 +255,7 @@ def line(words, path):
 
 
 def told(path, content, most=4096, required=()):
-    """What `traits` writes of a file, and its status; `required` has pairs of a column and a word."""
+    """What `traits` writes of a file, and its status; `required` has pairs of a column and a word, or words with `|`."""
     if content[:4] != MAGIC:
         return "", 0
     try:
@@ -263,5 +266,5 @@ def told(path, content, most=4096, required=()):
     of_columns = dict(zip(COLUMNS, words))
     lacking = []
     if words[0] in HARDENED_KINDS:
-        lacking = [column for column, word in required if of_columns[column] != word]
+        lacking = [column for column, word in required if of_columns[column] not in word.split("|")]
     return text + "".join(f"! {column}={of_columns[column]}\n" for column in lacking), int(bool(lacking))

@@ -9,7 +9,7 @@ use Rattle.clap.specs.declared.error.Error.{Error}
 use Rattle.clap.specs.declared.parser.matches.ArgMatches.{ArgMatches}
 use Rattle.clap.proofs.OnLiterals.{clap_on_literals}
 use Rattle.elf_cli.specs.Prelude.{AreMatched, AreRejected, IsFaultOf, IsOneOf, program}
-use Rattle.elf_cli.specs.declared.faults.RequestFault.TheVariants.{BadItem, BadName, BadTrait, LayoutFull, LayoutRepeat, Memory, NamesFull, Words}
+use Rattle.elf_cli.specs.declared.faults.RequestFault.TheVariants.{BadItem, BadName, LayoutFull, LayoutRepeat, Memory, NamesFull, UnknownTrait, Words}
 use Rattle.elf_cli.specs.declared.faults.RequestFault.{RequestFault}
 
 -- the command line is one whose matches and faults are known: no argument has a rule on another
@@ -30,7 +30,7 @@ fault_told kinds error NamesFull is has = is
 fault_told kinds error BadItem is has = is
 fault_told kinds error LayoutFull is has = is
 fault_told kinds error LayoutRepeat is has = is
-fault_told kinds error BadTrait is has = is
+fault_told kinds error (UnknownTrait word) is has = is
 
 -- an error of a command line that is that one
 pub refused : (app : App) (words : List Text) (error : Error) (fault : RequestFault) → app ≡ program

@@ -2,7 +2,6 @@ pub mod BuildingLaws
 pub mod FaultLaws
 pub mod OptionLaws
 pub mod PartLaws
-pub mod PieceLaws
 pub mod LineLaws
 pub mod MarkedText
 pub mod OutputLaws

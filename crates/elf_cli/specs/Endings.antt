@@ -1,11 +1,14 @@
 -- How a program ends: the exit status of a run, and the line on standard error.
 use Rattle.std.specs.Prelude.{ℕ, ◌≡◌, Bool, true, false, List, ◌++◌, Option, Result, Ok, Err, [], codes}
 use Rattle.std.specs.Io.KnownBytes.{Appends}
+use Rattle.elf_model.specs.Lines.{named_line}
+use Rattle.elf_model.specs.Names.DisplayedName.{Whole}
+use Rattle.elf_model.specs.declared.formats.Format.TheVariants.{Columns}
 use Rattle.elf_table.specs.declared.run_fault.RunFault.TheVariants.{Out}
 use Rattle.elf_table.specs.declared.run_fault.RunFault.{RunFault}
 use Rattle.elf_table.specs.declared.run_fault.RunFault.TheVariants.{Refused, Source}
 use Rattle.elf_cli.specs.declared.faults.RequestFault.{RequestFault}
-use Rattle.elf_cli.specs.declared.faults.RequestFault.TheVariants.{Words, BadName, NamesFull, BadItem, LayoutFull, LayoutRepeat, BadTrait, Memory}
+use Rattle.elf_cli.specs.declared.faults.RequestFault.TheVariants.{Words, BadName, NamesFull, BadItem, LayoutFull, LayoutRepeat, UnknownTrait, Memory}
 use Rattle.elf_cli.specs.declared.outputs.RunEnd.{RunEnd}
 use Rattle.elf_cli.specs.declared.outputs.RunEnd.TheVariants.{Status, Told, Unwritten}
 
@@ -29,7 +32,7 @@ refused_status NamesFull = 2
 refused_status BadItem = 2
 refused_status LayoutFull = 2
 refused_status LayoutRepeat = 2
-refused_status BadTrait = 2
+refused_status (UnknownTrait word) = 2
 refused_status Memory = 3
 
 abbrev pub refused_line : RequestFault → List ℕ
@@ -39,8 +42,13 @@ refused_line NamesFull = codes "elfsee: too many names"
 refused_line BadItem = codes "elfsee: bad item"
 refused_line LayoutFull = codes "elfsee: layout-full"
 refused_line LayoutRepeat = codes "elfsee: layout-repeat"
-refused_line BadTrait = codes "elfsee: bad trait"
+refused_line (UnknownTrait word) = []
 refused_line Memory = codes "elfsee: out of memory"
+
+-- the message for a required trait that is not a valid one, which is escaped as names are
+abbrev pub unknown_trait_line : List ℕ → List ℕ
+unknown_trait_line word =
+    named_line (record { format = Columns; key = []; text = codes "elfsee: unknown trait: " }) (Whole word)
 
 -- how a program ends whose arguments are no request
 abbrev pub EndsWords : RequestFault → ℕ → List ℕ → Type 0

@@ -10,7 +10,7 @@ use std::process::ExitCode;
 /// An exit status, and a line for standard error, which is empty if there is nothing to report.
 pub type ExitLine = (u8, &'static str);
 
-/// The arguments are invalid, or help was requested: the message was printed before.
+/// The arguments are invalid, or help was requested: the message is printed on its own.
 pub(crate) const BAD_WORDS: ExitLine = (2, "");
 
 /// The arguments are not valid UTF-8.
@@ -43,9 +43,6 @@ const LAYOUT_REPEAT: ExitLine = (2, "elfsee: layout-repeat");
 /// More names are given than allowed.
 const NAMES_FULL: ExitLine = (2, "elfsee: too many names");
 
-/// A required trait is not a valid one.
-const BAD_TRAIT: ExitLine = (2, "elfsee: bad trait");
-
 /// Returns the exit status of a run, which is 1 for a refusal, and its line on standard error,
 /// which is empty for a status of 0 or 1.
 pub fn outcome(answer: &Result<u8, RunFault>) -> ExitLine
@@ -61,19 +58,18 @@ pub fn outcome(answer: &Result<u8, RunFault>) -> ExitLine
 }
 
 /// Returns the exit status for arguments that are no request, and the line on standard error, which
-/// is empty for `Words`: its message is in the fault.
+/// is empty for `Words` and `UnknownTrait`: the fault has what their message says.
 pub(crate) fn refused(fault: &RequestFault) -> ExitLine
     ensures status { result.0 ≡ refused_status fault.now }
     ensures line { result.1.now ≡ refused_line fault.now }
 {
     match fault {
-        RequestFault::Words(_) => BAD_WORDS,
+        RequestFault::Words(_) | RequestFault::UnknownTrait(_) => BAD_WORDS,
         RequestFault::BadName => BAD_NAME,
         RequestFault::NamesFull => NAMES_FULL,
         RequestFault::BadItem => BAD_ITEM,
         RequestFault::LayoutFull => LAYOUT_FULL,
         RequestFault::LayoutRepeat => LAYOUT_REPEAT,
-        RequestFault::BadTrait => BAD_TRAIT,
         RequestFault::Memory => OUT_OF_MEMORY,
     }
 }

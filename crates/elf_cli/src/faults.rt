@@ -25,9 +25,9 @@ pub enum RequestFault {
     /// The first layout item that is refused has the type and the index or name of an earlier one.
     #[error("layout-repeat")]
     LayoutRepeat,
-    /// One of the traits required of a file is not a valid one.
-    #[error("bad trait")]
-    BadTrait,
+    /// The first of the traits required of a file that is not a valid one.
+    #[error("unknown trait")]
+    UnknownTrait(String),
     /// Out of memory for the request.
     #[error("out of memory")]
     Memory,

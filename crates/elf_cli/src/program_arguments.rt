@@ -1,7 +1,7 @@
 //! The arguments of a program, and the messages for wrong ones.
 ghost use Rattle.std.specs.Prelude.{◌≡◌, ◌≢◌, ◌⊎◌, All, IfErr, IfOk, [], codes, string_bytes};
 ghost use Rattle.elf_source.specs.Output.{OutPuts};
-ghost use Rattle.elf_cli.specs.Endings.{EndsWords};
+ghost use Rattle.elf_cli.specs.Endings.{EndsWords, unknown_trait_line};
 ghost use Rattle.elf_cli.specs.Marked.{byte_beside, told_beside};
 ghost use Rattle.elf_cli.specs.declared.faults.RequestFault.TheVariants.{Memory};
 
@@ -14,12 +14,16 @@ use crate::parser::parse_arguments;
 use crate::usage_errors::request_fault;
 use crate::usage_faults::usage_fault;
 use clap::{ArgMatches, error};
-use elf_format::show_escaped_text;
+use elf_format::{LinePrefix, line_of, show_escaped_text, show_named};
+use elf_model::Format;
 use elf_source::{Out, OutFault, Sink, WriteSink};
 use std::alloc::{AllocError, Global};
 use std::env;
 use std::io::{BufWriter, ErrorKind, Stderr};
 use std::rt::Env;
+
+/// The message for a required trait that is not a valid one, before it.
+const UNKNOWN_TRAIT: &[u8] = b"elfsee: unknown trait: ";
 
 /// A newline of an argument, escaped.
 const NEWLINE: &str = "\\x0a";
@@ -45,8 +49,8 @@ pub fn read_words<R: Env + AllocGlobal>(rt: &R) -> Result<Vec<String>, ExitLine>
 }
 
 /// Reports why arguments are no request, and returns how the program ends: by the fault, or as for
-/// lack of memory if there is none for the message. The message for wrong arguments, and help, are
-/// written to `errors`.
+/// lack of memory if there is none for the message. The message for wrong arguments, or for a
+/// required trait that is not a valid one, and help are written to `errors`.
 pub fn report_refused(
     alloc: Global,
     fault: &RequestFault,
@@ -58,6 +62,7 @@ pub fn report_refused(
 {
     match fault {
         RequestFault::Words(told) => report_words(alloc, told, words, errors),
+        RequestFault::UnknownTrait(word) => report_trait(alloc, word.as_str(), errors),
         _ => refused(fault),
     }
 }
@@ -73,6 +78,36 @@ fn report_words(alloc: Global, told: &clap::Error, words: &[String], errors: Std
         Ok(()) => BAD_WORDS,
         Err(AllocError) => OUT_OF_MEMORY,
     }
+}
+
+/// Writes the message for a required trait that is not a valid one, and returns how the program
+/// ends. If it cannot be written, the status alone reports it.
+fn report_trait(alloc: Global, word: &str, errors: Stderr) -> ExitLine
+    ensures { ((result.0 ≡ 2) × (result.1.now ≡ []))
+        ⊎ ((result.0 ≡ 3) × (result.1.now ≡ codes "elfsee: out of memory")) }
+{
+    let Ok(errors) = BufWriter::with_capacity(alloc, ERROR_LINE_BYTES, errors) else {
+        return OUT_OF_MEMORY;
+    };
+    let mut out = Out::new(WriteSink::new(errors));
+    let _ = show_unknown_trait(word, &mut out);
+    let _ = write_rest(out.into_inner().into_inner(), true);
+    BAD_WORDS
+}
+
+/// Writes the message for a required trait that is not a valid one, which is escaped as names are.
+///
+/// # Errors
+/// A fault of the output, with a prefix of the message written.
+fn show_unknown_trait<W: Sink>(word: &str, out: &mut Out<W>) -> Result<(), OutFault>
+    ensures { OutPuts out.old out.new result (unknown_trait_line word.now) }
+{
+    let mut front = LinePrefix {
+        line: line_of(UNKNOWN_TRAIT),
+        format: Format::Columns,
+        key: b"",
+    };
+    show_named(&mut front, word.as_bytes(), false, out)
 }
 
 /// Writes the message for wrong arguments, or help. If it cannot be written, nothing is reported.

@@ -145,7 +145,7 @@ traits are those that a loader sees, in the program headers and the dynamic
 entries.
   kind     exec, pie, static, lib, object, core or other
   relro    full, partial or none: what is read-only after relocation
-  stack    nx or exec: whether the stack is executable
+  stack    nx or exec: whether the stack is executable; - for a core
   pages    w^x or wx: whether a segment is writable and executable
   text     fixed or patch: whether relocations change a segment that is not
            writable
@@ -159,7 +159,8 @@ files, except a line C for one that is refused, unread or without memory.
 
 With --require WORDS, as in relro=full,stack=nx, a file of kind exec, pie,
 static or lib that lacks words has a line for each of them: !, the column, =
-and the word that the file has there.
+and the word that the file has there. With 'kind=pie|lib' it may have either.
+The column of the path may be named rpath too.
 
 Exit status: 0 if no file is refused or lacks a word, 1 if some are or do, 3 if
 some are unread, memory or unnamed.

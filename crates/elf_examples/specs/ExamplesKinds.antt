@@ -25,13 +25,13 @@ SharedKinds =
     × TraitsAre (with_bytes 0x298 (tagged 14 0) program_with_traits) (codes "T lib    full    nx    w^x   fixed ibt+shstk canary fortify -       p\n")
 
 -- a program at fixed addresses, with an interpreter or without one: a flag that it may be loaded at
--- any does not matter; files of other types; a file without program headers, and one without
--- dynamic entries
+-- any does not matter; files of other types, of which a core has no word for its stack; a file
+-- without program headers, and one without dynamic entries
 abbrev pub FixedKinds : Type 0
 FixedKinds =
     TraitsAre (typed 2 program_with_traits) (codes "T exec   full    nx    w^x   fixed ibt+shstk canary fortify -       p\n")
     × TraitsAre (typed 2 (without_interpreter program_with_traits)) (codes "T static full    nx    w^x   fixed ibt+shstk canary fortify -       p\n")
-    × TraitsAre (typed 4 program_with_traits) (codes "T core   full    nx    w^x   fixed ibt+shstk canary fortify -       p\n")
+    × TraitsAre (typed 4 program_with_traits) (codes "T core   full    -     w^x   fixed ibt+shstk canary fortify -       p\n")
     × TraitsAre (typed 0xfe00 program_with_traits) (codes "T other  full    nx    w^x   fixed ibt+shstk canary fortify -       p\n")
     × TraitsAre one_symbol_table (codes "T object -       -     -     -     -         -      -       -       p\n")
     × TraitsCost one_symbol_table 64
@@ -46,6 +46,12 @@ SectionsDoNotTell =
     (codes "T pie    full    nx    w^x   fixed ibt+shstk canary fortify -       p\n")
     × TraitsAre (with_bytes 0x28 (little 8 0xffff) (with_bytes 0x3a (little 2 64 ++ little 2 1) program_with_traits))
     (codes "T pie    full    nx    w^x   fixed ibt+shstk canary fortify -       p\n")
+
+-- a kernel image: without dynamic entries LOAD segments may overlap, as one at address 0 does
+abbrev pub OverlapsWithoutEntries : Type 0
+OverlapsWithoutEntries =
+    TraitsAre (with_bytes 0xb0 (little 4 0) (with_bytes 0x78 (little 4 1) program_with_traits))
+    (codes "T lib    partial nx    w^x   fixed ibt+shstk -      -       -       p\n")
 
 -- files that are refused: by the file header, more program headers than are allowed, overlapping
 -- LOAD segments, dynamic entries that are not whole, a filter without a word

@@ -1,5 +1,5 @@
 -- Worked examples of required traits.
-use Rattle.std.specs.Prelude.{◌≡◌, [], ◌∷◌, ◌++◌, codes, true, false, Some}
+use Rattle.std.specs.Prelude.{ℕ, ◌≡◌, List, [], ◌∷◌, ◌++◌, codes, true, false, Some}
 use Rattle.elf_model.specs.Prelude.{Required, lacking_text, traits_status, traits_text}
 use Rattle.elf_model.specs.declared.formats.Format.TheVariants.{Columns, Object}
 use Rattle.elf_model.specs.declared.traits.Hardening.{Hardening}
@@ -24,6 +24,9 @@ weak its_kind = record {
 abbrev full : Required
 full = record { column = column.Relro; word = codes "full" }
 
+abbrev kind_of : List ℕ → Required
+kind_of word = record { column = column.Kind; word = word }
+
 abbrev nx : Required
 nx = record { column = column.Stack; word = codes "nx" }
 
@@ -47,7 +50,7 @@ RequiredRows =
 -- nothing is required of files that are neither programs nor libraries
 abbrev pub NothingRequired : Type 0
 NothingRequired =
-    (traits_text Columns (weak kind.Core) (full ∷ []) (codes "p") ≡ codes "T core   partial exec  w^x   fixed -         -      fortify rpath   p\n")
+    (traits_text Columns (weak kind.Core) (full ∷ []) (codes "p") ≡ codes "T core   partial -     w^x   fixed -         -      fortify rpath   p\n")
     × (traits_status (weak kind.Core) (full ∷ []) ≡ 0)
     × (traits_status (weak kind.Object) (full ∷ []) ≡ 0)
     × (traits_status (weak kind.Other) (full ∷ []) ≡ 0)
@@ -61,6 +64,18 @@ WordsAreWhole =
     (traits_status (weak kind.Pie) (record { column = column.Relro; word = codes "partial" } ∷ []) ≡ 0)
     × (traits_status (weak kind.Pie) (record { column = column.Relro; word = codes "part" } ∷ []) ≡ 1)
     × (traits_status (weak kind.Pie) (record { column = column.Relro; word = codes "partially" } ∷ []) ≡ 1)
+
+-- one of two words, in either order; neither, of which only the file's own word has a line; no word
+-- is the part of one that has `|` in it
+abbrev pub AlternativesAreWords : Type 0
+AlternativesAreWords =
+    (traits_status (weak kind.Pie) (kind_of (codes "pie|lib") ∷ []) ≡ 0)
+    × (traits_status (weak kind.Lib) (kind_of (codes "pie|lib") ∷ []) ≡ 0)
+    × (traits_status (weak kind.Exec) (kind_of (codes "pie|lib") ∷ []) ≡ 1)
+    × (traits_status (weak kind.Pie) (kind_of (codes "exec|static|pie") ∷ []) ≡ 0)
+    × (traits_text Columns (weak kind.Exec) (kind_of (codes "pie|lib") ∷ nx ∷ []) (codes "p")
+    ≡ codes "T exec   partial exec  w^x   fixed -         -      fortify rpath   p\n! kind=exec\n! stack=exec\n")
+    × (traits_status (weak kind.Pie) (kind_of (codes "|") ∷ []) ≡ 1)
 
 -- a program in which each column has another word
 abbrev mixed : Hardening

@@ -44,9 +44,9 @@ entries_others file at refusal e = go (p_filesz file at == 0) refl
 
 -- so if a file's symbols are known, its dynamic entries are not refused
 module _ (file : List ℕ) where
-  fails_known : (refusal : Refusal) → lookup_tables_by_segments file ≡ Err refusal → has_none refusal.cause ≡ false → known_symbols file ≡ Err refusal
+  fails_known : (index : ℕ) → dynamic_segment_index file ≡ Some index → (refusal : Refusal) → lookup_tables_by_segments file ≡ Err refusal → has_none refusal.cause ≡ false → known_symbols file ≡ Err refusal
   unfolding known_symbols
-  fails_known refusal e isnt = rw (e, isnt, known_symbols) refl
+  fails_known index first refusal e isnt = rw (first, e, isnt, known_symbols) refl
 
   overlap_fails : (refusal : Refusal) → first_refusal (overlap_checks file) ≡ Some refusal → lookup_tables_by_segments file ≡ Err refusal
   unfolding lookup_tables_by_segments
@@ -63,10 +63,10 @@ module _ (file : List ℕ) where
     where
       go : (overlap : Option Refusal) → first_refusal (overlap_checks file) ≡ overlap → ⊥
       go None apart =
-          let e = fails_known refusal (segment_fails apart index first refusal fails) (entries_others file (segment_at file index) refusal fails) in
+          let e = fails_known index first refusal (segment_fails apart index first refusal fails) (entries_others file (segment_at file index) refusal fails) in
           let both = sym known ∙ e in
           cc
       go (Some other) over =
-          let e = fails_known other (overlap_fails other over) (all_overlaps file other over) in
+          let e = fails_known index first other (overlap_fails other over) (all_overlaps file other over) in
           let both = sym known ∙ e in
           cc

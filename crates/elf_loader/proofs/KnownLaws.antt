@@ -1,7 +1,7 @@
 -- The symbols that a loader knows, by the tables that a lookup searches and the counts of its hash
 -- table.
 use Rattle.std.proofs.Common.{◌≡◌, ℕ, ◌≤◌, Bool, true, false, List, [], ◌∷◌, Option, None, Some, Ok, Err, refl, ap, arith}
-use Rattle.elf_model.specs.Prelude.{GnuTable, HashStyle, IsBudgetRefusal, LookupTables as IsScopeOf, SysvTable, counts_check, first_refusal, has_none, known_symbols, least_size, lookup_tables_by_segments}
+use Rattle.elf_model.specs.Prelude.{GnuTable, HashStyle, IsBudgetRefusal, LookupTables as IsScopeOf, SysvTable, counts_check, dynamic_segment_index, first_refusal, has_none, known_symbols, least_size, lookup_tables_by_segments}
 use Rattle.elf_model.specs.declared.causes.Refusal.{Refusal}
 use Rattle.elf_source.specs.Source.{CountedState}
 use Rattle.elf_table.specs.Prelude.{CallDid, CallReads, fault_of_result}
@@ -46,14 +46,19 @@ least_most SysvTable = omega arith
 pub counts_most : (kind : Kind) → counts_bytes kind ≤ 16
 counts_most kind = least_most (hash_style_of kind)
 
-module _ (file : List ℕ) where
+-- without dynamic entries there are none
+pub finds_none : (file : List ℕ) → dynamic_segment_index file ≡ None → known_symbols file ≡ Ok None
+unfolding known_symbols
+finds_none file none = rw (none, known_symbols) refl
+
+module _ (file : List ℕ) (index : ℕ) (some : dynamic_segment_index file ≡ Some index) where
   known_none : (refusal : Refusal) → lookup_tables_by_segments file ≡ Err refusal → has_none refusal.cause ≡ true → known_symbols file ≡ Ok None
   unfolding known_symbols
-  known_none refusal e is = rw (e, is, known_symbols) refl
+  known_none refusal e is = rw (some, e, is, known_symbols) refl
 
   known_fails : (refusal : Refusal) → lookup_tables_by_segments file ≡ Err refusal → has_none refusal.cause ≡ false → known_symbols file ≡ Err refusal
   unfolding known_symbols
-  known_fails refusal e isnt = rw (e, isnt, known_symbols) refl
+  known_fails refusal e isnt = rw (some, e, isnt, known_symbols) refl
 
   pub passed_tells : (fault : Fault) → FindsLookupTables file (lookup_tables_by_segments file) (Err fault) → ReturnsKnown file (passed_over fault)
   passed_tells (Source fault at) finds = tt
@@ -70,11 +75,11 @@ module _ (file : List ℕ) where
 
     known_some : first_refusal (counts_check file told ∷ []) ≡ None → known_symbols file ≡ Ok (Some told)
     unfolding known_symbols
-    known_some passes = rw (found, passes, known_symbols) refl
+    known_some passes = rw (some, found, passes, known_symbols) refl
 
     known_misshapen : (refusal : Refusal) → first_refusal (counts_check file told ∷ []) ≡ Some refusal → known_symbols file ≡ Err refusal
     unfolding known_symbols
-    known_misshapen refusal fails = rw (found, fails, known_symbols) refl
+    known_misshapen refusal fails = rw (some, found, fails, known_symbols) refl
 
     -- its counts, or their refusal
     pub counted_known : (table : HashTable) → HasCounts file told (Ok table) → AreKnown file (record { symbols = scope.symbols; table = table })

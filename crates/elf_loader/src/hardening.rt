@@ -26,13 +26,14 @@ use elf_table::{ExecutionView, Fault, HeaderStore};
 /// is read than they cost, also if the source fails.
 ///
 /// # Errors
-/// Returns the first check that fails: those of [`load_by_segments`]; `LoadOverlap` at the program
-/// header of a LOAD segment that overlaps another; those of the first PT_DYNAMIC segment; those of
-/// the hash table, of the symbols and of their strings, each at the dynamic entry that locates it;
-/// for a file for x86-64 `TableOutside` at the program header of a segment of notes that ends past
-/// the end of the file, and `NoteCut` if there is no whole note before a list of properties, or no
-/// whole property in it; a fault of a symbol's name, at the symbol. Otherwise returns a fault of
-/// the source, or `Budget` if a read exceeds the limit, at the offset of the read.
+/// Returns the first check that fails: those of [`load_by_segments`]; for a file with a PT_DYNAMIC
+/// segment `LoadOverlap` at the program header of a LOAD segment that overlaps another, those of
+/// the first such segment, and those of the hash table, of the symbols and of their strings, each
+/// at the dynamic entry that locates it; for a file for x86-64 `TableOutside` at the program header
+/// of a segment of notes that ends past the end of the file, and `NoteCut` if there is no whole
+/// note before a list of properties, or no whole property in it; a fault of a symbol's name, at the
+/// symbol. Otherwise returns a fault of the source, or `Budget` if a read exceeds the limit, at the
+/// offset of the read.
 pub fn find_traits<S: Source>(
     src: &mut Counted<S>,
     store: &mut HeaderStore,

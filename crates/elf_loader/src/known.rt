@@ -1,9 +1,11 @@
 //! The symbols of a file that a loader knows.
-ghost use Rattle.std.specs.Prelude.{◌≡◌, ℕ, ◌+◌, ◌<◌, ◌^◌, IfOk};
+ghost use Rattle.std.specs.Prelude.{◌≡◌, ℕ, ◌+◌, ◌<◌, ◌^◌, IfOk, Some};
+ghost use Rattle.elf_model.specs.Prelude.{dynamic_segment_index};
 ghost use Rattle.elf_table.specs.Prelude.{CallDid, HoldsProgramHeaders, fault_of_result};
 ghost use Rattle.elf_loader.specs.Known.{FindsKnown, KnownLie, passed_over};
 
 use elf_hash::{DynamicSymbols, HashTable, counts, find_in_segments};
+use elf_record::numbers::PT_DYNAMIC;
 use elf_record::{Cause, Refusal};
 use elf_source::{Counted, Source};
 use elf_table::{ExecutionView, Fault};
@@ -18,10 +20,12 @@ pub(crate) struct CountedSymbols {
     pub(crate) table: HashTable,
 }
 
-/// Returns the symbols that a loader knows; none in a file without a hash table.
+/// Returns the symbols that a loader knows; none in a file without dynamic entries, or without a
+/// hash table.
 ///
 /// # Errors
-/// Those of [`find_in_segments`] except `NoHash`, and those of [`counts`].
+/// For a file with dynamic entries those of [`find_in_segments`] except `NoHash`, and those of
+/// [`counts`].
 pub(crate) fn known_symbols<S: Source>(
     src: &mut Counted<S>,
     view: &ExecutionView<'_>,
@@ -30,6 +34,25 @@ pub(crate) fn known_symbols<S: Source>(
     requires small { view.now.loaded.size < 2 ^ 63 }
     ensures did { CallDid src.old src.new (fault_of_result result) (src.old.seen.size + 16)
         (λ file. HoldsProgramHeaders file view.now.loaded view.now.store.now →
+        FindsKnown file src.old src.new result) }
+    ensures within { IfOk result (KnownLie src.old.seen.size) }
+{
+    match view.first_segment(PT_DYNAMIC) {
+        Some(_) => listed_symbols(src, view),
+        None => Ok(None),
+    }
+}
+
+/// Does the same for a file with dynamic entries.
+fn listed_symbols<S: Source>(
+    src: &mut Counted<S>,
+    view: &ExecutionView<'_>,
+) -> Result<Option<CountedSymbols>, Fault>
+    requires size { view.now.loaded.size ≡ src.old.seen.size }
+    requires small { view.now.loaded.size < 2 ^ 63 }
+    ensures did { CallDid src.old src.new (fault_of_result result) (src.old.seen.size + 16)
+        (λ file. HoldsProgramHeaders file view.now.loaded view.now.store.now →
+        (index : ℕ) → dynamic_segment_index file ≡ Some index →
         FindsKnown file src.old src.new result) }
     ensures within { IfOk result (KnownLie src.old.seen.size) }
 {

@@ -33,6 +33,7 @@ pub mod OnLoader
 mod OneRule
 pub mod OverlapLemmas
 pub mod PatchLaws
+pub mod PieceLaws
 pub mod Pigeons
 pub mod PlaceLaws
 pub mod ReadingLaws

@@ -82,6 +82,7 @@ pub mod VersionLaws
 pub mod FixturesVersions
 pub mod Properties
 pub mod TraitNumbers
+pub mod Pieces
 pub mod Traits
 pub mod Links
 pub mod TraitWords

@@ -104,6 +104,8 @@ pub use Rattle.elf_model.specs.Numbers.{DT_GNU_HASH, DT_HASH, DT_NULL, DT_RPATH,
 pub use Rattle.elf_model.specs.OverlapLaws.{NoPageIsShared, OverlapIsListedElsewhere, OverlapIsListedSecond}
 pub use Rattle.elf_model.specs.Overlaps.{first_page, page_behind, takes_memory}
 unfoldable pub use Rattle.elf_model.specs.Overlaps.{loads_from, overlap_checks, overlaps_from}
+pub use Rattle.elf_model.specs.Pieces.{onto_first}
+unfoldable pub use Rattle.elf_model.specs.Pieces.{pieces_at}
 pub use Rattle.elf_model.specs.PlaceFilters.{every_place, is_placed, nowhere, range_has, range_if, shows_place}
 pub use Rattle.elf_model.specs.Placing.{Compared, Layout, NameSearch, Searched, named_or, no_items, placed_at, undefined_value}
 unfoldable pub use Rattle.elf_model.specs.Placing.{address_in, address_named, base_value, entry_value, has_base, is_system_specific, place_value, plt_entry_value, section_symbol_value, symbol_value, system_value, unnamed_value}
@@ -136,7 +138,7 @@ pub use Rattle.elf_model.specs.Text.{newline, space, spaces}
 unfoldable pub use Rattle.elf_model.specs.Text.{digit, hex, left_in, name_of, right_decimal, right_in, short_hex, without_zeros}
 unfoldable pub use Rattle.elf_model.specs.TraitCost.{hash_words_asked, properties_asked, segment_traits_cost, symbols_asked, trait_entries_asked, traits_ceiling, traits_cost}
 pub use Rattle.elf_model.specs.TraitNumbers.{DT_BIND_NOW, DT_FLAGS, DT_FLAGS_1, DT_TEXTREL, has_bits}
-pub use Rattle.elf_model.specs.TraitWords.{Required, either_word, has_word, lacking_status, lacking_text, segments_word, trait_line}
+pub use Rattle.elf_model.specs.TraitWords.{Required, alternatives, either_word, has_word, lacking_status, lacking_text, segments_word, trait_line}
 unfoldable pub use Rattle.elf_model.specs.TraitWords.{canary_word, cet_word, column_name, column_word, file_kind_name, fortify_word, is_program, lacking, lacking_columns, lacking_line, lacking_lines, pages_word, path_word, relro_text, relro_word, stack_word, text_word, trait_front, traits_status, traits_text}
 pub use Rattle.elf_model.specs.Traits.{SymbolTraitFlags, TRAIT_NAME_BYTES, has_none, is_last_in, is_writable_code, marked_by, marked_with_symbol, no_symbol_traits, segment_of}
 unfoldable pub use Rattle.elf_model.specs.Traits.{before_strings, binds_now, dynamic_entry_value, find_symbol_traits, gnu_symbols, has_text_relocations, has_wx_load, hashed_symbol_count, is_any_of, is_fortify_call, is_stack_executable, kind_of_shared, known_symbols, loaded_traits, marks_from, max_bucket, path_of, program_kind, relro_of, segment_traits, traits_by_segments, traits_of, traits_with, unfound, x86_feature_word}

@@ -1,10 +1,11 @@
 -- The words of a file's traits, the line that has them in columns, and what is required of them.
-use Rattle.std.specs.Prelude.{ℕ, ◌==◌, ◌&&◌, nat_eq, Bool, true, false, List, [], ◌∷◌, ◌++◌, length, codes, Option, None, Some}
-use Rattle.std.specs.List.{starts_with}
+use Rattle.std.specs.Prelude.{ℕ, bytes_eq, Bool, true, false, List, [], ◌∷◌, ◌++◌, codes, Option, None, Some}
+use Rattle.std.specs.List.{list_any}
 use Rattle.elf_model.specs.Fields.{Fields, LinePrefix, closed_line, front}
 use Rattle.elf_model.specs.Fields.Field.{ArgSpec}
 use Rattle.elf_model.specs.Lines.{named_line}
 use Rattle.elf_model.specs.Names.DisplayedName.{Whole}
+use Rattle.elf_model.specs.Pieces.{pieces_at}
 use Rattle.elf_model.specs.declared.formats.Format.{Format}
 use Rattle.elf_model.specs.declared.traits.ProgramKind.{ProgramKind}
 use Rattle.elf_model.specs.declared.traits.ProgramKind.TheVariants as kind
@@ -49,8 +50,10 @@ either_word false first second = second
 unfoldable pub relro_word : Option SegmentTraits → List ℕ
 relro_word segments = segments_word segments (λ s. relro_text s.relro)
 
-unfoldable pub stack_word : Option SegmentTraits → List ℕ
-stack_word segments = segments_word segments (λ s. either_word s.stack_executable (codes "exec") (codes "nx"))
+-- the segments of a core are those of its memory: none says what its program's stack was to be
+unfoldable pub stack_word : ProgramKind → Option SegmentTraits → List ℕ
+stack_word kind.Core segments = not_told
+stack_word _ segments = segments_word segments (λ s. either_word s.stack_executable (codes "exec") (codes "nx"))
 
 unfoldable pub pages_word : Option SegmentTraits → List ℕ
 pages_word segments = segments_word segments (λ s. either_word s.pages_writable (codes "wx") (codes "w^x"))
@@ -83,7 +86,7 @@ trait_fields t = record {
   fields =
       ArgSpec (codes "kind") 6 (file_kind_name t.kind)
       ∷ ArgSpec (codes "relro") 7 (relro_word t.segments)
-      ∷ ArgSpec (codes "stack") 5 (stack_word t.segments)
+      ∷ ArgSpec (codes "stack") 5 (stack_word t.kind t.segments)
       ∷ ArgSpec (codes "pages") 5 (pages_word t.segments)
       ∷ ArgSpec (codes "text") 5 (text_word t.segments)
       ∷ ArgSpec (codes "cet") 9 (cet_word t.ibt t.shstk)
@@ -115,7 +118,7 @@ column_name column.Path = codes "path"
 unfoldable pub column_word : Hardening → TraitColumn → List ℕ
 column_word t column.Kind = file_kind_name t.kind
 column_word t column.Relro = relro_word t.segments
-column_word t column.Stack = stack_word t.segments
+column_word t column.Stack = stack_word t.kind t.segments
 column_word t column.Pages = pages_word t.segments
 column_word t column.Text = text_word t.segments
 column_word t column.Cet = cet_word t.ibt t.shstk
@@ -123,16 +126,17 @@ column_word t column.Canary = canary_word t.canary
 column_word t column.Fortify = fortify_word t.fortify
 column_word t column.Path = path_word t.path
 
--- WHAT IS REQUIRED of a file: a word of a column
+-- WHAT IS REQUIRED of a file: a word of a column, or one of some, between which is `|`
 pub record Required : Type 0 where
   pub column : TraitColumn
   pub word : List ℕ
 
--- a file has the word
+abbrev pub alternatives : List ℕ → List (List ℕ)
+alternatives word = pieces_at 124 word
+
+-- a file has the word, or one of them
 abbrev pub has_word : Hardening → Required → Bool
-has_word t required =
-    length (column_word t required.column) == length required.word
-    && starts_with nat_eq (column_word t required.column) required.word
+has_word t required = list_any (bytes_eq (column_word t required.column)) (alternatives required.word)
 
 -- words are required only of programs and libraries
 unfoldable pub is_program : ProgramKind → Bool

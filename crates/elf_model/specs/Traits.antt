@@ -139,16 +139,19 @@ x86_feature_word file = elim (e_machine file == EM_X86_64) [
   | true ↦ elim (property_list file) [ Err refusal ↦ Err refusal | Ok None ↦ Ok 0 | Ok (Some list) ↦ features_in list ]
 ]
 
--- SYMBOLS. The dynamic symbols are those that a loader's lookup knows; a file without a hash table
--- has none
+-- SYMBOLS. The dynamic symbols are those that a loader's lookup knows; a file without dynamic
+-- entries has none, and its LOAD segments may overlap, nor has one without a hash table
 abbrev pub has_none : Cause → Bool
 has_none NoHash = true
 has_none _ = false
 
 unfoldable pub known_symbols : List ℕ → Result (Option LookupTables) Refusal
-known_symbols file = elim (lookup_tables_by_segments file) [
-  | Ok scope ↦ elim (first_refusal (counts_check file scope ∷ [])) [ Some refusal ↦ Err refusal | None ↦ Ok (Some scope) ]
-  | Err refusal ↦ elim (has_none refusal.cause) [ true ↦ Ok None | false ↦ Err refusal ]
+known_symbols file = elim (dynamic_segment_index file) [
+  | None ↦ Ok None
+  | Some index ↦ elim (lookup_tables_by_segments file) [
+    | Ok scope ↦ elim (first_refusal (counts_check file scope ∷ [])) [ Some refusal ↦ Err refusal | None ↦ Ok (Some scope) ]
+    | Err refusal ↦ elim (has_none refusal.cause) [ true ↦ Ok None | false ↦ Err refusal ]
+  ]
 ]
 
 -- HOW MANY there are is counted only by the hash table. In a GNU hash table: the symbols before
@@ -261,8 +264,8 @@ traits_with file word marks = record {
 }
 
 -- the traits of a file that has no section headers, once its headers are loaded, or the first
--- refusal: of the lookup tables, overlapping LOAD segments and dynamic entries first; of the
--- properties; of the symbols' names
+-- refusal: if it has dynamic entries, of overlapping LOAD segments, the entries and the lookup
+-- tables; of the properties; of the symbols' names
 unfoldable pub loaded_traits : List ℕ → Result Hardening Refusal
 loaded_traits file = elim (known_symbols file) [
   | Err refusal ↦ Err refusal

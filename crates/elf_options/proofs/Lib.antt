@@ -1,3 +1,4 @@
+pub mod AlternativeLaws
 pub mod NameSearch
 mod JoinedLaws
 pub mod SpelledLaws

@@ -1,12 +1,12 @@
 -- Which texts are required traits.
-use Rattle.std.proofs.Common.{◌≡◌, ◌≢◌, ◌==◌, ◌<◌, ℕ, zero, suc, Bool, true, false, List, [], ◌∷◌, ◌++◌, length, get_or, codes, Option, None, Some, option_map, refl, ap, sym, ◌∙◌, subst, arith}
-use Rattle.std.specs.Prelude.{bytes_eq, if◌then◌else◌, ◌||◌}
+use Rattle.std.proofs.Common.{◌≡◌, ◌≢◌, ◌==◌, ◌<◌, ℕ, zero, suc, Bool, true, false, List, [], ◌∷◌, ◌++◌, length, get_or, codes, Option, None, Some, option_map, refl, ap, sym, ◌∙◌, subst, inl, inr, append_assoc, arith}
+use Rattle.std.specs.Prelude.{All, bytes_eq, if◌then◌else◌, ◌&&◌, ◌||◌, ◌⊎◌}
 use Rattle.std.specs.Borrow.{Bor}
-use Rattle.std.specs.List.{list_any}
+use Rattle.std.specs.List.{list_all, list_any}
 use Rattle.std.proofs.lemmas.Bool.Decides.{nat_tests}
 use Rattle.std.proofs.lemmas.Slice.Eq.{bytes_eq-Decides}
 use Rattle.std.proofs.lemmas.Str.Pattern.{IsSplitOnceResult, split_parts}
-use Rattle.elf_model.specs.Prelude.{Required, canary_word, cet_word, column_name, column_word, either_word, file_kind_name, fortify_word, lacking_text, pages_word, path_word, relro_text, relro_word, segments_word, stack_word, text_word}
+use Rattle.elf_model.specs.Prelude.{Required, alternatives, canary_word, cet_word, column_name, column_word, either_word, file_kind_name, fortify_word, lacking_text, pages_word, path_word, pieces_at, relro_text, relro_word, segments_word, stack_word, text_word}
 use Rattle.elf_model.specs.declared.traits.Hardening.{Hardening}
 use Rattle.elf_model.specs.declared.traits.ProgramKind.{ProgramKind}
 use Rattle.elf_model.specs.declared.traits.Relro.{Relro}
@@ -17,7 +17,7 @@ use Rattle.elf_model.specs.declared.traits.ProgramKind.TheVariants as kind
 use Rattle.elf_model.specs.declared.traits.Relro.TheVariants as relro
 use Rattle.elf_model.specs.declared.traits.SearchPath.TheVariants as path
 use Rattle.elf_model.specs.declared.traits.TraitColumn.TheVariants as column
-use Rattle.elf_options.specs.Spelled.{column_named, column_words, split_at_sign, parsed_trait_word, word_in, word_of_parts, word_under}
+use Rattle.elf_options.specs.Spelled.{AreWordsOf, IsNameOfColumn, column_named, column_words, is_word_in, split_at_sign, parsed_trait_word, word_in, word_of_parts, word_under}
 
 -- THE FIRST EQUALS SIGN splits a text
 not_same : (a b : ℕ) → a ≢ b → (a == b) ≡ false
@@ -78,25 +78,26 @@ unfolding split_at_sign
 makes [] = tt
 makes (byte ∷ bytes) = made_by byte bytes (byte == 61) refl (makes bytes)
 
--- a name is that of its column
-abbrev IsNulTerminatedAt : List ℕ → Option TraitColumn → Type 0
-IsNulTerminatedAt name None = Unit {0}
-IsNulTerminatedAt name (Some its_column) = name ≡ column_name its_column
+-- a name is one of its column
+abbrev NamesColumn : List ℕ → Option TraitColumn → Type 0
+NamesColumn name None = Unit {0}
+NamesColumn name (Some its_column) = IsNameOfColumn name its_column
 
-named_or : (name text : List ℕ) (its_column : TraitColumn) (rest : Option TraitColumn) → text ≡ column_name its_column → IsNulTerminatedAt name rest
-    → IsNulTerminatedAt name (if bytes_eq name text then Some its_column else rest)
+named_or : (name text : List ℕ) (its_column : TraitColumn) (rest : Option TraitColumn) → IsNameOfColumn text its_column → NamesColumn name rest
+    → NamesColumn name (if bytes_eq name text then Some its_column else rest)
 named_or name text its_column rest is other = by (bytes_eq name text) refl
   where
-    by : (same : Bool) → bytes_eq name text ≡ same → IsNulTerminatedAt name (if same then Some its_column else rest)
-    by true same = (bytes_eq-Decides name text).0 same ∙ is
+    by : (same : Bool) → bytes_eq name text ≡ same → NamesColumn name (if same then Some its_column else rest)
+    by true same = subst (λ n. IsNameOfColumn n its_column) (sym ((bytes_eq-Decides name text).0 same)) is
     by false same = other
 
-is_named : (name : List ℕ) → IsNulTerminatedAt name (column_named name)
+is_named : (name : List ℕ) → NamesColumn name (column_named name)
 unfolding column_named column_name
 is_named name =
-    named_or name (codes "kind") column.Kind _ refl (named_or name (codes "relro") column.Relro _ refl (named_or name (codes "stack") column.Stack _ refl
-    (named_or name (codes "pages") column.Pages _ refl (named_or name (codes "text") column.Text _ refl (named_or name (codes "cet") column.Cet _ refl
-    (named_or name (codes "canary") column.Canary _ refl (named_or name (codes "fortify") column.Fortify _ refl (named_or name (codes "path") column.Path _ refl tt))))))))
+    named_or name (codes "kind") column.Kind _ (inl refl) (named_or name (codes "relro") column.Relro _ (inl refl) (named_or name (codes "stack") column.Stack _ (inl refl)
+    (named_or name (codes "pages") column.Pages _ (inl refl) (named_or name (codes "text") column.Text _ (inl refl) (named_or name (codes "cet") column.Cet _ (inl refl)
+    (named_or name (codes "canary") column.Canary _ (inl refl) (named_or name (codes "fortify") column.Fortify _ (inl refl) (named_or name (codes "path") column.Path _ (inl refl)
+    (named_or name (codes "rpath") column.Path _ (inr (refl, refl)) tt)))))))))
 
 -- THE WORDS OF A COLUMN. Each is that of some file
 abbrev Each : (List ℕ → Type 0) → List (List ℕ) → Type 0
@@ -183,11 +184,21 @@ either_of its_column first second tells_first absent one other =
     segments_listed (column_words its_column) (λ s. either_word (tells_first s) first second) absent
     (λ s. either_listed (column_words its_column) first second one other (tells_first s))
 
+stack_listed : (k : ProgramKind) (o : Option SegmentTraits) → list_any (bytes_eq (stack_word k o)) (column_words column.Stack) ≡ true
+unfolding column_words stack_word
+stack_listed kind.Core o = refl
+stack_listed kind.Exec o = either_of column.Stack (codes "exec") (codes "nx") (λ s. s.stack_executable) refl refl refl o
+stack_listed kind.Pie o = either_of column.Stack (codes "exec") (codes "nx") (λ s. s.stack_executable) refl refl refl o
+stack_listed kind.Static o = either_of column.Stack (codes "exec") (codes "nx") (λ s. s.stack_executable) refl refl refl o
+stack_listed kind.Lib o = either_of column.Stack (codes "exec") (codes "nx") (λ s. s.stack_executable) refl refl refl o
+stack_listed kind.Object o = either_of column.Stack (codes "exec") (codes "nx") (λ s. s.stack_executable) refl refl refl o
+stack_listed kind.Other o = either_of column.Stack (codes "exec") (codes "nx") (λ s. s.stack_executable) refl refl refl o
+
 word_listed : (t : Hardening) (its_column : TraitColumn) → list_any (bytes_eq (column_word t its_column)) (column_words its_column) ≡ true
-unfolding column_words column_word relro_word stack_word pages_word text_word canary_word fortify_word
+unfolding column_words column_word relro_word pages_word text_word canary_word fortify_word
 word_listed t column.Kind = kind_listed t.kind
 word_listed t column.Relro = segments_listed (column_words column.Relro) (λ s. relro_text s.relro) refl (λ s. relro_listed s.relro) t.segments
-word_listed t column.Stack = either_of column.Stack (codes "exec") (codes "nx") (λ s. s.stack_executable) refl refl refl t.segments
+word_listed t column.Stack = stack_listed t.kind t.segments
 word_listed t column.Pages = either_of column.Pages (codes "wx") (codes "w^x") (λ s. s.pages_writable) refl refl refl t.segments
 word_listed t column.Text = either_of column.Text (codes "patch") (codes "fixed") (λ s. s.text_patched) refl refl refl t.segments
 word_listed t column.Cet = cet_listed t.ibt t.shstk
@@ -195,7 +206,52 @@ word_listed t column.Canary = either_listed (column_words column.Canary) (codes 
 word_listed t column.Fortify = either_listed (column_words column.Fortify) (codes "fortify") (codes "-") refl refl t.fortify
 word_listed t column.Path = path_listed t.path
 
--- what follows the name of a column and the sign is a word of that column
+-- no word of a column has alternatives
+abbrev IsOne : List ℕ → Type 0
+IsOne word = alternatives word ≡ word ∷ []
+
+each_is_one : (its_column : TraitColumn) → Each IsOne (column_words its_column)
+unfolding column_words pieces_at
+each_is_one column.Kind = (refl, (refl, (refl, (refl, (refl, (refl, (refl, tt)))))))
+each_is_one column.Relro = (refl, (refl, (refl, (refl, tt))))
+each_is_one column.Stack = (refl, (refl, (refl, tt)))
+each_is_one column.Pages = (refl, (refl, (refl, tt)))
+each_is_one column.Text = (refl, (refl, (refl, tt)))
+each_is_one column.Cet = (refl, (refl, (refl, (refl, tt))))
+each_is_one column.Canary = (refl, (refl, tt))
+each_is_one column.Fortify = (refl, (refl, tt))
+each_is_one column.Path = (refl, (refl, (refl, tt)))
+
+-- SOME WORDS of a column: all are listed just if each is that of some file
+both : (a b : Bool) → a ≡ true → b ≡ true → (a && b) ≡ true
+both true b one other = other
+both false b one other = cc
+
+all_listed : (its_column : TraitColumn) (words : List (List ℕ)) → All (Tells its_column) words → list_all (is_word_in its_column) words ≡ true
+all_listed its_column [] told = refl
+all_listed its_column (word ∷ words) told =
+    let file : Tells its_column word = told zero [] (omega arith) in
+    both (is_word_in its_column word) (list_all (is_word_in its_column) words)
+    (subst (λ w. is_word_in its_column w ≡ true) (sym file.1) (word_listed file.0 its_column))
+    (all_listed its_column words (λ k d low. told (suc k) d (omega arith)))
+
+onto : (P : List ℕ → Type 0) (word : List ℕ) (words : List (List ℕ)) → P word → All P words → All P (word ∷ words)
+onto P word words here others zero d low = here
+onto P word words here others (suc k) d low = others k d (omega (arith, low))
+
+-- the words after the first, once that is listed
+all_by : (its_column : TraitColumn) (word : List ℕ) (words : List (List ℕ)) (b : Bool) → is_word_in its_column word ≡ b
+    → (list_all (is_word_in its_column) words ≡ true → All (Tells its_column) words)
+    → (b && list_all (is_word_in its_column) words) ≡ true → All (Tells its_column) (word ∷ words)
+all_by its_column word words false isnt others e = cc
+all_by its_column word words true among others e =
+    onto (Tells its_column) word words (listed (Tells its_column) word (column_words its_column) (each_told its_column) among) (others e)
+
+all_told : (its_column : TraitColumn) (words : List (List ℕ)) → list_all (is_word_in its_column) words ≡ true → All (Tells its_column) words
+all_told its_column [] is = λ k d low. absurd (omega (arith, low))
+all_told its_column (word ∷ words) is = all_by its_column word words (is_word_in its_column word) refl (all_told its_column words) is
+
+-- what follows a name of a column and the sign is words of that column
 spelled : (its_column : TraitColumn) (word : List ℕ) → parsed_trait_word (column_name its_column ++ 61 ∷ word) ≡ word_in its_column word
 unfolding parsed_trait_word split_at_sign column_named column_name
 spelled column.Kind word = refl
@@ -208,48 +264,60 @@ spelled column.Canary word = refl
 spelled column.Fortify word = refl
 spelled column.Path word = refl
 
+spelled_by_key : (word : List ℕ) → parsed_trait_word (codes "rpath" ++ 61 ∷ word) ≡ word_in column.Path word
+unfolding parsed_trait_word split_at_sign column_named
+spelled_by_key word = refl
+
 -- a word after the sign
-signed : (its_column : TraitColumn) (word : List ℕ) → column_name its_column ++ 61 ∷ word ≡ column_name its_column ++ codes "=" ++ word
-unfolding column_name
-signed column.Kind word = refl
-signed column.Relro word = refl
-signed column.Stack word = refl
-signed column.Pages word = refl
-signed column.Text word = refl
-signed column.Cet word = refl
-signed column.Canary word = refl
-signed column.Fortify word = refl
-signed column.Path word = refl
+signed : (name word : List ℕ) → name ++ codes "=" ++ word ≡ name ++ 61 ∷ word
+signed name word = append_assoc name (codes "=") word
+
+spelled_by : (name word : List ℕ) (its_column : TraitColumn) → IsNameOfColumn name its_column → parsed_trait_word (name ++ codes "=" ++ word) ≡ word_in its_column word
+spelled_by name word its_column (inl is) = ap parsed_trait_word (signed name word) ∙ ap (λ n. parsed_trait_word (n ++ 61 ∷ word)) is ∙ spelled its_column word
+spelled_by name word its_column (inr key) =
+    ap parsed_trait_word (signed name word) ∙ ap (λ n. parsed_trait_word (n ++ 61 ∷ word)) key.0 ∙ spelled_by_key word ∙ ap (λ c. word_in c word) (sym key.1)
 
 -- a word, by whether it is listed
 abbrev word_by : Bool → TraitColumn → List ℕ → Option Required
 word_by is its_column word = elim is as (λ _. Option Required) [ true ↦ Some (record { column = its_column; word = word }) | false ↦ None ]
 
-pub told : (t : Hardening) (its_column : TraitColumn) → parsed_trait_word (lacking_text t its_column) ≡ Some (record { column = its_column; word = column_word t its_column })
-told t its_column =
-    ap parsed_trait_word (sym (signed its_column (column_word t its_column))) ∙ spelled its_column (column_word t its_column) ∙ ap (λ b. word_by b its_column (column_word t its_column)) (word_listed t its_column)
+pub told : (name word : List ℕ) (its_column : TraitColumn) → IsNameOfColumn name its_column → AreWordsOf its_column word
+    → parsed_trait_word (name ++ codes "=" ++ word) ≡ Some (record { column = its_column; word = word })
+told name word its_column named words =
+    spelled_by name word its_column named ∙ ap (λ b. word_by b its_column word) (all_listed its_column (alternatives word) words)
 
-abbrev IsRowReported : List ℕ → Required → Type 0
-IsRowReported text required = (t : Hardening) × (text ≡ lacking_text t required.column) × (required.word ≡ column_word t required.column)
+-- the word of a file alone
+alone : (t : Hardening) (its_column : TraitColumn) → AreWordsOf its_column (column_word t its_column)
+alone t its_column =
+    subst (All (Tells its_column)) (sym (listed IsOne (column_word t its_column) (column_words its_column) (each_is_one its_column) (word_listed t its_column)))
+    (onto (Tells its_column) (column_word t its_column) [] (t, refl) (all_told its_column [] refl))
 
-told_word : (text word : List ℕ) (its_column : TraitColumn) (required : Required) → text ≡ column_name its_column ++ 61 ∷ word → word_in its_column word ≡ Some required → IsRowReported text required
-told_word text word its_column required made is = by (list_any (bytes_eq word) (column_words its_column)) refl is
+pub lacked : (t : Hardening) (its_column : TraitColumn) → parsed_trait_word (lacking_text t its_column) ≡ Some (record { column = its_column; word = column_word t its_column })
+lacked t its_column = told (column_name its_column) (column_word t its_column) its_column (inl refl) (alone t its_column)
+
+-- the words that a text which is taken names
+abbrev IsTaken : List ℕ → Required → Type 0
+IsTaken text required =
+    (name : List ℕ) × (text ≡ name ++ codes "=" ++ required.word) × IsNameOfColumn name required.column × AreWordsOf required.column required.word
+
+told_word : (text name word : List ℕ) (its_column : TraitColumn) (required : Required) → text ≡ name ++ 61 ∷ word → IsNameOfColumn name its_column
+    → word_in its_column word ≡ Some required → IsTaken text required
+told_word text name word its_column required made named is = by (list_all (is_word_in its_column) (alternatives word)) refl is
   where
-    by : (b : Bool) → list_any (bytes_eq word) (column_words its_column) ≡ b → word_by b its_column word ≡ Some required → IsRowReported text required
+    by : (b : Bool) → list_all (is_word_in its_column) (alternatives word) ≡ b → word_by b its_column word ≡ Some required → IsTaken text required
     by true among e =
         let same : record { column = its_column; word = word } ≡ required = cc in
-        let file = listed (Tells its_column) word (column_words its_column) (each_told its_column) among in
-        subst (IsRowReported text) same (file.0, made ∙ signed its_column word ∙ ap (λ w. column_name its_column ++ codes "=" ++ w) file.1, file.1)
+        subst (IsTaken text) same (name, made ∙ sym (signed name word), named, all_told its_column (alternatives word) among)
     by false among e = cc
 
-told_under : (text name word : List ℕ) (o : Option TraitColumn) (required : Required) → text ≡ name ++ 61 ∷ word → IsNulTerminatedAt name o → word_under o word ≡ Some required → IsRowReported text required
+told_under : (text name word : List ℕ) (o : Option TraitColumn) (required : Required) → text ≡ name ++ 61 ∷ word → NamesColumn name o → word_under o word ≡ Some required → IsTaken text required
 told_under text name word None required made named is = cc
-told_under text name word (Some its_column) required made named is = told_word text word its_column required (made ∙ ap (λ n. n ++ 61 ∷ word) named) is
+told_under text name word (Some its_column) required made named is = told_word text name word its_column required made named is
 
-told_parts : (text : List ℕ) (o : Option (List ℕ × List ℕ)) (required : Required) → Makes text o → word_of_parts o ≡ Some required → IsRowReported text required
+told_parts : (text : List ℕ) (o : Option (List ℕ × List ℕ)) (required : Required) → Makes text o → word_of_parts o ≡ Some required → IsTaken text required
 told_parts text None required made is = cc
 told_parts text (Some parts) required made is = told_under text parts.0 parts.1 (column_named parts.0) required made (is_named parts.0) is
 
-pub tells : (text : List ℕ) (required : Required) → parsed_trait_word text ≡ Some required → IsRowReported text required
+pub tells : (text : List ℕ) (required : Required) → parsed_trait_word text ≡ Some required → IsTaken text required
 unfolding parsed_trait_word
 tells text required is = told_parts text (split_at_sign 61 text) required (makes text) is

@@ -1,6 +1,7 @@
 //! The required traits, parsed from texts.
 ghost use Rattle.std.specs.Prelude.{◌≡◌, bytes_eq, map, option_map};
-ghost use Rattle.std.specs.List.{list_any};
+ghost use Rattle.std.specs.List.{list_all, list_any};
+ghost use Rattle.elf_model.specs.Prelude.{alternatives};
 ghost use Rattle.elf_options.specs.Required.{required_word};
 ghost use Rattle.elf_options.specs.Spelled.{SpellsTraits, column_named, column_words};
 ghost use Rattle.elf_options.specs.Spelled.{split_at_sign, parsed_trait_word, word_in};
@@ -9,7 +10,8 @@ use crate::required::RequiredTrait;
 use elf_model::TraitColumn;
 
 /// Parses a required trait: the name of a column, `=` and a word that the line of a file can have
-/// in that column, as in `relro=full`. Returns None for any other text.
+/// in that column, as in `relro=full`, or some of them separated by `|`, as in `kind=pie|lib`.
+/// Returns None for any other text.
 #[tactic(auto, unfolding(crate::specs::Spelled::parsed_trait_word))]
 pub fn parsed_trait_word(text: &str) -> Option<RequiredTrait<'_>>
     ensures { option_map required_word result ≡ parsed_trait_word text.now }
@@ -25,7 +27,7 @@ fn parted(text: &str) -> Option<(&str, &str)>
     text.split_once('=')
 }
 
-/// Returns the column of this name.
+/// Returns the column of this name: that of the search path has its key in a line as another.
 #[tactic(auto, unfolding(crate::specs::Spelled::column_named))]
 fn column_named(name: &str) -> Option<TraitColumn>
     ensures { result ≡ column_named name.now }
@@ -39,19 +41,35 @@ fn column_named(name: &str) -> Option<TraitColumn>
         "cet" => Some(TraitColumn::Cet),
         "canary" => Some(TraitColumn::Canary),
         "fortify" => Some(TraitColumn::Fortify),
-        "path" => Some(TraitColumn::Path),
+        "path" | "rpath" => Some(TraitColumn::Path),
         _ => None,
     }
 }
 
-/// Returns a word of a column, if the line of a file can have it there.
+/// Returns a word of a column, or some of them, if the line of a file can have each there.
 fn word_in(column: TraitColumn, word: &str) -> Option<RequiredTrait<'_>>
     ensures { option_map required_word result ≡ word_in column word.now }
 {
-    if !is_among(word, column_words(column)) {
+    if !are_among(word, column_words(column)) {
         return None;
     }
     Some(RequiredTrait { column, word })
+}
+
+/// Returns `true` if a word, or each of some separated by `|`, is one of the given ones.
+fn are_among(text: &str, words: &[&str]) -> bool
+    ensures { result ≡ list_all
+        (λ word. list_any (bytes_eq word) (map (λ other. other.now) words.now))
+        (alternatives text.now) }
+{
+    let mut rest = text;
+    while let Some((word, others)) = rest.split_once('|') {
+        if !is_among(word, words) {
+            return false;
+        }
+        rest = others;
+    }
+    is_among(rest, words)
 }
 
 /// Returns `true` if a word is one of the given ones.

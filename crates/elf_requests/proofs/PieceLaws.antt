@@ -1,20 +1,17 @@
 -- The traits that the pieces of a text name.
-use Rattle.std.proofs.Common.{◌≡◌, ◌∙◌, Bool, true, false, List, [], ◌∷◌, ◌++◌, map, Option, None, Some, refl, ap, sym, inl, inr, append_assoc}
-use Rattle.std.specs.Prelude.{◌⊎◌, ◌||◌, is_some, not}
-use Rattle.std.specs.List.{list_any}
+use Rattle.std.proofs.Common.{◌≡◌, ◌∙◌, true, false, List, [], ◌∷◌, ◌++◌, map, Option, Some, ap, sym, inl, inr, append_assoc}
+use Rattle.std.specs.Prelude.{◌⊎◌, cond}
+use Rattle.std.specs.List.{find}
 use Rattle.clap.specs.Walk.{Text}
 use Rattle.elf_model.specs.TraitWords.{Required}
 use Rattle.elf_options.specs.Prelude.{parsed_trait_word}
-use Rattle.elf_requests.specs.AskedTraits.{IsWordFault}
+use Rattle.elf_requests.specs.AskedTraits.{IsWordFault, NamesPiece, is_unknown}
 use Rattle.elf_cli.specs.Pieces.{pieces}
-use Rattle.elf_cli.specs.declared.faults.RequestFault.TheVariants.{BadTrait, Memory}
+use Rattle.elf_cli.specs.declared.faults.RequestFault.TheVariants.{Memory}
 use Rattle.elf_cli.specs.declared.faults.RequestFault.{RequestFault}
 
 abbrev Spelled : Type 0
 Spelled = List (Option Required)
-
-abbrev no_word : Option Required → Bool
-no_word word = not (is_some word)
 
 -- one more trait of the pieces
 pub word_more : (before after : Spelled) (text rest behind piece : Text) → before ++ map parsed_trait_word (pieces rest) ≡ map parsed_trait_word (pieces text)
@@ -28,19 +25,15 @@ pub word_last : (before after : Spelled) (text rest : Text) → before ++ map pa
     → pieces rest ≡ rest ∷ [] → after ≡ before ++ parsed_trait_word rest ∷ [] → map parsed_trait_word (pieces text) ≡ after
 word_last before after text rest so parts put = sym so ∙ ap (λ p. before ++ map parsed_trait_word p) parts ∙ sym put
 
-any_at : (before rest : Spelled) → list_any no_word (before ++ None ∷ rest) ≡ true
-any_at [] rest = refl
-any_at (word ∷ before) rest = behind (no_word word) (any_at before rest)
-  where
-    behind : (b : Bool) {more : Bool} → more ≡ true → (b || more) ≡ true
-    behind true is = refl
-    behind false is = is
+module _ (text rest piece : Text) (so : find is_unknown (pieces rest) ≡ find is_unknown (pieces text)) where
+  -- the first unknown piece is after one that names a trait
+  pub unknown_after : (behind : Text) → pieces rest ≡ piece ∷ pieces behind → is_unknown piece ≡ false → find is_unknown (pieces behind) ≡ find is_unknown (pieces text)
+  unknown_after behind parts known =
+      sym (ap (find is_unknown) parts ∙ ap (λ b. cond b (Some piece) (find is_unknown (pieces behind))) known) ∙ so
 
--- a piece that names no trait is the fault
-pub word_fault : (before : Spelled) (text rest piece : Text) (more : List Text) (fault : RequestFault) → before ++ map parsed_trait_word (pieces rest) ≡ map parsed_trait_word (pieces text)
-    → pieces rest ≡ piece ∷ more → (fault ≡ Memory) ⊎ ((fault ≡ BadTrait) × (parsed_trait_word piece ≡ None)) → IsWordFault (Some text) fault
-word_fault before text rest piece more fault so parts (inl memory) = inl memory
-word_fault before text rest piece more fault so parts (inr bad) =
-    let here : map parsed_trait_word (pieces text) ≡ before ++ None ∷ map parsed_trait_word more =
-    sym so ∙ ap (λ p. before ++ map parsed_trait_word p) parts ∙ ap (λ w. before ++ w ∷ map parsed_trait_word more) bad.1 in
-    inr (bad.0, ap (list_any no_word) here ∙ any_at before (map parsed_trait_word more))
+  -- a piece that names no trait is the fault
+  pub word_fault : (more : List Text) (fault : RequestFault) → pieces rest ≡ piece ∷ more
+      → (fault ≡ Memory) ⊎ (NamesPiece piece fault × (is_unknown piece ≡ true)) → IsWordFault (Some text) fault
+  word_fault more fault parts (inl memory) = inl memory
+  word_fault more fault parts (inr bad) =
+      inr (piece, sym so ∙ ap (find is_unknown) parts ∙ ap (λ b. cond b (Some piece) (find is_unknown more)) bad.1, bad.0)

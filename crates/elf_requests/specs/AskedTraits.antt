@@ -1,27 +1,36 @@
 -- The required traits of an argument.
-use Rattle.std.specs.Prelude.{◌≡◌, ◌⊎◌, true, not, is_some, List, [], map, Option, None, Some}
-use Rattle.std.specs.List.{list_any}
+use Rattle.std.specs.Prelude.{◌≡◌, ◌⊎◌, Bool, not, is_some, List, [], map, Option, None, Some, string_bytes}
+use Rattle.std.specs.List.{find}
 use Rattle.clap.specs.Walk.{Text}
 use Rattle.elf_cli.specs.Pieces.{pieces}
-use Rattle.elf_cli.specs.declared.faults.RequestFault.TheVariants.{BadTrait, Memory}
+use Rattle.elf_cli.specs.declared.faults.RequestFault.TheVariants.{Memory, UnknownTrait}
 use Rattle.elf_cli.specs.declared.faults.RequestFault.{RequestFault}
 use Rattle.elf_model.specs.TraitWords.{Required}
 use Rattle.elf_options.specs.Prelude.{parsed_trait_word, required_words}
 use Rattle.elf_options.specs.declared.required.RequiredTrait.{RequiredTrait}
 
--- the trait that each piece of a text names; without a text nothing is required
-abbrev parsed_in : Option Text → List (Option Required)
-parsed_in None = []
-parsed_in (Some text) = map parsed_trait_word (pieces text)
+-- the pieces of a text; without a text nothing is required
+abbrev required_pieces : Option Text → List Text
+required_pieces None = []
+required_pieces (Some text) = pieces text
 
 -- a piece names no trait
-abbrev pub LacksWord : Option Text → Type 0
-LacksWord text = list_any (λ word. not (is_some word)) (parsed_in text) ≡ true
+abbrev pub is_unknown : Text → Bool
+is_unknown piece = not (is_some (parsed_trait_word piece))
+
+-- the first piece of a text that names no trait
+abbrev pub first_unknown : Option Text → Option Text
+first_unknown text = find is_unknown (required_pieces text)
 
 -- the traits that the pieces of a text name, in order
 abbrev pub AreRequired : Option Text → List RequiredTrait → Type 0
-AreRequired text words = parsed_in text ≡ map Some (required_words words)
+AreRequired text words = map parsed_trait_word (required_pieces text) ≡ map Some (required_words words)
 
--- why there are none: no memory, or a piece that names no trait
+-- the fault that names this piece
+abbrev pub NamesPiece : Text → RequestFault → Type 0
+NamesPiece piece (UnknownTrait named) = string_bytes named ≡ piece
+NamesPiece piece _ = ⊥
+
+-- why there are none: no memory, or the first piece that names no trait, which the fault names
 abbrev pub IsWordFault : Option Text → RequestFault → Type 0
-IsWordFault text fault = (fault ≡ Memory) ⊎ ((fault ≡ BadTrait) × LacksWord text)
+IsWordFault text fault = (fault ≡ Memory) ⊎ ((piece : Text) × (first_unknown text ≡ Some piece) × NamesPiece piece fault)

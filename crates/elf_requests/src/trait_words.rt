@@ -1,9 +1,9 @@
 //! The required traits of an argument.
-ghost use Rattle.std.specs.Prelude.{◌≡◌, ◌⊎◌, ◌++◌, ◌∷◌, [], IfErr, IfOk, Some, None};
+ghost use Rattle.std.specs.Prelude.{◌≡◌, ◌⊎◌, ◌++◌, ◌∷◌, [], true, false, IfErr, IfOk, Some};
 ghost use Rattle.std.specs.Prelude.{map, option_map};
 ghost use Rattle.elf_options.specs.Prelude.{parsed_trait_word, required_words};
-ghost use Rattle.elf_requests.specs.AskedTraits.{AreRequired, IsWordFault};
-ghost use Rattle.elf_cli.specs.declared.faults.RequestFault.TheVariants.{BadTrait, Memory};
+ghost use Rattle.elf_requests.specs.AskedTraits.{AreRequired, IsWordFault, NamesPiece, is_unknown};
+ghost use Rattle.elf_cli.specs.declared.faults.RequestFault.TheVariants.{Memory};
 
 use elf_cli::RequestFault;
 use elf_options::{RequiredTrait, parsed_trait_word};
@@ -12,8 +12,8 @@ use std::alloc::Global;
 /// Returns the required traits that an argument names; none if there is no argument.
 ///
 /// # Errors
-/// `BadTrait` if a piece of the option's value is not a word of any column; `Memory` if out of
-/// memory for them.
+/// `UnknownTrait` with the first piece of the option's value that is not a word of any column;
+/// `Memory` if out of memory.
 pub(crate) fn required_of<'a>(
     alloc: Global,
     require: Option<&'a str>,
@@ -31,7 +31,7 @@ pub(crate) fn required_of<'a>(
 /// Returns the traits that the comma-separated pieces of a text name.
 ///
 /// # Errors
-/// `BadTrait` if a piece is not a word of any column; `Memory` if out of memory for them.
+/// `UnknownTrait` with the first piece that is not a word of any column; `Memory` if out of memory.
 fn required_in<'a>(alloc: Global, text: &'a str) -> Result<Vec<RequiredTrait<'a>>, RequestFault>
     ensures words { IfOk result (λ words. AreRequired (Some text.now) words.items) }
     ensures refused { IfErr result (IsWordFault (Some text.now)) }
@@ -39,12 +39,12 @@ fn required_in<'a>(alloc: Global, text: &'a str) -> Result<Vec<RequiredTrait<'a>
     let mut required = Vec::new(alloc);
     let mut rest = text;
     while let Some((piece, behind)) = rest.split_once(',') {
-        if let Err(fault) = put_required(&mut required, piece) {
+        if let Err(fault) = put_required(alloc, &mut required, piece) {
             return Err(fault);
         }
         rest = behind;
     }
-    match put_required(&mut required, rest) {
+    match put_required(alloc, &mut required, rest) {
         Ok(()) => Ok(required),
         Err(fault) => Err(fault),
     }
@@ -53,21 +53,33 @@ fn required_in<'a>(alloc: Global, text: &'a str) -> Result<Vec<RequiredTrait<'a>
 /// Appends the trait that a piece names to the required ones.
 ///
 /// # Errors
-/// `BadTrait` if it is not a word of any column; `Memory` if out of memory for it.
+/// `UnknownTrait` with the piece if it is not a word of any column; `Memory` if out of memory.
 fn put_required<'a>(
+    alloc: Global,
     required: &mut Vec<RequiredTrait<'a>>,
     piece: &'a str,
 ) -> Result<(), RequestFault>
     ensures put { IfOk result (λ _. map Some (required_words required.new.items)
         ≡ map Some (required_words required.old.items) ++ parsed_trait_word piece.now ∷ []) }
-    ensures refused { IfErr result (λ fault.
-        (fault ≡ Memory) ⊎ ((fault ≡ BadTrait) × (parsed_trait_word piece.now ≡ None))) }
+    ensures known { IfOk result (λ _. is_unknown piece.now ≡ false) }
+    ensures refused { IfErr result (λ fault. (fault ≡ Memory)
+        ⊎ (NamesPiece piece.now fault × (is_unknown piece.now ≡ true))) }
 {
     let Some(word) = parsed_trait_word(piece) else {
-        return Err(RequestFault::BadTrait);
+        return Err(unknown_trait(alloc, piece));
     };
     match required.push(word) {
         Ok(()) => Ok(()),
         Err(_) => Err(RequestFault::Memory),
+    }
+}
+
+/// Returns the fault that names a piece; `Memory` if out of memory for it.
+fn unknown_trait(alloc: Global, piece: &str) -> RequestFault
+    ensures { (result ≡ Memory) ⊎ NamesPiece piece.now result }
+{
+    match String::from_str(alloc, piece) {
+        Ok(word) => RequestFault::UnknownTrait(word),
+        Err(_) => RequestFault::Memory,
     }
 }

@@ -33,7 +33,7 @@ use std::convert::AsStr;
 /// - `NamesFull` if they request the rows of more than 64 names.
 /// - `BadItem`, `LayoutRepeat` and `LayoutFull` for the first layout item that is malformed,
 ///   repeats an item, or is one more of its type than a layout holds.
-/// - `BadTrait` if a required trait is invalid.
+/// - `UnknownTrait` with the first required trait that is invalid.
 /// - `Memory` if out of memory.
 pub fn request<'a, S: AsStr>(
     alloc: Global,

@@ -7,13 +7,11 @@ use elf_format::column_word;
 use elf_model::{Hardening, ProgramKind};
 use elf_options::RequiredTrait;
 
-/// Returns `true` if a file has the word that is required for a column.
+/// Returns `true` if a file has the word that is required for a column, or one of the alternatives.
 pub(crate) fn has_word(traits: Hardening, wanted: &RequiredTrait<'_>) -> bool
     ensures { result ≡ has_word traits (required_word wanted.now) }
 {
-    let word = column_word(traits, wanted.column).as_bytes();
-    let other = wanted.word.as_bytes();
-    word.len() == other.len() && word.starts_with(other)
+    wanted.allows(column_word(traits, wanted.column))
 }
 
 /// Returns `true` if traits are required of a file of this kind.

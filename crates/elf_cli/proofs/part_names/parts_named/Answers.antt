@@ -2,7 +2,7 @@ use Rattle.std.proofs.Common.{rules, arith, ap, ◌∙◌}
 use Rattle.std.proofs.lemmas.Str.Pattern.{split_parts}
 use Rattle.elf_cli.specs.Pieces.{pieces}
 use Rattle.elf_cli.proofs.PartLaws.{part_last, part_more}
-use Rattle.elf_cli.proofs.PieceLaws.{first_piece, one_piece}
+use Rattle.elf_model.proofs.PieceLaws.{first_piece, one_piece}
 use Rattle.elf_cli.proofs.part_names.parts_named.Goals as goal
 
 pub loop-name-preserved : goal.loop-name-preserved

@@ -2,7 +2,7 @@ use Rattle.std.proofs.Common.{rules, arith, ap, sym, ◌∙◌}
 use Rattle.std.proofs.lemmas.Str.Pattern.{split_parts}
 use Rattle.elf_cli.specs.Pieces.{pieces}
 use Rattle.elf_cli.proofs.PartLaws.{name_known, name_last, name_unknown}
-use Rattle.elf_cli.proofs.PieceLaws.{first_piece, one_piece}
+use Rattle.elf_model.proofs.PieceLaws.{first_piece, one_piece}
 use Rattle.elf_cli.proofs.part_names.unknown_part.Goals as goal
 
 pub returns-then-not-is_part_name : goal.returns-then-not-is_part_name

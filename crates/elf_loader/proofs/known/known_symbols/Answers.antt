@@ -1,44 +1,18 @@
--- The tables that a lookup searches, if there is a hash table, and then its counts.
-use Rattle.std.proofs.Common.{arith}
-use Rattle.std.proofs.lemmas.Result.{err_from_is_err_and}
-use Rattle.elf_table.proofs.LedgerLaws.{CallReads-more, CallReads-then, CallDid-as, CallDid-then}
-use Rattle.elf_loader.proofs.KnownLaws.{counted_known, counts_refused, counts_within, counts_most, its_place, passed_charges, passed_did, passed_tells}
+-- Without dynamic entries no symbol is known, and nothing is read.
+use Rattle.std.proofs.Common.{sym, ◌∙◌, arith}
+use Rattle.elf_table.proofs.LedgerLaws.{CallDid-as, CallDid-none}
+use Rattle.elf_hash.proofs.FoundLaws.{index_is}
+use Rattle.elf_loader.proofs.KnownLaws.{finds_none}
 use Rattle.elf_loader.proofs.known.known_symbols.Goals as goal
 
-pub returns-in-Err-clause-did : goal.returns-in-Err-clause-did
-returns-in-Err-clause-did g c =
-    rw c.without_hash.ensures
-    (CallDid-as _ (omega arith) (passed_did _ c.in-Err.ensures.did)
-    (λ file told costs views.
-    let found = told views in
-    record { costs = CallReads-more _ (omega arith) (passed_charges _ found.0); finds = passed_tells file _ found.1 }))
+pub returns-in-Some-clause-did : goal.returns-in-Some-clause-did
+returns-in-Some-clause-did g c =
+    CallDid-as _ (omega arith) c.listed_symbols.ensures.did
+    (λ file told costs views. told views _ (index_is file ∙ (sym (c.first_segment.ensures.first file views) ∙ c.in-Some.is)))
 
-pub returns-in_err-table-clause-did : goal.returns-in_err-table-clause-did
-returns-in_err-table-clause-did g c =
-    let p = err_from_is_err_and c.from_residual.result c.from_residual.ensures.1 in
-    let first = c.in-Ok.ensures.did in
-    let most = counts_most c.in-Ok.scope.hash.kind in
-    rw (p.1, p.2)
-    (CallDid-as _ (omega (arith, most)) (CallDid-then first c.in_err-table.ensures.did)
+pub returns-in-None-clause-did : goal.returns-in-None-clause-did
+returns-in-None-clause-did g c =
+    CallDid-as _ (omega arith) (CallDid-none c.args.src.now)
     (λ file told costs views.
-    let found = told.0 views in
-    let scope = found.1 in
-    let within = counts_within file scope.0 _ scope.1 scope.2 in
-    record {
-      costs = CallReads-then _ (omega (arith, within)) found.0 c.in_err-table.ensures.did.costs;
-      finds = counts_refused file scope.0 _ scope.1 scope.2 _ (told.1 scope.0 (its_place file scope.0 _ scope.1 scope.2));
-    }))
-
-pub returns-clause-did : goal.returns-clause-did
-returns-clause-did g c =
-    let first = c.in-Ok.ensures.did in
-    let most = counts_most c.in-Ok.scope.hash.kind in
-    CallDid-as _ (omega (arith, most)) (CallDid-then first c.in_ok-table.ensures.did)
-    (λ file told costs views.
-    let found = told.0 views in
-    let scope = found.1 in
-    let within = counts_within file scope.0 _ scope.1 scope.2 in
-    record {
-      costs = CallReads-then _ (omega (arith, within)) found.0 c.in_ok-table.ensures.did.costs;
-      finds = counted_known file scope.0 _ scope.1 scope.2 _ (told.1 scope.0 (its_place file scope.0 _ scope.1 scope.2));
-    })
+    let none = index_is file ∙ (sym (c.first_segment.ensures.first file views) ∙ c.in-None.is) in
+    record { costs = costs _ (omega arith); finds = finds_none file none })
