@@ -141,12 +141,12 @@ abbrev pub with_argument : ℕ → App → ℕ × Rule → App
 with_argument bit app argument = if bit_and argument.0 bit == bit then with_rule app argument.1 else app
 
 -- a command with its names
-abbrev pub named : CommandRow → App
-named known = let app = new_app known.0 in record app { top = record app.top { aliases = known.3 } }
+abbrev pub with_names : CommandRow → App
+with_names known = let app = new_app known.0 in record app { top = record app.top { aliases = known.3 } }
 
 -- a command with its arguments
 abbrev pub described : CommandRow → App
-described known = fold (with_argument known.2) (named known) argument_rows
+described known = fold (with_argument known.2) (with_names known) argument_rows
 
 -- a program with one more command
 abbrev pub with_command : App → CommandRow → App

@@ -3,7 +3,7 @@ ghost use Rattle.std.specs.Prelude.{◌≡◌, IfOk};
 ghost use Rattle.clap.specs.Simple.{App, new_app};
 ghost use Rattle.clap.specs.Words.{app_of};
 ghost use Rattle.elf_cli.specs.Building.{IsBuilt};
-ghost use Rattle.elf_cli.specs.CommandLine.{described, named, with_argument, with_command};
+ghost use Rattle.elf_cli.specs.CommandLine.{described, with_argument, with_command, with_names};
 ghost use Rattle.elf_cli.specs.Described.{argument_row, command_row};
 
 use crate::arg_specs::{ArgSpec, clap_arg_of};
@@ -56,7 +56,7 @@ pub(crate) fn clap_command_of<'a>(
 
 /// Creates the command for a description, with its names and without arguments.
 fn named<'a>(alloc: Global, command: &CommandSpec) -> Result<Command<'a>, AllocError>
-    ensures { IfOk result (IsBuilt (named (command_row command.now))) }
+    ensures { IfOk result (IsBuilt (with_names (command_row command.now))) }
 {
     let built = new_command(alloc, command.name, command.about, command.more);
     match command.alias {

@@ -5,7 +5,7 @@ use Rattle.std.proofs.lemmas.List.Sums.{fold_more}
 use Rattle.clap.specs.Simple.{App}
 use Rattle.clap.specs.Walk.{Rule}
 use Rattle.elf_cli.specs.Building.{IsBuilt}
-use Rattle.elf_cli.specs.CommandLine.{named, with_argument}
+use Rattle.elf_cli.specs.CommandLine.{with_argument, with_names}
 use Rattle.elf_cli.specs.Described.{argument_row, command_row}
 use Rattle.elf_cli.proofs.BuildingLaws.{all_taken}
 use Rattle.elf_cli.proofs.builder.clap_command_of.Goals as goal
@@ -21,12 +21,12 @@ loop-argument-preserved c =
       | then-argument-command+in_ok-whole-2 w ↦
           rw w.whole-is
           (subst (λ a. IsBuilt a w.in_ok-whole-2.whole)
-          (sym (fold_more (λ app word. with_argument c.args.command.now.bit app (argument_row word)) (named (command_row c.args.command.now)) _ c.loop-argument.argument-index _ c.loop-argument-test.true))
+          (sym (fold_more (λ app word. with_argument c.args.command.now.bit app (argument_row word)) (with_names (command_row c.args.command.now)) _ c.loop-argument.argument-index _ c.loop-argument-test.true))
           (w.in_ok-whole-2.ensures _ c.loop-argument.invariant))
       | else-argument-command w ↦
           rw w.whole-is
           (subst (λ a. IsBuilt a c.loop-argument.whole)
-          (sym (fold_more (λ app word. with_argument c.args.command.now.bit app (argument_row word)) (named (command_row c.args.command.now)) _ c.loop-argument.argument-index _ c.loop-argument-test.true
+          (sym (fold_more (λ app word. with_argument c.args.command.now.bit app (argument_row word)) (with_names (command_row c.args.command.now)) _ c.loop-argument.argument-index _ c.loop-argument-test.true
           ∙ not_its _ _ _ (ne_eqb _ _ w.if-argument-command.false)))
           c.loop-argument.invariant)
     ]
@@ -34,5 +34,5 @@ loop-argument-preserved c =
 pub returns : goal.returns
 returns c =
     subst (λ a. IsBuilt a c.loop-argument.whole)
-    (all_taken (with_argument c.args.command.now.bit) argument_row (named (command_row c.args.command.now)) _ c.loop-argument.argument-index _ c.loop-argument-test.false c.all_arguments-arguments.ensures)
+    (all_taken (with_argument c.args.command.now.bit) argument_row (with_names (command_row c.args.command.now)) _ c.loop-argument.argument-index _ c.loop-argument-test.false c.all_arguments-arguments.ensures)
     c.loop-argument.invariant
