@@ -30,7 +30,7 @@ module _ (headers : HeaderTable) (i size cap : ℕ) where
       cost_more (is_symbol_table (headers.bytes i) (headers.at i)) (pass (table_checks_of (headers.bytes i) (headers.at i) size (headers.at i) 24)) _ _
       (suffixes_most size cap) (λ h.
       let within = table_fits headers i size 24 h in
-      omega (arith, suffixes_fit headers i size cap i (header_field headers sh_size i / 24) (omega arith)))
+      omega (arith, suffixes_fit headers size cap i (header_field headers sh_size i / 24) (omega arith)))
 
   relocations_more : table_cost relocations_with_versions headers i size cap
       ≤ table_cost relocations headers i size cap + cost_where (header_field headers sh_type i == 4) (suffixes_most size cap)
@@ -39,7 +39,7 @@ module _ (headers : HeaderTable) (i size cap : ℕ) where
       cost_more (header_field headers sh_type i == 4) (pass (table_checks_of (headers.bytes i) (headers.at i) size (headers.at i) 24)) _ _
       (suffixes_most size cap) (λ h.
       let within = table_fits headers i size 24 h in
-      omega (arith, suffixes_fit headers i size cap (header_field headers sh_link i) (header_field headers sh_size i / 24) (omega arith)))
+      omega (arith, suffixes_fit headers size cap (header_field headers sh_link i) (header_field headers sh_size i / 24) (omega arith)))
 
   -- all of them with versions after names
   pub suffixed_kinds-le : (parts : ℕ)

@@ -1,23 +1,21 @@
 -- Dynamic entries are lawful kinds of tables.
-use Rattle.std.proofs.Common.{◌≡◌, ℕ, ◌+◌, ◌*◌, ◌/◌, ◌<◌, ◌≤◌, ◌==◌, Bool, true, List, [], ◌∷◌, ap, arith}
-use Rattle.elf_model.specs.Prelude.{HeaderTable, header_field, held_headers, name_bytes, p_filesz, p_offset, p_type, pass, section_dynamic, segment_dynamic, sh_size, sh_type, table_cost}
-use Rattle.elf_model.proofs.HeldHeaders.{AreHeld, kind-equal, p_filesz_held, p_type_held, segment_whole_held, size_held, table_held, type_held}
-use Rattle.elf_model.proofs.LawfulKinds.{LawfulSection, LawfulSegment, is_among, one-among}
+use Rattle.std.proofs.Common.{◌+◌, ◌*◌, ◌/◌, ◌==◌, Bool, [], ◌∷◌, ap, arith}
+use Rattle.elf_model.specs.Prelude.{header_field, held_headers, name_bytes, p_filesz, p_offset, p_type, section_dynamic, segment_dynamic, sh_size, sh_type}
+use Rattle.elf_model.proofs.HeldHeaders.{kind-equal, p_filesz_held, p_type_held, segment_whole_held, size_held, table_held, type_held}
+use Rattle.elf_model.proofs.LawfulKinds.{CostsTheSame, IsTyped, LawfulSection, LawfulSegment, ReadsWithin, one-among}
 use Rattle.elf_model.proofs.SelectionLaws.{section_dynamic_same, segment_dynamic_same}
 use Rattle.elf_model.proofs.TableBounds.{entries_within, table_bound, table_fits, twice_within, whole_within, within_most}
 
-pub section_dynamic_typed : (bytes : List ℕ) (at : ℕ) → section_dynamic.has_table bytes at ≡ true → is_among (6 ∷ []) (sh_type bytes at) ≡ true
+pub section_dynamic_typed : IsTyped sh_type (6 ∷ []) section_dynamic
 unfolding section_dynamic
 section_dynamic_typed bytes at h = one-among (sh_type bytes at) 6 h
 
-pub section_dynamic_fits : (headers : HeaderTable) (i size cap : ℕ) → pass (section_dynamic.checks.own (headers.bytes i) (headers.at i) size) ≡ true
-    → section_dynamic.asks headers i size cap ≤ table_bound size cap
+pub section_dynamic_fits : ReadsWithin table_bound section_dynamic
 unfolding section_dynamic
 section_dynamic_fits headers i size cap h =
     entries_within 16 (name_bytes cap) (name_bytes cap) size (header_field headers sh_size i) (omega arith) (omega arith) (table_fits headers i size 16 h)
 
-pub section_dynamic_cost : (all : HeaderTable) (row : ℕ → List ℕ) → AreHeld 64 row all → (i size cap : ℕ) → i < all.count
-    → table_cost section_dynamic (held_headers all.count row) i size cap ≡ table_cost section_dynamic all i size cap
+pub section_dynamic_cost : CostsTheSame 64 section_dynamic
 unfolding section_dynamic
 section_dynamic_cost all row fields i size cap below =
     kind-equal section_dynamic (held_headers all.count row) all i size cap (ap (λ n. n == 6) (type_held all row fields i below)) (table_held all row fields i size 16 below)
@@ -33,18 +31,16 @@ section_dynamic_lawful versions = record {
 }
 
 -- those of segments
-pub segment_dynamic_typed : (bytes : List ℕ) (at : ℕ) → segment_dynamic.has_table bytes at ≡ true → is_among (2 ∷ []) (p_type bytes at) ≡ true
+pub segment_dynamic_typed : IsTyped p_type (2 ∷ []) segment_dynamic
 unfolding segment_dynamic
 segment_dynamic_typed bytes at h = one-among (p_type bytes at) 2 h
 
-pub segment_dynamic_fits : (headers : HeaderTable) (i size cap : ℕ) → pass (segment_dynamic.checks.own (headers.bytes i) (headers.at i) size) ≡ true
-    → segment_dynamic.asks headers i size cap ≤ table_bound size cap
+pub segment_dynamic_fits : ReadsWithin table_bound segment_dynamic
 unfolding segment_dynamic
 segment_dynamic_fits headers i size cap h =
     twice_within size (header_field headers p_filesz i) (name_bytes cap) (whole_within size (header_field headers p_offset i) (header_field headers p_filesz i) (headers.at i) 16 h)
 
-pub segment_dynamic_cost : (all : HeaderTable) (row : ℕ → List ℕ) → AreHeld 56 row all → (i size cap : ℕ) → i < all.count
-    → table_cost segment_dynamic (held_headers all.count row) i size cap ≡ table_cost segment_dynamic all i size cap
+pub segment_dynamic_cost : CostsTheSame 56 segment_dynamic
 unfolding segment_dynamic
 segment_dynamic_cost all row fields i size cap below =
     kind-equal segment_dynamic (held_headers all.count row) all i size cap (ap (λ n. n == 2) (p_type_held all row fields i below)) (segment_whole_held all row fields i size 16 below)

@@ -14,18 +14,29 @@ abbrev pub is_among : List ℕ → ℕ → Bool
 is_among [] n = false
 is_among (m ∷ others) n = n == m || is_among others n
 
+-- the headers of its tables are of these types
+abbrev pub IsTyped : (List ℕ → ℕ → ℕ) → List ℕ → TableKind → Type 0
+IsTyped type types kind = (bytes : List ℕ) (at : ℕ) → kind.has_table bytes at ≡ true → is_among types (type bytes at) ≡ true
+
+-- its rows read no more than a bound
+abbrev pub ReadsWithin : (ℕ → ℕ → ℕ) → TableKind → Type 0
+ReadsWithin bound kind =
+    (headers : HeaderTable) (i size cap : ℕ) → pass (kind.checks.own (headers.bytes i) (headers.at i) size) ≡ true → kind.asks headers i size cap ≤ bound size cap
+
+-- by headers of this many bytes that are copied from a file it costs what it costs in the file
+abbrev pub CostsTheSame : ℕ → TableKind → Type 0
+CostsTheSame width kind =
+    (all : HeaderTable) (row : ℕ → List ℕ) → AreHeld width row all → (i size cap : ℕ) → i < all.count
+    → table_cost kind (held_headers all.count row) i size cap ≡ table_cost kind all i size cap
+
 -- A LAWFUL KIND OF TABLE, by the type of the headers that describe its tables, how many bytes a
--- header has, and a bound on what a table reads
+-- header has, and a bound on what a table reads; whatever rows are shown, its first fault is the
+-- same
 pub record LawfulKind (type : List ℕ → ℕ → ℕ) (width : ℕ) (bound : ℕ → ℕ → ℕ) (kind : TableKind) : Type 0 where
-  -- the types of these headers
   pub types : List ℕ
-  pub typed : (bytes : List ℕ) (at : ℕ) → kind.has_table bytes at ≡ true → is_among types (type bytes at) ≡ true
-  -- its rows read no more than the bound
-  pub fits : (headers : HeaderTable) (i size cap : ℕ) → pass (kind.checks.own (headers.bytes i) (headers.at i) size) ≡ true → kind.asks headers i size cap ≤ bound size cap
-  -- by headers in bytes of their own they cost what they cost in the file
-  pub held : (all : HeaderTable) (row : ℕ → List ℕ) → AreHeld width row all → (i size cap : ℕ) → i < all.count
-      → table_cost kind (held_headers all.count row) i size cap ≡ table_cost kind all i size cap
-  -- whatever rows are shown, the first fault is the same
+  pub typed : IsTyped type types kind
+  pub fits : ReadsWithin bound kind
+  pub held : CostsTheSame width kind
   pub same : SelectsAlike kind
 
 -- the kinds that section headers describe, with or without versions after the names of symbols, and

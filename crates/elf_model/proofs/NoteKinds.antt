@@ -1,22 +1,20 @@
 -- Notes are lawful kinds of tables.
-use Rattle.std.proofs.Common.{◌≡◌, ℕ, ◌*◌, ◌<◌, ◌≤◌, ◌==◌, Bool, true, List, [], ◌∷◌, ap, arith}
-use Rattle.elf_model.specs.Prelude.{HeaderTable, header_field, held_headers, p_filesz, p_offset, p_type, pass, section_notes, segment_notes, sh_type, table_cost}
-use Rattle.elf_model.proofs.HeldHeaders.{AreHeld, kind-equal, p_filesz_held, p_type_held, range_held, segment_range_held, size_held, type_held}
-use Rattle.elf_model.proofs.LawfulKinds.{LawfulSection, LawfulSegment, is_among, one-among}
+use Rattle.std.proofs.Common.{◌*◌, ◌==◌, Bool, [], ◌∷◌, ap, arith}
+use Rattle.elf_model.specs.Prelude.{header_field, held_headers, p_filesz, p_offset, p_type, section_notes, segment_notes, sh_type}
+use Rattle.elf_model.proofs.HeldHeaders.{kind-equal, p_filesz_held, p_type_held, range_held, segment_range_held, size_held, type_held}
+use Rattle.elf_model.proofs.LawfulKinds.{CostsTheSame, IsTyped, LawfulSection, LawfulSegment, ReadsWithin, one-among}
 use Rattle.elf_model.proofs.SelectionLaws.{section_notes_same, segment_notes_same}
 use Rattle.elf_model.proofs.TableBounds.{range_fits, range_within, table_bound, within_most}
 
-pub section_notes_typed : (bytes : List ℕ) (at : ℕ) → section_notes.has_table bytes at ≡ true → is_among (7 ∷ []) (sh_type bytes at) ≡ true
+pub section_notes_typed : IsTyped sh_type (7 ∷ []) section_notes
 unfolding section_notes
 section_notes_typed bytes at h = one-among (sh_type bytes at) 7 h
 
-pub section_notes_fit : (headers : HeaderTable) (i size cap : ℕ) → pass (section_notes.checks.own (headers.bytes i) (headers.at i) size) ≡ true
-    → section_notes.asks headers i size cap ≤ table_bound size cap
+pub section_notes_fit : ReadsWithin table_bound section_notes
 unfolding section_notes
 section_notes_fit headers i size cap h = let within = range_fits headers i size h in omega arith
 
-pub section_notes_cost : (all : HeaderTable) (row : ℕ → List ℕ) → AreHeld 64 row all → (i size cap : ℕ) → i < all.count
-    → table_cost section_notes (held_headers all.count row) i size cap ≡ table_cost section_notes all i size cap
+pub section_notes_cost : CostsTheSame 64 section_notes
 unfolding section_notes
 section_notes_cost all row fields i size cap below =
     kind-equal section_notes (held_headers all.count row) all i size cap (ap (λ n. n == 7) (type_held all row fields i below)) (range_held all row fields i size below)
@@ -32,18 +30,16 @@ section_notes_lawful versions = record {
 }
 
 -- those of segments
-pub segment_notes_typed : (bytes : List ℕ) (at : ℕ) → segment_notes.has_table bytes at ≡ true → is_among (4 ∷ []) (p_type bytes at) ≡ true
+pub segment_notes_typed : IsTyped p_type (4 ∷ []) segment_notes
 unfolding segment_notes
 segment_notes_typed bytes at h = one-among (p_type bytes at) 4 h
 
-pub segment_notes_fit : (headers : HeaderTable) (i size cap : ℕ) → pass (segment_notes.checks.own (headers.bytes i) (headers.at i) size) ≡ true
-    → segment_notes.asks headers i size cap ≤ table_bound size cap
+pub segment_notes_fit : ReadsWithin table_bound segment_notes
 unfolding segment_notes
 segment_notes_fit headers i size cap h =
     let within = range_within size (header_field headers p_offset i) (header_field headers p_filesz i) (headers.at i) h in omega arith
 
-pub segment_notes_cost : (all : HeaderTable) (row : ℕ → List ℕ) → AreHeld 56 row all → (i size cap : ℕ) → i < all.count
-    → table_cost segment_notes (held_headers all.count row) i size cap ≡ table_cost segment_notes all i size cap
+pub segment_notes_cost : CostsTheSame 56 segment_notes
 unfolding segment_notes
 segment_notes_cost all row fields i size cap below =
     kind-equal segment_notes (held_headers all.count row) all i size cap (ap (λ n. n == 4) (p_type_held all row fields i below)) (segment_range_held all row fields i size below)

@@ -1,10 +1,10 @@
 -- Symbols and relocation entries, with and without versions after names, are lawful kinds of tables.
-use Rattle.std.proofs.Common.{◌≡◌, ℕ, ◌+◌, ◌*◌, ◌/◌, ◌<◌, ◌≤◌, ◌==◌, ◌||◌, Bool, true, false, List, [], ◌∷◌, Option, None, Some, refl, ap, ap₂, ◌∙◌, arith}
+use Rattle.std.proofs.Common.{◌≡◌, ℕ, ◌+◌, ◌*◌, ◌/◌, ◌≤◌, ◌==◌, ◌||◌, Bool, true, false, [], ◌∷◌, Option, None, Some, refl, ap, ap₂, ◌∙◌, arith}
 use Rattle.std.proofs.Math.Nat.{mul-le-mul_right}
-use Rattle.elf_model.specs.Prelude.{DEFINED_NAME_SIZE, DEFINITION_SIZE, HeaderTable, NEED_SIZE, SHT_GNU_VERDEF, SHT_GNU_VERNEED, first_numbers, header_field, held_headers, name_bytes, pass, relocations, relocations_with_versions, sh_link, sh_size, sh_type, suffixed_symbols, suffixes_cost, suffixes_most, symbols, table_cost, walks_cost}
+use Rattle.elf_model.specs.Prelude.{DEFINED_NAME_SIZE, DEFINITION_SIZE, HeaderTable, NEED_SIZE, SHT_GNU_VERDEF, SHT_GNU_VERNEED, first_numbers, header_field, held_headers, name_bytes, relocations, relocations_with_versions, sh_link, sh_size, sh_type, suffixed_symbols, suffixes_cost, suffixes_most, symbols, walks_cost}
 use Rattle.elf_model.specs.TableKinds.{relocations_kind, symbols_kind}
-use Rattle.elf_model.proofs.HeldHeaders.{AreHeld, kind-equal, link_held, size_held, suffixes_held, symbols_held, table_held, type_held}
-use Rattle.elf_model.proofs.LawfulKinds.{LawfulSection, is_among, one-among}
+use Rattle.elf_model.proofs.HeldHeaders.{kind-equal, link_held, size_held, suffixes_held, symbols_held, table_held, type_held}
+use Rattle.elf_model.proofs.LawfulKinds.{CostsTheSame, IsTyped, LawfulSection, ReadsWithin, is_among, one-among}
 use Rattle.elf_model.proofs.SelectionLaws.{relocations_same, suffixed_relocations_same, suffixed_symbols_same, symbols_same}
 use Rattle.elf_model.proofs.TableBounds.{entries_within, most_bound, table_bound, table_fits, walk_within, within_most}
 
@@ -17,94 +17,88 @@ symbols-typed n h = by_first (n == 2) (n == 11) h
     by_first false true h = refl
     by_first false false h = h
 
--- What the tables of one section header read.
-module _ (headers : HeaderTable) (i size cap : ℕ) where
-  pub symbols_fit : pass (symbols.checks.own (headers.bytes i) (headers.at i) size) ≡ true → symbols.asks headers i size cap ≤ table_bound size cap
-  unfolding symbols
-  symbols_fit h = entries_within 24 (name_bytes cap) (name_bytes cap) size (header_field headers sh_size i) (omega arith) (omega arith) (table_fits headers i size 24 h)
+-- what the tables of a section header read
+pub symbols_fit : ReadsWithin table_bound symbols
+unfolding symbols
+symbols_fit headers i size cap h = entries_within 24 (name_bytes cap) (name_bytes cap) size (header_field headers sh_size i) (omega arith) (omega arith) (table_fits headers i size 24 h)
 
-  pub relocations_fit : pass (relocations.checks.own (headers.bytes i) (headers.at i) size) ≡ true → relocations.asks headers i size cap ≤ table_bound size cap
-  unfolding relocations
-  relocations_fit h = entries_within 24 (24 + name_bytes cap) (name_bytes cap) size (header_field headers sh_size i) (omega arith) (omega arith) (table_fits headers i size 24 h)
+pub relocations_fit : ReadsWithin table_bound relocations
+unfolding relocations
+relocations_fit headers i size cap h = entries_within 24 (24 + name_bytes cap) (name_bytes cap) size (header_field headers sh_size i) (omega arith) (omega arith) (table_fits headers i size 24 h)
 
-  -- the versions after the names of this many symbols
-  pub suffixes_fit : (table names : ℕ) → names ≤ size / 24 → suffixes_cost headers table names size cap ≤ suffixes_most size cap
-  unfolding suffixes_cost walks_cost
-  suffixes_fit table names few = by_found (first_numbers headers table)
-    where
-      by_found : (found : Option ℕ)
-          → (elim found as (λ _. ℕ) [ None ↦ 0 | Some i ↦ names * (2 + name_bytes cap) + walks_cost headers size ]) ≤ suffixes_most size cap
-      by_found None = omega arith
-      by_found (Some i) =
-          let first = walk_within headers size SHT_GNU_VERDEF DEFINITION_SIZE (DEFINITION_SIZE + DEFINED_NAME_SIZE) (omega arith) in
-          let second = walk_within headers size SHT_GNU_VERNEED NEED_SIZE NEED_SIZE (omega arith) in
-          let rows : names * (2 + name_bytes cap) ≤ size / 24 * (2 + name_bytes cap) = mul-le-mul_right (2 + name_bytes cap) few in
-          omega (arith, first, second, rows)
+-- the versions after the names of this many symbols
+pub suffixes_fit : (headers : HeaderTable) (size cap table names : ℕ) → names ≤ size / 24 → suffixes_cost headers table names size cap ≤ suffixes_most size cap
+unfolding suffixes_cost walks_cost
+suffixes_fit headers size cap table names few = by_found (first_numbers headers table)
+  where
+    by_found : (found : Option ℕ)
+        → (elim found as (λ _. ℕ) [ None ↦ 0 | Some i ↦ names * (2 + name_bytes cap) + walks_cost headers size ]) ≤ suffixes_most size cap
+    by_found None = omega arith
+    by_found (Some i) =
+        let first = walk_within headers size SHT_GNU_VERDEF DEFINITION_SIZE (DEFINITION_SIZE + DEFINED_NAME_SIZE) (omega arith) in
+        let second = walk_within headers size SHT_GNU_VERNEED NEED_SIZE NEED_SIZE (omega arith) in
+        let rows : names * (2 + name_bytes cap) ≤ size / 24 * (2 + name_bytes cap) = mul-le-mul_right (2 + name_bytes cap) few in
+        omega (arith, first, second, rows)
 
-  pub suffixed_symbols_fit : pass (suffixed_symbols.checks.own (headers.bytes i) (headers.at i) size) ≡ true → suffixed_symbols.asks headers i size cap ≤ most_bound true size cap
-  unfolding suffixed_symbols symbols
-  suffixed_symbols_fit h =
-      let within = table_fits headers i size 24 h in
-      let plain = symbols_fit h in
-      omega (arith, plain, suffixes_fit i (header_field headers sh_size i / 24) (omega arith))
+pub suffixed_symbols_fit : ReadsWithin (most_bound true) suffixed_symbols
+unfolding suffixed_symbols symbols
+suffixed_symbols_fit headers i size cap h =
+    let within = table_fits headers i size 24 h in
+    let plain = symbols_fit headers i size cap h in
+    omega (arith, plain, suffixes_fit headers size cap i (header_field headers sh_size i / 24) (omega arith))
 
-  pub suffixed_relocations_fit : pass (relocations_with_versions.checks.own (headers.bytes i) (headers.at i) size) ≡ true
-      → relocations_with_versions.asks headers i size cap ≤ most_bound true size cap
-  unfolding relocations_with_versions relocations
-  suffixed_relocations_fit h =
-      let within = table_fits headers i size 24 h in
-      let plain = relocations_fit h in
-      omega (arith, plain, suffixes_fit (header_field headers sh_link i) (header_field headers sh_size i / 24) (omega arith))
+pub suffixed_relocations_fit : ReadsWithin (most_bound true) relocations_with_versions
+unfolding relocations_with_versions relocations
+suffixed_relocations_fit headers i size cap h =
+    let within = table_fits headers i size 24 h in
+    let plain = relocations_fit headers i size cap h in
+    omega (arith, plain, suffixes_fit headers size cap (header_field headers sh_link i) (header_field headers sh_size i / 24) (omega arith))
 
--- What they cost by section headers in bytes of their own.
-module _ (all : HeaderTable) (row : ℕ → List ℕ) (fields : AreHeld 64 row all) (i size cap : ℕ) (below : i < all.count) where
-  abbrev held : HeaderTable
-  held = held_headers all.count row
+-- what they cost by section headers in bytes of their own
+pub symbols_cost : CostsTheSame 64 symbols
+unfolding symbols
+symbols_cost all row fields i size cap below =
+    kind-equal symbols (held_headers all.count row) all i size cap (symbols_held all row fields i below) (table_held all row fields i size 24 below)
+    (ap (λ n. n / 24 * (24 + name_bytes cap)) (size_held all row fields i below))
 
-  pub symbols_cost : table_cost symbols held i size cap ≡ table_cost symbols all i size cap
-  unfolding symbols
-  symbols_cost =
-      kind-equal symbols held all i size cap (symbols_held all row fields i below) (table_held all row fields i size 24 below)
-      (ap (λ n. n / 24 * (24 + name_bytes cap)) (size_held all row fields i below))
+pub relocations_cost : CostsTheSame 64 relocations
+unfolding relocations
+relocations_cost all row fields i size cap below =
+    kind-equal relocations (held_headers all.count row) all i size cap (ap (λ n. n == 4) (type_held all row fields i below)) (table_held all row fields i size 24 below)
+    (ap (λ n. n / 24 * (24 + (24 + name_bytes cap))) (size_held all row fields i below))
 
-  pub relocations_cost : table_cost relocations held i size cap ≡ table_cost relocations all i size cap
-  unfolding relocations
-  relocations_cost =
-      kind-equal relocations held all i size cap (ap (λ n. n == 4) (type_held all row fields i below)) (table_held all row fields i size 24 below)
-      (ap (λ n. n / 24 * (24 + (24 + name_bytes cap))) (size_held all row fields i below))
+-- with versions, of the symbols of this table
+abbrev more : HeaderTable → (size cap table bytes each : ℕ) → ℕ
+more all size cap table bytes each = bytes / 24 * each + suffixes_cost all table (bytes / 24) size cap
 
-  -- with versions, of the symbols of this table
-  abbrev more : (table bytes each : ℕ) → ℕ
-  more table bytes each = bytes / 24 * each + suffixes_cost all table (bytes / 24) size cap
+pub suffixed_symbols_cost : CostsTheSame 64 suffixed_symbols
+unfolding suffixed_symbols symbols
+suffixed_symbols_cost all row fields i size cap below =
+    kind-equal suffixed_symbols (held_headers all.count row) all i size cap (symbols_held all row fields i below) (table_held all row fields i size 24 below)
+    (ap (λ n. header_field (held_headers all.count row) sh_size i / 24 * (24 + name_bytes cap) + n) (suffixes_held all row fields i (header_field (held_headers all.count row) sh_size i / 24) size cap)
+    ∙ ap (λ n. more all size cap i n (24 + name_bytes cap)) (size_held all row fields i below))
 
-  pub suffixed_symbols_cost : table_cost suffixed_symbols held i size cap ≡ table_cost suffixed_symbols all i size cap
-  unfolding suffixed_symbols symbols
-  suffixed_symbols_cost =
-      kind-equal suffixed_symbols held all i size cap (symbols_held all row fields i below) (table_held all row fields i size 24 below)
-      (ap (λ n. header_field held sh_size i / 24 * (24 + name_bytes cap) + n) (suffixes_held all row fields i (header_field held sh_size i / 24) size cap)
-      ∙ ap (λ n. more i n (24 + name_bytes cap)) (size_held all row fields i below))
-
-  pub suffixed_relocations_cost : table_cost relocations_with_versions held i size cap ≡ table_cost relocations_with_versions all i size cap
-  unfolding relocations_with_versions relocations
-  suffixed_relocations_cost =
-      kind-equal relocations_with_versions held all i size cap (ap (λ n. n == 4) (type_held all row fields i below)) (table_held all row fields i size 24 below)
-      (ap (λ n. header_field held sh_size i / 24 * (24 + (24 + name_bytes cap)) + n) (suffixes_held all row fields (header_field held sh_link i) (header_field held sh_size i / 24) size cap)
-      ∙ ap₂ (λ n link. more link n (24 + (24 + name_bytes cap))) (size_held all row fields i below) (link_held all row fields i below))
+pub suffixed_relocations_cost : CostsTheSame 64 relocations_with_versions
+unfolding relocations_with_versions relocations
+suffixed_relocations_cost all row fields i size cap below =
+    kind-equal relocations_with_versions (held_headers all.count row) all i size cap (ap (λ n. n == 4) (type_held all row fields i below)) (table_held all row fields i size 24 below)
+    (ap (λ n. header_field (held_headers all.count row) sh_size i / 24 * (24 + (24 + name_bytes cap)) + n) (suffixes_held all row fields (header_field (held_headers all.count row) sh_link i) (header_field (held_headers all.count row) sh_size i / 24) size cap)
+    ∙ ap₂ (λ n link. more all size cap link n (24 + (24 + name_bytes cap))) (size_held all row fields i below) (link_held all row fields i below))
 
 -- the types of the headers
-pub symbols_typed : (bytes : List ℕ) (at : ℕ) → symbols.has_table bytes at ≡ true → is_among (2 ∷ 11 ∷ []) (sh_type bytes at) ≡ true
+pub symbols_typed : IsTyped sh_type (2 ∷ 11 ∷ []) symbols
 unfolding symbols
 symbols_typed bytes at h = symbols-typed (sh_type bytes at) h
 
-pub suffixed_symbols_typed : (bytes : List ℕ) (at : ℕ) → suffixed_symbols.has_table bytes at ≡ true → is_among (2 ∷ 11 ∷ []) (sh_type bytes at) ≡ true
+pub suffixed_symbols_typed : IsTyped sh_type (2 ∷ 11 ∷ []) suffixed_symbols
 unfolding suffixed_symbols
 suffixed_symbols_typed bytes at h = symbols-typed (sh_type bytes at) h
 
-pub relocations_typed : (bytes : List ℕ) (at : ℕ) → relocations.has_table bytes at ≡ true → is_among (4 ∷ []) (sh_type bytes at) ≡ true
+pub relocations_typed : IsTyped sh_type (4 ∷ []) relocations
 unfolding relocations
 relocations_typed bytes at h = one-among (sh_type bytes at) 4 h
 
-pub suffixed_relocations_typed : (bytes : List ℕ) (at : ℕ) → relocations_with_versions.has_table bytes at ≡ true → is_among (4 ∷ []) (sh_type bytes at) ≡ true
+pub suffixed_relocations_typed : IsTyped sh_type (4 ∷ []) relocations_with_versions
 unfolding relocations_with_versions
 suffixed_relocations_typed bytes at h = one-among (sh_type bytes at) 4 h
 

@@ -1,39 +1,39 @@
 -- Records of versions, and the versions of symbols, are lawful kinds of tables.
-use Rattle.std.proofs.Common.{◌≡◌, ℕ, ◌+◌, ◌*◌, ◌/◌, ◌<◌, ◌≤◌, ◌==◌, ◌&&◌, ◌||◌, not, Bool, true, false, List, [], ◌∷◌, refl, ap, ◌∙◌, arith}
+use Rattle.std.proofs.Common.{◌≡◌, ℕ, ◌+◌, ◌*◌, ◌/◌, ◌≤◌, ◌==◌, ◌&&◌, ◌||◌, not, Bool, true, false, [], ◌∷◌, refl, ap, ◌∙◌, arith}
 use Rattle.std.proofs.Math.Nat.{mul-le-mul_right, div-mul-le_self, mul-add}
 use Rattle.std.proofs.lemmas.Bool.{eqb-true}
-use Rattle.elf_model.specs.Prelude.{DEFINED_NAME_SIZE, DEFINITION_SIZE, HeaderTable, NEED_SIZE, SHT_GNU_VERDEF, SHT_GNU_VERNEED, SHT_GNU_VERSYM, has_strings, has_symbol_table, header_field, held_headers, is_symbol_table, links, name_bytes, pass, sh_link, sh_size, sh_type, symbol_versions, table_checks_of, table_cost, version_definitions, version_needs, versioned_cost, versioned_rows, walks_cost}
+use Rattle.elf_model.specs.Prelude.{DEFINED_NAME_SIZE, DEFINITION_SIZE, HeaderTable, NEED_SIZE, SHT_GNU_VERDEF, SHT_GNU_VERNEED, SHT_GNU_VERSYM, has_strings, has_symbol_table, header_field, held_headers, is_symbol_table, links, name_bytes, pass, sh_link, sh_size, sh_type, symbol_versions, table_checks_of, version_definitions, version_needs, versioned_cost, versioned_rows, walks_cost}
 use Rattle.elf_model.specs.VersionRows.{version_kinds}
-use Rattle.elf_model.proofs.HeldHeaders.{AreHeld, kind-equal, range_held, size_held, table_held, type_held, versions_held}
-use Rattle.elf_model.proofs.LawfulKinds.{AreLawful, LawfulSection, is_among, one-among}
+use Rattle.elf_model.proofs.HeldHeaders.{kind-equal, range_held, size_held, table_held, type_held, versions_held}
+use Rattle.elf_model.proofs.LawfulKinds.{AreLawful, CostsTheSame, IsTyped, LawfulSection, ReadsWithin, one-among}
 use Rattle.elf_model.proofs.SelectionLaws.{definitions_same, needs_same, symbol_versions_same}
 use Rattle.elf_model.proofs.SumLemmas.{and-first, and-second, cost_where-within, fewer}
 use Rattle.elf_model.proofs.TableBounds.{most_bound, range_fits, records_within, table_bound, table_fits, walk_within, within_most}
 
 -- the types of the headers
-pub definitions_typed : (bytes : List ℕ) (at : ℕ) → version_definitions.has_table bytes at ≡ true → is_among (SHT_GNU_VERDEF ∷ []) (sh_type bytes at) ≡ true
+pub definitions_typed : IsTyped sh_type (SHT_GNU_VERDEF ∷ []) version_definitions
 unfolding version_definitions
 definitions_typed bytes at h = one-among (sh_type bytes at) SHT_GNU_VERDEF h
 
-pub needs_typed : (bytes : List ℕ) (at : ℕ) → version_needs.has_table bytes at ≡ true → is_among (SHT_GNU_VERNEED ∷ []) (sh_type bytes at) ≡ true
+pub needs_typed : IsTyped sh_type (SHT_GNU_VERNEED ∷ []) version_needs
 unfolding version_needs
 needs_typed bytes at h = one-among (sh_type bytes at) SHT_GNU_VERNEED h
 
-pub symbol_versions_typed : (bytes : List ℕ) (at : ℕ) → symbol_versions.has_table bytes at ≡ true → is_among (SHT_GNU_VERSYM ∷ []) (sh_type bytes at) ≡ true
+pub symbol_versions_typed : IsTyped sh_type (SHT_GNU_VERSYM ∷ []) symbol_versions
 unfolding symbol_versions
 symbol_versions_typed bytes at h = one-among (sh_type bytes at) SHT_GNU_VERSYM h
 
--- What the tables of one section header read.
-module _ (headers : HeaderTable) (i size cap : ℕ) where
-  pub definitions_fit : pass (version_definitions.checks.own (headers.bytes i) (headers.at i) size) ≡ true → version_definitions.asks headers i size cap ≤ table_bound size cap
-  unfolding version_definitions
-  definitions_fit h = records_within 20 (28 + name_bytes cap) (name_bytes cap) size (header_field headers sh_size i) (omega arith) (omega arith) (range_fits headers i size h)
+-- what the tables of a section header read
+pub definitions_fit : ReadsWithin table_bound version_definitions
+unfolding version_definitions
+definitions_fit headers i size cap h = records_within 20 (28 + name_bytes cap) (name_bytes cap) size (header_field headers sh_size i) (omega arith) (omega arith) (range_fits headers i size h)
 
-  pub needs_fit : pass (version_needs.checks.own (headers.bytes i) (headers.at i) size) ≡ true → version_needs.asks headers i size cap ≤ table_bound size cap
-  unfolding version_needs
-  needs_fit h = records_within 16 (16 + name_bytes cap) (name_bytes cap) size (header_field headers sh_size i) (omega arith) (omega arith) (range_fits headers i size h)
+pub needs_fit : ReadsWithin table_bound version_needs
+unfolding version_needs
+needs_fit headers i size cap h = records_within 16 (16 + name_bytes cap) (name_bytes cap) size (header_field headers sh_size i) (omega arith) (omega arith) (range_fits headers i size h)
 
-  -- the symbols that a versym section links to
+-- The symbols that a versym section links to.
+module _ (headers : HeaderTable) (i size : ℕ) where
   linked_fits : has_symbol_table headers i size ≡ true → header_field headers sh_size (header_field headers sh_link i) ≤ size
   linked_fits h =
       let link : ℕ = header_field headers sh_link i in
@@ -46,9 +46,9 @@ module _ (headers : HeaderTable) (i size cap : ℕ) where
       by_empty true e h = let zero = eqb-true (header_field headers sh_size (header_field headers sh_link i)) 0 e in omega arith
       by_empty false e h = table_fits headers (header_field headers sh_link i) size 24 (and-first _ (has_strings headers (header_field headers sh_link i) size) h)
 
-  rows_fit : has_symbol_table headers i size ≡ true → versioned_rows headers i * (2 + name_bytes cap) + walks_cost headers size ≤ table_bound size cap
+  rows_fit : (cap : ℕ) → has_symbol_table headers i size ≡ true → versioned_rows headers i * (2 + name_bytes cap) + walks_cost headers size ≤ table_bound size cap
   unfolding walks_cost
-  rows_fit h =
+  rows_fit cap h =
       let n : ℕ = name_bytes cap in
       let linked : ℕ = header_field headers sh_size (header_field headers sh_link i) in
       let few : linked / 24 ≤ size / 16 = fewer 24 size linked (omega arith) (linked_fits h) in
@@ -61,34 +61,30 @@ module _ (headers : HeaderTable) (i size cap : ℕ) where
       let sum : size / 16 * (32 + n) ≡ size / 16 * (2 + n) + size / 16 * 30 = ap (λ (k : ℕ). size / 16 * k) (omega arith) ∙ mul-add (size / 16) (2 + n) 30 in
       omega arith
 
-  pub versions_fit : pass (symbol_versions.checks.own (headers.bytes i) (headers.at i) size) ≡ true → symbol_versions.asks headers i size cap ≤ table_bound size cap
-  unfolding symbol_versions versioned_cost
-  versions_fit h =
-      cost_where-within (has_symbol_table headers i size && not (header_field headers sh_size i == 0)) _ (table_bound size cap) (λ some.
-      rows_fit (and-first (has_symbol_table headers i size) (not (header_field headers sh_size i == 0)) some))
+pub versions_fit : ReadsWithin table_bound symbol_versions
+unfolding symbol_versions versioned_cost
+versions_fit headers i size cap h =
+    cost_where-within (has_symbol_table headers i size && not (header_field headers sh_size i == 0)) _ (table_bound size cap) (λ some.
+    rows_fit headers i size cap (and-first (has_symbol_table headers i size) (not (header_field headers sh_size i == 0)) some))
 
--- What they cost by section headers in bytes of their own.
-module _ (all : HeaderTable) (row : ℕ → List ℕ) (fields : AreHeld 64 row all) (i size cap : ℕ) (below : i < all.count) where
-  abbrev held : HeaderTable
-  held = held_headers all.count row
+-- what they cost by section headers in bytes of their own
+pub definitions_cost : CostsTheSame 64 version_definitions
+unfolding version_definitions
+definitions_cost all row fields i size cap below =
+    kind-equal version_definitions (held_headers all.count row) all i size cap (ap (λ n. n == SHT_GNU_VERDEF) (type_held all row fields i below)) (range_held all row fields i size below)
+    (ap (λ n. n / 20 * (28 + name_bytes cap)) (size_held all row fields i below))
 
-  pub definitions_cost : table_cost version_definitions held i size cap ≡ table_cost version_definitions all i size cap
-  unfolding version_definitions
-  definitions_cost =
-      kind-equal version_definitions held all i size cap (ap (λ n. n == SHT_GNU_VERDEF) (type_held all row fields i below)) (range_held all row fields i size below)
-      (ap (λ n. n / 20 * (28 + name_bytes cap)) (size_held all row fields i below))
+pub needs_cost : CostsTheSame 64 version_needs
+unfolding version_needs
+needs_cost all row fields i size cap below =
+    kind-equal version_needs (held_headers all.count row) all i size cap (ap (λ n. n == SHT_GNU_VERNEED) (type_held all row fields i below)) (range_held all row fields i size below)
+    (ap (λ n. n / 16 * (16 + name_bytes cap)) (size_held all row fields i below))
 
-  pub needs_cost : table_cost version_needs held i size cap ≡ table_cost version_needs all i size cap
-  unfolding version_needs
-  needs_cost =
-      kind-equal version_needs held all i size cap (ap (λ n. n == SHT_GNU_VERNEED) (type_held all row fields i below)) (range_held all row fields i size below)
-      (ap (λ n. n / 16 * (16 + name_bytes cap)) (size_held all row fields i below))
-
-  pub symbol_versions_cost : table_cost symbol_versions held i size cap ≡ table_cost symbol_versions all i size cap
-  unfolding symbol_versions
-  symbol_versions_cost =
-      kind-equal symbol_versions held all i size cap (ap (λ n. n == SHT_GNU_VERSYM) (type_held all row fields i below)) (table_held all row fields i size 2 below)
-      (versions_held all row fields i size cap below)
+pub symbol_versions_cost : CostsTheSame 64 symbol_versions
+unfolding symbol_versions
+symbol_versions_cost all row fields i size cap below =
+    kind-equal symbol_versions (held_headers all.count row) all i size cap (ap (λ n. n == SHT_GNU_VERSYM) (type_held all row fields i below)) (table_held all row fields i size 2 below)
+    (versions_held all row fields i size cap below)
 
 abbrev definitions_lawful : (versions : Bool) → LawfulSection versions version_definitions
 definitions_lawful versions = record {
