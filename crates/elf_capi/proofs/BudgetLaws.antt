@@ -1,8 +1,10 @@
 -- A read budget, and a source with the limit that it sets, from which nothing was requested before.
 use Rattle.std.proofs.Common.{◌≡◌, ℕ, ◌+◌, ◌-◌, ◌<◌, ◌≤◌, Option, None, Some, option_map, refl, sym, ap, ◌∙◌, arith}
 use Rattle.std.specs.Prelude.{IfSome}
+use Rattle.elf_model.specs.Prelude.{IsBudgetRefusal}
 use Rattle.elf_model.specs.declared.causes.Refusal.{Refusal}
 use Rattle.elf_source.specs.Source.{CountedState, SetsLimit, counted}
+use Rattle.elf_table.specs.Faults.{IsReadRefusal}
 use Rattle.elf_capi.specs.Wants.{IsWanting}
 
 -- the first limit of a source is the budget
@@ -17,6 +19,13 @@ first_limit (Some bytes) s0 s1 set first =
 pub wanting : (budget : Option ℕ) (s : CountedState) (cost size most : ℕ) (refusal : Refusal) → s.most ≡ budget → s.asked ≡ 0 → s.most ≡ Some most → most < s.asked + cost → refusal.at < size
     → IsWanting budget cost size refusal
 wanting budget s cost size most refusal limit first some above inside = (most, sym limit ∙ some, omega (arith, first, above), inside)
+
+-- the same for reads of at most so many bytes: a refusal for lack of budget is by the limit
+pub wanting_read : (budget : Option ℕ) (s t : CountedState) (cost size : ℕ) (refusal : Refusal) → s.most ≡ budget → s.asked ≡ 0 → size ≡ s.seen.size → IsReadRefusal s t cost refusal
+    → IsBudgetRefusal refusal → IsWanting budget cost size refusal
+wanting_read budget s t cost size refusal limit first sized says is =
+    let over = says is in
+    wanting budget s cost size over.1.most refusal limit first over.1.is_set over.1.above (omega (arith, sized, over.0))
 
 -- no more is read than the budget has
 pub spent : (budget : Option ℕ) (s t : CountedState) (asked : ℕ) → s.most ≡ budget → asked ≡ t.asked → ((most : ℕ) → s.most ≡ Some most → t.asked ≤ most) → IfSome budget (λ bytes. asked ≤ bytes)

@@ -15,7 +15,7 @@ use Rattle.elf_layout.specs.Prelude.{Follows, KeysAscend, MayBorrow, MayFollow, 
 use Rattle.elf_layout.specs.declared.lent.LentName.{LentName}
 use Rattle.elf_capi.specs.Prelude.{CannotBeKnown, ReturnsSymbol, cut_number}
 use Rattle.elf_capi.specs.declared.missing.CallerMissing.{CallerMissing}
-use Rattle.elf_capi.proofs.BudgetLaws.{rest_wanting, wanting}
+use Rattle.elf_capi.proofs.BudgetLaws.{rest_wanting, wanting_read}
 use Rattle.std.specs.declared.cmp.Ordering.{Ordering}
 
 -- a name of few bytes
@@ -92,7 +92,6 @@ cannot_be_known file headers budget asked s1 s2 refusal limit first sized says c
   refusal,
   checks,
   λ is.
-      let wants = says is in
       rest_wanting budget asked (explain_bytes headers) (length file) refusal
-      (wanting (option_map (λ bytes. bytes - asked) budget) s1 (explain_bytes headers) (length file) wants.1.most refusal limit first wants.1.is_set wants.1.above (omega (arith, sized, wants.0))),
+      (wanting_read (option_map (λ bytes. bytes - asked) budget) s1 s2 (explain_bytes headers) (length file) refusal limit first sized says is),
 )

@@ -5,10 +5,8 @@ pub mod RecordTables
 pub mod ApplyingLaws
 pub mod AskedLaws
 pub mod BudgetLaws
-pub mod FindingLaws
 pub mod HashedCallLaws
 pub mod ItemLaws
 pub mod LackLaws
 pub mod ListingLaws
 pub mod NameLaws
-pub mod ResolvingLaws

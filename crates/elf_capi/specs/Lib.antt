@@ -3,7 +3,6 @@ pub mod DynamicTables
 pub mod Ends
 pub mod Hashed
 pub mod ListedEntries
-pub mod LoadRefused
 pub mod TableOpenings
 pub mod Rows
 pub mod SegmentDynamic

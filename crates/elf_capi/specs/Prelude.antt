@@ -12,7 +12,6 @@ pub use Rattle.elf_capi.specs.Lent.{spared}
 pub use Rattle.elf_capi.specs.LentLayouts.{CannotBeKnown, ExplainsTold, MayBorrowLayout, PlacesInMemory, ReturnsSymbol, lent_layout}
 pub use Rattle.elf_capi.specs.Limits.{AreCaps, AreInRange, budget_of, headers_of}
 pub use Rattle.elf_capi.specs.ListedEntries.{ListsWithin, ReadsListed, all_listed}
-pub use Rattle.elf_capi.specs.LoadRefused.{load_refused}
 pub use Rattle.elf_capi.specs.Queries.{IsPermitted, asks_of, wanted_by}
 pub use Rattle.elf_capi.specs.Resolved.{IsResolved, Resolves, ResolvesIn, ReturnsResolved, cut_number, file_of, nothing_resolved}
 pub use Rattle.elf_capi.specs.Rows.{ReadsNext, StepsRows, next_at, rows_from_first}

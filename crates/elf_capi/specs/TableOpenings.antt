@@ -1,30 +1,19 @@
 -- The result of opening a table of a file in memory.
 use Rattle.std.specs.Prelude.{ℕ, ◌≡◌, ◌<◌, ◌≤◌, ◌==◌, ◌⊎◌, Bool, true, false, List, Option, None, Some, Result, Ok, Err, option_map}
-use Rattle.elf_model.specs.Prelude.{SHT_DYNAMIC, SHT_GNU_VERSYM, SHT_RELA, all_checks, e_shnum, first_refusal, is_symbol_table, section_at, section_name_checks, sh_type, symbol_versions}
+use Rattle.elf_model.specs.Prelude.{SHT_DYNAMIC, SHT_GNU_VERSYM, SHT_RELA, all_checks, e_shnum, first_refusal, is_symbol_table, section_at, sh_type, symbol_versions}
 use Rattle.elf_model.specs.declared.causes.Refusal.{Refusal}
 use Rattle.elf_table.specs.Prelude.{AreRelocations, RefusedBy, Relocates, StringTableRange, TableRange as Table, section_names, symbols_at}
 use Rattle.elf_table.specs.declared.fault.Fault.{Fault}
 use Rattle.elf_table.specs.declared.fault.Fault.TheVariants.{Refused}
 use Rattle.elf_capi.specs.DynamicTables.{IsDynamicTable}
 use Rattle.elf_capi.specs.ListedEntries.{all_listed}
-use Rattle.elf_capi.specs.LoadRefused.{load_refused}
 use Rattle.elf_capi.specs.Rows.{rows_from_first}
 use Rattle.elf_capi.specs.VersionRecords.{version_words}
-use Rattle.elf_capi.specs.declared.held.MemoryFile.{MemoryFile}
 use Rattle.elf_capi.specs.declared.kind.RowKind.{RowKind}
 use Rattle.elf_capi.specs.declared.kind.RowKind.TheVariants.{Symbols, Relocations, Dynamic, VersionWords}
+use Rattle.elf_memory.specs.Checked.{load_refused}
 use Rattle.elf_memory.specs.declared.name.ByteRange.{ByteRange}
 use Rattle.elf_capi.specs.declared.rows.RowPosition.{RowPosition}
-
--- a file passes those checks, or the first of them that fails
-abbrev pub LoadsFile : List ℕ → ℕ → Result MemoryFile Refusal → Type 0
-LoadsFile file headers (Ok held) = (load_refused file headers ≡ None) × (held.bytes.now ≡ file)
-LoadsFile file headers (Err refusal) = load_refused file headers ≡ Some refusal
-
--- the string table of a file's section names, whose checks pass; or the first of them that fails
-abbrev pub NamesSections : List ℕ → Result (Option StringTableRange) Refusal → Type 0
-NamesSections file (Ok names) = (first_refusal (section_name_checks file) ≡ None) × (names ≡ section_names file)
-NamesSections file (Err refusal) = first_refusal (section_name_checks file) ≡ Some refusal
 
 -- a section whose header is at an offset holds rows of a kind, by its type
 abbrev pub holds : RowKind → List ℕ → ℕ → Bool

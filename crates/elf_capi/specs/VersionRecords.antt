@@ -1,12 +1,12 @@
 -- The records of symbol versions of a file in memory, and the entries of its symbols' versions.
-use Rattle.std.specs.Prelude.{ℕ, ◌≡◌, ◌+◌, ◌-◌, ◌^◌, ◌<◌, ◌≤◌, ◌==◌, ◌&&◌, ◌||◌, ◌⊎◌, min, nat_le, not, true, false, if◌then◌else◌, List, length, Option, None, Some, Result, Ok, Err}
-use Rattle.elf_model.specs.Prelude.{NEED_SIZE, RecordCursorState, SHT_GNU_VERDEF, SHT_GNU_VERNEED, VERSYM_SIZE, Versions, VisitedRecord, all_checks, e_shnum, first_refusal, flags_word, has_symbols, hash_word, linked_at, max_records, name_index, named_at, no_versions, number_in, number_word, section_at, section_versions, sh_link, sh_offset, sh_size, sh_type, version_table, versioned_count, versym, visited_from, with_visited}
+use Rattle.std.specs.Prelude.{ℕ, ◌≡◌, ◌+◌, ◌-◌, ◌^◌, ◌<◌, ◌≤◌, ◌==◌, ◌&&◌, ◌⊎◌, min, nat_le, if◌then◌else◌, List, length, Option, None, Some, Result, Ok, Err}
+use Rattle.elf_model.specs.Prelude.{NEED_SIZE, RecordCursorState, SHT_GNU_VERDEF, SHT_GNU_VERNEED, VERSYM_SIZE, Versions, VisitedRecord, all_checks, e_shnum, first_refusal, flags_word, hash_word, linked_at, max_records, name_index, named_at, no_versions, number_in, number_word, section_at, section_versions, sh_offset, sh_size, sh_type, version_table, versioned_count, versym, visited_from, with_visited}
 use Rattle.elf_model.specs.declared.versions.VersionKind.TheVariants.{Definition, File, Need}
 use Rattle.elf_model.specs.declared.causes.Refusal.{Refusal}
 use Rattle.elf_model.specs.declared.versions.VersionKind.{VersionKind}
 use Rattle.elf_table.specs.Prelude.{RefusedBy, StringTableRange, names_at, strings}
 use Rattle.elf_table.specs.declared.fault.Fault.{Fault}
-use Rattle.elf_capi.specs.LoadRefused.{load_refused}
+use Rattle.elf_memory.specs.Checked.{load_refused}
 use Rattle.elf_note.specs.declared.record_position.RecordPosition.{RecordPosition}
 use Rattle.elf_capi.specs.declared.record_row.RecordRow.{RecordRow}
 use Rattle.elf_capi.specs.declared.records.VersionRecordPosition.{VersionRecordPosition}
@@ -124,12 +124,6 @@ ReadsRecords file headers section (Err refusal) =
     (load_refused file headers ≡ Some refusal)
     ⊎ ((load_refused file headers ≡ None) × (section < e_shnum file)
     × (first_refusal (all_checks version_table file (section_at file section)) ≡ Some refusal))
-
--- the section of symbols, not section 0, that the one with this header links to, if it does
-abbrev pub SymbolsLink : List ℕ → ℕ → Option ℕ → Type 0
-SymbolsLink file at None = (sh_link file at == 0 || not (has_symbols file at)) ≡ true
-SymbolsLink file at (Some link) =
-    ((sh_link file at == 0 || not (has_symbols file at)) ≡ false) × (link ≡ sh_link file at) × (link < e_shnum file)
 
 -- THE ENTRIES of symbols' versions of the section with this header: one for each symbol that has
 -- one

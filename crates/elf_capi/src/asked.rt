@@ -1,11 +1,12 @@
 //! A caller's request for a listing.
 ghost use Rattle.std.specs.Prelude.{◌≡◌, MatchBool, None, Some};
-ghost use Rattle.elf_model.specs.Prelude.{all_parts, are_all};
+ghost use Rattle.elf_model.specs.Prelude.{all_parts};
 ghost use Rattle.elf_capi.specs.Asked.{GivesListing, IsChosenPart, format_in};
 
 use crate::caller_listing::CallerListing;
 use crate::name_list::may_choose;
 use elf_model::Format;
+use elf_note::are_zeros;
 use elf_record::{Parts, u16_at};
 
 /// The size in bytes of the request struct, as this version of the library knows it.
@@ -101,11 +102,4 @@ fn most_parts(gnu: bool) -> u16
     ensures { result ≡ all_parts gnu }
 {
     if gnu { 255 } else { 127 }
-}
-
-/// Returns `true` if all bytes are 0.
-fn are_zeros(bytes: &[u8]) -> bool
-    ensures { result ≡ are_all 0 bytes.now }
-{
-    bytes.iter().all(|byte| *byte == 0)
 }

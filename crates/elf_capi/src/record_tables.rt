@@ -3,13 +3,14 @@ ghost use Rattle.std.specs.Prelude.{◌≡◌, ℕ, List};
 ghost use Rattle.elf_record.specs.Shdr.{IsShdr};
 ghost use Rattle.elf_capi.specs.VersionRecords.{ReadsRecords, first_kind, starting};
 
-use crate::load_checks::held_file;
 use crate::record_row::kind_number;
 use crate::records::VersionRecordPosition;
+use crate::section_tables::record_names;
+use elf_memory::MemoryFile;
 use elf_note::record_bytes;
 use elf_record::gnu_numbers::{SHT_GNU_VERDEF, SHT_GNU_VERNEED};
 use elf_record::{Refusal, Shdr, VersionKind};
-use elf_table::{Fault, Names};
+use elf_table::{Fault, Limits, Names};
 
 /// Checks the table of version definitions or needs that a section of a file in memory holds, and
 /// returns a position before its first record.
@@ -23,12 +24,12 @@ use elf_table::{Fault, Names};
 /// the given number of headers allowed.
 pub fn records_in(
     file: &[u8],
-    headers: u16,
+    limits: &Limits,
     section: u16,
 ) -> Result<Option<VersionRecordPosition>, Refusal>
-    ensures { ReadsRecords file.now headers section result }
+    ensures { ReadsRecords file.now limits.now.headers section result }
 {
-    let held = match held_file(file, headers) {
+    let held = match MemoryFile::load(file, limits) {
         Ok(held) => held,
         Err(refusal) => return Err(refusal),
     };
@@ -39,7 +40,7 @@ pub fn records_in(
     let Some(kind) = first_kind(&header) else {
         return Ok(None);
     };
-    match held.record_names(section) {
+    match record_names(&held, section) {
         Ok(names) => Ok(Some(first_records(&header, kind, held.place(section), names))),
         Err(Fault::Refused(refusal)) => Err(refusal),
         // No check is a fault of the source.

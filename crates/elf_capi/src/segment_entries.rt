@@ -1,14 +1,17 @@
 //! The dynamic entries of a segment that are listed.
+ghost use Rattle.std.specs.Prelude.{◌≡◌, IfOk, IfSome, length};
+ghost use Rattle.elf_table.specs.Prelude.{TableInBounds, strings};
 ghost use Rattle.elf_capi.specs.ListedEntries.{ReadsListed};
-ghost use Rattle.elf_capi.specs.SegmentDynamic.{AreSegmentEntries, FindsEntries, ReadsSegmentDynamic};
+ghost use Rattle.elf_capi.specs.Rows.{rows_from_first};
+ghost use Rattle.elf_capi.specs.SegmentDynamic.{FindsEntries, ReadsSegmentDynamic};
 
 use crate::dynamic_table::{listed_rows, listed_within};
 use crate::rows::RowPosition;
-use elf_memory::{segment_at, segment_place};
+use elf_memory::find_segment;
+use elf_record::Refusal;
 use elf_record::numbers::PT_DYNAMIC;
 use elf_record::sizes::DYNAMIC_BYTES;
-use elf_record::{Phdr, Refusal};
-use elf_table::{Fault, Names, checked_rows};
+use elf_table::{Fault, Names, Table, checked_rows};
 
 /// Returns a position before the first dynamic entry of a segment of a file in memory, up to and
 /// including the first DT_NULL.
@@ -27,7 +30,7 @@ pub fn segment_dynamic(file: &[u8], segment: u16) -> Result<Option<RowPosition>,
     ensures { ReadsSegmentDynamic file.now segment result }
 {
     match segment_table(file, segment)? {
-        Some(all) => Ok(Some(listed_rows(file, all))),
+        Some(table) => Ok(Some(listed_rows(file, all_rows(table)))),
         None => Ok(None),
     }
 }
@@ -45,41 +48,41 @@ pub fn segment_dynamic_within(
     ensures { ReadsListed (ReadsSegmentDynamic file.now segment) most result }
 {
     match segment_table(file, segment)? {
-        Some(all) => {
-            let rows = listed_within(file, all, most)?;
+        Some(table) => {
+            let rows = listed_within(file, all_rows(table), most)?;
             Ok(Some(rows))
         }
         None => Ok(None),
     }
 }
 
-/// Returns a position before the first of all entries of a segment of type DYNAMIC, listed or not,
-/// or `None` if there is no such segment.
+/// Returns all entries of a segment of type DYNAMIC, listed or not, or `None` if there is no such
+/// segment.
 ///
 /// # Errors
 /// As for [`segment_dynamic`].
-fn segment_table(file: &[u8], segment: u16) -> Result<Option<RowPosition>, Refusal>
-    ensures { FindsEntries file.now segment result }
+fn segment_table(file: &[u8], segment: u16) -> Result<Option<Table>, Refusal>
+    ensures finds { FindsEntries file.now segment result }
+    ensures within { IfOk result (λ found. IfSome found (λ table.
+        TableInBounds (length file.now) table × (table.entry ≡ 16))) }
 {
-    let Some(place) = segment_place(file, segment)? else {
+    let Some((place, header)) = find_segment(file, segment)? else {
         return Ok(None);
     };
-    let header = segment_at(file, place);
     if header.p_type != PT_DYNAMIC {
         return Ok(None);
     }
-    entries(file, place as u64, &header)
-}
-
-/// Returns all entries that a program header describes, if its checks pass. Refusals are at
-/// `place`.
-fn entries(file: &[u8], place: u64, header: &Phdr) -> Result<Option<RowPosition>, Refusal>
-    ensures { AreSegmentEntries file.now place header.now.p_offset header.now.p_filesz result }
-{
     let (at, bytes) = (header.p_offset, header.p_filesz);
     match checked_rows(at, bytes, DYNAMIC_BYTES, file.len() as u64, place) {
-        Ok(table) => Ok(Some(RowPosition::of(table, Names::new(0, 0)))),
+        Ok(table) => Ok(Some(table)),
         Err(Fault::Refused(refusal)) => Err(refusal),
         Err(Fault::Source { .. }) => unreachable!(),
     }
+}
+
+/// Returns a position before the first of some entries, without a string table.
+fn all_rows(table: Table) -> RowPosition
+    ensures { result ≡ rows_from_first table (strings 0 0) }
+{
+    RowPosition::of(table, Names::new(0, 0))
 }

@@ -10,7 +10,7 @@ use Rattle.elf_table.specs.Prelude.{HeaderRead, HoldsSectionHeaders, LoadedAs, S
 use Rattle.elf_table.specs.declared.fault.Fault.{Fault}
 use Rattle.elf_table.specs.declared.run_fault.RunFault.{RunFault}
 use Rattle.elf_table.specs.declared.fault.Fault.TheVariants.{Refused as Refuses}
-use Rattle.elf_reloc.specs.Prelude.{Applies, ChecksEntries, HeldIs, IsApplyTarget, WritesOrWants, changes_all, changes_from, folded, rising, sections_of, target_as}
+use Rattle.elf_reloc.specs.Prelude.{Applies, ChecksEntries, HeldIs, IsApplyTarget, WritesOrWants, changes_all, changes_from, folded, rising, section_count_of, target_as}
 use Rattle.elf_reloc.specs.declared.apply_section.Applied.{Applied}
 use Rattle.elf_reloc.specs.declared.entry.ApplyTarget.{ApplyTarget as TargetCode}
 use Rattle.elf_reloc.proofs.WindowSteps.{front_none}
@@ -43,7 +43,7 @@ pub changes_same :
     → changes_all file target ≡ changes_of (target_of file target.section target.layout.now)
 unfolding changes_of changes_from
 changes_same file headers target at belongs long stands =
-    let count : sections_of target ≡ e_shnum file = belongs.count ∙ belongs.header.e_shnum in
+    let count : section_count_of target ≡ e_shnum file = belongs.count ∙ belongs.header.e_shnum in
     let same : target.size ≡ length (held_bytes file (section_at file target.section)) = sym long ∙ ap length stands.bytes in
     ap (λ n. flat_map (section_changes (target_as file target)) (places_from (section_at file) 0 n)) count
     ∙ ap (λ k. flat_map (section_changes (record { file = file; section = target.section; size = k; layout = target.layout.now })) (places_from (section_at file) 0 (e_shnum file))) same

@@ -11,7 +11,7 @@ use Rattle.elf_model.proofs.Slices.{field-slice}
 use Rattle.elf_record.specs.Prelude.{IsEhdr}
 use Rattle.elf_record.specs.declared.ehdr.Ehdr.{Ehdr}
 use Rattle.elf_table.specs.Prelude.{HoldsSectionHeaders, load_cost, row}
-use Rattle.elf_reloc.specs.Prelude.{IsApplyTarget, beside_entry_cost, entries_from, entry_count_in, passes_cost, sections_of, walk_all, windows}
+use Rattle.elf_reloc.specs.Prelude.{IsApplyTarget, beside_entry_cost, entries_from, entry_count_in, passes_cost, section_count_of, walk_all, windows}
 use Rattle.elf_reloc.specs.declared.entry.ApplyTarget.{ApplyTarget}
 use Rattle.elf_table.proofs.LoadLaws.{early_is}
 
@@ -39,7 +39,7 @@ in_file : (file : List ℕ) (section at : ℕ) → entries_at file at section (l
 unfolding file_entries_in
 in_file file section at = grind (arith, length-places_from)
 
-section_counted : (file : List ℕ) (target : ApplyTarget) (i : ℕ) → HoldsSectionHeaders file target.file.loaded target.file.store.now → i < sections_of target
+section_counted : (file : List ℕ) (target : ApplyTarget) (i : ℕ) → HoldsSectionHeaders file target.file.loaded target.file.store.now → i < section_count_of target
     → entry_count_in target i ≡ length (file_entries_in file target.section (section_at file i))
 section_counted file target i belongs below =
     let at : ℕ = section_at file i in
@@ -61,9 +61,9 @@ sum_counted f place amount i (suc n) h =
 pub entries_are : (file : List ℕ) (target : ApplyTarget) → HoldsSectionHeaders file target.file.loaded target.file.store.now → entries_from target 0 ≡ length (entries_for file target.section)
 unfolding entries_from entries_for
 entries_are file target belongs =
-    let count : sections_of target ≡ e_shnum file = belongs.count ∙ belongs.header.e_shnum in
-    let whole : sections_of target - 0 ≡ e_shnum file = omega (arith, count) in
-    sum_counted (file_entries_in file target.section) (section_at file) (entry_count_in target) 0 (sections_of target - 0) (λ k a b. section_counted file target k belongs (omega arith))
+    let count : section_count_of target ≡ e_shnum file = belongs.count ∙ belongs.header.e_shnum in
+    let whole : section_count_of target - 0 ≡ e_shnum file = omega (arith, count) in
+    sum_counted (file_entries_in file target.section) (section_at file) (entry_count_in target) 0 (section_count_of target - 0) (λ k a b. section_counted file target k belongs (omega arith))
     ∙ ap (λ n. length (flat_map (file_entries_in file target.section) (places_from (section_at file) 0 n))) whole
 
 walk_is : (file : List ℕ) (target : ApplyTarget) → HoldsSectionHeaders file target.file.loaded target.file.store.now → walk_all target ≡ length (entries_for file target.section) * (24 + 24 + layout_names_cost target.layout.now)
@@ -108,23 +108,23 @@ table_inside bytes at size place none = grind (arith, nat_tests)
 entries_few : (bytes : List ℕ) (at section size place : ℕ) → entries_at bytes at section size place ≤ size / 24
 entries_few bytes at section size place = grind (arith, table_inside)
 
-pub walk_below : (target : ApplyTarget) (headers : ℕ) → sections_of target ≤ headers → walk_all target ≤ headers * (target.file.loaded.size / 24 * (48 + layout_names_cost target.layout.now))
+pub walk_below : (target : ApplyTarget) (headers : ℕ) → section_count_of target ≤ headers → walk_all target ≤ headers * (target.file.loaded.size / 24 * (48 + layout_names_cost target.layout.now))
 unfolding walk_all entries_from
 walk_below target headers few =
     let n : ℕ = target.file.loaded.size / 24 in
     let each : ℕ = 48 + layout_names_cost target.layout.now in
-    let sum = sum_over-le (entry_count_in target) n 0 (sections_of target - 0) (λ i.
+    let sum = sum_over-le (entry_count_in target) n 0 (section_count_of target - 0) (λ i.
     let is = in_store target i _ refl in
     let most = entries_few (row target.file.store.now i) 0 target.section target.file.loaded.size (target.file.loaded.header.e_shoff + 64 * i) in omega (arith, is, most)) in
-    let many : sum_over (entry_count_in target) 0 (sections_of target - 0) * (24 + beside_entry_cost target) ≤ ((sections_of target - 0) * n) * (24 + beside_entry_cost target) = mul-le-mul_right (24 + beside_entry_cost target) sum in
-    let more : (sections_of target - 0) * n * (24 + beside_entry_cost target) ≤ headers * n * (24 + beside_entry_cost target) = mul-le-mul_right (24 + beside_entry_cost target) (mul-le-mul_right n (omega arith)) in
+    let many : sum_over (entry_count_in target) 0 (section_count_of target - 0) * (24 + beside_entry_cost target) ≤ ((section_count_of target - 0) * n) * (24 + beside_entry_cost target) = mul-le-mul_right (24 + beside_entry_cost target) sum in
+    let more : (section_count_of target - 0) * n * (24 + beside_entry_cost target) ≤ headers * n * (24 + beside_entry_cost target) = mul-le-mul_right (24 + beside_entry_cost target) (mul-le-mul_right n (omega arith)) in
     let last : headers * n * (24 + beside_entry_cost target) ≡ headers * (n * each) = mul_grouped headers n (24 + beside_entry_cost target) ∙ ap (λ k. headers * (n * k)) (omega arith) in
     omega (arith, many, more, last)
   where
     mul_grouped : (a b c : ℕ) → a * b * c ≡ a * (b * c)
     mul_grouped a b c = mul_assoc a b c
 
-pub walk_most : (target : ApplyTarget) (headers size : ℕ) → sections_of target ≤ headers → target.file.loaded.size ≡ size → walk_all target ≤ headers * (size / 24 * (48 + layout_names_cost target.layout.now))
+pub walk_most : (target : ApplyTarget) (headers size : ℕ) → section_count_of target ≤ headers → target.file.loaded.size ≡ size → walk_all target ≤ headers * (size / 24 * (48 + layout_names_cost target.layout.now))
 walk_most target headers size few same =
     let below = walk_below target headers few in
     let moved = ap (λ n. headers * (n / 24 * (48 + layout_names_cost target.layout.now))) same in

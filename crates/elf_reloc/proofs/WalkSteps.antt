@@ -8,7 +8,7 @@ use Rattle.elf_reloc.proofs.Opened.{entries_counted}
 use Rattle.elf_source.specs.Source.{CountedState, ReadsUpTo}
 use Rattle.elf_source.proofs.ReadsLaws.{ReadsUpTo-none, ReadsUpTo-then, ReadsUpTo-to}
 use Rattle.elf_table.specs.declared.fault.Fault.TheVariants.{Refused, Source}
-use Rattle.elf_reloc.specs.Prelude.{AsksOf, Changes, FindsEntry, IsWalkAlive, ReadsEntries, Refers, StepsWalk, beside_entry_cost, changes_all, changes_from, changes_left, entries_from, entry_count_in, patch_as, rows_changes, sections_of, steps_left, target_as, walk_all, walk_left}
+use Rattle.elf_reloc.specs.Prelude.{AsksOf, Changes, FindsEntry, IsWalkAlive, ReadsEntries, Refers, StepsWalk, beside_entry_cost, changes_all, changes_from, changes_left, entries_from, entry_count_in, patch_as, rows_changes, section_count_of, steps_left, target_as, walk_all, walk_left}
 use Rattle.elf_reloc.specs.declared.entry.ApplyTarget.{ApplyTarget as TargetCode}
 use Rattle.elf_reloc.specs.declared.entry.PlacedPatch.{PlacedPatch}
 use Rattle.elf_reloc.specs.declared.walk.RelocationWalk.{RelocationWalk}
@@ -61,32 +61,32 @@ unfolding section_changes rows_changes
 section_rows file target at h f = rw (h, section_changes) (rw (f, section_changes) refl)
 
 -- what is left if no row is left
-pub left-rows : (file : List ℕ) (target : TargetCode) (e : RelocationWalk) → e.cursor.left ≡ 0 → changes_left file target e ≡ changes_from file target e.next (sections_of target - e.next)
+pub left-rows : (file : List ℕ) (target : TargetCode) (e : RelocationWalk) → e.cursor.left ≡ 0 → changes_left file target e ≡ changes_from file target e.next (section_count_of target - e.next)
 unfolding changes_left
 left-rows file target e none = grind (arith, rows-none)
 
-pub left-end : (file : List ℕ) (target : TargetCode) (e : RelocationWalk) → e.cursor.left ≡ 0 → sections_of target ≤ e.next → changes_left file target e ≡ []
+pub left-end : (file : List ℕ) (target : TargetCode) (e : RelocationWalk) → e.cursor.left ≡ 0 → section_count_of target ≤ e.next → changes_left file target e ≡ []
 left-end file target e none past = grind (arith, left-rows, from-none)
 
 -- the next section was skipped: it has no changes
-pub left-passed : (file : List ℕ) (target : TargetCode) (old new : RelocationWalk) → old.cursor.left ≡ 0 → new.cursor.left ≡ 0 → new.next ≡ old.next + 1 → old.next < sections_of target
+pub left-passed : (file : List ℕ) (target : TargetCode) (old new : RelocationWalk) → old.cursor.left ≡ 0 → new.cursor.left ≡ 0 → new.next ≡ old.next + 1 → old.next < section_count_of target
     → section_changes (target_as file target) (section_at file old.next) ≡ [] → changes_left file target old ≡ changes_left file target new
 left-passed file target old new none none' step below nothing = grind (arith, left-rows, from-next)
 
 -- it was opened: its rows are left
 pub left-opened : (file : List ℕ) (target : TargetCode) (old new : RelocationWalk) → old.cursor.left ≡ 0 → new.next ≡ old.next + 1 → new.current ≡ old.next → new.cursor.index ≡ 0 → new.cursor.left ≡ entry_count file (section_at file old.next) 24
-    → old.next < sections_of target → section_changes (target_as file target) (section_at file old.next) ≡ rows_changes file target (section_at file old.next) 0 (entry_count file (section_at file old.next) 24)
+    → old.next < section_count_of target → section_changes (target_as file target) (section_at file old.next) ≡ rows_changes file target (section_at file old.next) 0 (entry_count file (section_at file old.next) 24)
     → changes_left file target old ≡ changes_left file target new
 unfolding changes_left
 left-opened file target old new none step here first counted below are = grind (arith, rows-none, from-next)
 
 -- it was refused
-pub left-refused : (file : List ℕ) (target : TargetCode) (old : RelocationWalk) (refusal : Refusal) → old.cursor.left ≡ 0 → old.next < sections_of target
+pub left-refused : (file : List ℕ) (target : TargetCode) (old : RelocationWalk) (refusal : Refusal) → old.cursor.left ≡ 0 → old.next < section_count_of target
     → section_changes (target_as file target) (section_at file old.next) ≡ Fails refusal ∷ [] → (rest : List SectionChange) × (changes_left file target old ≡ Fails refusal ∷ rest)
 left-refused file target old refusal none below are = (
-  changes_from file target (old.next + 1) (sections_of target - (old.next + 1)),
-  left-rows file target old none ∙ (from-next file target old.next (sections_of target) below
-      ∙ ap (λ l. l ++ changes_from file target (old.next + 1) (sections_of target - (old.next + 1))) are),
+  changes_from file target (old.next + 1) (section_count_of target - (old.next + 1)),
+  left-rows file target old none ∙ (from-next file target old.next (section_count_of target) below
+      ∙ ap (λ l. l ++ changes_from file target (old.next + 1) (section_count_of target - (old.next + 1))) are),
 )
 
 -- a row was yielded
@@ -101,13 +101,13 @@ left-row file target old new at next here index less place =
     grind (arith, rows-suc file target (section_at file old.current) old.cursor.index new.cursor.left, append_assoc)
 
 -- the entries of the sections that are left
-pub entries-next : (target : TargetCode) (i : ℕ) → i < sections_of target → entries_from target i ≡ entry_count_in target i + entries_from target (i + 1)
+pub entries-next : (target : TargetCode) (i : ℕ) → i < section_count_of target → entries_from target i ≡ entry_count_in target i + entries_from target (i + 1)
 unfolding entries_from
-entries-next target i below = sum-next (entry_count_in target) i (sections_of target) below
+entries-next target i below = sum-next (entry_count_in target) i (section_count_of target) below
 
-pub entries-end : (target : TargetCode) (i : ℕ) → sections_of target ≤ i → entries_from target i ≡ 0
+pub entries-end : (target : TargetCode) (i : ℕ) → section_count_of target ≤ i → entries_from target i ≡ 0
 unfolding entries_from sum_over
-entries-end target i past = let zero : sections_of target - i ≡ 0 = omega arith in rw (zero, entries_from) refl
+entries-end target i past = let zero : section_count_of target - i ≡ 0 = omega arith in rw (zero, entries_from) refl
 
 pub entries-other : (target : TargetCode) (i : ℕ) → applies_to (row target.file.store.now i) target.section 0 ≡ false → entry_count_in target i ≡ 0
 unfolding entry_count_in
@@ -129,12 +129,12 @@ pub left-begins : (file : List ℕ) (target : TargetCode) (e : RelocationWalk) �
 left-begins file target e l n = grind (arith, left-rows)
 
 pub cost-opened :
-    (target : TargetCode) (old new : RelocationWalk) → new.cursor.failed ≡ None → new.cursor.unread ≡ new.cursor.left * 24 → new.next ≡ old.next + 1 → old.next < sections_of target
+    (target : TargetCode) (old new : RelocationWalk) → new.cursor.failed ≡ None → new.cursor.unread ≡ new.cursor.left * 24 → new.next ≡ old.next + 1 → old.next < section_count_of target
     → new.cursor.left ≡ entry_count_in target old.next → walk_left target new ≤ walk_left target old
 unfolding walk_left
 cost-opened target old new f u step below counted = grind (arith, entries-next)
 
-pub cost-passed : (target : TargetCode) (old new : RelocationWalk) → new.cursor ≡ old.cursor → new.next ≡ old.next + 1 → old.next < sections_of target → walk_left target new ≤ walk_left target old
+pub cost-passed : (target : TargetCode) (old new : RelocationWalk) → new.cursor ≡ old.cursor → new.next ≡ old.next + 1 → old.next < section_count_of target → walk_left target new ≤ walk_left target old
 unfolding walk_left
 cost-passed target old new same step below = grind (arith, entries-next)
 
@@ -142,10 +142,10 @@ cost-passed target old new same step below = grind (arith, entries-next)
 pub rows-few : (size : ℕ) (table : TableRange) → table.entry ≡ 24 → TableInBounds size table → table.count ≤ size
 rows-few size table entry within = grind arith
 
-pub steps-passed : (target : TargetCode) (old new : RelocationWalk) → new.next ≡ old.next + 1 → old.next < sections_of target → new.cursor.left ≤ target.file.loaded.size → steps_left target new < steps_left target old
+pub steps-passed : (target : TargetCode) (old new : RelocationWalk) → new.next ≡ old.next + 1 → old.next < section_count_of target → new.cursor.left ≤ target.file.loaded.size → steps_left target new < steps_left target old
 unfolding steps_left
 steps-passed target old new step below few =
-    let n : sections_of target - old.next ≡ suc (sections_of target - new.next) = omega arith in
+    let n : section_count_of target - old.next ≡ suc (section_count_of target - new.next) = omega arith in
     rw n (omega arith)
 
 -- what the walk holds refers to the symbols of its section
@@ -153,14 +153,14 @@ refers_here : (file : List ℕ) (target : TargetCode) (new : RelocationWalk) (se
 refers_here file target new section here h = let P : ℕ → Type 0 = λ k. Refers file target (section_at file k) new.symbols in subst P (sym here) h
 
 -- a section was opened, or refused
-pub opened-fault : (file : List ℕ) (target : TargetCode) (old new : RelocationWalk) (fault : Fault) → old.cursor.left ≡ 0 → old.next < sections_of target → applies_to file target.section (section_at file old.next) ≡ true
+pub opened-fault : (file : List ℕ) (target : TargetCode) (old new : RelocationWalk) (fault : Fault) → old.cursor.left ≡ 0 → old.next < section_count_of target → applies_to file target.section (section_at file old.next) ≡ true
     → Relocates file (section_at file old.next) (Err fault) → StepsWalk file target old new (Err fault)
 opened-fault file target old new (Refused refusal) none below applies h = λ other.
     left-refused file target old refusal none below (section_fault (target_as file target) (section_at file old.next) refusal applies h)
 opened-fault file target old new (Source fault at) none below applies h = absurd h
 
 pub opened-rows : (file : List ℕ) (target : TargetCode) (old new : RelocationWalk) (table : TableRange) → new.cursor.table ≡ table → new.cursor.index ≡ 0 → new.cursor.left ≡ table.count → new.cursor.held ≡ [] → new.next ≡ old.next + 1 → new.current ≡ old.next
-    → old.cursor.left ≡ 0 → old.next < sections_of target → applies_to file target.section (section_at file old.next) ≡ true
+    → old.cursor.left ≡ 0 → old.next < section_count_of target → applies_to file target.section (section_at file old.next) ≡ true
     → Relocates file (section_at file old.next) (Ok (table, new.symbols.linked)) → new.symbols.last ≡ None → (changes_left file target old ≡ changes_left file target new) × ReadsEntries file target new
 opened-rows file target old new table same first counted held step here none below applies h fresh =
     (grind (arith, left-opened, section_rows), record { agrees = rw held refl; links = grind arith; placed = grind arith })

@@ -9,6 +9,6 @@ pub use Rattle.elf_reloc.specs.InOrder.{IsPartlyWritten, PendingState, UnderWay,
 unfoldable pub use Rattle.elf_reloc.specs.InOrder.{OffsetsAscend}
 pub use Rattle.elf_reloc.specs.Passes.{ChecksEntries, Folds, rising, storing}
 unfoldable pub use Rattle.elf_reloc.specs.Passes.{folded}
-pub use Rattle.elf_reloc.specs.Walk.{AsksOf, FindsEntry, IsWalkAlive, ReadsEntries, StepGives, StepsWalk, WentOn, changes_all, sections_of}
+pub use Rattle.elf_reloc.specs.Walk.{AsksOf, FindsEntry, IsWalkAlive, ReadsEntries, StepGives, StepsWalk, WentOn, changes_all, section_count_of}
 unfoldable pub use Rattle.elf_reloc.specs.Walk.{changes_from, changes_left, entries_from, entry_count_in, rows_changes, steps_left, walk_all, walk_left}
 pub use Rattle.elf_reloc.specs.Windows.{ApplyFaultSays, NotForBudget, UnreadSays, WritesBytes, windows}

@@ -13,8 +13,8 @@ use Rattle.elf_reloc.specs.declared.walk.WalkStep.{WalkStep}
 use Rattle.elf_reloc.specs.declared.walk.WalkStep.TheVariants.{Stores, Nothing, End}
 
 -- how many sections the target's file has
-abbrev pub sections_of : TargetCode → ℕ
-sections_of target = target.file.store.now.loaded
+abbrev pub section_count_of : TargetCode → ℕ
+section_count_of target = target.file.store.now.loaded
 
 -- the changes of some entries of a section, starting at one
 unfoldable pub rows_changes : List ℕ → TargetCode → ℕ → ℕ → ℕ → List SectionChange
@@ -29,11 +29,11 @@ changes_from file target i n = flat_map (section_changes (target_as file target)
 unfoldable pub changes_left : List ℕ → TargetCode → RelocationWalk → List SectionChange
 changes_left file target e =
     rows_changes file target (section_at file e.current) e.cursor.index e.cursor.left
-    ++ changes_from file target e.next (sections_of target - e.next)
+    ++ changes_from file target e.next (section_count_of target - e.next)
 
 -- the changes of all
 abbrev pub changes_all : List ℕ → TargetCode → List SectionChange
-changes_all file target = changes_from file target 0 (sections_of target)
+changes_all file target = changes_from file target 0 (section_count_of target)
 
 -- how many entries for the target the section of an index has, by its header in the store: none
 -- unless it holds entries for the target and passes its own checks
@@ -50,7 +50,7 @@ entry_count_in target i =
 
 -- how many entries the sections starting at one have
 unfoldable pub entries_from : TargetCode → ℕ → ℕ
-entries_from target i = sum_over (entry_count_in target) i (sections_of target - i)
+entries_from target i = sum_over (entry_count_in target) i (section_count_of target - i)
 
 -- what the walk may still request
 unfoldable pub walk_left : TargetCode → RelocationWalk → ℕ
@@ -69,7 +69,7 @@ pub record AsksOf (before after : CountedState) (target : TargetCode) (old new :
 
 -- the largest number of steps that are left
 unfoldable pub steps_left : TargetCode → RelocationWalk → ℕ
-steps_left target e = (sections_of target - e.next) * (target.file.loaded.size + 1) + e.cursor.left
+steps_left target e = (section_count_of target - e.next) * (target.file.loaded.size + 1) + e.cursor.left
 
 -- the walk has not failed, and what it reads lies within a source of this size
 pub record IsWalkAlive (size : ℕ) (target : TargetCode) (e : RelocationWalk) : Type 0 where
@@ -77,7 +77,7 @@ pub record IsWalkAlive (size : ℕ) (target : TargetCode) (e : RelocationWalk) :
   pub entry : e.cursor.table.entry ≡ 24
   pub within : TableInBounds size e.cursor.table
   pub linked : IfSome e.symbols.linked (SymbolTableInBounds size)
-  pub next : e.next ≤ sections_of target
+  pub next : e.next ≤ section_count_of target
   pub few : e.count ≤ e.next * 2 ^ 64
 
 -- the rows that are left are the file's

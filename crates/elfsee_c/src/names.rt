@@ -44,7 +44,7 @@ pub extern "C" fn elfsee_section_names(
         result strings.old strings.new end.new }
 {
     report_opened(
-        checked_limits(limits, room.len()).map(|limits| names_in(file, limits.headers)),
+        checked_limits(limits, room.len()).map(|limits| names_in(file, &limits)),
         strings,
         end,
     )

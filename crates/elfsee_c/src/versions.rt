@@ -30,7 +30,7 @@ pub extern "C" fn elfsee_version_records(
         result records.old records.new end.new }
 {
     report_opened(
-        checked_limits(limits, room.len()).map(|limits| records_in(file, limits.headers, section)),
+        checked_limits(limits, room.len()).map(|limits| records_in(file, &limits, section)),
         records,
         end,
     )

@@ -149,5 +149,5 @@ fn open_within(
     ensures { OpensEntries (OpensRows DynamicRows file.now limits.now room section) most result }
 {
     let limits = checked_limits(limits, room)?;
-    Some(dynamic_within(file, limits.headers, section, most))
+    Some(dynamic_within(file, &limits, section, most))
 }

@@ -12,6 +12,6 @@ returns-in-Err-listed_within c =
     let at = section_at held c.args.section in
     let below : c.args.section < e_shnum held = omega (arith, c.sections.ensures.value, c.if-section-sections.false) in
     let kind : holds Dynamic held at ≡ true = sym (c.holds.ensures held at c.section.ensures) ∙ c.if-not-holds.false in
-    let found = c.in-Ok-dynamic.found in
-    table_past c.args.file.now held c.args.headers c.args.section c.args.most found.0 found.1 c.of.result c.in-Err-listed_within.refusal
-    c.in-Ok.ensures.1 c.in-Ok.ensures.0 below kind c.in-Ok-dynamic.ensures.value c.of.ensures c.in-Err-listed_within.ensures
+    let found = c.in-Ok-dynamic_entries.found in
+    table_past c.args.file.now held c.args.limits.now.headers c.args.section c.args.most found.0 found.1 c.of.result c.in-Err-listed_within.refusal
+    c.in-Ok.ensures.1 c.in-Ok.ensures.0 below kind c.in-Ok-dynamic_entries.ensures.value c.of.ensures c.in-Err-listed_within.ensures

@@ -2,7 +2,7 @@ use Rattle.std.proofs.Common.{◌≡◌, ◌<◌, ◌+◌, ◌*◌, refl, sym, a
 use Rattle.std.proofs.lemmas.Result.{err_from_is_err_and}
 use Rattle.elf_model.specs.Records.{section_at}
 use Rattle.elf_table.specs.Tables.{TableRange}
-use Rattle.elf_reloc.specs.Prelude.{sections_of, target_as}
+use Rattle.elf_reloc.specs.Prelude.{section_count_of, target_as}
 use Rattle.elf_reloc.proofs.WalkSteps.{rows-few, entries-end, entries-next, entries-other, entries-table, steps-passed, cost-passed, left-end, left-passed, section_none, cost-opened, opened-fault, opened-rows}
 use Rattle.elf_reloc.proofs.walk.RelocationWalk.open.Goals as goal
 
@@ -22,7 +22,7 @@ returns-then-section-sections-clause-walked c = λ file belongs reads.
 
 pub returns-then-not-applies_to-clause-went : goal.returns-then-not-applies_to-clause-went
 returns-then-not-applies_to-clause-went c =
-    let below : c.args.self.now.next < sections_of c.args.target.now = omega (arith, c.if-section-sections.false, c.sections.ensures) in
+    let below : c.args.self.now.next < section_count_of c.args.target.now = omega (arith, c.if-section-sections.false, c.sections.ensures) in
     record {
       goes = record {
         not_failed = c.requires.goes.not_failed;
@@ -53,7 +53,7 @@ returns-then-not-applies_to-clause-walked c = λ file belongs reads.
 
 pub returns-clause-went : goal.returns-clause-went
 returns-clause-went c =
-    let below : c.args.self.now.next < sections_of c.args.target.now = omega (arith, c.if-section-sections.false, c.sections.ensures) in
+    let below : c.args.self.now.next < section_count_of c.args.target.now = omega (arith, c.if-section-sections.false, c.sections.ensures) in
     record {
       goes = record {
         not_failed = c.new-self.ensures.failed;
