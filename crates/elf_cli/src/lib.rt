@@ -22,6 +22,7 @@ mod options;
 mod outputs;
 mod parser;
 mod part_names;
+mod place_numbers;
 mod program_arguments;
 mod state_texts;
 mod texts;
