@@ -4,10 +4,10 @@
 _elfsee_options() {
     local option given
     case $1 in
-    show | archive) set -- --headers --names --max-read --only --gnu --by-segments --json --table --versions --name --name-list --defined --undefined --dynamic ;;
+    show | archive) set -- --headers --names --max-read --only --gnu --by-segments --json --table --versions --name --name-list --defined --undefined --dynamic --at --address ;;
     sample) set -- --headers --names --max-read --only --gnu --by-segments --json --table --versions ;;
     check) set -- --headers --names --max-read --only --gnu --by-segments --json --table --members --files0-from ;;
-    list) set -- --headers --names --max-read --only --gnu --by-segments --json --table --versions --name --name-list --defined --undefined --dynamic --members --files0-from ;;
+    list) set -- --headers --names --max-read --only --gnu --by-segments --json --table --versions --name --name-list --defined --undefined --dynamic --at --address --members --files0-from ;;
     find) set -- --headers --max-read --gnu --by-segments --json --table ;;
     apply) set -- --headers --max-read --layout --explain ;;
     needs | deps) set -- --headers --max-read --max-tries --library-path --default --root --cache --no-cache --symbols --unused --problems --json --table --files0-from ;;
@@ -63,7 +63,7 @@ _elfsee() {
         else
             case $word in
             --) ended=1 before= ;;
-            --headers | --max-headers | --names | --max-name-len | --max-read | --max-tries | --only | -o | --name | -n | --name-list | --layout | --require | --library-path | --default | --root | --sysroot | --cache | --files0-from) skip=1 ;;
+            --headers | --max-headers | --names | --max-name-len | --max-read | --max-tries | --only | -o | --name | -n | --name-list | --at | --address | --layout | --require | --library-path | --default | --root | --sysroot | --cache | --files0-from) skip=1 ;;
             -*) ;;
             *) if [[ $command ]]; then files=$((files + 1)); else command=$word; fi ;;
             esac

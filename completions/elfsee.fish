@@ -27,7 +27,7 @@ function __elfsee_plain_words
             set -a plain $word
         else if test "$word" = --
             set ended 1
-        else if contains -- $word --headers --max-headers --names --max-name-len --max-read --max-tries --only --name --name-list --layout --require --library-path --default --root --sysroot --cache --files0-from
+        else if contains -- $word --headers --max-headers --names --max-name-len --max-read --max-tries --only --name --name-list --at --address --layout --require --library-path --default --root --sysroot --cache --files0-from
             set skip 1
         else if not string match -q -- '-*' $word
             set -a plain $word
@@ -93,6 +93,8 @@ complete -c elfsee -n '__fish_seen_subcommand_from show list archive; and __elfs
 complete -c elfsee -n '__fish_seen_subcommand_from show list archive; and __elfsee_lacks --defined' -l defined -d 'of symbols, show only the defined ones'
 complete -c elfsee -n '__fish_seen_subcommand_from show list archive; and __elfsee_lacks --undefined' -l undefined -d 'of symbols, show only the undefined ones'
 complete -c elfsee -n '__fish_seen_subcommand_from show list archive; and __elfsee_lacks --dynamic' -l dynamic -d 'of symbols, show only those of dynamic symbol tables'
+complete -c elfsee -n '__fish_seen_subcommand_from show list archive; and __elfsee_lacks --at' -l at -x -d 'show only the rows at this byte of the file'
+complete -c elfsee -n '__fish_seen_subcommand_from show list archive; and __elfsee_lacks --address' -l address -x -d 'show only the rows of this address'
 complete -c elfsee -n '__fish_seen_subcommand_from traits; and __elfsee_lacks --require' -l require -x -d 'print which of these words each program and library lacks'
 complete -c elfsee -n '__fish_seen_subcommand_from needs; and __elfsee_lacks --max-tries' -l max-tries -x -d 'try at most so many paths for a file'
 complete -c elfsee -n '__fish_seen_subcommand_from needs; and __elfsee_lacks --library-path' -l library-path -x -d 'also search these directories for libraries'

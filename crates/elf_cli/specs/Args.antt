@@ -2,13 +2,14 @@
 use Rattle.std.specs.Prelude.{◌≡◌, ◌||◌, ℕ, is_some, List, [], codes, Option, None, Some, option_map, unwrap_or}
 use Rattle.clap.specs.Walk.{Row, Text, first_of, one_of, texts}
 use Rattle.elf_model.specs.Prelude.{EveryRow}
+use Rattle.elf_model.specs.declared.place_filters.PlaceFilter.{PlaceFilter}
 use Rattle.elf_options.specs.Prelude.{choice_of}
 use Rattle.elf_options.specs.declared.caps.Caps.{Caps}
 use Rattle.elf_options.specs.declared.caps.Limits.{Limits}
 use Rattle.elf_options.specs.declared.caps.ListingStyle.{ListingStyle}
 use Rattle.elf_cli.specs.CommandLine.{command_among, command_rows}
 use Rattle.elf_cli.specs.Faults.{IsUnasked}
-use Rattle.elf_cli.specs.Options.{HasNumber, IsCount, asked_format, asked_parts, asked_symbols, has_two_formats, is_given, is_option_set, is_set_or_implied, values_of}
+use Rattle.elf_cli.specs.Options.{HasNumber, HasPlace, IsCount, asked_format, asked_parts, asked_symbols, has_two_formats, is_given, is_option_set, is_set_or_implied, values_of}
 use Rattle.elf_cli.specs.declared.command_args.CommandArgs.{CommandArgs}
 use Rattle.elf_cli.specs.declared.command_args.CommandName.{CommandName}
 use Rattle.elf_cli.specs.declared.faults.RequestFault.{RequestFault}
@@ -23,6 +24,11 @@ pub record AreLimits (rows : List Row) (limits : Limits) : Type 0 where
   pub headers : IsCount 1 65279 (one_of (codes "headers") rows) limits.headers
   pub budget : (value : Option ℕ) → HasNumber (one_of (codes "max-read") rows) value → limits.budget ≡ value
 
+-- which rows are shown by where they are
+pub record IsPlaceFilter (rows : List Row) (filter : PlaceFilter) : Type 0 where
+  pub at : HasPlace (first_of (codes "at") rows) filter.at
+  pub address : HasPlace (first_of (codes "address") rows) filter.address
+
 -- how rows are shown, before any is selected by name
 pub record IsStyle (rows : List Row) (style : ListingStyle) : Type 0 where
   pub cap : IsCount 1 4096 (one_of (codes "names") rows) style.cap.bytes
@@ -31,6 +37,7 @@ pub record IsStyle (rows : List Row) (style : ListingStyle) : Type 0 where
   pub format : style.format ≡ asked_format rows
   pub choice : choice_of style.choice ≡ EveryRow
   pub symbols : style.symbols ≡ asked_symbols rows
+  pub place : IsPlaceFilter rows style.place
   pub versions : style.versions ≡ is_set_or_implied (codes "versions") rows
 
 pub record AreCapOptions (rows : List Row) (caps : Caps) : Type 0 where
@@ -55,6 +62,8 @@ pub record AreOptions (rows : List Row) (args : CommandArgs) : Type 0 where
   pub only : option_map (λ names. names.now) args.only ≡ first_of (codes "only") rows
   pub parts : args.parts.0 ≡ asked_parts rows
   pub names : texts args.names.items ≡ values_of (codes "name") rows
+  pub at : option_map (λ text. text.now) args.at ≡ first_of (codes "at") rows
+  pub address : option_map (λ text. text.now) args.address ≡ first_of (codes "address") rows
   pub name_list : option_map (λ path. path.now) args.name_list ≡ first_of (codes "name-list") rows
   pub require : option_map (λ text. text.now) args.require ≡ first_of (codes "require") rows
   pub library_path : args.library_path.now ≡ unwrap_or (first_of (codes "library-path") rows) []

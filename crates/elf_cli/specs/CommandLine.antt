@@ -99,6 +99,8 @@ argument_rows =
     ∷ (selecting, flag (codes "defined"))
     ∷ (selecting, flag (codes "undefined"))
     ∷ (selecting, flag (codes "dynamic"))
+    ∷ (selecting, valued (codes "at"))
+    ∷ (selecting, valued (codes "address"))
     ∷ (APPLY, valued (codes "layout"))
     ∷ (APPLY, flag (codes "explain"))
     ∷ (CHECK + LIST, flag (codes "members"))

@@ -1,5 +1,5 @@
 -- The values of a command's arguments, each alone.
-use Rattle.std.specs.Prelude.{Bool, true, false, ◌||◌, ◌&&◌, if◌then◌else◌, bytes_eq, find, is_some, ℕ, ◌≡◌, ◌<◌, ◌≤◌, ◌^◌, List, [], ◌∷◌, codes, Option, None, Some, option_and_then, unwrap_or}
+use Rattle.std.specs.Prelude.{Bool, true, false, ◌||◌, ◌&&◌, if◌then◌else◌, bytes_eq, find, is_some, ℕ, ◌≡◌, ◌≢◌, ◌<◌, ◌≤◌, ◌^◌, ◌⊎◌, List, [], ◌∷◌, ◌++◌, codes, Option, None, Some, option_and_then, unwrap_or}
 use Rattle.std.specs.Str.Parse.{IsNumeral, digits_value, without_leading_plus}
 use Rattle.std.specs.Int.RustNames.{bit_or}
 use Rattle.std.specs.List.{fold, list_all, list_any}
@@ -12,18 +12,35 @@ use Rattle.elf_model.specs.declared.formats.Format.TheVariants.{Columns, Object,
 use Rattle.elf_model.specs.declared.formats.Format.{Format}
 use Rattle.elf_model.specs.declared.symbol_filters.SymbolFilter.{SymbolFilter}
 
--- the value of decimal digits, with an optional plus before them
-abbrev decimal_value : Text → ℕ
-decimal_value text = digits_value 10 (without_leading_plus text)
+-- the value of digits of a radix, with an optional plus before them
+abbrev value_in : (radix : ℕ) → Text → ℕ
+value_in radix text = digits_value radix (without_leading_plus text)
 
--- a text is a decimal number below 2^64
-abbrev SpellsNumber : Text → Type 0
-SpellsNumber text = IsNumeral 10 (without_leading_plus text) × (decimal_value text < 2 ^ 64)
+-- a text is a number of a radix, below 2^64
+abbrev SpellsNumber : (radix : ℕ) → Text → Type 0
+SpellsNumber radix text = IsNumeral radix (without_leading_plus text) × (value_in radix text < 2 ^ 64)
 
 -- the number that is the value of an argument, if there is one
 abbrev pub HasNumber : Option Text → Option ℕ → Type 0
 HasNumber None value = value ≡ None
-HasNumber (Some text) value = SpellsNumber text × (value ≡ Some (decimal_value text))
+HasNumber (Some text) value = SpellsNumber 10 text × (value ≡ Some (value_in 10 text))
+
+-- a text is this number of a radix
+abbrev pub IsNumberIn : (radix : ℕ) → Text → ℕ → Type 0
+IsNumberIn radix text value = SpellsNumber radix text × (value ≡ value_in radix text)
+
+-- a text is the number of a byte or an address: in hexadecimal digits after 0x, otherwise in decimal
+-- ones
+abbrev pub SpellsPlace : Text → ℕ → Type 0
+SpellsPlace text place =
+    ((digits : Text) × (text ≡ codes "0x" ++ digits) × IsNumberIn 16 digits place)
+    ⊎ (((digits : Text) → text ≢ codes "0x" ++ digits) × IsNumberIn 10 text place)
+
+-- the number that the value of an argument is, if it is one
+abbrev pub HasPlace : Option Text → Option ℕ → Type 0
+HasPlace None place = place ≡ None
+HasPlace (Some text) (Some place) = SpellsPlace text place
+HasPlace (Some text) None = (place : ℕ) → SpellsPlace text place → ⊥
 
 -- a number within a range: the one that is the value of an argument, if that is within the range
 pub record IsCount (least most : ℕ) (text : Option Text) (number : ℕ) : Type 0 where

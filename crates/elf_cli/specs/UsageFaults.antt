@@ -14,7 +14,7 @@ use Rattle.elf_cli.specs.declared.command_args.CommandName.TheVariants.{Show, Fi
 use Rattle.elf_cli.specs.declared.faults.RequestFault.{RequestFault}
 use Rattle.elf_cli.specs.declared.faults.RequestFault.TheVariants as fault
 use Rattle.elf_cli.specs.declared.usage_faults.UsageFault.{UsageFault}
-use Rattle.elf_cli.specs.declared.usage_faults.UsageFault.TheVariants.{UnknownPart, TwoFormats, TwoFilters, NamesFull, BadName, NoGnu, NamesLimited, NoRows, NoPath, NoFile}
+use Rattle.elf_cli.specs.declared.usage_faults.UsageFault.TheVariants.{UnknownPart, TwoFormats, TwoFilters, BadByte, BadAddress, NamesFull, BadName, NoGnu, NamesLimited, NoRows, NoPath, NoFile}
 
 -- a text of 1 to 4,096 bytes without NUL; and if a name may have a version, neither is empty
 abbrev pub is_name : (versions : Bool) → Text → Bool
@@ -78,12 +78,18 @@ file_is_missing args = takes_file args.command && not (is_some args.file)
 abbrev pub has_two_filters : SymbolFilter → Bool
 has_two_filters symbols = symbols.defined && symbols.undefined
 
+-- a text is given whose number was not read
+abbrev pub is_unread : {X : Type 0} → Option X → Option ℕ → Bool
+is_unread text number = is_some text && not (is_some number)
+
 -- THE FAULT OF ARGUMENTS: the first of these
 abbrev pub usage_fault : CommandArgs → Option UsageFault
 usage_fault args =
     if part_is_unknown args then Some UnknownPart
     else if args.two_formats then Some TwoFormats
     else if has_two_filters args.caps.style.symbols then Some TwoFilters
+    else if is_unread args.at args.caps.style.place.at then Some BadByte
+    else if is_unread args.address args.caps.style.place.address then Some BadAddress
     else if nat_lt 64 (length args.names.items) then Some NamesFull
     else if not (are_names args.caps.style.versions (texts args.names.items)) then Some BadName
     else if gnu_option_is_missing args then Some NoGnu

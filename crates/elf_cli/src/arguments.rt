@@ -10,7 +10,7 @@ use crate::command_sets::{
 };
 use clap::builder::ValueParser;
 
-static ARGUMENTS: [ArgSpec; 37] = [
+static ARGUMENTS: [ArgSpec; 39] = [
     ArgSpec {
         name: "headers",
         short: None,
@@ -252,6 +252,23 @@ static ARGUMENTS: [ArgSpec; 37] = [
         alias: None,
         kind: ArgKind::Flag,
         help: "Of symbols, show only those of dynamic tables",
+        commands: SELECTING,
+    },
+    ArgSpec {
+        name: "at",
+        short: None,
+        alias: None,
+        kind: ArgKind::Value("PLACE"),
+        help: "Show only the rows at this byte of the file, as in\n\
+            1024 or 0x400",
+        commands: SELECTING,
+    },
+    ArgSpec {
+        name: "address",
+        short: None,
+        alias: None,
+        kind: ArgKind::Value("ADDR"),
+        help: "Show only the rows of this address",
         commands: SELECTING,
     },
     ArgSpec {

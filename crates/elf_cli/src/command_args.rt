@@ -12,6 +12,7 @@ use crate::options::Options;
 use crate::part_names::unknown_part;
 use crate::usage_errors::without_command;
 use clap::ArgMatches;
+use elf_model::PlaceFilter;
 use elf_options::RowFilter;
 use elf_record::Parts;
 use elf_table::{Caps, Limits, ListingStyle, NameLimit};
@@ -85,6 +86,10 @@ pub struct CommandArgs<'a> {
     pub names: Vec<&'a str>,
     /// The path of a file with more such names, one per line.
     pub name_list: Option<&'a str>,
+    /// The byte of the file whose rows alone are shown.
+    pub at: Option<&'a str>,
+    /// The address whose rows alone are shown.
+    pub address: Option<&'a str>,
     /// The required traits, separated by commas.
     pub require: Option<&'a str>,
     /// The directories that are searched before those of DT_RUNPATH, separated by colons.
@@ -109,13 +114,27 @@ pub struct CommandArgs<'a> {
 }
 
 impl CommandArgs<'_> {
-    ghost use Rattle.elf_cli.specs.UsageFaults.{is_archive, part_is_unknown, selects_rows};
+    ghost use Rattle.elf_cli.specs.UsageFaults.{is_archive, is_unread, part_is_unknown, selects_rows};
 
     /// Returns `true` if only the rows of some names are requested.
     pub fn selects_rows(&self) -> bool
         ensures { result ≡ selects_rows self.now }
     {
         !self.names.is_empty() || self.name_list.is_some()
+    }
+
+    /// Returns `true` if the byte whose rows are shown is given by a text that is no number.
+    pub(crate) fn has_bad_byte(&self) -> bool
+        ensures { result ≡ is_unread self.now.at self.now.caps.style.place.at }
+    {
+        self.at.is_some() && self.caps.style.place.at.is_none()
+    }
+
+    /// Returns `true` if the address whose rows are shown is given by a text that is no number.
+    pub(crate) fn has_bad_address(&self) -> bool
+        ensures { result ≡ is_unread self.now.address self.now.caps.style.place.address }
+    {
+        self.address.is_some() && self.caps.style.place.address.is_none()
     }
 
     /// Returns the first of the names of parts that no part has, if there is one.
@@ -200,6 +219,8 @@ fn read<'a>(
         parts: options.parts(),
         names: options.values(alloc, "name")?,
         name_list: options.text("name-list"),
+        at: options.text("at"),
+        address: options.text("address"),
         require: options.text("require"),
         library_path: options.text_or_empty("library-path"),
         default: options.text("default"),
@@ -240,6 +261,10 @@ fn caps_of(options: &Options<'_, '_>) -> Caps<'static>
             format: options.format(),
             choice: RowFilter::every_row(),
             symbols: options.symbols(),
+            place: PlaceFilter {
+                at: options.place("at"),
+                address: options.place("address"),
+            },
             versions: options.has_versions(),
         },
     }

@@ -23,6 +23,7 @@ mod other_tools;
 mod outputs;
 mod parser;
 mod part_names;
+mod place_numbers;
 mod program_arguments;
 mod state_texts;
 mod texts;

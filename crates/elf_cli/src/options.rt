@@ -2,12 +2,13 @@
 ghost use Rattle.std.specs.Prelude.{◌≡◌, ◌≤◌, ℕ, IfOk, List, [], Option, codes, option_map, unwrap_or};
 ghost use Rattle.clap.specs.Walk.{Row, first_of, one_of, rows_of, texts};
 ghost use Rattle.clap.specs.Words.{found_of};
-ghost use Rattle.elf_cli.specs.Options.{HasNumber, IsCount, asked_format, asked_parts, asked_symbols};
+ghost use Rattle.elf_cli.specs.Options.{HasNumber, HasPlace, IsCount, asked_format, asked_parts, asked_symbols};
 ghost use Rattle.elf_cli.specs.Options.{has_two_formats, is_set_or_implied};
 ghost use Rattle.elf_cli.specs.Options.{has_name_option, is_given, is_of_words, is_option_set};
 ghost use Rattle.elf_cli.specs.Options.{values_of};
 
 use crate::part_names::parts_named;
+use crate::place_numbers::place_of;
 use clap::ArgMatches;
 use clap::parser::ValueSource;
 use elf_model::{Format, SymbolFilter};
@@ -63,6 +64,16 @@ impl<'m, 'a> Options<'m, 'a> {
             defined: self.is_set("defined"),
             undefined: self.is_set("undefined"),
             dynamic: self.is_set("dynamic"),
+        }
+    }
+
+    /// Returns the number of a byte or an address that an option has, if it has one.
+    pub(crate) fn place(&self, option: &str) -> Option<u64>
+        ensures { HasPlace (first_of option.now self.now) result }
+    {
+        match self.text(option) {
+            Some(text) => place_of(text),
+            None => None,
         }
     }
 

@@ -96,9 +96,14 @@ With --defined, --undefined or --dynamic only the symbols are listed, or the
 parts given with --only; of other parts all rows are shown. --defined cannot be
 used with --undefined.
 
+--at PLACE shows only the rows at this byte of the file, --address ADDR only
+those of this address in memory; both numbers are decimal, or hexadecimal after
+0x. The offset of a line ! is that of its row.
+
 Examples:
   elfsee show --only symbols /bin/ls
   elfsee show --undefined /bin/ls
+  elfsee show --only sections,symbols --address 0x4000 /bin/ls
   elfsee show --table --only sections,segments /bin/ls
   elfsee show --name main --name printf /bin/ls
   elfsee show --gnu --versions --name memcpy@@GLIBC_2.14 /lib64/libc.so.6

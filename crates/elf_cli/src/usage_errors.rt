@@ -31,6 +31,10 @@ pub fn request_fault(alloc: Global, args: &CommandArgs<'_>, fault: UsageFault) -
             command,
             "the argument '--defined' cannot be used with '--undefined'",
         ),
+        UsageFault::BadByte => bad_number_error(alloc, command, args.at, "--at <PLACE>"),
+        UsageFault::BadAddress => {
+            bad_number_error(alloc, command, args.address, "--address <ADDR>")
+        }
         UsageFault::NamesFull => RequestFault::NamesFull,
         UsageFault::BadName => RequestFault::BadName,
         UsageFault::NoGnu => usage_error(
@@ -59,6 +63,28 @@ pub fn request_fault(alloc: Global, args: &CommandArgs<'_>, fault: UsageFault) -
             "the following required arguments were not provided:\n  <FILE>",
         ),
     }
+}
+
+/// Returns the fault that reports a byte or an address that is no number.
+fn bad_number_error(
+    alloc: Global,
+    command: CommandName,
+    text: Option<&str>,
+    option: &str,
+) -> RequestFault
+    ensures { IsUnasked result }
+{
+    match bad_number_message(alloc, text.unwrap_or(""), option) {
+        Ok(message) => usage_error(alloc, command, message.as_str()),
+        Err(AllocError) => RequestFault::Memory,
+    }
+}
+
+/// Returns the message with that text.
+fn bad_number_message(alloc: Global, text: &str, option: &str) -> Result<String, AllocError> {
+    format!(in alloc;
+        "invalid value '{text}' for '{option}': it is no number below 2^64, as in 1024 or 0x400"
+    )
 }
 
 /// Returns the fault that reports the first name of a part that no part has.

@@ -22,6 +22,10 @@ pub enum UsageFault {
     TwoFormats,
     /// Both the defined symbols alone and the undefined ones alone are requested.
     TwoFilters,
+    /// The byte whose rows are shown is no number.
+    BadByte,
+    /// The address whose rows are shown is no number.
+    BadAddress,
     /// There are more than 64 names.
     NamesFull,
     /// One of the names cannot be looked up.
@@ -51,6 +55,12 @@ pub fn usage_fault(args: &CommandArgs<'_>) -> Option<UsageFault>
     }
     if has_two_filters(args.caps.style.symbols) {
         return Some(UsageFault::TwoFilters);
+    }
+    if args.has_bad_byte() {
+        return Some(UsageFault::BadByte);
+    }
+    if args.has_bad_address() {
+        return Some(UsageFault::BadAddress);
     }
     if args.names.len() > MOST_NAMES {
         return Some(UsageFault::NamesFull);

@@ -17,6 +17,7 @@ pub mod ListedTables
 pub mod ListedTags
 pub mod ListedFiles
 pub mod ListedFilters
+pub mod ListedPlaces
 pub mod ExamplesAllowed
 pub mod ExamplesAnswers
 pub mod ExamplesDynamic

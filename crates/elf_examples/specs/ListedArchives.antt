@@ -1,6 +1,6 @@
 -- Listings of archives.
 use Rattle.std.specs.Prelude.{◌≡◌, ◌+◌, ◌*◌, [], ◌∷◌, ◌++◌, codes, take, true, false, None}
-use Rattle.elf_model.specs.Prelude.{ALL, EveryRow, HEADER, any_refused, archive, archive_ceiling, archive_cost, archive_items, archive_of, bare_header, every_symbol, fault_of, library, member, member_header, one_symbol_table, report, short_name, standard}
+use Rattle.elf_model.specs.Prelude.{ALL, EveryRow, HEADER, any_refused, archive, archive_ceiling, archive_cost, archive_items, archive_of, bare_header, every_place, every_symbol, fault_of, library, member, member_header, one_symbol_table, report, short_name, standard}
 use Rattle.elf_model.specs.declared.formats.Format.TheVariants.{Columns}
 
 -- the members alone: an index of symbols, a table of names, an odd size with its padding, a long
@@ -107,5 +107,5 @@ CutMembersCost =
 -- and three needs
 abbrev pub CeilingsWithVersions : Type 0
 CeilingsWithVersions =
-    archive_ceiling 59 1 (record { cap = 63; gnu = true; by_segments = false; format = Columns; choice = EveryRow; symbols = every_symbol; versions = true })
+    archive_ceiling 59 1 (record { cap = 63; gnu = true; by_segments = false; format = Columns; choice = EveryRow; symbols = every_symbol; place = every_place; versions = true })
     ≡ 8 + (64 + (184 + 59 + 3 * 96) + (2 * 66 + 2 * 28 + 3 * 16))

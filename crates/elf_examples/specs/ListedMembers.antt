@@ -1,6 +1,6 @@
 -- Members of archives: their headers, their names, and their listings.
 use Rattle.std.specs.Prelude.{ℕ, ◌≡◌, ◌+◌, ◌*◌, ◌<◌, List, [], ◌∷◌, ◌++◌, codes, true, false, Option, None, Some}
-use Rattle.elf_model.specs.Prelude.{ALL, EveryRow, HEADER, IsArchiveBudgeted, IsBudgetRefusal, SECTIONS, SYMBOLS, VERSIONS, any_refused, archive, archive_ceiling, archive_cost, archive_items, archive_of, bare_header, every_symbol, is_elf, is_name_table, library, little, member, member_header, one_symbol_table, padded_number, parsed_member_size, refusal_line, report, report_of, standard, with_bytes}
+use Rattle.elf_model.specs.Prelude.{ALL, EveryRow, HEADER, IsArchiveBudgeted, IsBudgetRefusal, SECTIONS, SYMBOLS, VERSIONS, any_refused, archive, archive_ceiling, archive_cost, archive_items, archive_of, bare_header, every_place, every_symbol, is_elf, is_name_table, library, little, member, member_header, one_symbol_table, padded_number, parsed_member_size, refusal_line, report, report_of, standard, with_bytes}
 use Rattle.elf_model.specs.declared.formats.Format.TheVariants.{Columns}
 use Rattle.elf_model.specs.declared.causes.Refusal.{Refusal}
 use Rattle.elf_examples.specs.ListedBudgets.{spent_at}
@@ -64,12 +64,12 @@ of_one content = archive_of (member (codes "a.o/") content)
 abbrev pub StylesAreTheMembers : Type 0
 StylesAreTheMembers =
     (report_of Columns
-    (archive_items true (of_one (with_bytes 0xbc (little 4 0x6ffffff6) one_symbol_table)) 3 (record { cap = 63; gnu = true; by_segments = false; format = Columns; choice = EveryRow; symbols = every_symbol; versions = false }) SECTIONS)
+    (archive_items true (of_one (with_bytes 0xbc (little 4 0x6ffffff6) one_symbol_table)) 3 (record { cap = 63; gnu = true; by_segments = false; format = Columns; choice = EveryRow; symbols = every_symbol; place = every_place; versions = false }) SECTIONS)
     ≡ codes "A     0 0000000000000044 0000000000000138 a.o\n"
     ++ codes "S     0 NULL                       0000000000000000 0000000000000000 0000000000000000 00000000 00000000 \n"
     ++ codes "S     1 GNU_HASH                   0000000000000000 0000000000000040 0000000000000030 00000002 00000001 \n"
     ++ codes "S     2 STRTAB                     0000000000000000 0000000000000070 0000000000000006 00000000 00000000 \n")
-    × (report_of Columns (archive_items true (of_one one_symbol_table) 3 (record { cap = 63; gnu = false; by_segments = true; format = Columns; choice = EveryRow; symbols = every_symbol; versions = false }) SYMBOLS)
+    × (report_of Columns (archive_items true (of_one one_symbol_table) 3 (record { cap = 63; gnu = false; by_segments = true; format = Columns; choice = EveryRow; symbols = every_symbol; place = every_place; versions = false }) SYMBOLS)
     ≡ codes "A     0 0000000000000044 0000000000000138 a.o\n")
 
 -- as many headers as are allowed are a member's too

@@ -1,6 +1,6 @@
 -- Lines as JSON objects.
 use Rattle.std.specs.Prelude.{ℕ, ◌^◌, ◌≡◌, true, false, [], ◌∷◌, ◌++◌, codes}
-use Rattle.elf_model.specs.Prelude.{ALL, Cut, EveryRow, ListingStyle, SYMBOLS, check_line, dynamic_prefix, every_symbol, listing, member_prefix, named_line, note_line, note_prefix, numbers_from, one_symbol_table, refusal_line, relocation_prefix, report_of, section_prefix, segment_line, steps_line, symbol_version_prefix, unnamed_line, version_prefix}
+use Rattle.elf_model.specs.Prelude.{ALL, Cut, EveryRow, ListingStyle, SYMBOLS, check_line, dynamic_prefix, every_place, every_symbol, listing, member_prefix, named_line, note_line, note_prefix, numbers_from, one_symbol_table, refusal_line, relocation_prefix, report_of, section_prefix, segment_line, steps_line, symbol_version_prefix, unnamed_line, version_prefix}
 use Rattle.elf_model.specs.declared.versions.VersionKind.TheVariants.{Definition}
 use Rattle.elf_model.specs.declared.formats.Format.TheVariants.{Object}
 use Rattle.elf_model.specs.declared.causes.Cause.TheVariants.{Short, TableOutside}
@@ -9,7 +9,7 @@ use Rattle.elf_model.specs.declared.states.FileStatus.TheVariants as state
 
 -- objects, with this many bytes of a name
 abbrev pub objects : ℕ → ListingStyle
-objects cap = record { cap = cap; gnu = false; by_segments = false; format = Object; choice = EveryRow; symbols = every_symbol; versions = false }
+objects cap = record { cap = cap; gnu = false; by_segments = false; format = Object; choice = EveryRow; symbols = every_symbol; place = every_place; versions = false }
 
 -- a whole listing: the file header, the section headers and the symbols
 abbrev pub ObjectsOfAFile : Type 0

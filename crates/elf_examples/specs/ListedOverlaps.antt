@@ -1,10 +1,10 @@
 -- Listings by the program headers of files whose LOAD segments overlap.
 use Rattle.std.specs.Prelude.{◌≡◌, ℕ, ◌+◌, ◌-◌, ◌^◌, true, false, List, [], ◌++◌, None, codes}
-use Rattle.elf_model.specs.Prelude.{ALL, DYNAMIC, EveryRow, ListingStyle, NOTES, SECTIONS, SEGMENTS, SYMBOLS, every_symbol, fault_of, listing, listing_cost, little, object, object_with, program_header, report, report_of, section_header, with_bytes}
+use Rattle.elf_model.specs.Prelude.{ALL, DYNAMIC, EveryRow, ListingStyle, NOTES, SECTIONS, SEGMENTS, SYMBOLS, every_place, every_symbol, fault_of, listing, listing_cost, little, object, object_with, program_header, report, report_of, section_header, with_bytes}
 use Rattle.elf_model.specs.declared.formats.Format.TheVariants.{Columns}
 
 abbrev by_segments : ListingStyle
-by_segments = record { cap = 63; gnu = false; by_segments = true; format = Columns; choice = EveryRow; symbols = every_symbol; versions = false }
+by_segments = record { cap = 63; gnu = false; by_segments = true; format = Columns; choice = EveryRow; symbols = every_symbol; place = every_place; versions = false }
 
 -- a segment that is loaded at an address, of this many bytes in memory, with none of them in the
 -- file

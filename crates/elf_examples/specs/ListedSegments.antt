@@ -1,7 +1,7 @@
 -- Listings of notes and dynamic entries in files without sections: the program headers describe the
 -- tables.
 use Rattle.std.specs.Prelude.{◌≡◌, ℕ, ◌+◌, ◌-◌, ◌*◌, ◌^◌, true, false, List, [], ◌∷◌, ◌++◌, codes, take}
-use Rattle.elf_model.specs.Prelude.{ALL, DYNAMIC, EveryRow, ListingStyle, NOTES, SEGMENTS, SYMBOLS, aligned_note, ceiling, cost, every_symbol, library_strings, library_without_sections, listing, listing_cost, little, loaded, loaded_at, needed_with, object, object_with, one_segment, one_symbol_table, plain_note, program_header, report, report_of, section_header, tagged, with_bytes, zeros}
+use Rattle.elf_model.specs.Prelude.{ALL, DYNAMIC, EveryRow, ListingStyle, NOTES, SEGMENTS, SYMBOLS, aligned_note, ceiling, cost, every_place, every_symbol, library_strings, library_without_sections, listing, listing_cost, little, loaded, loaded_at, needed_with, object, object_with, one_segment, one_symbol_table, plain_note, program_header, report, report_of, section_header, tagged, with_bytes, zeros}
 use Rattle.elf_model.specs.declared.formats.Format.TheVariants.{Columns}
 
 abbrev needed_lines : List ℕ
@@ -335,7 +335,7 @@ abbrev hidden : List ℕ
 hidden = with_bytes 0x28 (little 8 0x1000) (with_bytes 0x3c (little 2 3 ++ little 2 7) library_without_sections)
 
 abbrev by_segments : ListingStyle
-by_segments = record { cap = 63; gnu = false; by_segments = true; format = Columns; choice = EveryRow; symbols = every_symbol; versions = false }
+by_segments = record { cap = 63; gnu = false; by_segments = true; format = Columns; choice = EveryRow; symbols = every_symbol; place = every_place; versions = false }
 
 -- a file whose header locates section headers that are none, by its program headers
 abbrev pub SegmentsDespiteSections : Type 0

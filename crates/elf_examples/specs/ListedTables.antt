@@ -1,12 +1,12 @@
 -- Listings as tables: each line without its letter, below the names of the columns.
 use Rattle.std.specs.Prelude.{◌≡◌, ◌++◌, ℕ, List, [], ◌∷◌, codes, false, true}
-use Rattle.elf_model.specs.Prelude.{ALL, EveryRow, ListingStyle, SYMBOLS, check_line, every_symbol, listing, one_symbol_table, refusal_line, report_of, short_hex, table_text}
+use Rattle.elf_model.specs.Prelude.{ALL, EveryRow, ListingStyle, SYMBOLS, check_line, every_place, every_symbol, listing, one_symbol_table, refusal_line, report_of, short_hex, table_text}
 use Rattle.elf_model.specs.declared.causes.Cause.TheVariants.{TableOutside}
 use Rattle.elf_model.specs.declared.formats.Format.TheVariants.{Table}
 use Rattle.elf_model.specs.declared.states.FileStatus.TheVariants as state
 
 abbrev in_a_table : ListingStyle
-in_a_table = record { cap = 63; gnu = true; by_segments = false; format = Table; choice = EveryRow; symbols = every_symbol; versions = false }
+in_a_table = record { cap = 63; gnu = true; by_segments = false; format = Table; choice = EveryRow; symbols = every_symbol; place = every_place; versions = false }
 
 -- a file with one symbol table
 abbrev pub ATableHasColumnNames : Type 0

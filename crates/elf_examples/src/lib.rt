@@ -34,6 +34,7 @@ mod listed_objects;
 mod listed_order;
 mod listed_overlaps;
 mod listed_parts;
+mod listed_places;
 mod listed_relocations;
 mod listed_sections;
 mod listed_segments;
