@@ -17,9 +17,9 @@ use elf_record::Refusal;
 use elf_table::{Fault, Limits, Names, Table};
 
 /// Checks the table of a kind that a section of a file in memory holds, with what the limits and
-/// the given bytes of room allow, and returns a position before its first row, or `None` in the
-/// result if the file has no such section or it holds no such rows. Returns `None` for a call with a
-/// number out of range.
+/// the given bytes of room allow, and returns a position before its first row; or `None` for a call
+/// with a number out of range. The position is `None` if the file has no such section or it holds
+/// no such rows.
 ///
 /// With relocation entries the string table is that of the symbols that they refer to, and dynamic
 /// entries are those up to and including the first DT_NULL. Only the section headers of the section

@@ -1,5 +1,4 @@
 //! The tables of notes that section headers and program headers describe.
-ghost use Rattle.std.specs.Prelude.{◌≡◌};
 ghost use Rattle.elf_memory.specs.NoteRows.{InFile, ReadsSectionNotes, ReadsSegmentNotes};
 
 use crate::header::{find_section, find_segment};

@@ -1,5 +1,5 @@
 //! The next note of a window.
-ghost use Rattle.std.specs.Prelude.{◌≡◌, ℕ, ◌+◌, ◌-◌, ◌^◌, ◌<◌, ◌≤◌, List, length, min};
+ghost use Rattle.std.specs.Prelude.{◌≡◌, ℕ, ◌+◌, ◌-◌, ◌^◌, ◌<◌, ◌≤◌, List, length};
 ghost use Rattle.std.specs.Prelude.{Some, IfErr, OnOk, IfOk};
 ghost use Rattle.elf_model.specs.Bytes.{slice};
 ghost use Rattle.elf_table.specs.Prelude.{HasLeft, HoldsBytes, RangeWithin, ReadsThrough, ReadsThroughWindow, bytes_left};
@@ -89,7 +89,7 @@ pub(crate) fn next_note<S: Source>(
     }))
 }
 
-// Reads the first bytes of a descriptor, and skips the others and the padding: all are `size` bytes.
+// Reads the first bytes of a descriptor and skips the others and the padding, all `size` bytes.
 fn read_rest<S: Source>(
     window: &mut Window<WINDOW_BYTES>,
     src: &mut Counted<S>,

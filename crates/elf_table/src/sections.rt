@@ -1,6 +1,6 @@
 //! The checks of a loaded file's sections.
-ghost use Rattle.std.specs.Prelude.{◌≡◌, ℕ, ◌<◌, ◌≤◌, ◌^◌, ◌==◌, ◌&&◌, ◌||◌, not, List, true, None, Ok, IfOk, IfErr, IfSome, IsTrue, MatchResult};
-ghost use Rattle.elf_model.specs.Prelude.{SHT_GNU_VERSYM as VERSYM, file_sections, first_numbers, first_typed, has_strings, has_symbols, section_at, sh_link};
+ghost use Rattle.std.specs.Prelude.{◌≡◌, ℕ, ◌<◌, ◌≤◌, ◌^◌, ◌==◌, ◌&&◌, ◌||◌, not, List, true, None, Ok, IfOk, IfErr, IfSome, MatchResult};
+ghost use Rattle.elf_model.specs.Prelude.{SHT_GNU_VERSYM as VERSYM, file_sections, first_numbers, first_typed, has_strings, section_at, sh_link};
 ghost use Rattle.elf_record.specs.Shdr.{IsShdr};
 ghost use Rattle.elf_table.specs.Load.{HoldsSectionHeaders, PassesLoadChecks, section_place};
 ghost use Rattle.elf_table.specs.Faults.{IsOfCheck};
@@ -8,7 +8,7 @@ ghost use Rattle.elf_table.specs.Files.{AnswersSection, program_headers, table_i
 ghost use Rattle.elf_table.specs.Sections.{byte_rows, table_at, string_table_at, section_names};
 ghost use Rattle.elf_table.specs.Sections.{symbols_at};
 ghost use Rattle.elf_table.specs.Relocations.{Links, Relocates};
-ghost use Rattle.elf_table.specs.Versions.{CountsVersions, LinksToSymbols, Versioned, has_names, sections_in};
+ghost use Rattle.elf_table.specs.Versions.{CountsVersions, Versioned, has_names, sections_in};
 ghost use Rattle.elf_table.specs.Store.{row};
 ghost use Rattle.elf_table.specs.Tables.{TableInBounds, Spans, StringsInBounds, SymbolTableInBounds, size_of};
 
@@ -221,8 +221,8 @@ impl SectionView<'_> {
             Versioned file (section_at file section) result }
         ensures table { IfOk result (λ found. Ok found.0 ≡ table_in self.now section 2) }
         ensures within { IfOk result (λ found. TableInBounds self.now.loaded.size found.0) }
-        ensures counts { IfOk result (λ found. CountsVersions self.now.store.now self.now.loaded.size section found.0
-            found.1) }
+        ensures counts { IfOk result (λ found.
+            CountsVersions self.now.store.now self.now.loaded.size section found.0 found.1) }
         ensures refusal { IfErr result IsOfCheck }
     {
         self.loaded.symbol_versions(self.store, section)
