@@ -54,11 +54,6 @@ type_is file at entry read is = is ∙ ap (λ (n : ℕ). n % 2 ^ 32) read.r_info
 pub symbol_is : (file : List ℕ) (at : ℕ) (entry : Rela) {symbol : ℕ} → EntryRead file at (Ok entry) → symbol ≡ entry.r_info / 2 ^ 32 → symbol ≡ r_sym file at
 symbol_is file at entry read is = is ∙ ap (λ (n : ℕ). n / 2 ^ 32) read.r_info
 
--- nothing is there
-pub none_of : {X : Type 0} (o : Option X) → ((x : X) → o ≡ Some x → ⊥) → o ≡ None
-none_of None h = refl
-none_of (Some x) h = absurd (h x refl)
-
 -- an entry whose symbol is not found does not pass the checks of its symbol
 pub unfound : (file : List ℕ) (header rela symbol : ℕ) (found : Result (Option LinkedSymbol) Fault) → ((one : Option LinkedSymbol) → found ≡ Ok one → ⊥) → symbol ≡ r_sym file rela
     → RefersToSymbol file header rela symbol found → first_refusal (symbol_checks file header rela) ≢ None
@@ -71,7 +66,3 @@ pub found_is : (file : List ℕ) (header rela symbol : ℕ) {found : Result (Opt
     → RefersToSymbol file header rela symbol found → RefersToSymbol file header rela (r_sym file rela) (Ok one)
 found_is file header rela symbol {found = found} known is refers =
     subst (RefersToSymbol file header rela (r_sym file rela)) known (subst (λ (n : ℕ). RefersToSymbol file header rela n found) is refers)
-
-pub found_one : (file : List ℕ) (header rela symbol : ℕ) {found : Option LinkedSymbol} {one : LinkedSymbol} → found ≡ Some one → RefersToSymbol file header rela symbol (Ok found)
-    → RefersToSymbol file header rela symbol (Ok (Some one))
-found_one file header rela symbol is refers = rw is at refers

@@ -4,12 +4,12 @@ use Rattle.std.proofs.lemmas.Result.{err_from_is_err_and}
 use Rattle.elf_model.specs.Prelude.{lack_with, section_at}
 use Rattle.elf_table.proofs.LedgerLaws.{CallDid-as, CallDid-none, CallDid-then}
 use Rattle.elf_reloc.proofs.ExplainLaws.{lacks_nothing, lacks_told, nowhere, somewhere}
-use Rattle.elf_reloc.proofs.LackLaws.{none_of}
+use Rattle.elf_table.proofs.Absent.{none-of}
 use Rattle.elf_reloc.proofs.explanation.explain_loaded.Goals as goal
 
 pub returns-in_default : goal.returns-in_default
 returns-in_default g c =
-    let none = none_of c.entries_at.result c.in_default.not-Some in
+    let none = none-of c.entries_at.result c.in_default.not-Some in
     CallDid-as _ (omega arith) (CallDid-none c.args.src.now)
     (λ bytes read costs belongs. sym (nowhere bytes c.args.section c.args.layout.now c.args.refusal (rw none at (c.entries_at.ensures.found bytes belongs))))
 
@@ -22,7 +22,7 @@ returns-in_err-lacking g c =
 
 pub returns-in_default-2 : goal.returns-in_default-2
 returns-in_default-2 g c =
-    let none = none_of c.in_ok-lacking.field-0 c.in_default-2.not-Some in
+    let none = none-of c.in_ok-lacking.field-0 c.in_default-2.not-Some in
     CallDid-as _ (omega arith) (rw none at c.in_ok-lacking.ensures.did)
     (λ bytes read costs belongs.
     let found = c.in-Some.ensures.found bytes belongs in
@@ -30,7 +30,7 @@ returns-in_default-2 g c =
 
 pub returns-in_default-3 : goal.returns-in_default-3
 returns-in_default-3 g c =
-    let none = none_of c.in_ok-end.field-0 c.in_default-3.not-Some in
+    let none = none-of c.in_ok-end.field-0 c.in_default-3.not-Some in
     CallDid-as _ (omega arith) (CallDid-then (rw c.in-Some-2.is at c.in_ok-lacking.ensures.did) (rw none at c.in_ok-end.ensures))
     (λ bytes read costs belongs.
     let found = c.in-Some.ensures.found bytes belongs in

@@ -3,12 +3,13 @@ use Rattle.std.proofs.Common.{◌∙◌, sym, ap, refl, arith}
 use Rattle.std.proofs.lemmas.Result.{err_from_is_err_and}
 use Rattle.elf_model.specs.Values.{kind_of}
 use Rattle.elf_table.proofs.LedgerLaws.{CallDid-as, CallDid-then}
-use Rattle.elf_reloc.proofs.LackLaws.{found_is, lacks_by, missing_by, none_of, symbol_is, type_is, unfound, unlinked, untyped}
+use Rattle.elf_table.proofs.Absent.{none-of}
+use Rattle.elf_reloc.proofs.LackLaws.{found_is, lacks_by, missing_by, symbol_is, type_is, unfound, unlinked, untyped}
 use Rattle.elf_reloc.proofs.missing_item.lacking_at.Goals as goal
 
 pub returns-in_default-clause-did : goal.returns-in_default-clause-did
 returns-in_default-clause-did g c =
-    let none = sym c.relocation_type.ensures.value ∙ none_of c.relocation_type.result c.in_default.not-Some in
+    let none = sym c.relocation_type.ensures.value ∙ none-of c.relocation_type.result c.in_default.not-Some in
     CallDid-as _ (omega arith) c.in_ok-entry.ensures
     (λ file read costs header refers.
     untyped file header c.args.layout.now c.args.section c.args.refusal (ap kind_of (sym (type_is file c.args.refusal.at c.in_ok-entry.entry read c.kind-kind.ensures)) ∙ none))
