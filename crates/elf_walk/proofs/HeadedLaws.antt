@@ -1,5 +1,5 @@
 -- A listing after the line of a path, by what was written of both.
-use Rattle.std.proofs.Common.{◌≡◌, ℕ, Bool, false, List, [], ◌∷◌, Option, None, Some, Result, Ok, Err, refl, ap, ◌∙◌, inl}
+use Rattle.std.proofs.Common.{◌≡◌, ℕ, Bool, false, List, [], ◌∷◌, Option, None, Some, Result, Ok, Err, refl, ap, ◌∙◌, ◌⊎◌, inl, inr}
 use Rattle.std.specs.Prelude.{IfErr}
 use Rattle.elf_model.specs.Prelude.{EveryRow, ListingStyle, RowFilter, RowsOf, SymbolQuery, archive_items, fault_of, headed, listing, members_alone, report_of}
 use Rattle.elf_model.specs.FileLists.{undecided}
@@ -12,7 +12,7 @@ use Rattle.elf_source.specs.Prelude.{CountedState, EndsLine, FailsOutput, KeepsD
 use Rattle.elf_source.specs.declared.holding_sink.DeferredLine.{DeferredLine}
 use Rattle.elf_source.specs.declared.faults.OutFault.{OutFault}
 use Rattle.elf_source.proofs.LineLaws.{broken_takes, line_ends, line_fails, line_front}
-use Rattle.elf_source.proofs.PutsLaws.{SinkTakes-then, SinkTakesPrefix-then, SinkTakesPrefix-more}
+use Rattle.elf_source.proofs.PutsLaws.{SinkTakes-nothing, SinkTakes-then, SinkTakesPrefix-then, SinkTakesPrefix-more}
 use Rattle.elf_options.specs.Prelude.{style_of}
 use Rattle.elf_options.specs.declared.caps.Caps.{Caps}
 use Rattle.elf_options.specs.declared.caps.Limits.{Limits}
@@ -21,7 +21,7 @@ use Rattle.elf_table.specs.declared.run_fault.RunFault.{RunFault}
 use Rattle.elf_table.specs.declared.run_fault.RunFault.TheVariants.{Refused, Source}
 use Rattle.elf_listing.specs.Reports.{WroteReport, WroteText, ReturnsStop}
 use Rattle.elf_archive.specs.Listed.{AnswersAfter, ArchiveSays, ReportsArchive}
-use Rattle.elf_walk.specs.Lists.{IsListedText, ListsHeaded, ListsSort, ReturnsRefused, WroteHeaded, lists_refused}
+use Rattle.elf_walk.specs.Lists.{IsListedText, ListsHeaded, ListsSort, ReturnsRefused, WroteHeaded, lists_refused, sort_ceiling, sort_cost}
 
 -- something is what is listed
 pub record SomeListed (kind : FileMagic) (file : List ℕ) (limits : Limits) (style : ListingStyle) (parts : ℕ) : Type 0 where
@@ -151,6 +151,32 @@ undecided_listed file limits style parts old new told tells =
     by_told (Refused refusal) tells = (tells.1, ap Some tells.0)
     by_told (Source fault at) tells = absurd tells
     by_told (Out fault) tells = tells.1
+
+-- of a thin archive, and of what is neither an ELF file nor an archive, nothing is listed and
+-- nothing is read
+pub record NothingListed (kind : FileMagic) : Type 0 where
+  pub lists : (file : List ℕ) (limits : Limits) (style : ListingStyle) (parts : ℕ) (out : OutState) → ListsSort kind file limits style parts out out (Ok false)
+  pub costs : (file : List ℕ) (headers : ℕ) (style : ListingStyle) (parts : ℕ) → sort_cost kind file headers style parts ≡ 0
+  pub asks : (size headers : ℕ) (style : ListingStyle) → sort_ceiling kind size headers style ≡ 0
+
+thin_lists_nothing : NothingListed sort.Thin
+thin_lists_nothing = record {
+  lists = λ file limits style parts out. record { text = []; fault = None; listed = (refl, refl); wrote = (SinkTakes-nothing out, refl); refused = refl };
+  costs = λ file headers style parts. refl;
+  asks = λ size headers style. refl;
+}
+
+foreign_lists_nothing : NothingListed sort.Foreign
+foreign_lists_nothing = record {
+  lists = λ file limits style parts out. record { text = []; fault = None; listed = (refl, refl); wrote = (SinkTakes-nothing out, refl); refused = refl };
+  costs = λ file headers style parts. refl;
+  asks = λ size headers style. refl;
+}
+
+pub nothing_listed : (kind : FileMagic) → (kind ≡ sort.Undecided) ⊎ ((kind ≡ sort.Thin) ⊎ (kind ≡ sort.Foreign)) → (kind ≡ sort.Undecided → ⊥) → NothingListed kind
+nothing_listed kind (inl undecided) decided = absurd (decided undecided)
+nothing_listed kind (inr (inl thin)) decided = rw thin thin_lists_nothing
+nothing_listed kind (inr (inr foreign)) decided = rw foreign foreign_lists_nothing
 
 pub undecided_says : (format : Format) (a b : CountedState) (old new : OutState) (told : RunFault) → ReturnsStop format old new (Refused undecided) told → ArchiveSays a b new told
 undecided_says format a b old new (Refused refusal) tells = tt
