@@ -1,6 +1,6 @@
 -- The versions after the names of symbols: how they are found, and the effect of a call that reads
 -- one.
-use Rattle.std.specs.Prelude.{ℕ, ◌≡◌, ◌+◌, ◌==◌, not, if◌then◌else◌, Bool, false, List, Option, None, Some, Result, Ok, Err, IfOk, IfSome, length, ◌⊎◌}
+use Rattle.std.specs.Prelude.{ℕ, ◌≡◌, ◌+◌, ◌==◌, not, if◌then◌else◌, Bool, true, false, List, Option, None, Some, Result, Ok, Err, IfOk, IfSome, length, ◌⊎◌}
 use Rattle.elf_model.specs.Prelude.{DisplayedName, EveryRow, HeaderTable, IsBudgetRefusal, LinePrefix, ListingItem, NoSuffix, SHN_UNDEF, SYMBOL_SIZE, Suffix, Suffixed, VERSION_NUMBERS, VERSYM_SIZE, entry_count, first_numbers, name_bytes, section_at, sh_offset, st_shndx, suffixed_row, suffixes_refusal, symbol_suffix, version_numbers_of, walks_cost}
 use Rattle.elf_model.specs.declared.causes.Cause.{Cause}
 use Rattle.elf_model.specs.declared.causes.Refusal.{Refusal}
@@ -14,7 +14,7 @@ use Rattle.elf_source.specs.declared.sink.Sink.{Ghosts as Sinks}
 use Rattle.elf_listing.specs.Numbered.{NumberedWithin}
 use Rattle.elf_listing.specs.Parts.{store_sections}
 use Rattle.elf_listing.specs.Shows.{ListingReads, ListingCalls, WroteSome}
-use Rattle.elf_listing.specs.SymbolVersions.{AreNumbered}
+use Rattle.elf_listing.specs.SymbolVersions.{AreNumbered, IsUnnamed}
 use Rattle.elf_listing.specs.declared.listing.Listing.{Listing}
 use Rattle.elf_listing.specs.declared.read_suffix.VersionSuffixEnd.{VersionSuffixEnd}
 use Rattle.elf_listing.specs.declared.suffixes.VersionLookup.{VersionLookup}
@@ -51,6 +51,16 @@ SuffixesOr file table (Ok None) =
 SuffixesOr file table (Ok (Some suffixes)) = (suffixes_refusal file table ≡ None) × AreSuffixes file table suffixes
 SuffixesOr file table (Err (Refused refusal)) = (IsBudgetRefusal refusal → ⊥) → suffixes_refusal file table ≡ Some refusal
 SuffixesOr file table (Err (Source fault at)) = Unit {0}
+
+-- it is yet to be filled: it names no version index
+abbrev pub IsUnfilled : VersionLookup → Type 0
+IsUnfilled suffixes = IsUnnamed suffixes.numbered × (length suffixes.places ≡ VERSION_NUMBERS)
+
+-- the lookup that a call filled in place, if it found it
+abbrev pub lookup_found : Result Bool Fault → VersionLookup → Result (Option VersionLookup) Fault
+lookup_found (Ok true) suffixes = Ok (Some suffixes)
+lookup_found (Ok false) suffixes = Ok None
+lookup_found (Err fault) suffixes = Err fault
 
 -- the effect of a call that looks for it, for a table of n symbols
 pub record FetchesSuffixes {S W : Type 0} {s : Sources S} {w : Sinks W} (old new : Listing S W s w) (result : Result (Option VersionLookup) Fault) (table symbols : ℕ) : Type 0 where

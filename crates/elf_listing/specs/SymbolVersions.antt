@@ -77,6 +77,15 @@ NumberedOr file places (Ok numbered) = (walks_refusal file ≡ None) × AreNumbe
 NumberedOr file places (Err (Refused refusal)) = (IsBudgetRefusal refusal → ⊥) → walks_refusal file ≡ Some refusal
 NumberedOr file places (Err (Source fault at)) = Unit {0}
 
+-- no version index has a name yet
+abbrev pub IsUnnamed : VersionStrings → Type 0
+IsUnnamed numbered = (file : List ℕ) (places : List ℕ) → NamesNumbers file [] numbered.names places
+
+-- what a call filled in place, if it succeeded
+abbrev pub filled : {X Y : Type 0} → Result X Fault → Y → Result Y Fault
+filled (Ok done) value = Ok value
+filled (Err fault) value = Err fault
+
 -- the effect of a call that finds them
 pub record FetchesNumbers {S W : Type 0} {s : Sources S} {w : Sinks W} (old new : Listing S W s w) (places : List ℕ) (result : Result VersionStrings Fault) : Type 0 where
   pub fetches : ListingReads old new result (walks_cost (store_sections old.file.store.now) old.file.loaded.size)

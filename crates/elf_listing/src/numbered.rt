@@ -2,6 +2,7 @@
 ghost use Rattle.std.specs.Prelude.{◌≡◌};
 ghost use Rattle.elf_listing.specs.Numbered.{FetchesVersion, NumberedWithin};
 ghost use Rattle.elf_listing.specs.RowLayouts.{version_layout};
+ghost use Rattle.elf_listing.specs.SymbolVersions.{IsUnnamed};
 
 use crate::listing::Listing;
 use crate::name_versions::NameVersions;
@@ -25,6 +26,20 @@ pub struct VersionStrings {
     pub defined: Names,
     /// The string table of the version needs; empty if there are none.
     pub needed: Names,
+}
+
+impl VersionStrings {
+    /// Creates an empty value, in which no version index has a name.
+    #[inline(never)]
+    pub(crate) fn new() -> VersionStrings
+        ensures { IsUnnamed result }
+    {
+        VersionStrings {
+            names: VersionNames::new(),
+            defined: Names::new(0, 0),
+            needed: Names::new(0, 0),
+        }
+    }
 }
 
 /// The version indices of the symbols of a section.

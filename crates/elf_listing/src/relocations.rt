@@ -5,7 +5,7 @@ ghost use Rattle.elf_listing.specs.Fetched.{FetchesLinked};
 ghost use Rattle.elf_listing.specs.HeadersListed.{ListsHeader};
 ghost use Rattle.elf_listing.specs.Parts.{relocations_part};
 ghost use Rattle.elf_listing.specs.RowLayouts.{relocation_layout};
-ghost use Rattle.elf_listing.specs.Suffixed.{FetchesOfEntry, FetchesOfLinked, SuffixesWithin};
+ghost use Rattle.elf_listing.specs.Suffixed.{FetchesOfEntry, FetchesOfLinked, IsUnfilled, SuffixesWithin, lookup_found};
 ghost use Rattle.elf_listing.specs.TablesFound.{AreEntriesOf};
 
 use crate::listed_kind::ListedKind;
@@ -138,17 +138,15 @@ fn list_versioned<S: Source, W: Sink>(
     ensures { ListsHeader (relocations_part true) listing.old listing.new result rows.now.section }
 {
     let link = listing.file.section(rows.section).sh_link;
-    let found = listing.linked_suffixes(link, &rows.linked);
-    // The lookup stays where it was written: moving it out would take its size on the stack again.
-    match &found {
-        Err(fault) => Err(RunFault::from(*fault)),
-        Ok(None) => list_rows(listing, table, rows, &mut NoVersions),
-        Ok(Some(lookup)) => {
-            let name = NameBuf::new();
-            let mut versions = FoundVersions { lookup, name };
-            list_rows(listing, table, rows, &mut versions)
-        }
+    let mut lookup = VersionLookup::new();
+    if !listing.linked_suffixes(&mut lookup, link, &rows.linked)? {
+        return list_rows(listing, table, rows, &mut NoVersions);
     }
+    let mut versions = FoundVersions {
+        lookup: &lookup,
+        name: NameBuf::new(),
+    };
+    list_rows(listing, table, rows, &mut versions)
 }
 
 /// Reads the version of the symbol at an index; returns `None` for symbol 0.
@@ -170,18 +168,20 @@ fn read_version<V: NameVersions, S: Source, W: Sink>(
 }
 
 impl<S: Source, W: Sink> Listing<'_, '_, '_, '_, S, W> {
-    /// Finds the versions of the symbols that entries refer to, if there are any.
-    #[inline(never)]
+    /// Finds the versions of the symbols that entries refer to, and returns whether there are any.
     fn linked_suffixes(
         &mut self,
+        lookup: &mut VersionLookup,
         table: u32,
         linked: &LinkedSymbolTable,
-    ) -> Result<Option<VersionLookup>, Fault>
-        ensures { FetchesOfLinked self.old self.new result table linked.now }
+    ) -> Result<bool, Fault>
+        requires { IsUnfilled lookup.old }
+        ensures { let found = lookup_found result lookup.new in
+            FetchesOfLinked self.old self.new found table linked.now }
     {
         match linked {
-            None => Ok(None),
-            Some((symbols, _)) => self.suffixes(table, symbols.len()),
+            None => Ok(false),
+            Some((symbols, _)) => self.suffixes(lookup, table, symbols.len()),
         }
     }
 

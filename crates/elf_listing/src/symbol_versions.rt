@@ -5,7 +5,7 @@ ghost use Rattle.elf_model.specs.declared.versions.VersionKind.TheVariants.{Need
 ghost use Rattle.elf_table.specs.Tables.{TableInBounds};
 ghost use Rattle.elf_listing.specs.Numbered.{NumberedWithin};
 ghost use Rattle.elf_listing.specs.Parts.{AreRecordsListed, of_sections};
-ghost use Rattle.elf_listing.specs.SymbolVersions.{FetchesNumbers, ListsVersioned, NumbersTaken, TakesRecords};
+ghost use Rattle.elf_listing.specs.SymbolVersions.{FetchesNumbers, IsUnnamed, ListsVersioned, NumbersTaken, TakesRecords, filled};
 
 use crate::listed_kind::ListedKind;
 use crate::listing::Listing;
@@ -53,7 +53,8 @@ impl ListedKind for SymbolVersions {
         let found = listing.file.symbol_versions(index)?;
         let (table, symbols) = found;
         let mut none = [];
-        let numbered = listing.numbered(&mut none)?;
+        let mut numbered = VersionStrings::new();
+        listing.numbered(&mut numbered, &mut none)?;
         listing.versioned(index, table, symbols, &numbered)
     }
 }
@@ -89,19 +90,21 @@ impl<S: Source, W: Sink> Listing<'_, '_, '_, '_, S, W> {
 
     /// Finds the names of all version indices: by the first section of definitions, then by the
     /// first section of needs. For the first indices, as many as there are `places`, it keeps the
-    /// offset of the record that gives the name.
-    pub(crate) fn numbered(&mut self, places: &mut [u64]) -> Result<VersionStrings, Fault>
+    /// offset of the record that gives the name. It fills `numbered` in place, which is too large
+    /// to be returned.
+    pub(crate) fn numbered(
+        &mut self,
+        numbered: &mut VersionStrings,
+        places: &mut [u64],
+    ) -> Result<(), Fault>
+        requires { IsUnnamed numbered.old }
         ensures count { length places.new ≡ length places.old }
-        ensures numbers { FetchesNumbers self.old self.new places.new result }
+        ensures numbers { let found = filled result numbered.new in
+            FetchesNumbers self.old self.new places.new found }
     {
-        let mut names = VersionNames::new();
-        let defined = self.take_first(&mut names, places, VersionKind::Definition)?;
-        let needed = self.take_first(&mut names, places, VersionKind::File)?;
-        Ok(VersionStrings {
-            names,
-            defined,
-            needed,
-        })
+        numbered.defined = self.take_first(&mut numbered.names, places, VersionKind::Definition)?;
+        numbered.needed = self.take_first(&mut numbered.names, places, VersionKind::File)?;
+        Ok(())
     }
 
     /// Adds the records of the first section that holds records of the given kind, and returns the

@@ -11,6 +11,7 @@ use crate::name_versions::{FoundVersions, NameVersions, NoVersions};
 use crate::row_cursor::RowCursor;
 use crate::row_places::place_of_symbol;
 use crate::row_selection::{RowSelection, SymbolClass};
+use crate::suffixes::VersionLookup;
 use crate::table_rows::{TableRows, list_rows};
 use elf_format::{LinePrefix, Render, symbol_prefix};
 use elf_note::NameIndex;
@@ -127,15 +128,13 @@ fn list_versioned<S: Source, W: Sink>(
     requires { AreSymbolsOf listing.old.file table rows.now }
     ensures { ListsHeader (symbols_part true) listing.old listing.new result rows.now.section }
 {
-    let found = listing.suffixes(u32::from(rows.section), table.len());
-    // The lookup stays where it was written: moving it out would take its size on the stack again.
-    match &found {
-        Err(fault) => Err(RunFault::from(*fault)),
-        Ok(None) => list_rows(listing, table, rows, &mut NoVersions),
-        Ok(Some(lookup)) => {
-            let name = NameBuf::new();
-            let mut versions = FoundVersions { lookup, name };
-            list_rows(listing, table, rows, &mut versions)
-        }
+    let mut lookup = VersionLookup::new();
+    if !listing.suffixes(&mut lookup, u32::from(rows.section), table.len())? {
+        return list_rows(listing, table, rows, &mut NoVersions);
     }
+    let mut versions = FoundVersions {
+        lookup: &lookup,
+        name: NameBuf::new(),
+    };
+    list_rows(listing, table, rows, &mut versions)
 }

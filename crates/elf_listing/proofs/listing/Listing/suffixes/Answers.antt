@@ -67,12 +67,12 @@ returns g c =
         entry = c.in_ok-found.ensures.counts.entry;
         words = rw c.args.self.now.loaded.size at c.in_ok-found.ensures.within;
         names = numbers.within;
-        places = c.in_ok-numbered.ensures.count;
+        places = c.in_ok-numbered.ensures.count ∙ c.requires.1;
       };
       pays = λ cap. bytes_of (store_sections c.args.self.now.file.store.now) c.args.table cap c.in-Some.section first;
       read = λ file held counted.
           let belongs = c.args.self.now.loaded.belongs file held in
           let found = sym (c.version_numbers_of.ensures.held file belongs) ∙ c.in-Some.is in
           found_all file c.args.table c.in-Some.section (rw counted at (ne_eqb _ 0 c.if-symbols-eq0.false)) found _ _
-          (c.in_ok-found.ensures.held file belongs) (section_placed file c.in-Some.section c.place-at.ensures.value belongs.header.e_shoff) (numbers.read file held);
+          (c.in_ok-found.ensures.held file belongs) (section_placed file c.in-Some.section c.place-lookup.ensures.value belongs.header.e_shoff) (numbers.read file held);
     }

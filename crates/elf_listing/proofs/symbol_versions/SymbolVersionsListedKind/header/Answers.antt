@@ -66,7 +66,7 @@ returns g c =
     let within = versioned-within f.store.now c.args.index f.loaded.size _ cap _ _ typed (sym c.in_ok-found.ensures.table) some (counts.linked some) counts.counted (counts.symbols some) in
     let fetches = c.in_ok-numbered.ensures.numbers.fetches in
     let same = fetches.0.same_style in
-    ListingCalls-after _ _ _ c.in_ok-numbered.numbered _ _ _ _ _ _ (rw same (omega (arith, within))) fetches c.versioned.ensures (λ file held.
+    ListingCalls-after _ _ _ c.numbered.new.numbered _ _ _ _ _ _ (rw same (omega (arith, within))) fetches c.versioned.ensures (λ file held.
     let belongs = c.args.listing.now.loaded.belongs file held in
     let stands = c.section-header.ensures.stands file belongs in
     let at = section_at file c.args.index in
