@@ -140,17 +140,17 @@ fn is_linked(kind: u16) -> bool
 
 /// Returns the place of a record of definitions or needs: a definition also describes its first
 /// name.
-pub(crate) fn place_of_version(record: &VersionRecord) -> RowPlace
-    ensures { (file : List ℕ) (met : VisitedRecord) → IsVersion file met record.now →
+pub(crate) fn place_of_version(found: &VersionRecord) -> RowPlace
+    ensures { (file : List ℕ) (met : VisitedRecord) → IsVersion file met found.now →
         result ≡ place_of_version file met }
 {
     RowPlace {
         entry: PlaceRange {
-            start: record.at,
-            size: version_bytes(record.kind),
+            start: found.at,
+            size: version_bytes(found.kind),
         },
         bytes: PlaceRange {
-            start: record.named_at,
+            start: found.named_at,
             size: VERSION_NAME_BYTES,
         },
         memory: PlaceRange::nowhere(),
