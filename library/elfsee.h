@@ -22,7 +22,7 @@
  * Calls share nothing: any number of threads may call at once, each with its own room, out and
  * structs; the file's bytes may be shared. A call takes no lock, starts no thread, makes no system
  * call, allocates no memory and uses only the stack, less than 64 KiB of it, and with versions after
- * names less than 128 (measured by a test, not proved), and keeps no pointer after it returns.
+ * names less than 96 (measured by a test, not proved), and keeps no pointer after it returns.
  *
  * IN C++ each struct is also a type of the namespace elfsee, such as elfsee::header: some share their names
  * with a call, which hides them.
