@@ -7,7 +7,7 @@ import subprocess
 import tempfile
 from pathlib import Path
 
-from testing import options
+from testing import option_reader
 
 PLAIN = {"PATH": "/usr/bin:/bin", "LC_ALL": "C"}
 SECONDS = 600
@@ -17,7 +17,7 @@ FOLDERS = ("/usr/bin", "/usr/lib/x86_64-linux-gnu")
 def given_words(description, quick, whole):
     """What the command line of a comparison says. Its counts, each with its name, are the lower ones with --quick, if no
     others are given."""
-    reader = options(description)
+    reader = option_reader(description)
     reader.add_argument("--quick", action="store_true")
     reader.add_argument("--keep", metavar="FOLDER")
     for name in whole:

@@ -2,12 +2,10 @@
 which they are made. The same random generator over the same files gives the same copy."""
 
 import os
-import random
 import shutil
 import struct
 import subprocess
 
-import asked_of_files
 import made_archives
 
 NUMBERS = (0, 1, 2, 3, 4, 5, 7, 8, 12, 15, 16, 20, 23, 24, 25, 56, 63, 64, 255, 256, 1023, 1024, 4096, 0x7fff, 0x8000, 0x8001,

@@ -11,7 +11,6 @@ of `ar t` with the sizes of `ar tv`, the bytes at the place of each those of `ar
 `A` line what `show` prints; of those with more than 300 members the first 40, with --all every one. It needs
 Python 3, and for these `ar`. The last line is `N passed, N failed`."""
 
-import argparse
 import os
 import random
 import re
@@ -22,24 +21,11 @@ import tempfile
 
 sys.dont_write_bytecode = True
 sys.path.insert(0, os.path.join(os.path.dirname(os.path.realpath(__file__)), "..", "common"))
-from made_archives import MAGIC, bsd_member, changed, header, member, odd_archives, small_elf, spelt, walked
+from made_archives import MAGIC, changed, header, member, odd_archives, small_elf, spelt, walked
+from testing import Counts, option_reader, program_of
 
-TOP = os.path.dirname(os.path.dirname(os.path.dirname(os.path.realpath(__file__))))
 MEMBER = re.compile(rb"A ( *\d+) ([0-9a-f]{16}) ([0-9a-f]{16}) (.*)")
 FEW = 300
-
-
-class Counts:
-    def __init__(self):
-        self.passed, self.failed = 0, 0
-
-    def check(self, what, wanted, got):
-        if wanted == got:
-            self.passed += 1
-        else:
-            self.failed += 1
-            print(f"FAILED {what}: wanted {wanted[:300]!r}, got {got[:300]!r}" if isinstance(wanted, bytes)
-                  else f"FAILED {what}: wanted {wanted!r}, got {got!r}")
 
 
 def run(*words, given=None):
@@ -236,14 +222,12 @@ def made(counts, program):
 
 
 def main():
-    parser = argparse.ArgumentParser()
-    parser.add_argument("--program")
+    parser = option_reader(__doc__)
     parser.add_argument("--machine", action="store_true")
     parser.add_argument("--all", action="store_true")
     parser.add_argument("archives", nargs="*")
     words = parser.parse_args()
-    program = words.program or subprocess.run([os.path.join(TOP, "build")], stdout=subprocess.PIPE, check=True,
-                                              text=True).stdout.strip()
+    program = program_of(words)
     paths = words.archives
     if words.machine and not paths:
         paths = sorted(run("find", "/", "-xdev", "-name", "*.a", "-type", "f", "-size", "+0")[0].decode().split("\n")[:-1])

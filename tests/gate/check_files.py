@@ -16,7 +16,6 @@ million paths on standard input: each has its line, and the rest continues. The 
 too. --cases runs only these, and --quick those of them that take no time, as ./check does. It needs Python 3. The last
 line is `N passed, N failed`."""
 
-import argparse
 import ctypes
 import errno
 import fcntl
@@ -34,29 +33,15 @@ import tempfile
 import time
 import xml.etree.ElementTree
 
-TOP = os.path.dirname(os.path.dirname(os.path.dirname(os.path.realpath(__file__))))
+sys.dont_write_bytecode = True
+sys.path.insert(0, os.path.join(os.path.dirname(os.path.realpath(__file__)), "..", "common"))
+from made_archives import spelt
+from testing import TOP, Counts, option_reader, program_of
+
 LINE = re.compile(rb"C (ok|no-elf|unread|memory) +- (.*)|C (refused) +([0-9a-f]{16} [a-z-]+) (.*)", re.S)
 MAGIC = b"\x7fELF"
 ARCHIVE = b"!<arch>\n"
 DEPTH = 64
-
-
-class Counts:
-    def __init__(self):
-        self.passed, self.failed = 0, 0
-
-    def check(self, what, wanted, got):
-        if wanted == got:
-            self.passed += 1
-        else:
-            self.failed += 1
-            print(f"FAILED {what}: wanted {wanted!r}, got {got!r}")
-
-
-def spelt(path):
-    """A path as the lines escape it."""
-    return b"".join(b"\\\\" if byte == 0x5c else bytes([byte]) if 0x20 <= byte <= 0x7e else b"\\x%02x" % byte
-                    for byte in path)
 
 
 def run(program, *words, given=b"", command="check", **more):
@@ -684,17 +669,14 @@ LONG = (check_large_folder, check_long_names, check_nest, check_million)
 
 
 def main():
-    parser = argparse.ArgumentParser()
-    parser.add_argument("--program")
+    parser = option_reader(__doc__)
     parser.add_argument("--all", action="store_true")
     parser.add_argument("--only")
     parser.add_argument("--cases", action="store_true", help="the made cases alone")
     parser.add_argument("--quick", action="store_true", help="the made cases alone, without those that take long")
     parser.add_argument("places", nargs="*")
     arguments = parser.parse_args()
-    # The program itself, which a case copies: the script `elfsee` finds it from its own place alone.
-    program = os.path.realpath(arguments.program or subprocess.run(
-        [os.path.join(TOP, "build")], stdout=subprocess.PIPE, check=True, text=True).stdout.strip())
+    program = program_of(arguments)
     counts = Counts()
     for case in (check_order, check_every_byte, check_many_names, check_passes, check_large_folder, check_long_names, check_nest, check_small_nest, check_folder_fault,
                  check_readings, check_long_paths, check_kinds, check_lists, check_terminal, check_fronts, check_members, check_links, check_depth, check_unnamed,

@@ -9,7 +9,6 @@ whose packages are of other versions than the page's only the shape of the lines
 blanks count as one. Each case is one line; the last line is `N passed, N failed`.
 """
 
-import argparse
 import os
 import re
 import shutil
@@ -17,7 +16,10 @@ import subprocess
 import sys
 import tempfile
 
-TOP = os.path.dirname(os.path.dirname(os.path.dirname(os.path.realpath(__file__))))
+sys.dont_write_bytecode = True
+sys.path.insert(0, os.path.join(os.path.dirname(os.path.realpath(__file__)), "..", "common"))
+from testing import TOP, option_reader, program_of
+
 PAGES = ("README.md", "docs/COOKBOOK.md")
 VERSIONS = {"gcc-12": "12.2.0-14+deb12u1", "binutils": "2.40-2", "libc6-dev": "2.36-9+deb12u14", "coreutils": "9.1-1",
             "libpcre2-8-0": "10.42-1"}
@@ -105,16 +107,12 @@ def run(command, room, environment):
 
 
 def main():
-    reader = argparse.ArgumentParser()
-    reader.add_argument("--program")
-    program = reader.parse_args().program
+    given = option_reader(__doc__).parse_args()
     if not shutil.which("gcc"):
         print("tests/gate/cookbook.py: gcc is not installed, so nothing was tried")
         print("0 passed, 0 failed")
         return 0
-    if not program:
-        done = subprocess.run([os.path.join(TOP, "build")], stdout=subprocess.PIPE, check=True, text=True)
-        program = done.stdout.strip()
+    program = program_of(given)
     passed = failed = 0
     exact = is_of_the_page()
     if not exact:

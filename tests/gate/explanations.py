@@ -16,23 +16,12 @@ import sys
 
 sys.dont_write_bytecode = True
 sys.path.insert(0, os.path.join(os.path.dirname(os.path.realpath(__file__)), "..", "common"))
-from testing import TOP, options, program_of
+from testing import TOP, Counts, option_reader, program_of
 
 STATES = {"ok", "refused", "no-elf", "unread", "memory", "unnamed", "found", "missing", "unused", "nofile", "bare",
           "nover", "bound", "weak", "unbound", "absent"}
 ENDS_OF_NEEDS = {"too-many-objects", "too-many-paths"}
 TO_DO = " What to do: "
-
-
-class Counts:
-    passed = failed = 0
-
-    def same(self, what, wanted, got):
-        if wanted == got:
-            self.passed += 1
-            return
-        self.failed += 1
-        print(f"failed: {what}\n  wanted {wanted!r}\n  got    {got!r}")
 
 
 def run(program, *words):
@@ -96,30 +85,29 @@ def causes_of_sources():
 
 
 def main():
-    program = program_of(options(__doc__).parse_args())
+    program = program_of(option_reader(__doc__).parse_args())
     counts = Counts()
     status, text, errors = run(program)
-    counts.same("the status without words", (0, ""), (status, errors))
+    counts.check("the status without words", (0, ""), (status, errors))
     found = explanations_in(text)
-    counts.same("words", causes_of_sources() | ENDS_OF_NEEDS | STATES, set(found))
-    counts.same("one explanation a word", len(found), sum(not line.startswith(" ") for line in text.splitlines()))
-    counts.same("columns", [], [line for line in text.splitlines() if len(line) > 80])
+    counts.check("words", causes_of_sources() | ENDS_OF_NEEDS | STATES, set(found))
+    counts.check("one explanation a word", len(found), sum(not line.startswith(" ") for line in text.splitlines()))
+    counts.check("columns", [], [line for line in text.splitlines() if len(line) > 80])
     for word, said in of_man_page().items():
-        counts.same(f"the man page on {word}", said, found.get(word, "").partition(TO_DO)[0])
-        counts.same(f"what to do about {word}", True, TO_DO in found.get(word, ""))
+        counts.check(f"the man page on {word}", said, found.get(word, "").partition(TO_DO)[0])
+        counts.check(f"what to do about {word}", True, TO_DO in found.get(word, ""))
     for word, said in found.items():
-        counts.same(word, (0, {word: said}, ""), (lambda got: (got[0], explanations_in(got[1]), got[2]))(run(program, word)))
+        counts.check(word, (0, {word: said}, ""), (lambda got: (got[0], explanations_in(got[1]), got[2]))(run(program, word)))
     status, text, errors = run(program, "unbound", "short")
-    counts.same("in the order of the words", (0, ["unbound", "short"], ""), (status, list(explanations_in(text)), errors))
+    counts.check("in the order of the words", (0, ["unbound", "short"], ""), (status, list(explanations_in(text)), errors))
     for word, nearest in (("table-outsid", "table-outside"), ("hash-cyle", "hash-cycle"), ("overflwo", "overflow"),
                           ("unbond", "unbound"), ("not-elff", "not-elf")):
         wanted = f"elfsee: no such cause: {word}; did you mean {nearest}?\n"
-        counts.same(f"explain {word}", (2, "", wanted), run(program, word))
-        counts.same(f"explain short {word}", (2, "", wanted), run(program, "short", word))
+        counts.check(f"explain {word}", (2, "", wanted), run(program, word))
+        counts.check(f"explain short {word}", (2, "", wanted), run(program, "short", word))
     status, text, errors = run(program, "sh\x1bort\n")
-    counts.same("no byte acts on a terminal", (2, "", False), (status, text, "\x1b" in errors))
-    print(f"{counts.passed} passed, {counts.failed} failed")
-    return 0 if counts.passed and not counts.failed else 1
+    counts.check("no byte acts on a terminal", (2, "", False), (status, text, "\x1b" in errors))
+    return counts.end()
 
 
 if __name__ == "__main__":

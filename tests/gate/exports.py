@@ -23,8 +23,8 @@ import sys
 sys.dont_write_bytecode = True
 sys.path.insert(0, os.path.join(os.path.dirname(os.path.realpath(__file__)), "..", "common"))
 import declared
+from testing import TOP
 
-TOP = os.path.dirname(os.path.dirname(os.path.dirname(os.path.realpath(__file__))))
 STATUSES = ("OK", "REFUSED", "ABSENT", "FULL", "BAD_CALL")
 PAGE, MAN, HEADER, PROMISES = "docs/LIBRARY.md", "man/elfsee.3", "library/elfsee.h", "docs/PROMISES.md"
 # What is made is between these lines.

@@ -12,7 +12,6 @@ does without the library. Then files of very different sizes are listed, looked 
 stay the same, in number and in bytes, and each additional header that is allowed costs 64 more bytes. It needs gcc;
 if there is none it says so, and tries nothing. The last line is `N passed, N failed`."""
 
-import argparse
 import os
 import subprocess
 import sys
@@ -21,6 +20,7 @@ import tempfile
 sys.dont_write_bytecode = True
 sys.path.insert(0, os.path.join(os.path.dirname(os.path.realpath(__file__)), "..", "common"))
 from made_archives import MAGIC, member
+from testing import Counts, option_reader, program_of
 
 OUTPUT_BYTES = 65536
 # As many as the addresses for `apply` take at most.
@@ -93,18 +93,8 @@ void *realloc(void *old, size_t size) {
 """
 SOURCE = "extern int other(int);\nint table[%d] = {1};\nint call(int x) { return other(x) + table[0]; }\n"
 
-passes = failures = 0
-
-
-def check(name, wrong):
-    """Counts a case; `wrong` says what is not as it has to be, and is empty if nothing is."""
-    global passes, failures
-    if wrong:
-        failures += 1
-        print(f"FAILED {name}: {wrong}", flush=True)
-    else:
-        passes += 1
-        print(f"ok {name}", flush=True)
+counts = Counts()
+check = counts.case
 
 
 class Trial:
@@ -270,11 +260,7 @@ def try_all(trial, paths):
 
 
 def main():
-    parser = argparse.ArgumentParser(description=__doc__, formatter_class=argparse.RawDescriptionHelpFormatter)
-    parser.add_argument("--program")
-    given = parser.parse_args()
-    build = os.path.join(os.path.dirname(os.path.dirname(os.path.dirname(os.path.realpath(__file__)))), "build")
-    program = given.program or subprocess.run([build], stdout=subprocess.PIPE, text=True, check=True).stdout.strip()
+    program = program_of(option_reader(__doc__).parse_args())
     with tempfile.TemporaryDirectory() as folder:
         try:
             trial, paths = Trial(program, folder), made_files(folder)
@@ -283,8 +269,7 @@ def main():
             print("0 passed, 0 failed")
             sys.exit(0)
         try_all(trial, paths)
-    print(f"{passes} passed, {failures} failed")
-    sys.exit(failures != 0 or passes == 0)
+    sys.exit(counts.end())
 
 
 if __name__ == "__main__":

@@ -9,14 +9,16 @@ and for listings of each FILE, or of files of the machine and of copies of them 
 options. Arguments for anything else the program of the listings must refuse with status 2, and list nothing for
 them. ./build makes the programs that are not given. It needs bash and Python 3. The last line is `N passed, N failed`."""
 
-import argparse
 import os
 import re
 import subprocess
 import sys
 import tempfile
 
-TOP = os.path.dirname(os.path.dirname(os.path.dirname(os.path.realpath(__file__))))
+sys.dont_write_bytecode = True
+sys.path.insert(0, os.path.join(os.path.dirname(os.path.realpath(__file__)), "..", "common"))
+from testing import TOP, built, option_reader, program_of
+
 OPTIONS = [[], ["--gnu"], ["--by-segments", "--names", "5"], ["--headers", "20", "--max-read", "9000"]]
 # How many files of each directory of the machine, and the largest.
 MOST_FILES, MOST_BYTES = 25, 300_000
@@ -26,11 +28,6 @@ OTHERS = [["find", "f", "name"], ["find", "--gnu", "f", "name"], ["apply", "f", 
           ["check", "f"], ["check", "--only", "header", "f", "f"], ["check", "--files0-from", "list"], ["check", "."],
           ["archive", "f"], ["archive", "--only", "members", "f"], ["show", "--name", "f", "f"], ["show", "--name-list", "names", "f"]]
 BEGINNING = re.compile(r"elfsee(?=$| (?:show|sample|version|help|--help|-h)(?: |$))(?!.*--name(?:[ =]|-list|$))")
-
-
-def built(*words):
-    return subprocess.run([os.path.join(TOP, "build"), *words], text=True, stdout=subprocess.PIPE,
-                          check=True).stdout.strip()
 
 
 def command_lines():
@@ -100,13 +97,12 @@ class Pair:
 
 
 def main():
-    parser = argparse.ArgumentParser(description=__doc__, formatter_class=argparse.RawDescriptionHelpFormatter)
-    parser.add_argument("--program")
+    parser = option_reader(__doc__)
     parser.add_argument("--listings")
     parser.add_argument("files", nargs="*", metavar="FILE")
     given = parser.parse_args()
-    whole = os.path.realpath(given.program or built())
-    listings = os.path.realpath(given.listings or built("elfsee_show"))
+    whole = program_of(given)
+    listings = os.path.realpath(given.listings or built("build", "elfsee_show"))
     with tempfile.TemporaryDirectory() as room:
         pair = Pair(whole, listings, room)
         for name in ("f", "-", "--", "-x", "--only"):

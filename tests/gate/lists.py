@@ -15,7 +15,6 @@ magic number or the magic string of an archive, and the rows of --name (`deflate
 `nm -A` and `nm -AD` find its definition and its uses. It needs Python 3, and
 Debian's binutils for the last. The last line is `N passed, N failed`."""
 
-import argparse
 import collections
 import os
 import re
@@ -25,26 +24,12 @@ import sys
 import tempfile
 import time
 
-TOP = os.path.dirname(os.path.dirname(os.path.dirname(os.path.realpath(__file__))))
+sys.dont_write_bytecode = True
+sys.path.insert(0, os.path.join(os.path.dirname(os.path.realpath(__file__)), "..", "common"))
+from made_archives import spelt
+from testing import Counts, option_reader, program_of
+
 MAGIC, ARCHIVE = b"\x7fELF", b"!<arch>\n"
-
-
-class Counts:
-    def __init__(self):
-        self.passed, self.failed = 0, 0
-
-    def check(self, what, wanted, got):
-        if wanted == got:
-            self.passed += 1
-        else:
-            self.failed += 1
-            print(f"FAILED {what}: wanted {wanted!r:.600}, got {got!r:.600}")
-
-
-def spelt(path):
-    """A path as the lines escape it."""
-    return b"".join(b"\\\\" if byte == 0x5c else bytes([byte]) if 0x20 <= byte <= 0x7e else b"\\x%02x" % byte
-                    for byte in path)
 
 
 def run(program, *words, given=b"", **more):
@@ -375,14 +360,12 @@ def check_machine(counts, program, arguments):
 
 
 def main():
-    parser = argparse.ArgumentParser()
-    parser.add_argument("--program")
+    parser = option_reader(__doc__)
     parser.add_argument("--quick", action="store_true", help="the made cases alone")
     parser.add_argument("--name", default="deflateInit_")
     parser.add_argument("places", nargs="*")
     arguments = parser.parse_args()
-    program = os.path.realpath(arguments.program or subprocess.run(
-        [os.path.join(TOP, "build")], stdout=subprocess.PIPE, check=True, text=True).stdout.strip())
+    program = program_of(arguments)
     counts = Counts()
     cases = (check_made, check_names, check_members, check_budget, check_gone, check_pipes)
     for case in cases if arguments.quick else (*cases, check_many):

@@ -39,7 +39,7 @@ sys.dont_write_bytecode = True
 sys.path[:0] = [os.path.join(os.path.dirname(os.path.realpath(__file__)), "..", name) for name in ("common", "again")]
 from needs_cases import answers, caches, files, interpreters, roots, versions  # pylint: disable=wrong-import-position
 from needs_cases.common import Cases  # pylint: disable=wrong-import-position
-from testing import options, program_of  # pylint: disable=wrong-import-position
+from testing import option_reader, program_of  # pylint: disable=wrong-import-position
 
 TOP = Path(__file__).resolve().parents[2]
 PLAIN = {"PATH": "/usr/bin:/bin", "LC_ALL": "C"}
@@ -1057,7 +1057,7 @@ def made_cases(folder):
 def main():
     global PROGRAM, failures
     failures = 0
-    words = options(__doc__)
+    words = option_reader(__doc__)
     words.add_argument("--quick", action="store_true")
     words.add_argument("--machine", action="store_true")
     given = words.parse_args()

@@ -27,7 +27,7 @@ import tempfile
 sys.dont_write_bytecode = True
 sys.path[:0] = [os.path.join(os.path.dirname(os.path.realpath(__file__)), "..", name) for name in ("common", "machine")]
 import format as page
-from testing import options, program_of
+from testing import option_reader, program_of
 
 WAYS = [[], ["--gnu"], ["--names", "3"], ["--gnu", "--by-segments"], ["--max-read", "3000"], ["--headers", "2"]]
 FINDS = [[], ["--gnu"], ["--gnu", "--by-segments"], ["--max-read", "700"], ["--headers", "2"]]
@@ -209,7 +209,7 @@ def examples(counts):
 
 
 def main():
-    reader = options(__doc__)
+    reader = option_reader(__doc__)
     reader.add_argument("--all", action="store_true")
     reader.add_argument("files", metavar="FILE", nargs="*")
     given = reader.parse_args()

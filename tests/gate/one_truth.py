@@ -19,13 +19,15 @@ PROGRAM is the built program (without it ./build builds it); FOLDER is the direc
 they are not those of this repository. It needs Python 3. The last line is `N passed, N failed`.
 """
 
-import argparse
 import os
 import re
 import subprocess
 import sys
 
-TOP = os.path.dirname(os.path.dirname(os.path.dirname(os.path.realpath(__file__))))
+sys.dont_write_bytecode = True
+sys.path.insert(0, os.path.join(os.path.dirname(os.path.realpath(__file__)), "..", "common"))
+from testing import TOP, option_reader, program_of
+
 # Causes that only one command reports.
 OF_COMMAND = {
     "find": {"no-hash", "hash-shape", "hash-index", "hash-cycle"},
@@ -571,16 +573,14 @@ def check_crates(counts):
 
 
 def main():
-    reader = argparse.ArgumentParser()
-    reader.add_argument("--program")
+    reader = option_reader(__doc__)
     reader.add_argument("--sources", default=TOP)
     reader.add_argument("--write", action="store_true")
     words = reader.parse_args()
     if words.write:
         write_commands(words.sources)
         return 0
-    program = words.program or subprocess.run([os.path.join(TOP, "build")], stdout=subprocess.PIPE,
-                                              check=True, text=True).stdout.strip()
+    program = program_of(words)
     counts, truth = Counts(), Truth(words.sources)
     check_help(counts, truth, program)
     check_help_of_items(counts, truth, program)

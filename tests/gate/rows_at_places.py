@@ -12,7 +12,6 @@ a record, if the headers are listed without a fault. The symbols of an address m
 there, if there is one: 10,000 addresses, with `--quick` fewer. Last, by a copy with a fault: `list`, `archive` and numbers
 that are refused. It needs Python 3. The last line is `N passed, N failed`."""
 
-import argparse
 import json
 import os
 import random
@@ -24,23 +23,14 @@ import tempfile
 sys.dont_write_bytecode = True
 sys.path.insert(0, os.path.join(os.path.dirname(os.path.realpath(__file__)), "..", "common"))
 import hostile_copies
+from testing import Counts, option_reader, program_of
 
-TOP = os.path.dirname(os.path.dirname(os.path.dirname(os.path.realpath(__file__))))
 NONE = (0, 0)
 IN_MEMORY = (1, 2, 4, 7, 0x6474e552)
 RECORDS = {"DEF": 20, "FILE": 16, "NEED": 16}
 MOST_BYTES = 400000
-passes = failures = 0
-
-
-def check(name, wrong):
-    """Counts a case; `wrong` says what is not as it has to be, and is empty if nothing is."""
-    global passes, failures
-    if wrong:
-        failures += 1
-        print(f"FAILED {name}: {wrong}", flush=True)
-    else:
-        passes += 1
+counts = Counts()
+check = counts.quiet_case
 
 
 class Places:
@@ -290,15 +280,11 @@ def elf_files(places):
 
 
 def main():
-    parser = argparse.ArgumentParser()
-    parser.add_argument("--program")
+    parser = option_reader(__doc__)
     parser.add_argument("--quick", action="store_true")
     parser.add_argument("places", nargs="*")
     given = parser.parse_args()
-    program = given.program
-    if program is None:
-        built = subprocess.run([os.path.join(TOP, "build")], stdin=subprocess.DEVNULL, stdout=subprocess.PIPE, check=False)
-        program = os.fsdecode(built.stdout.rstrip(b"\n"))
+    program = program_of(given)
     chance = random.Random(7)
     paths = list(elf_files(given.places or ["/usr/bin", "/usr/lib"]))
     for path in chance.sample(paths, min(len(paths), 6 if given.quick else 60)):
@@ -309,8 +295,7 @@ def main():
     compare_copies(program, chance, 60 if given.quick else 2000)
     compare_names(program, chance.sample(paths, len(paths)), chance, 100 if given.quick else 10000)
     try_commands(program)
-    print(f"{passes} passed, {failures} failed")
-    sys.exit(1 if failures else 0)
+    sys.exit(counts.end())
 
 
 main()

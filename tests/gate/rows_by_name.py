@@ -17,7 +17,6 @@ they have, and which are refused. Then a
 file of 300,000 symbols is made: one of its names may take no longer than all rows do, and 10,000 names at
 most three times what one takes. It needs Python 3. The last line is `N passed, N failed`."""
 
-import argparse
 import glob
 import json
 import os
@@ -29,7 +28,10 @@ import subprocess
 import sys
 import tempfile
 
-TOP = os.path.dirname(os.path.dirname(os.path.dirname(os.path.realpath(__file__))))
+sys.dont_write_bytecode = True
+sys.path.insert(0, os.path.join(os.path.dirname(os.path.realpath(__file__)), "..", "common"))
+from testing import Counts, option_reader, program_of
+
 HEX8, HEX16 = rb"[0-9a-f]{8} ", rb"[0-9a-f]{16} "
 FRONTS = {
     b"Y": re.compile(rb"Y .{5} .{10} " + HEX16 * 2 + rb".{7} .{6} .{9} .{5} "),
@@ -39,17 +41,8 @@ FRONTS = {
 }
 PLAIN = re.compile(rb"[!-\[\]-~]{1,4096}")
 PARTS = (("symbols",), ("relocs",), ("versions", "--gnu"))
-passes = failures = 0
-
-
-def check(name, wrong):
-    """Counts a case; `wrong` says what is not as it has to be, and is empty if nothing is."""
-    global passes, failures
-    if wrong:
-        failures += 1
-        print(f"FAILED {name}: {wrong}", flush=True)
-    else:
-        passes += 1
+counts = Counts()
+check = counts.quiet_case
 
 
 def listed(program, path, part, *options):
@@ -341,15 +334,14 @@ def measure(program):
 
 
 def main():
-    words = argparse.ArgumentParser()
-    words.add_argument("--program", default=os.path.join(TOP, "elfsee"))
+    words = option_reader(__doc__)
     words.add_argument("--quick", action="store_true")
     words.add_argument("places", nargs="*", default=["/usr/bin", "/usr/lib"])
     asked = words.parse_args()
     if asked.quick:
         asked.places = ["/bin/ls", "/bin/sh", *glob.glob("/usr/lib/*/libc.so.6"), *glob.glob("/usr/lib/*/crt1.o"),
                         *glob.glob("/usr/lib/*/libpthread.a"), *glob.glob("/usr/lib/*/libm.so.6")]
-    program = os.path.realpath(asked.program)
+    program = program_of(asked)
     chance = random.Random(58)
     for path in files(asked.places):
         for part in PARTS:
@@ -360,8 +352,7 @@ def main():
     try_filters(program)
     try_lists(program)
     measure(program)
-    print(f"{passes} passed, {failures} failed")
-    return 1 if failures else 0
+    return counts.end()
 
 
 if __name__ == "__main__":

@@ -5,7 +5,6 @@ length from 0 to 200 that begin as an ELF file, as an archive, as a thin archive
 are read in which order, and what the file is by them. Options: --program PROGRAM.
 """
 
-import argparse
 import bisect
 import concurrent.futures
 import os
@@ -18,8 +17,8 @@ sys.path[:0] = [os.path.join(os.path.dirname(os.path.realpath(__file__)), "..", 
 import hardened
 from applied import Refused
 from reported import MAGIC, Wish, report
+from testing import option_reader, program_of
 
-TOP = os.path.dirname(os.path.dirname(os.path.dirname(os.path.realpath(__file__))))
 MOST = 200
 HEADER = MAGIC + b"\2\1\1" + bytes(9) + b"\1\0\x3e\0\1\0\0\0" + bytes(40)
 ARCHIVE, THIN = b"!<arch>\n", b"!<thin>\n"
@@ -191,11 +190,7 @@ def compared(program, words, budgets, paths, top):
 
 
 def main():
-    parser = argparse.ArgumentParser()
-    parser.add_argument("--program")
-    arguments = parser.parse_args()
-    program = os.path.realpath(arguments.program or subprocess.run(
-        [os.path.join(TOP, "build")], stdout=subprocess.PIPE, check=True, text=True).stdout.strip())
+    program = program_of(option_reader(__doc__).parse_args())
     files = {"%s%03d" % (kind, size): content[:size] for kind, content in KINDS.items() for size in range(MOST + 1)}
     passed = failed = 0
     with tempfile.TemporaryDirectory() as top, concurrent.futures.ThreadPoolExecutor(os.cpu_count()) as pool:

@@ -15,7 +15,6 @@ If the system lets no process trace another, it says so, and counts nothing. The
 `N passed, N failed`.
 """
 
-import argparse
 import ctypes
 import errno
 import fcntl
@@ -23,13 +22,13 @@ import os
 import platform
 import signal
 import struct
-import subprocess
 import sys
 import tempfile
 
 sys.dont_write_bytecode = True
 sys.path.insert(0, os.path.join(os.path.dirname(os.path.realpath(__file__)), "..", "common"))
 from made_archives import MAGIC, bsd_member, member, small_elf
+from testing import Counts, option_reader, program_of
 
 # The numbers of calls on x86-64, and the requests of ptrace.
 READ, WRITE, SEEK, MAP, BREAK, PREAD = {0, 19, 295}, {1, 18, 20, 296}, {8}, {9}, {12}, {17}
@@ -47,18 +46,8 @@ PAGE, BUFFER = 4096, 65536
 KEPT, PLACES = 64, 256
 BUDGET = ("--max-read", "1000000000000")
 
-passes = failures = 0
-
-
-def check(name, wrong):
-    """Counts a case; `wrong` says what is not as it has to be, and is empty if nothing is."""
-    global passes, failures
-    if wrong:
-        failures += 1
-        print(f"FAILED {name}: {wrong}", flush=True)
-    else:
-        passes += 1
-        print(f"ok {name}", flush=True)
+counts = Counts()
+check = counts.case
 
 
 # ---------------------------------------------------------------------------
@@ -571,14 +560,10 @@ def filled_rows(puts, first):
 
 
 def main():
-    parser = argparse.ArgumentParser(description=__doc__, formatter_class=argparse.RawDescriptionHelpFormatter)
-    parser.add_argument("--program")
-    given = parser.parse_args()
-    build = os.path.join(os.path.dirname(os.path.dirname(os.path.dirname(os.path.realpath(__file__)))), "build")
-    program = given.program or subprocess.run([build], stdout=subprocess.PIPE, text=True, check=True).stdout.strip()
+    program = program_of(option_reader(__doc__).parse_args())
     skipped = False
     with tempfile.TemporaryDirectory() as folder:
-        cases = Cases(os.path.realpath(program), folder)
+        cases = Cases(program, folder)
         try:
             if platform.machine() != "x86_64":
                 raise Untraced
@@ -588,8 +573,7 @@ def main():
         except Untraced:
             print("skipped the counts of calls: this system lets no process trace another")
             skipped = True
-    print(f"{passes} passed, {failures} failed")
-    sys.exit(failures != 0 or passes == 0 and not skipped)
+    sys.exit(counts.end(skipped))
 
 
 if __name__ == "__main__":

@@ -22,7 +22,7 @@ import tempfile
 
 sys.dont_write_bytecode = True
 import objects
-from testing import TOP, options, program_of
+from testing import TOP, option_reader, program_of
 
 page = objects.page
 # Lines whose columns depend on what is in them: the names of their fields, in order.
@@ -223,7 +223,7 @@ def check_refused(counts, program):
 
 
 def main():
-    reader = options(__doc__)
+    reader = option_reader(__doc__)
     reader.add_argument("--all", action="store_true")
     reader.add_argument("files", metavar="FILE", nargs="*")
     given = reader.parse_args()

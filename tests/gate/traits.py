@@ -23,44 +23,28 @@ short, refused and unread ones, `--max-read`, `--json`, paths that cannot be nam
 requires that it takes at most twice as long. It needs Python 3, and Debian's binutils if files of the machine are
 compared. The last line is `N passed, N failed`."""
 
-import argparse
 import collections
 import concurrent.futures
 import json
 import os
 import re
 import shutil
-import socket
 import struct
 import subprocess
 import sys
 import tempfile
 import time
 
-TOP = os.path.dirname(os.path.dirname(os.path.dirname(os.path.realpath(__file__))))
+sys.dont_write_bytecode = True
+sys.path.insert(0, os.path.join(os.path.dirname(os.path.realpath(__file__)), "..", "common"))
+from made_archives import spelt
+from testing import Counts, option_reader, program_of
+
 MAGIC = b"\x7fELF"
 COLUMNS = ("kind", "relro", "stack", "pages", "text", "cet", "canary", "fortify", "rpath")
 ROW = re.compile(rb"T (.{6}) (.{7}) (.{5}) (.{5}) (.{5}) (.{9}) (.{6}) (.{7}) (.{7}) (.*)", re.S)
 REFUSED = re.compile(rb"C (\S+) +(?:([0-9a-f]{16} [a-z0-9-]+)|-) (.*)", re.S)
 GUARDS = {"__stack_chk_fail", "__stack_chk_guard"}
-
-
-class Counts:
-    def __init__(self):
-        self.passed, self.failed = 0, 0
-
-    def check(self, what, wanted, got):
-        if wanted == got:
-            self.passed += 1
-        else:
-            self.failed += 1
-            print(f"FAILED {what}: wanted {wanted!r}, got {got!r}")
-
-
-def spelt(path):
-    """A path as the lines escape it."""
-    return b"".join(b"\\\\" if byte == 0x5c else bytes([byte]) if 0x20 <= byte <= 0x7e else b"\\x%02x" % byte
-                    for byte in path)
 
 
 def run(program, *words, given=b"", **more):
@@ -487,17 +471,13 @@ def check_time(counts, program, folder):
 
 
 def main():
-    parser = argparse.ArgumentParser(description=__doc__, formatter_class=argparse.RawDescriptionHelpFormatter)
-    parser.add_argument("--program")
+    parser = option_reader(__doc__)
     parser.add_argument("--hardening", default=shutil.which("hardening-check"))
     parser.add_argument("--quick", action="store_true")
     parser.add_argument("--time")
     parser.add_argument("places", nargs="*")
     arguments = parser.parse_args()
-    program = arguments.program
-    if program is None:
-        subprocess.run([os.path.join(TOP, "build")], check=True, stdout=subprocess.DEVNULL)
-        program = os.path.join(TOP, "elfsee")
+    program = program_of(arguments)
     counts = Counts()
     check_made(counts, program)
     if arguments.time:

@@ -34,7 +34,6 @@ Exit status: 0 if at least one table was tried and nothing disagrees, 1 if somet
 disagrees or no table could be tried, 2 if the arguments are invalid or a program is missing.
 """
 
-import argparse
 import os
 import shutil
 import struct
@@ -46,6 +45,7 @@ sys.dont_write_bytecode = True
 sys.path[:0] = [os.path.join(os.path.dirname(os.path.realpath(__file__)), "..", name) for name in ("common", "again")]
 import asked_of_files
 import loaded_symbols
+from testing import option_reader, program_of
 
 SHT_HASH = 5
 SHT_SYMTAB = 2
@@ -343,22 +343,14 @@ def against_loader(program, words, folder):
 
 
 def main():
-    parser = argparse.ArgumentParser(description=__doc__.split("\n")[0])
-    parser.add_argument("--program")
+    parser = option_reader(__doc__)
     parser.add_argument("--gnu", action="store_true")
     parser.add_argument("--model", action="store_true")
     parser.add_argument("--names", type=int)
     parser.add_argument("--files", type=int, dest="most_files")
     parser.add_argument("files", nargs="*", metavar="FILE")
     words = parser.parse_args()
-    top = os.path.dirname(os.path.dirname(os.path.dirname(os.path.realpath(__file__))))
-    program = words.program
-    if program is None and not words.model:
-        built = subprocess.run([os.path.join(top, "build")], stdout=subprocess.PIPE, text=True)
-        program = built.stdout.strip()
-    if not words.model and (not program or not os.access(program, os.X_OK)):
-        print("no program", file=sys.stderr)
-        return 2
+    program = None if words.model else program_of(words)
     if (words.gnu or not words.files) and shutil.which("gcc") is None:
         print("no gcc", file=sys.stderr)
         return 2

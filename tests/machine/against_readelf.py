@@ -39,7 +39,6 @@ if something disagrees or no file could be compared, 2 if the arguments are
 invalid or a program is missing.
 """
 
-import argparse
 import collections
 import os
 import re
@@ -58,6 +57,7 @@ from readelf_rows import (readelf_dynamic, readelf_notes, readelf_relocations, r
 from readelf_words import (BINDINGS, DYNAMIC_TAGS, MIPS, MORE_BINDINGS, MORE_SYMBOL_TYPES, SHOW_WORDS, SYMBOL_TYPES,
                            NotUnderstood, are_versions_shown, name_gnu_numbers, nibble_words, place_words,
                            same_relocation_type, section_type_words, segment_type_words, show_versions)
+from testing import option_reader, program_of
 
 KINDS = ("sections", "segments", "symbols", "relocs", "notes", "dynamic")
 GNU_KINDS = (*KINDS, "versions")
@@ -583,10 +583,7 @@ def all_files():
 # The command line.
 
 def command_line():
-    parser = argparse.ArgumentParser(
-        description="Compares what `elfsee show` lists with what `readelf` lists.")
-    parser.add_argument("--program", metavar="PATH",
-                        help="the program (default: the repository's, built first where it is not)")
+    parser = option_reader(__doc__)
     parser.add_argument("--kind", action="append", choices=GNU_KINDS,
                         help="compare this kind alone (may be given again)")
     parser.add_argument("--gnu", action="store_true",
@@ -605,41 +602,20 @@ def command_line():
     return given
 
 
-def built_program():
-    """The path of the repository's own program, which is built first if it is not
-    built; the build says how it goes on standard error, and has all the time it takes."""
-    top = os.path.dirname(os.path.dirname(os.path.dirname(os.path.realpath(__file__))))
-    done = subprocess.run([os.path.join(top, "build")], stdin=subprocess.DEVNULL,
-                          stdout=subprocess.PIPE, check=False)
-    if done.returncode != 0:
-        sys.stderr.write("the program was not built\n")
-        sys.exit(2)
-    return os.fsdecode(done.stdout.rstrip(b"\n"))
-
-
 def programs_for(given):
     """The two programs' paths; ends with 2 if one is missing."""
     readelf = shutil.which("readelf")
     if readelf is None:
         sys.stderr.write("readelf is missing; install it: apt-get install binutils\n")
         sys.exit(2)
-    if given is None:
-        program = built_program()
-    elif os.sep not in given:
-        program = shutil.which(given)
-    else:
-        program = os.path.abspath(given)
-    if program is None or not os.access(program, os.X_OK):
-        sys.stderr.write("no program at %s\n" % given)
-        sys.exit(2)
-    return program, readelf
+    return program_of(given), readelf
 
 
 def main():
     # Names may hold any bytes, and what is printed of them must not end the run.
     sys.stdout.reconfigure(errors="backslashreplace")
     given = command_line()
-    programs = programs_for(given.program)
+    programs = programs_for(given)
     if given.gnu:
         name_gnu_numbers()
     if given.versions:

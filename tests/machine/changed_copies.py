@@ -17,7 +17,6 @@ FOLDER. It takes some minutes, and is no part of ./check. It needs Python 3 and,
 made or extracted, gcc and binutils. Without --program the repository's own is used, and built first if it is not.
 """
 
-import argparse
 import os
 import random
 import re
@@ -33,6 +32,7 @@ sys.path[:0] = [os.path.join(os.path.dirname(os.path.realpath(__file__)), "..", 
 import applied
 import asked_of_files
 import changed_files
+from testing import option_reader, program_of
 
 FOLDERS = ("/usr/bin", "/usr/lib", "/lib", "/usr/sbin")
 # Larger files only take longer to copy.
@@ -47,15 +47,6 @@ FOUND = re.compile(rb"Y [^\n]*\nF found {2,11}[0-9]{1,10}\n")
 ABSENT = re.compile(rb"F absent {1,10}[0-9]{1,10}\n")
 # A given number of members of static libraries.
 MEMBERS = 300
-
-
-def built_program():
-    top = os.path.dirname(os.path.dirname(os.path.dirname(os.path.realpath(__file__))))
-    done = subprocess.run([os.path.join(top, "build")], stdin=subprocess.DEVNULL,
-                          stdout=subprocess.PIPE, check=False)
-    if done.returncode != 0:
-        sys.exit("the program was not built")
-    return os.fsdecode(done.stdout.rstrip(b"\n"))
 
 
 class Source:
@@ -218,23 +209,22 @@ class Tries:
 
 
 def main():
-    parser = argparse.ArgumentParser()
-    parser.add_argument("--program")
+    parser = option_reader(__doc__)
     parser.add_argument("--copies", type=int, default=10000)
     parser.add_argument("--seed", type=int, default=1)
     parser.add_argument("--keep", default=None)
-    options = parser.parse_args()
-    program = options.program or built_program()
-    folder = options.keep or tempfile.mkdtemp()
+    given = parser.parse_args()
+    program = program_of(given)
+    folder = given.keep or tempfile.mkdtemp()
     os.makedirs(folder, exist_ok=True)
-    rng = random.Random(options.seed)
+    rng = random.Random(given.seed)
     files = sources(folder)
     rich = [source for source in files if source.names or source.sections]
     if not files:
         sys.exit("no ELF64 file was found")
     tries = Tries(program, memory(program, "/bin/true"), rng)
     failures = 0
-    for index in range(options.copies):
+    for index in range(given.copies):
         source = rng.choice(rich if rich and index % 2 else files)
         content = changed_files.changed(rng, source.content())
         path = os.path.join(folder, "copy")
@@ -251,8 +241,8 @@ def main():
         print("%s: %d with status %s" % (command, count, status))
     print("%d copies of %d files, %d of them with a hash table or relocation entries; the slowest run took "
           "%.2f s, all within %d MB of addresses"
-          % (options.copies, len(files), len(rich), tries.slowest, tries.megabytes))
-    print("%d passed, %d failed" % (options.copies - failures, failures))
+          % (given.copies, len(files), len(rich), tries.slowest, tries.megabytes))
+    print("%d passed, %d failed" % (given.copies - failures, failures))
     return 1 if failures else 0
 
 

@@ -12,7 +12,6 @@ it says what is missing and leaves it out. Without --program the repository's ow
 if it is not.
 """
 
-import argparse
 import errno
 import os
 import random
@@ -29,6 +28,7 @@ import time
 sys.dont_write_bytecode = True
 sys.path.insert(0, os.path.join(os.path.dirname(os.path.realpath(__file__)), "..", "common"))
 import asked_of_files
+from testing import Counts, option_reader, program_of
 
 SECONDS = 20
 FAULTS = {0: b"", 1: b"", 3: None}
@@ -40,28 +40,8 @@ LINES = {READ_FAULT, WRITE_FAULT, CANNOT_OPEN, NO_MEMORY}
 # How an answer of status 1 ends. For a section whose file changes while it is read bytes may come before it.
 LAST_LINE = re.compile(rb"(?:! [0-9a-f]{16} [a-z-]+|F absent {1,10}[0-9]{1,10})\n\Z")
 
-passes = 0
-failures = 0
-
-
-def check(name, wrong):
-    """Counts a case; `wrong` says what is not as it has to be, and is empty if nothing is."""
-    global passes, failures
-    if wrong:
-        failures += 1
-        print("FAILED %s: %s" % (name, wrong), flush=True)
-    else:
-        passes += 1
-        print("ok %s" % name, flush=True)
-
-
-def built_program():
-    top = os.path.dirname(os.path.dirname(os.path.dirname(os.path.realpath(__file__))))
-    done = subprocess.run([os.path.join(top, "build")], stdin=subprocess.DEVNULL,
-                          stdout=subprocess.PIPE, check=False)
-    if done.returncode != 0:
-        sys.exit("the program was not built")
-    return os.fsdecode(done.stdout.rstrip(b"\n"))
+counts = Counts()
+check = counts.case
 
 
 def run(program, words, limits=(), output=subprocess.PIPE, ignored=(), meanwhile=None):
@@ -383,23 +363,21 @@ def check_devices(program, request):
 
 
 def main():
-    parser = argparse.ArgumentParser()
-    parser.add_argument("--program")
+    parser = option_reader(__doc__)
     parser.add_argument("--runs", type=int, default=400)
-    options = parser.parse_args()
-    program = options.program or built_program()
+    given = parser.parse_args()
+    program = program_of(given)
     with tempfile.TemporaryDirectory() as folder:
         small, large = requests(program, folder)
         for request in small:
-            check_changing_files(program, folder, request, options.runs)
+            check_changing_files(program, folder, request, given.runs)
         for request in large:
             check_file_size(program, folder, request)
             check_memory(program, request)
             check_open_files(program, request)
         for request in small:
             check_devices(program, request)
-    print("%d passed, %d failed" % (passes, failures))
-    return 0 if failures == 0 and passes else 1
+    return counts.end()
 
 
 if __name__ == "__main__":

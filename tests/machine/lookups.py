@@ -22,7 +22,6 @@ It needs only Python 3. If the system lets no process trace another the bytes ar
 and it says so. The last line is `N passed, N failed`.
 """
 
-import argparse
 import os
 import random
 import struct
@@ -32,13 +31,13 @@ import tempfile
 import time
 
 sys.dont_write_bytecode = True
-TOP = os.path.dirname(os.path.dirname(os.path.dirname(os.path.realpath(__file__))))
-sys.path[:0] = [os.path.join(TOP, folder) for folder in ("tests/common", "tests/again", "bench")]
+sys.path[:0] = [os.path.join(os.path.dirname(os.path.realpath(__file__)), "..", name) for name in ("common", "again", "gate", "../bench")]
 import asked_of_files
 import changed_files
 import looked_up
 import running
 import versions
+from testing import option_reader, program_of
 
 check, half, word, section = versions.check, versions.half, versions.word, versions.section
 GNU_HASH, HASH, DYNSYM, STRTAB = looked_up.GNU_HASH, looked_up.HASH, versions.DYNSYM, versions.STRTAB
@@ -738,17 +737,14 @@ def changed_copies(lookups, folder, count, seed):
 
 
 def main():
-    parser = argparse.ArgumentParser(description=__doc__, formatter_class=argparse.RawDescriptionHelpFormatter)
-    parser.add_argument("--program")
+    parser = option_reader(__doc__)
     parser.add_argument("--model", action="store_true")
     parser.add_argument("--copies", type=int, default=0)
     parser.add_argument("--seed", type=int, default=1)
     given = parser.parse_args()
     program = None
     if not given.model:
-        program = given.program or subprocess.run([os.path.join(TOP, "build")], stdout=subprocess.PIPE, text=True,
-                                                  check=True).stdout.strip()
-        program = os.path.realpath(program)
+        program = program_of(given)
         running.adopt_orphans()
     with tempfile.TemporaryDirectory() as folder:
         lookups = Lookups(program, folder)
@@ -760,8 +756,7 @@ def main():
             changed_copies(lookups, folder, given.copies, given.seed)
         if program and not lookups.is_traced:
             print("skipped the bytes that are requested: this system lets no process trace another")
-    print(f"{versions.passes} passed, {versions.failures} failed")
-    sys.exit(versions.failures != 0 or versions.passes == 0)
+    sys.exit(versions.counts.end())
 
 
 if __name__ == "__main__":

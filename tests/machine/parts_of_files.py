@@ -9,12 +9,15 @@ the first refusal, and that of several parts in any order those of each; and wit
 of more bytes cut to that many and marked. Files with a name without an end are left out of the second, since
 a shorter cut may show such a name. It needs Python 3. The last line is `N passed, N failed`."""
 
-import argparse
 import os
 import random
 import re
 import subprocess
 import sys
+
+sys.dont_write_bytecode = True
+sys.path.insert(0, os.path.join(os.path.dirname(os.path.realpath(__file__)), "..", "common"))
+from testing import option_reader, program_of
 
 PARTS = ["header", "sections", "segments", "symbols", "relocs", "notes", "dynamic"]
 HEX8, HEX16 = rb"[0-9a-f]{8} ", rb"[0-9a-f]{16} "
@@ -123,12 +126,10 @@ def compare_names(program, path):
 
 
 def main():
-    parser = argparse.ArgumentParser(description=__doc__, formatter_class=argparse.RawDescriptionHelpFormatter)
-    parser.add_argument("--program")
+    parser = option_reader(__doc__)
     parser.add_argument("places", nargs="*", default=["/"])
     given = parser.parse_args()
-    build = os.path.join(os.path.dirname(os.path.dirname(os.path.dirname(os.path.realpath(__file__)))), "build")
-    program = given.program or subprocess.run([build], stdout=subprocess.PIPE, text=True, check=True).stdout.strip()
+    program = program_of(given)
     chance = random.Random(7)
     passed = failed = refused = unended = 0
     for path in files(given.places):

@@ -15,7 +15,6 @@ It needs only Python 3. If the system lets no process trace another the bytes ar
 counted, and it says so. The last line is `N passed, N failed`.
 """
 
-import argparse
 import os
 import struct
 import subprocess
@@ -24,10 +23,10 @@ import tempfile
 import time
 
 sys.dont_write_bytecode = True
-TOP = os.path.dirname(os.path.dirname(os.path.dirname(os.path.realpath(__file__))))
-sys.path[:0] = [os.path.join(TOP, folder) for folder in ("tests/common", "tests/gate", "bench")]
+sys.path[:0] = [os.path.join(os.path.dirname(os.path.realpath(__file__)), "..", name) for name in ("common", "gate", "../bench")]
 import running
 import system_calls as traced
+from testing import Counts, option_reader, program_of
 
 # How much more memory a listing may hold than that of a file header. Two runs of one differ by 70,000
 # or so, so the least of three listings is held against the most of three file headers.
@@ -37,18 +36,8 @@ VERSIONS = ("show", "--gnu", "--only", "versions")
 NAMED = ("show", "--gnu", "--versions", "--only", "symbols")
 VERDEF, VERNEED, VERSYM, DYNSYM, STRTAB = 0x6FFFFFFD, 0x6FFFFFFE, 0x6FFFFFFF, 11, 3
 
-passes = failures = 0
-
-
-def check(name, wrong):
-    """Counts a case; `wrong` says what is not as it has to be, and is empty if nothing is."""
-    global passes, failures
-    if wrong:
-        failures += 1
-        print(f"FAILED {name}: {wrong}", flush=True)
-    else:
-        passes += 1
-        print(f"ok {name}", flush=True)
+counts = Counts()
+check = counts.case
 
 
 # ---------------------------------------------------------------------------
@@ -515,21 +504,16 @@ def shared_headers(listings):
 
 
 def main():
-    parser = argparse.ArgumentParser(description=__doc__, formatter_class=argparse.RawDescriptionHelpFormatter)
-    parser.add_argument("--program")
-    given = parser.parse_args()
-    program = given.program or subprocess.run([os.path.join(TOP, "build")], stdout=subprocess.PIPE, text=True,
-                                              check=True).stdout.strip()
+    program = program_of(option_reader(__doc__).parse_args())
     running.adopt_orphans()
     with tempfile.TemporaryDirectory() as folder:
-        listings = Listings(os.path.realpath(program), folder)
+        listings = Listings(program, folder)
         small_cases(listings)
         named_cases(listings)
         hostile_cases(listings)
         if not listings.is_traced:
             print("skipped the bytes that are requested: this system lets no process trace another")
-    print(f"{passes} passed, {failures} failed")
-    sys.exit(failures != 0 or passes == 0)
+    sys.exit(counts.end())
 
 
 if __name__ == "__main__":
