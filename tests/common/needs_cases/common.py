@@ -7,6 +7,7 @@ import struct
 import subprocess
 import sys
 
+# The environment of what is run.
 PLAIN = {"PATH": "/usr/bin:/bin", "LC_ALL": "C"}
 LOADER = "/lib64/ld-linux-x86-64.so.2"
 NEEDED, DEBUG, SONAME = 1, 21, 14
