@@ -40,7 +40,7 @@ class Counts:
     def __init__(self):
         self.passed, self.failed = 0, 0
 
-    def case(self, name, wrong):
+    def case(self, name, wrong=""):
         """Counts a case and prints it; `wrong` says what is not as it has to be, and is empty if nothing is."""
         if not wrong:
             print(f"ok {name}", flush=True)
