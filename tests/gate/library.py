@@ -9,13 +9,13 @@ given, and a prefix of it if there is too little; a lookup and a section that is
 all rows, read one by one, are the rows of the listing, also for copies without section headers; the members of an
 archive, also of odd ones, are the lines that the program lists. With a budget of as
 many bytes as a listing or a lookup read it answers the same, and with one less it is refused. All caller's buffers
-are next to pages that cannot be touched (tests/common/library_calls.c). --all takes every ELF file of the machine below /usr,
-and 10,000 changed copies, which takes an hour; N jobs compare N files at once.
+are next to pages that cannot be touched (tests/common/library_cases/calls.c). --all takes every ELF file of the machine
+below /usr, and 10,000 changed copies, which takes an hour; N jobs compare N files at once.
 
 Then: calls with numbers outside their ranges, with no room, with structs of any numbers, under the
-compiler's sanitizers (tests/common/library_bounds.c); how much of the stack each call touches
-(tests/common/library_stack.c); threads that call at once (tests/common/library_threads.c); the rows of an object of thousands of
-tables, which take at most twice the time that libelf takes, if it is installed (tests/common/library_tables.c); which symbols
+compiler's sanitizers (tests/common/library_cases/bounds.c); how much of the stack each call touches
+(tests/common/library_cases/stack.c); threads that call at once (tests/common/library_cases/threads.c); the rows of an object of thousands of
+tables, which take at most twice the time that libelf takes, if it is installed (tests/common/library_cases/tables.c); which symbols
 the shared library exports and imports, that a later one can be in the same process, and that it has no system call
 instruction; the header as each standard of C and C++; the layout of the structs, in C (library/layout.c) and in the
 crate; and the example, examples/lookup.c.
@@ -263,7 +263,7 @@ def check_causes(counts, calls):
 
 
 def check_bounds(counts, built, target, library, tries):
-    path, said = built.program("tests/common/library_bounds.c", "-g", "-fsanitize=address,undefined",
+    path, said = built.program("tests/common/library_cases/bounds.c", "-g", "-fsanitize=address,undefined",
                                "-fno-sanitize-recover=undefined")
     if path is None:
         print(f"skipped calls outside their bounds: the compiler has no sanitizers here: {said[:200]}")
@@ -284,7 +284,7 @@ def check_bounds(counts, built, target, library, tries):
 
 
 def check_stack(counts, built, files):
-    path, said = built.program("tests/common/library_stack.c")
+    path, said = built.program("tests/common/library_cases/stack.c")
     if path is None:
         counts.case("the stack", said)
         return
@@ -296,7 +296,7 @@ def check_stack(counts, built, files):
 
 
 def check_threads(counts, built, files):
-    path, said = built.program("tests/common/library_threads.c", "-pthread")
+    path, said = built.program("tests/common/library_cases/threads.c", "-pthread")
     done = run([path, *files]) if path else None
     wrong = said if done is None else "" if done.returncode == 0 else done.stdout.decode()[:300]
     counts.case("four threads at once list the same", wrong)
@@ -312,7 +312,7 @@ def check_tables(counts, built, folder):
     if run(["gcc", "-fsyntax-only", "-include", "gelf.h", "-x", "c", os.devnull]).returncode != 0:
         print("skipped the time of rows beside libelf: libelf-dev is not here")
         return
-    path, said = built.program("tests/common/library_tables.c", "-Wl,--no-as-needed", "-lelf")
+    path, said = built.program("tests/common/library_cases/tables.c", "-Wl,--no-as-needed", "-lelf")
     if path is None:
         counts.case("rows beside libelf", said)
         return
@@ -386,7 +386,7 @@ def check_example(counts, built, compared, library):
 def check_calls(counts, built, program, folder, given):
     """All that is compared with the program."""
     target, library, others = made_files(folder)
-    path, said = built.program("tests/common/library_calls.c")
+    path, said = built.program("tests/common/library_cases/calls.c")
     if path is None:
         counts.case("a program that calls the library", said)
         return

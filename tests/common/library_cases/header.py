@@ -6,8 +6,8 @@ import subprocess
 
 from testing import TOP
 
-LIBRARY, COMMON = os.path.join(TOP, "library"), os.path.join(TOP, "tests", "common")
-FLAGS = ["-std=c99", "-pedantic", "-Wall", "-Wextra", "-Werror", "-O1", f"-I{LIBRARY}", f"-I{COMMON}"]
+LIBRARY = os.path.join(TOP, "library")
+FLAGS = ["-std=c99", "-pedantic", "-Wall", "-Wextra", "-Werror", "-O1", f"-I{LIBRARY}"]
 MOST_HEADERS = 65279
 PARTS = ("header", "sections", "segments", "symbols", "relocs", "notes", "dynamic")
 

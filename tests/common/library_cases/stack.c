@@ -1,6 +1,6 @@
 /* Measures how much of the stack each call of the library touches, for tests/gate/library.py:
  *
- *     library_stack FILE..
+ *     stack FILE..
  *
  * Each call runs over each file on a stack of its own that is painted first. It prints lines `CALL BYTES`,
  * the maximum over all files. Names and sections in the calls are those of the files themselves. */

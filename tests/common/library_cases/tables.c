@@ -1,6 +1,6 @@
 /* Iterates over all rows of all tables of a file in memory, by the library and by libelf, for tests/gate/library.py:
  *
- *     library_tables FILE RUNS
+ *     tables FILE RUNS
  *
  * It prints a line `TABLES ROWS SECONDS LIBELF`: how many tables and rows there are, and the least processor
  * seconds that each took, of RUNS runs in turn. If the rows of the two differ its status is 1. */

@@ -1,7 +1,7 @@
 /* Four threads list the same files at once, over the same bytes and each with its own room and out, and must
  * write the same, for tests/gate/library.py:
  *
- *     library_threads FILE.. */
+ *     threads FILE.. */
 #define _GNU_SOURCE
 #include "elfsee.h"
 #include "lent.h"
