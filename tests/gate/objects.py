@@ -25,9 +25,9 @@ import sys
 import tempfile
 
 sys.dont_write_bytecode = True
-sys.path[:0] = [os.path.join(os.path.dirname(os.path.realpath(__file__)), "..", name) for name in ("common", "machine")]
-import format as page
-from testing import option_reader, program_of
+sys.path.insert(0, os.path.join(os.path.dirname(os.path.realpath(__file__)), "..", "common"))
+import format_page as page
+from testing import Claims, option_reader, program_of
 
 WAYS = [[], ["--gnu"], ["--names", "3"], ["--gnu", "--by-segments"], ["--max-read", "3000"], ["--headers", "2"]]
 FINDS = [[], ["--gnu"], ["--gnu", "--by-segments"], ["--max-read", "700"], ["--headers", "2"]]
@@ -217,7 +217,7 @@ def main():
     with open(page.PAGE, encoding="utf-8") as file:
         kinds = page.tables_of(file.read())
     patterns = {letter: page.pattern_of(letter, rows) for letter, (_, rows) in kinds.items() if letter != "C"}
-    counts = page.Counts()
+    counts = Claims()
     examples(counts)
     with tempfile.TemporaryDirectory() as folder:
         files = [name for name in words or SYSTEM if os.path.exists(name)]
@@ -243,8 +243,7 @@ def main():
             compare(counts, program, kinds, patterns, ["traits", *way, *files, folder])
     if not words:
         sweep(counts, program, kinds, patterns)
-    print(f"{counts.passed} passed, {counts.failed} failed")
-    sys.exit(1 if counts.failed or not counts.passed else 0)
+    sys.exit(counts.end())
 
 
 def made(folder):

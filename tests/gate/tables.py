@@ -21,10 +21,11 @@ import sys
 import tempfile
 
 sys.dont_write_bytecode = True
+sys.path.insert(0, os.path.join(os.path.dirname(os.path.realpath(__file__)), "..", "common"))
+import format_page as page
 import objects
-from testing import TOP, option_reader, program_of
+from testing import TOP, Claims, option_reader, program_of
 
-page = objects.page
 # Lines whose columns depend on what is in them: the names of their fields, in order.
 SPECIAL = {"C": ["state", "place", "cause", "path"], "L": ["index", "needed_by", "state", "place", "cause", "path"],
            "I": ["state", "path"], "U": ["object", "provider", "state", "version"],
@@ -228,7 +229,7 @@ def main():
     reader.add_argument("files", metavar="FILE", nargs="*")
     given = reader.parse_args()
     words, program = given.files, program_of(given)
-    counts, rows = page.Counts(), Rows()
+    counts, rows = Claims(), Rows()
     with tempfile.TemporaryDirectory() as folder:
         files = [name for name in words or objects.SYSTEM if os.path.exists(name)]
         if not words:
@@ -253,8 +254,7 @@ def main():
             compare(counts, rows, program, [command, path], full)
     check_widths(counts, program)
     check_refused(counts, program)
-    print(f"{counts.passed} passed, {counts.failed} failed")
-    sys.exit(1 if counts.failed or not counts.passed else 0)
+    sys.exit(counts.end())
 
 
 if __name__ == "__main__":
