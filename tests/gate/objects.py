@@ -1,7 +1,7 @@
 #!/usr/bin/env python3
 """Compares the JSON objects that the program prints with its lines.
 
-    tests/gate/objects.py [--program PROGRAM] [--all] [FILE..]
+    tests/gate/objects.py [--program PROGRAM] [--quick | --all] [FILE..]
 
 Each file is listed twice, with --json and without: whole, cut, with --gnu, by the program headers, and within
 a budget; archives too, and all files are checked. Each line of text is taken apart by the tables of docs/FORMAT.md,
@@ -11,7 +11,7 @@ compared, and each fiftieth after them; with --all each. Without FILE these are 
 that are made here: names of all bytes, notes, a table of symbol versions, files that are refused, and an archive; and
 then each ELF file and archive of the machine once, in one of two ways, within a budget of 20,000 bytes: each object is read,
 and of each kind the first ten and each hundredth are compared with their lines. With --all the machine's files are
-listed whole. The examples of the page must be JSON; if there is a jq, it must read all except those of the machine.
+listed whole; --quick takes one in ten, as ./check does. The examples of the page must be JSON; if there is a jq, it must read all except those of the machine.
 
 It needs Python 3.9 or newer. The last line is `N passed, N failed`.
 """
@@ -194,9 +194,9 @@ def machine_files():
             yield "archive", path
 
 
-def sweep(counts, program, kinds, patterns):
-    """Each file of the machine, in one way or the other."""
-    for row, (command, path) in enumerate(machine_files()):
+def sweep(counts, program, kinds, patterns, step):
+    """Each file of the machine, or one in so many, in one way or the other."""
+    for row, (command, path) in enumerate(list(machine_files())[::step]):
         compare(counts, program, kinds, patterns, [command, *MACHINE_WAYS[row % 2], path], 10, 100)
 
 
@@ -211,6 +211,7 @@ def examples(counts):
 def main():
     reader = option_reader(__doc__)
     reader.add_argument("--all", action="store_true")
+    reader.add_argument("--quick", action="store_true")
     reader.add_argument("files", metavar="FILE", nargs="*")
     given = reader.parse_args()
     words, program = given.files, program_of(given)
@@ -242,7 +243,7 @@ def main():
         for way in ([], ["--require", "relro=full,stack=nx,cet=ibt"], ["--max-read", "700"]):
             compare(counts, program, kinds, patterns, ["traits", *way, *files, folder])
     if not words:
-        sweep(counts, program, kinds, patterns)
+        sweep(counts, program, kinds, patterns, 10 if given.quick else 1)
     sys.exit(counts.end())
 
 

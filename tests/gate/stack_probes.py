@@ -1,12 +1,12 @@
 #!/usr/bin/env python3
 """Looks in the compiler's output for stack probes that overwrite a value which is still needed.
 
-    tests/gate/stack_probes.py [FILE..]
+    tests/gate/stack_probes.py [--program PROGRAM] [FILE..]
 
 A function with a large stack frame first touches each page of it, in a loop that counts with register r11. The
 compiler may move a part of the function before that loop, and then loses what this part left in r11: such a program
-takes a wrong branch, though it is proved. Without a FILE it looks at the programs and the library that are built
-here. It needs objdump (Debian: binutils); if there is none it says so and looks at nothing. The last line is
+takes a wrong branch, though it is proved. Without PROGRAM and FILE it looks at the programs and the library that are
+built here. It needs objdump (Debian: binutils); if there is none it says so and looks at nothing. The last line is
 `N passed, N failed`, and the status is 0 only if nothing failed.
 """
 
@@ -16,7 +16,10 @@ import shutil
 import subprocess
 import sys
 
-TOP = os.path.dirname(os.path.dirname(os.path.dirname(os.path.realpath(__file__))))
+sys.dont_write_bytecode = True
+sys.path.insert(0, os.path.join(os.path.dirname(os.path.realpath(__file__)), "..", "common"))
+from testing import TOP, option_reader
+
 MADE = ("crates/elfsee/out/elfsee", "crates/elfsee_show/out/elfsee_show", "library/out/libelfsee.so.0")
 PROBE = re.compile(r"\tmov +%rsp,%r11$")
 SETS = re.compile(r",%r11[dwb]?$|\b(?:pop|inc|dec|neg|not) +%r11[dwb]?$")
@@ -48,7 +51,11 @@ def main():
         print("skipped: there is no objdump\n0 passed, 0 failed")
         return 0
     passed = failed = 0
-    for file in sys.argv[1:] or filter(os.path.exists, (os.path.join(TOP, made) for made in MADE)):
+    reader = option_reader(__doc__)
+    reader.add_argument("files", metavar="FILE", nargs="*")
+    given = reader.parse_args()
+    files = [*filter(None, [given.program]), *given.files]
+    for file in files or filter(os.path.exists, (os.path.join(TOP, made) for made in MADE)):
         bad = [name for name, lines in functions(file) if loses(lines)]
         for name in bad:
             print(f"FAILED {file}: {name} probes the stack while r11 holds a value")
