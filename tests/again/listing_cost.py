@@ -1,5 +1,5 @@
-"""A second implementation of how many bytes of a file a listing may read, from the rules: for the
-scripts in this directory."""
+"""A second implementation of how many bytes of a file a listing may read, from the
+rules."""
 
 import struct
 

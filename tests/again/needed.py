@@ -1,6 +1,5 @@
 #!/usr/bin/env python3
-"""A second implementation of what `elfsee needs` must answer without a budget, from the rules: for the scripts in this
-directory. It is written for clarity alone, and holds whole files. Its modules are needed_files.py, needed_versions.py,
+"""A second implementation of what `elfsee needs` must answer without a budget, from the rules. It is written for clarity alone, and holds whole files. Its modules are needed_files.py, needed_versions.py,
 needed_symbols.py, loader_caches.py and rooted.py.
 
 usage: tests/again/needed.py [needs] [OPTION]... PATH...

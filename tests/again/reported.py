@@ -9,6 +9,7 @@ import struct
 import made_archives
 from applied import Refused, load, refuse_where, strings_of, symbols_of
 from looked_up import check_overlaps
+from testing import TOP
 
 SYMTAB, RELA, DYNAMIC, NOTE, DYNSYM = 2, 4, 6, 7, 11
 VERDEF, VERNEED, VERSYM = 0x6ffffffd, 0x6ffffffe, 0x6fffffff
@@ -19,7 +20,7 @@ PARTS = ("header", "sections", "segments", "symbols", "relocs", "notes", "dynami
 MAGIC = b"\x7fELF"
 LETTERS = "W1 A2 X4 M10 S20 I40 L80 O100 G200 T400 C800".split()
 GNU_LETTERS = "R200000 D1000000 l10000000 E80000000".split()
-PAGE = os.path.join(os.path.dirname(os.path.dirname(os.path.dirname(os.path.realpath(__file__)))), "docs", "FORMAT.md")
+PAGE = os.path.join(TOP, "docs", "FORMAT.md")
 
 
 def names_on_page():

@@ -1,4 +1,4 @@
-"""Queries for an ELF64 little-endian file, for the scripts in this directory: names to look up
+"""Queries for an ELF64 little-endian file: names to look up
 and sections to write, with the items that give each entry an address. It reads the headers with
 code of its own, and only of well-formed files."""
 

@@ -1,4 +1,4 @@
-"""Changed copies of ELF files, for the scripts in this directory: bytes, fields, headers, tables or the
+"""Changed copies of ELF files: bytes, fields, headers, tables or the
 length are changed by a generator, so that the same generator over the same files gives the same copies."""
 
 import struct

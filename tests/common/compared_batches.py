@@ -1,5 +1,4 @@
-"""Compares what a command of the program prints for many files with what the rules say of each: for the scripts in this
-directory."""
+"""Compares what a command of the program prints for many files with what the rules say of each."""
 
 import os
 import shutil

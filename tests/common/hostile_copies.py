@@ -1,4 +1,4 @@
-"""Copies of ELF files and archives with hostile numbers in them, for the scripts in this directory, and the files from
+"""Copies of ELF files and archives with hostile numbers in them and the files from
 which they are made. The same random generator over the same files gives the same copy."""
 
 import os

@@ -1,11 +1,12 @@
 """The lines of a listing, made from the rows that the library's module for Python
-returns: for the scripts in this directory. The columns and the names of numbers are those of
+returns. The columns and the names of numbers are those of
 docs/FORMAT.md."""
 
 import os
 import re
 
-TOP = os.path.dirname(os.path.dirname(os.path.dirname(os.path.realpath(__file__))))
+from testing import TOP
+
 X86_64 = 62
 FLAGS = {"W": 1, "A": 2, "X": 4, "M": 16, "S": 32, "I": 64, "L": 128, "O": 256, "G": 512, "T": 1024, "C": 2048}
 

@@ -35,6 +35,7 @@ import xml.etree.ElementTree
 
 sys.dont_write_bytecode = True
 sys.path.insert(0, os.path.join(os.path.dirname(os.path.realpath(__file__)), "..", "common"))
+from machine_files import in_order
 from made_archives import spelt
 from testing import TOP, Counts, option_reader, program_of
 
@@ -56,21 +57,6 @@ def rows(out):
     for line in out.split(b"\n")[:-1]:
         found = LINE.fullmatch(line)
         yield (found[1] or found[3], found[4], found[2] if found[1] else found[5]) if found else (b"?", None, line)
-
-
-def in_order(folder):
-    """The files below a directory in the order of their names, without links; names that are no text are left out."""
-    for name in sorted(os.listdir(folder)):
-        try:
-            name.decode()
-        except UnicodeDecodeError:
-            continue
-        path = os.path.join(folder, name)
-        mode = os.lstat(path).st_mode
-        if stat.S_ISDIR(mode):
-            yield from in_order(path)
-        elif stat.S_ISREG(mode):
-            yield path
 
 
 def shown(program, only, path):

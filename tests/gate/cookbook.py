@@ -18,6 +18,7 @@ import tempfile
 
 sys.dont_write_bytecode = True
 sys.path.insert(0, os.path.join(os.path.dirname(os.path.realpath(__file__)), "..", "common"))
+from page_commands import other_versions, shape
 from testing import TOP, option_reader, program_of
 
 PAGES = ("README.md", "docs/COOKBOOK.md")
@@ -78,21 +79,6 @@ def examples(text):
         yield heading, found
 
 
-def shape(lines):
-    """Lines without their numbers."""
-    return [re.sub(r"[0-9a-f]+", "0", re.sub(r" +", " ", line)) for line in lines]
-
-
-def is_of_the_page():
-    """Whether the packages are those that the page was made with."""
-    for name, wanted in VERSIONS.items():
-        done = subprocess.run(["dpkg-query", "-W", "-f", "${Version}", name], stdout=subprocess.PIPE,
-                              stderr=subprocess.DEVNULL, text=True, check=False)
-        if done.stdout != wanted:
-            return False
-    return True
-
-
 def make_files(room):
     for name, text in SOURCES.items():
         with open(os.path.join(room, name), "w", encoding="ascii") as file:
@@ -114,7 +100,7 @@ def main():
         return 0
     program = program_of(given)
     passed = failed = 0
-    exact = is_of_the_page()
+    exact = not any(other_versions(VERSIONS))
     if not exact:
         print("gcc, binutils, the C library or coreutils are of other versions than the page's:"
               " the shape of the lines is compared")

@@ -18,7 +18,6 @@ Debian's binutils for the last. The last line is `N passed, N failed`."""
 import collections
 import os
 import re
-import stat
 import subprocess
 import sys
 import tempfile
@@ -26,6 +25,7 @@ import time
 
 sys.dont_write_bytecode = True
 sys.path.insert(0, os.path.join(os.path.dirname(os.path.realpath(__file__)), "..", "common"))
+from machine_files import in_order
 from made_archives import spelt
 from testing import Counts, option_reader, program_of
 
@@ -45,21 +45,6 @@ def tree(top, files):
         os.makedirs(os.path.dirname(path), exist_ok=True)
         with open(path, "wb") as file:
             file.write(content)
-
-
-def in_order(folder):
-    """The files below a directory in the order of their names, without links; names that are no text are left out."""
-    for name in sorted(os.listdir(folder)):
-        try:
-            name.decode()
-        except UnicodeDecodeError:
-            continue
-        path = os.path.join(folder, name)
-        mode = os.lstat(path).st_mode
-        if stat.S_ISDIR(mode):
-            yield from in_order(path)
-        elif stat.S_ISREG(mode):
-            yield path
 
 
 def header(length=64):

@@ -37,6 +37,7 @@ import time
 
 sys.dont_write_bytecode = True
 sys.path.insert(0, os.path.join(os.path.dirname(os.path.realpath(__file__)), "..", "common"))
+from machine_files import elf_files
 from made_archives import spelt
 from testing import Counts, option_reader, program_of
 
@@ -137,30 +138,6 @@ def columns_of(path, text):
 
 # ---------------------------------------------------------------------------
 # The files of the machine.
-
-def elf_files(places):
-    """The files in some places that begin as ELF files do, each once."""
-    seen = set()
-    for place in places:
-        if os.path.isfile(place):
-            yield place
-        for folder, below, names in os.walk(place):
-            if folder == "/":
-                below[:] = [name for name in below if name not in ("proc", "sys", "dev")]
-            for name in names:
-                path = os.path.join(folder, name)
-                try:
-                    status = os.lstat(path)
-                    if not os.path.isfile(path) or os.path.islink(path) or (status.st_dev, status.st_ino) in seen:
-                        continue
-                    seen.add((status.st_dev, status.st_ino))
-                    with open(path, "rb") as file:
-                        front = file.read(6)
-                    if front[:4] == MAGIC:
-                        yield path
-                except OSError:
-                    pass
-
 
 def told_of(program, paths):
     """By path: the row, or the text of the C line."""

@@ -34,7 +34,11 @@ import subprocess
 import sys
 import tempfile
 
-TOP = os.path.dirname(os.path.dirname(os.path.dirname(os.path.realpath(__file__))))
+sys.dont_write_bytecode = True
+sys.path.insert(0, os.path.join(os.path.dirname(os.path.realpath(__file__)), "..", "common"))
+from page_commands import other_versions, shape
+from testing import TOP
+
 NEEDED = ["git", "make", "man", "mandoc", "bash", "zsh", "fish", "as", "ld", "awk", "gcc", "pkg-config",
           "dpkg-query"]
 VERSIONS = {"coreutils": "9.1-1", "libc6-dev": "2.36-9+deb12u14", "binutils": "2.40-2"}
@@ -225,20 +229,6 @@ def examples_of_man(text):
         yield from shell_examples(plain)
 
 
-def shape(lines):
-    """Lines without their numbers."""
-    return [re.sub(r"[0-9a-f]+", "0", re.sub(r" +", " ", line)) for line in lines]
-
-
-def other_versions():
-    """The packages whose versions are not those of the documents."""
-    for name, wanted in VERSIONS.items():
-        done = subprocess.run(["dpkg-query", "-W", "-f", "${Version}", name], stdout=subprocess.PIPE,
-                              stderr=subprocess.DEVNULL, text=True, check=False)
-        if done.stdout != wanted:
-            yield f"{name} {done.stdout or '(none)'}"
-
-
 def check_command(counts, place, command, output, folder, environment, others):
     name = f"{place}: {command.splitlines()[0]}"
     if output is None and command.startswith(NOT_RUN):
@@ -282,7 +272,7 @@ def make_examples(folder):
 
 
 def check_commands(counts, clone, prefix, room):
-    others = list(other_versions())
+    others = list(other_versions(VERSIONS))
     if others:
         print(f"other versions than the documents' ({', '.join(others)}):"
               " of what differs the shape is compared")

@@ -17,6 +17,7 @@ import sys
 
 sys.dont_write_bytecode = True
 sys.path.insert(0, os.path.join(os.path.dirname(os.path.realpath(__file__)), "..", "common"))
+from machine_files import elf_files
 from testing import option_reader, program_of
 
 PARTS = ["header", "sections", "segments", "symbols", "relocs", "notes", "dynamic"]
@@ -30,29 +31,6 @@ FRONTS = {
     b"N": re.compile(rb"N .{5} " + HEX8 * 3),
 }
 BYTE = re.compile(rb"\\x[0-9a-f]{2}|\\\\|[^\\]")
-
-
-def files(places):
-    """The files in some places that begin as ELF files do, each once."""
-    seen = set()
-    for place in places:
-        if os.path.isfile(place):
-            yield place
-        for folder, below, names in os.walk(place):
-            if folder == "/":
-                below[:] = [name for name in below if name not in ("proc", "sys", "dev")]
-            for name in names:
-                path = os.path.join(folder, name)
-                try:
-                    status = os.lstat(path)
-                    if not os.path.isfile(path) or os.path.islink(path) or (status.st_dev, status.st_ino) in seen:
-                        continue
-                    seen.add((status.st_dev, status.st_ino))
-                    with open(path, "rb") as file:
-                        if file.read(4) == b"\x7fELF":
-                            yield path
-                except OSError:
-                    pass
 
 
 def show(program, path, *options):
@@ -132,7 +110,7 @@ def main():
     program = program_of(given)
     chance = random.Random(7)
     passed = failed = refused = unended = 0
-    for path in files(given.places):
+    for path in elf_files(given.places):
         whole = show(program, path)
         if whole[1] not in (0, 1):
             said = f"status {whole[1]}"

@@ -133,13 +133,3 @@ def entry_at(data, tag, count=0):
 
 def value_of(data, tag, count=0):
     return struct.unpack_from("<Q", data, entry_at(data, tag, count) + 8)[0]
-
-
-def hash_of(name):
-    """The hash of the gABI."""
-    value = 0
-    for byte in name:
-        value = (value << 4) + byte
-        high = value & 0xF0000000
-        value = (value ^ high >> 24) & ~high & 0xFFFFFFFF
-    return value

@@ -3,8 +3,9 @@ offsets."""
 
 import struct
 
-from needs_cases.common import (DEBUG, GNU_HASH, NEEDED, VERDEF, VERNEED, VERSYM, bytes_of, entry_at, found, hash_of, missing,
+from needs_cases.common import (DEBUG, GNU_HASH, NEEDED, VERDEF, VERNEED, VERSYM, bytes_of, entry_at, found, missing,
                                 refused, value_of)
+from versioned import hash_of
 
 TWO = "int f(void) { return 1; } int g(void) { return 2; }\n"
 TOP = "extern int f(void), g(void); int top(void) { return f() + g(); }\n"
