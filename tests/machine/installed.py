@@ -1,8 +1,8 @@
 #!/usr/bin/env python3
 """Goes through all steps of a user, in a clean clone.
 
-    tests/machine/installed.py [--built PROGRAM] [--library FOLDER] [--without-package]
-    tests/machine/installed.py --pages [--built PROGRAM]
+    tests/machine/installed.py [--program PROGRAM] [--library FOLDER] [--without-package]
+    tests/machine/installed.py --pages [--program PROGRAM]
 
 It clones the repository, builds and installs the program into a directory (`make`, `make install`), then
 the library too (`make library`, `make install`), finds and shows the man pages, builds the example with the
@@ -11,7 +11,7 @@ has, builds, installs, tries and removes the Debian packages, and removes what w
 (`make uninstall`). Then it runs each command in README.md, in the man page and in docs/, and
 compares its output with what the page shows.
 
-`make` proves the program from nothing; README.md says how long that takes. --built takes a
+`make` proves the program from nothing; README.md says how long that takes. --program takes a
 program that is built already from the same sources, --library the directory library/out with the library,
 and --without-package leaves the packages out, which only root can install. --pages runs only the commands
 in README.md, in the man page and in docs/, in seconds if the program is built.
@@ -19,13 +19,12 @@ in README.md, in the man page and in docs/, in seconds if the program is built.
 The output in the documents was printed on Debian 12, with the versions below. If the machine has
 other versions, only the shape of those lines is compared, and the script says so.
 
-It needs the Rattle toolchain, or --built, and from Debian: apt-get install git make man-db mandoc bash
+It needs the Rattle toolchain, or --program, and from Debian: apt-get install git make man-db mandoc bash
 bash-completion zsh fish python3 binutils gcc pkg-config build-essential debhelper dh-python lintian. It is no
 part of ./check.
 Each case is one line; the last line is `N passed, N failed`.
 """
 
-import argparse
 import os
 import re
 import shutil
@@ -37,7 +36,7 @@ import tempfile
 sys.dont_write_bytecode = True
 sys.path.insert(0, os.path.join(os.path.dirname(os.path.realpath(__file__)), "..", "common"))
 from page_commands import other_versions, shape
-from testing import TOP
+from testing import TOP, option_reader, program_of
 
 NEEDED = ["git", "make", "man", "mandoc", "bash", "zsh", "fish", "as", "ld", "awk", "gcc", "pkg-config",
           "dpkg-query"]
@@ -291,9 +290,6 @@ def check_commands(counts, clone, prefix, room):
 
 def check_pages(counts, built):
     """Runs the commands of the documents alone, by a program that is built, in a clean clone."""
-    if not built:
-        done = subprocess.run([os.path.join(TOP, "build")], stdout=subprocess.PIPE, check=True, text=True)
-        built = done.stdout.strip()
     with tempfile.TemporaryDirectory() as room:
         clone, prefix = cloned(counts, room, built), os.path.join(room, "installed")
         os.makedirs(os.path.join(prefix, "bin"))
@@ -306,21 +302,20 @@ def check_pages(counts, built):
 # ---------------------------------------------------------------------------
 
 def main():
-    reader = argparse.ArgumentParser()
-    reader.add_argument("--built")
+    reader = option_reader(__doc__)
     reader.add_argument("--library")
     reader.add_argument("--without-package", action="store_true")
     reader.add_argument("--pages", action="store_true")
     words = reader.parse_args()
     counts = Counts()
     if words.pages:
-        return check_pages(counts, words.built)
+        return check_pages(counts, program_of(words))
     missing = [tool for tool in NEEDED if not shutil.which(tool)]
     if missing:
         sys.exit(f"tests/machine/installed.py: missing: {', '.join(missing)}")
     with tempfile.TemporaryDirectory() as room:
         check_unproved(counts, room)
-        clone = cloned(counts, room, words.built)
+        clone = cloned(counts, room, words.program)
         prefix = installed(counts, clone, room, words.library)
         program = os.path.join(prefix, "bin/elfsee")
         check_man_page(counts, prefix)
