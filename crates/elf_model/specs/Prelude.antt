@@ -137,7 +137,7 @@ pub use Rattle.elf_model.specs.Tables.{DYNAMIC_SIZE, RELA_SIZE, SYMBOL_SIZE, all
 pub use Rattle.elf_model.specs.Text.{newline, space, spaces}
 unfoldable pub use Rattle.elf_model.specs.Text.{digit, hex, left_in, name_of, right_decimal, right_in, short_hex, without_zeros}
 unfoldable pub use Rattle.elf_model.specs.TraitCost.{hash_words_asked, properties_asked, segment_traits_cost, symbols_asked, trait_entries_asked, traits_ceiling, traits_cost}
-pub use Rattle.elf_model.specs.TraitNumbers.{DT_BIND_NOW, DT_FLAGS, DT_FLAGS_1, DT_TEXTREL, has_bits}
+pub use Rattle.elf_model.specs.TraitNumbers.{DT_BIND_NOW, DT_FLAGS, DT_FLAGS_1, DT_TEXTREL, has_bits, is_linked_type}
 pub use Rattle.elf_model.specs.TraitWords.{Required, alternatives, either_word, has_word, lacking_status, lacking_text, segments_word, trait_line}
 unfoldable pub use Rattle.elf_model.specs.TraitWords.{canary_word, cet_word, column_name, column_word, file_kind_name, fortify_word, is_program, lacking, lacking_columns, lacking_line, lacking_lines, pages_word, path_word, relro_text, relro_word, stack_word, text_word, trait_front, traits_status, traits_text}
 pub use Rattle.elf_model.specs.Traits.{SymbolTraitFlags, TRAIT_NAME_BYTES, has_none, is_last_in, is_writable_code, marked_by, marked_with_symbol, no_symbol_traits, segment_of}
