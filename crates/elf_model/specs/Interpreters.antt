@@ -1,7 +1,7 @@
 -- THE PROGRAM INTERPRETER that a file names, which the system starts in its place (gABI 5, Program
 -- Interpreter): its path, which files can be one, and its line. The path is that of a file that has
 -- no section headers.
-use Rattle.std.specs.Prelude.{ℕ, ◌+◌, ◌-◌, ◌==◌, ◌&&◌, nat_lt, not, Bool, true, false, List, [], ◌∷◌, ◌++◌, length, codes, Option, None, Some, Result, Ok, Err}
+use Rattle.std.specs.Prelude.{ℕ, ◌+◌, ◌-◌, ◌==◌, ◌&&◌, ◌||◌, nat_lt, not, Bool, true, false, List, [], ◌∷◌, ◌++◌, length, codes, Option, None, Some, Result, Ok, Err}
 use Rattle.elf_model.specs.Bindings.{whole_name}
 use Rattle.elf_model.specs.Bytes.{field, slice}
 use Rattle.elf_model.specs.Checks.{Check, first_refusal, header_checks, is_outside, load_checks, refuse}
