@@ -1,5 +1,6 @@
 //! The file header.
 ghost use Rattle.std.specs.Prelude.{◌≡◌, ℕ, List, length};
+ghost use Rattle.elf_model.specs.Prelude.{is_linked_type};
 
 use crate::fields::{
     array_at, put_array, put_u8, put_u16, put_u32, put_u64, u8_at, u16_at, u32_at, u64_at,
