@@ -38,6 +38,7 @@ pub mod TraitFiles
 pub mod ExamplesApply
 pub mod ExamplesApplyCost
 pub mod ExamplesApplyOrder
+pub mod ExamplesBytes
 pub mod ExamplesExplain
 pub mod ExamplesFunctions
 pub mod ExamplesLayouts

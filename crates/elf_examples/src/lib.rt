@@ -10,6 +10,7 @@ mod answer_rows;
 mod apply_cost_rows;
 mod apply_order_rows;
 mod apply_rows;
+mod bytes_rows;
 mod dynamic_rows;
 mod examples;
 mod explain_rows;

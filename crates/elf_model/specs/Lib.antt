@@ -62,6 +62,7 @@ pub mod ApplyCost
 pub mod Explain
 pub mod ExplainLine
 pub mod FindApplyAnswer
+pub mod BytesQuery
 pub mod HashLaws
 pub mod Chains
 pub mod GnuHash

@@ -20,6 +20,8 @@ unfoldable pub use Rattle.elf_model.specs.BoundSymbols.{bound_item, counted_item
 pub use Rattle.elf_model.specs.Budget.{IsBudgetRefusal, IsBudgeted, IsCut, IsReport}
 pub use Rattle.elf_model.specs.Bytes.{IsBytes, slice}
 unfoldable pub use Rattle.elf_model.specs.Bytes.{field, little, number}
+pub use Rattle.elf_model.specs.BytesQuery.{BytesQuery, OfName, OfSection, OfSegment, bytes_answer, bytes_status, bytes_text, compared_bytes, headers_cost, is_of_segment, queried_file, range_by_section, range_by_segment, range_if_passed, range_size, section_bytes_checks, segment_bytes_checks}
+unfoldable pub use Rattle.elf_model.specs.BytesQuery.{bytes_ceiling, bytes_cost, first_section_named, queried_range, range_in, range_of_name, range_of_section, range_of_segment, section_named_from}
 unfoldable pub use Rattle.elf_model.specs.Causes.{cause_meaning, cause_word}
 pub use Rattle.elf_model.specs.Chains.{Answers, ChainResult, HashTable, Last, NotThere, Untried, WalkEnd, end_of_match, nothing_tried, refused_walk}
 pub use Rattle.elf_model.specs.Checking.{IsStateOf, cause_width, check_line, fault_fields, is_not_elf, state_of}
