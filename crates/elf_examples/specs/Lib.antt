@@ -31,6 +31,7 @@ pub mod ExamplesNotes
 pub mod ExamplesProperties
 pub mod ExamplesRequired
 pub mod ExamplesSegments
+pub mod ExamplesStack
 pub mod ExamplesSymbols
 pub mod ListedDynamic
 pub mod ListedNotes

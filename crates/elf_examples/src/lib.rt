@@ -49,6 +49,7 @@ mod place_rows;
 mod property_rows;
 mod required_rows;
 mod segment_rows;
+mod stack_rows;
 mod symbol_rows;
 mod table_rows;
 mod value_rows;

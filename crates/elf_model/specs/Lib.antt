@@ -61,6 +61,8 @@ pub mod Apply
 pub mod ApplyCost
 pub mod Explain
 pub mod ExplainLine
+pub mod Overflow
+pub mod OverflowLine
 pub mod FindApplyAnswer
 pub mod BytesQuery
 pub mod HashLaws

@@ -108,6 +108,10 @@ pub use Rattle.elf_model.specs.Overlaps.{first_page, page_behind, takes_memory}
 unfoldable pub use Rattle.elf_model.specs.Overlaps.{loads_from, overlap_checks, overlaps_from}
 pub use Rattle.elf_model.specs.Pieces.{onto_first}
 unfoldable pub use Rattle.elf_model.specs.Pieces.{pieces_at}
+pub use Rattle.elf_model.specs.Overflow.{OverflowEntry, overflow_with, value_by, value_outside, value_there}
+unfoldable pub use Rattle.elf_model.specs.Overflow.{base_there, entry_symbol_name, overflow_in, overflowed, place_there, value_unfit}
+pub use Rattle.elf_model.specs.OverflowLine.{overflow_text}
+unfoldable pub use Rattle.elf_model.specs.OverflowLine.{is_overflow, numbered_symbol, overflow_line, truncated_text, unfit_text, whole_type_text, why_refused}
 pub use Rattle.elf_model.specs.PlaceFilters.{every_place, is_placed, nowhere, range_has, range_if, shows_place}
 pub use Rattle.elf_model.specs.Placing.{Compared, Layout, NameSearch, Searched, named_or, no_items, placed_at, undefined_value}
 unfoldable pub use Rattle.elf_model.specs.Placing.{address_in, address_named, base_value, entry_value, has_base, is_system_specific, place_value, plt_entry_value, section_symbol_value, symbol_value, system_value, unnamed_value}
@@ -138,12 +142,13 @@ unfoldable pub use Rattle.elf_model.specs.TableKinds.{relocations, relocations_w
 pub use Rattle.elf_model.specs.Tables.{DYNAMIC_SIZE, RELA_SIZE, SYMBOL_SIZE, all_checks, dynamic_table_checks, entry_at, entry_count, has_symbols, linked_at, linked_table_checks, relocation_table_checks, segment_dynamic_checks, strings_of, symbol_checks_of, symbol_table, symbol_table_checks}
 pub use Rattle.elf_model.specs.Text.{newline, space, spaces}
 unfoldable pub use Rattle.elf_model.specs.Text.{digit, hex, left_in, name_of, right_decimal, right_in, short_hex, without_zeros}
-unfoldable pub use Rattle.elf_model.specs.TraitCost.{hash_words_asked, properties_asked, segment_traits_cost, symbols_asked, trait_entries_asked, traits_ceiling, traits_cost}
-pub use Rattle.elf_model.specs.TraitNumbers.{DT_BIND_NOW, DT_FLAGS, DT_FLAGS_1, DT_TEXTREL, has_bits, is_linked_type}
+unfoldable pub use Rattle.elf_model.specs.TraitCost.{hash_words_asked, properties_asked, sections_asked, segment_traits_cost, stack_asked, symbols_asked, trait_entries_asked, traits_ceiling, traits_cost}
+pub use Rattle.elf_model.specs.TraitCost.{named_section_bytes, segment_traits_ceiling}
+pub use Rattle.elf_model.specs.TraitNumbers.{SHF_EXECINSTR, DT_BIND_NOW, DT_FLAGS, DT_FLAGS_1, DT_TEXTREL, has_bits, is_linked_type}
 pub use Rattle.elf_model.specs.TraitWords.{Required, alternatives, either_word, has_word, lacking_status, lacking_text, segments_word, trait_line}
 unfoldable pub use Rattle.elf_model.specs.TraitWords.{canary_word, cet_word, column_name, column_word, file_kind_name, fortify_word, is_program, lacking, lacking_columns, lacking_line, lacking_lines, pages_word, path_word, relro_text, relro_word, stack_word, text_word, trait_front, traits_status, traits_text}
-pub use Rattle.elf_model.specs.Traits.{SymbolTraitFlags, TRAIT_NAME_BYTES, has_none, is_last_in, is_writable_code, marked_by, marked_with_symbol, no_symbol_traits, segment_of}
-unfoldable pub use Rattle.elf_model.specs.Traits.{before_strings, binds_now, dynamic_entry_value, find_symbol_traits, gnu_symbols, has_text_relocations, has_wx_load, hashed_symbol_count, is_any_of, is_fortify_call, is_stack_executable, kind_of_shared, known_symbols, loaded_traits, marks_from, max_bucket, path_of, program_kind, relro_of, segment_traits, traits_by_segments, traits_of, traits_with, unfound, x86_feature_word}
+pub use Rattle.elf_model.specs.Traits.{STACK_SECTION, SymbolTraitFlags, TRAIT_NAME_BYTES, has_none, is_last_in, is_stack_section, is_that_name, is_writable_code, linked_stack, marked_by, marked_with_symbol, no_symbol_traits, segment_of, with_stack}
+unfoldable pub use Rattle.elf_model.specs.Traits.{before_strings, binds_now, dynamic_entry_value, find_symbol_traits, gnu_symbols, has_text_relocations, has_wx_load, hashed_symbol_count, is_any_of, is_fortify_call, is_relocatable, is_stack_executable, kind_of_shared, known_symbols, loaded_stack, loaded_traits, marks_from, max_bucket, path_of, program_kind, relro_of, segment_traits, stack_by_sections, stack_by_segments, stack_section, traits_by_segments, traits_of, traits_with, traits_with_stack, unfound, x86_feature_word}
 pub use Rattle.elf_model.specs.ValueLaws.{AddendIsItsBits, DifferenceWraps, SignedFits, SumWraps, sign_extended}
 pub use Rattle.elf_model.specs.Values.{FormulaTerms, base_address, is_signed, is_unsigned, low_bytes, overflows, takes_place, value_of}
 unfoldable pub use Rattle.elf_model.specs.Values.{fits_in_range, kind_in, kind_of, kinds, modulo_2_64, patch_of, value, whole}

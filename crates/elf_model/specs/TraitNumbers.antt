@@ -16,6 +16,14 @@ ET_CORE = 4
 abbrev pub is_linked_type : ℕ → Bool
 is_linked_type type = type == ET_EXEC || type == ET_DYN
 
+-- the machine of i386 (gABI 4, ELF Header)
+abbrev pub EM_386 : ℕ
+EM_386 = 3
+
+-- the flag of a section with instructions (gABI 4, Section Attribute Flags)
+abbrev pub SHF_EXECINSTR : ℕ
+SHF_EXECINSTR = 0x4
+
 -- the segment that names an interpreter (gABI 5, Program Interpreter)
 abbrev pub PT_INTERP : ℕ
 PT_INTERP = 3
