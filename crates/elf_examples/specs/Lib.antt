@@ -3,6 +3,7 @@ pub mod ListedArchives
 pub mod ListedBsdNames
 pub mod ListedBudgets
 pub mod ListedChecks
+pub mod ListedContents
 pub mod ListedCosts
 pub mod ListedHeaders
 pub mod ListedMembers

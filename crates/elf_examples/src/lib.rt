@@ -24,6 +24,7 @@ mod listed_archives;
 mod listed_bsd_names;
 mod listed_budgets;
 mod listed_checks;
+mod listed_contents;
 mod listed_costs;
 mod listed_dynamic;
 mod listed_files;

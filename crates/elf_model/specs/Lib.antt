@@ -17,6 +17,8 @@ pub mod RelocationNames
 pub mod Fields
 pub mod LineFronts
 pub mod Lines
+pub mod FlagWords
+pub mod NoteLines
 pub mod Checks
 pub mod Tables
 pub mod RowPlaces

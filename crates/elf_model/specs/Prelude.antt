@@ -67,13 +67,17 @@ unfoldable pub use Rattle.elf_model.specs.Interpreters.{interpreter_at, interpre
 pub use Rattle.elf_model.specs.LibraryFiles.{Accepted, DF_1_NODEFLIB, LibraryFile, RefusedAt, Skipped, library_front_checks, has_other_abi, is_for_machine, library_checks}
 unfoldable pub use Rattle.elf_model.specs.LibraryFiles.{flags_1_by_segments, is_program_file, library_file, library_links}
 unfoldable pub use Rattle.elf_model.specs.LineFronts.{dynamic_prefix, note_prefix, relocation_prefix, section_prefix, symbol_prefix}
-pub use Rattle.elf_model.specs.Lines.{SHOWN_DESCRIPTOR, cut_mark, name_member, named_line, note_line}
+pub use Rattle.elf_model.specs.FlagWords.{separator, value_text}
+unfoldable pub use Rattle.elf_model.specs.FlagWords.{dynamic_flags, dynamic_flags_1, flag_words, flags_text, with_words}
+pub use Rattle.elf_model.specs.NoteLines.{NT_GNU_ABI_TAG, NT_GNU_GOLD_VERSION, SHOWN_DESCRIPTOR, abi_version, descriptor_mark, descriptor_text, feature_words, is_text, note_line}
+unfoldable pub use Rattle.elf_model.specs.NoteLines.{abi_systems, abi_tag, core_types, descriptor_cell, descriptor_digits, gnu_content, line_described, linux_core_types, note_content, properties_text, property_text, with_properties, x86_features}
+pub use Rattle.elf_model.specs.Lines.{cut_mark, name_member, named_line}
 pub use Rattle.elf_model.specs.LineFronts.{names_of_types, type_width}
 unfoldable pub use Rattle.elf_model.specs.RelocationNames.{aarch64_relocation_types, psabi_relocation_types, riscv_relocation_types, x86_64_relocation_types}
 pub use Rattle.elf_model.specs.TableTexts.{TableIsInPieces, before_line, names_line, place_after, table_start, table_text}
 unfoldable pub use Rattle.elf_model.specs.TableTexts.{byte_in_table, headings, state_after, state_at_end, table_from}
 unfoldable pub use Rattle.elf_model.specs.Lines.{told_line}
-unfoldable pub use Rattle.elf_model.specs.Lines.{descriptor_text, escaped, header_line, hex_bytes, line_described, line_named, name_byte_text, name_text, note_tail, refusal_line, segment_line, steps_line}
+unfoldable pub use Rattle.elf_model.specs.Lines.{escaped, header_line, hex_bytes, line_named, name_byte_text, name_text, refusal_line, segment_line, steps_line}
 pub use Rattle.elf_model.specs.Links.{LINK_TEXT_BYTES, LinkState, NeededName, TextRoom, first_text, has_room, is_link, no_link_info, room_after}
 unfoldable pub use Rattle.elf_model.specs.Links.{link_text, linked_by, linked_from, linked_in, linked_with, links_by_segments, links_ceiling, links_of, loaded_links, lookup_refusal, machine_in}
 pub use Rattle.elf_model.specs.Listing.{ALL, DYNAMIC, Fault, GNU_ALL, HEADER, Line, ListingItem, NOTES, RELOCS, SECTIONS, SEGMENTS, SYMBOLS, VERSIONS, all_parts, end_text, fault_of, guarded, has, has_tables, header_row, known_parts, lines_of, placed_line, report_of, where_asked}
@@ -115,14 +119,14 @@ unfoldable pub use Rattle.elf_model.specs.OverflowLine.{is_overflow, numbered_sy
 pub use Rattle.elf_model.specs.PlaceFilters.{every_place, is_placed, nowhere, range_has, range_if, shows_place}
 pub use Rattle.elf_model.specs.Placing.{Compared, Layout, NameSearch, Searched, named_or, no_items, placed_at, undefined_value}
 unfoldable pub use Rattle.elf_model.specs.Placing.{address_in, address_named, base_value, entry_value, has_base, is_system_specific, place_value, plt_entry_value, section_symbol_value, symbol_value, system_value, unnamed_value}
-pub use Rattle.elf_model.specs.Properties.{GNU_PROPERTY_X86_FEATURE_1_AND, ListEnds, NoProperty, OneProperty, PROPERTY_HEAD_SIZE, Property, PropertyList, PropertyWalk, bare_property, is_gnu_name, is_property_note, padded_property, pr_datasz, pr_type, property_word, with_property}
+pub use Rattle.elf_model.specs.Properties.{GNU_PROPERTY_X86_FEATURE_1_AND, NT_GNU_PROPERTY_TYPE_0, ListEnds, NoProperty, OneProperty, PROPERTY_HEAD_SIZE, Property, PropertyList, PropertyWalk, bare_property, is_gnu_name, is_property_note, padded_property, pr_datasz, pr_type, property_word, with_property}
 unfoldable pub use Rattle.elf_model.specs.Properties.{features_in, first_listing, first_property, listed_from, listed_in, next_property, properties_from, properties_in, property_list}
 pub use Rattle.elf_model.specs.RecordLaws.{FieldsOfSlices, LinesOfSlices}
 pub use Rattle.elf_model.specs.Records.{ELF_MAGIC_SIZE, FILE_HEADER_SIZE, PROGRAM_HEADER_SIZE, SECTION_HEADER_SIZE, d_tag, d_un, e_entry, e_flags, e_machine, e_phentsize, e_phnum, e_phoff, e_shentsize, e_shnum, e_shoff, e_shstrndx, e_type, has_elf_magic, n_descsz, n_namesz, n_type, p_align, p_filesz, p_flags, p_memsz, p_offset, p_paddr, p_type, p_vaddr, r_addend, r_info, r_offset, r_sym, r_type, section_at, segment_at, sh_addr, sh_addralign, sh_entsize, sh_flags, sh_info, sh_link, sh_name, sh_offset, sh_size, sh_type, st_info, st_name, st_other, st_shndx, st_size, st_type, st_value, twos_complement, vd_aux, versym, vn_aux, vn_file, vn_next, vna_name}
 pub use Rattle.elf_model.specs.Report.{items, report, report_fault}
 unfoldable pub use Rattle.elf_model.specs.Report.{kinds_rows, listing, load_items, loaded_items, table_items, table_rows, view_checks}
 pub use Rattle.elf_model.specs.RowPlaces.{is_address, is_in_memory_type, place_of_dynamic, place_of_header, place_of_record, place_of_relocation, place_of_section, place_of_segment, place_of_symbol}
-pub use Rattle.elf_model.specs.Rows.{chosen_row, is_string_tag, named_row, no_name, placed_choice, refused_row, relocation_choice, symbol_choice}
+pub use Rattle.elf_model.specs.Rows.{chosen_row, is_string_tag, named_row, no_name, placed_choice, refused_row, relocation_choice, symbol_choice, value_name}
 unfoldable pub use Rattle.elf_model.specs.Rows.{dynamic_row, note_row, notes_rows, relocation_row, section_name, section_row, segment_row, symbol_named, symbol_row, walk_rows}
 pub use Rattle.elf_model.specs.Searches.{NulFound}
 pub use Rattle.elf_model.specs.ShownNames.{shown_as}
