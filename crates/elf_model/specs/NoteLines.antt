@@ -18,13 +18,13 @@ use Rattle.elf_model.specs.declared.formats.Format.TheVariants.{Columns, Object,
 abbrev pub SHOWN_DESCRIPTOR : ℕ
 SHOWN_DESCRIPTOR = 32
 
--- the mark of a descriptor of this size, if it has more bytes than are shown
-abbrev pub descriptor_mark : ℕ → List ℕ
-descriptor_mark size = if nat_lt SHOWN_DESCRIPTOR size then cut_mark else []
+-- the mark of a descriptor that has more bytes than are shown
+abbrev pub descriptor_mark : (has_more : Bool) → List ℕ
+descriptor_mark has_more = if has_more then cut_mark else []
 
--- a descriptor of a size by its first bytes: their digits, marked if it has more
-unfoldable pub descriptor_digits : (first : List ℕ) → (size : ℕ) → List ℕ
-descriptor_digits first size = hex_bytes first ++ descriptor_mark size
+-- a descriptor by its first bytes: their digits, marked if it has more
+unfoldable pub descriptor_digits : (first : List ℕ) → (has_more : Bool) → List ℕ
+descriptor_digits first has_more = hex_bytes first ++ descriptor_mark has_more
 
 -- the types of GNU notes with a content in words (Linux Standard Base Core, Note Sections; gold)
 abbrev pub NT_GNU_ABI_TAG : ℕ
@@ -67,24 +67,24 @@ with_properties is_first [] = []
 with_properties is_first (property ∷ properties) =
     separator (codes "; ") is_first ++ property_text property ++ with_properties false properties
 
--- the first bytes of a list of properties of a size: those that end in these bytes; of a list that
--- is malformed, and if none ends there, nothing
-unfoldable pub properties_text : (first : List ℕ) → (size : ℕ) → Option (List ℕ)
-properties_text first size =
+-- the first bytes of a list of properties: those that end in these bytes; of a list that is
+-- malformed, and if none ends there, nothing
+unfoldable pub properties_text : (first : List ℕ) → (has_more : Bool) → Option (List ℕ)
+properties_text first has_more =
     let walk = properties_in first in
-    let text = with_properties true walk.properties ++ descriptor_mark size in
+    let text = with_properties true walk.properties ++ descriptor_mark has_more in
     elim walk.properties [
       | [] ↦ None
       | property ∷ properties ↦
-          if nat_lt SHOWN_DESCRIPTOR size then Some text else elim walk.cut [ None ↦ Some text | Some offset ↦ None ]
+          if has_more then Some text else elim walk.cut [ None ↦ Some text | Some offset ↦ None ]
     ]
 
--- the content of a GNU note of a type, by the first bytes of its descriptor and its size
-unfoldable pub gnu_content : (kind : ℕ) → (first : List ℕ) → (size : ℕ) → Option (List ℕ)
-gnu_content kind first size =
-    if kind == NT_GNU_ABI_TAG then (if size == 16 then abi_tag first else None)
-    else if kind == NT_GNU_GOLD_VERSION then Some (escaped (before_nul first) ++ descriptor_mark size)
-    else if kind == NT_GNU_PROPERTY_TYPE_0 then properties_text first size
+-- the content of a GNU note of a type, by the first bytes of its descriptor
+unfoldable pub gnu_content : (kind : ℕ) → (first : List ℕ) → (has_more : Bool) → Option (List ℕ)
+gnu_content kind first has_more =
+    if kind == NT_GNU_ABI_TAG then (if length first == 16 then abi_tag first else None)
+    else if kind == NT_GNU_GOLD_VERSION then Some (escaped (before_nul first) ++ descriptor_mark has_more)
+    else if kind == NT_GNU_PROPERTY_TYPE_0 then properties_text first has_more
     else None
 
 -- the types of notes in cores, as <elf.h> names them: those of all systems, and those of Linux
@@ -105,23 +105,23 @@ abbrev pub is_text : (text name : List ℕ) → Bool
 is_text text name = length name == length text && starts_with nat_eq name text
 
 -- THE CONTENT of a note in words, if it has one: by its name, its type, the first bytes of its
--- descriptor and its size
-unfoldable pub note_content : (name : List ℕ) → (kind : ℕ) → (first : List ℕ) → (size : ℕ) → Option (List ℕ)
-note_content name kind first size =
-    if is_text (codes "GNU") name then gnu_content kind first size
+-- descriptor, and whether it has more
+unfoldable pub note_content : (name : List ℕ) → (kind : ℕ) → (first : List ℕ) → (has_more : Bool) → Option (List ℕ)
+note_content name kind first has_more =
+    if is_text (codes "GNU") name then gnu_content kind first has_more
     else if is_text (codes "CORE") name then name_of core_types kind
     else if is_text (codes "LINUX") name then name_of linux_core_types kind
     else None
 
 -- a descriptor in a table: its content, or otherwise its digits; a name that is cut says nothing
-unfoldable pub descriptor_cell : DisplayedName → (kind : ℕ) → (first : List ℕ) → (size : ℕ) → List ℕ
-descriptor_cell (Whole name) kind first size = unwrap_or (note_content name kind first size) (descriptor_digits first size)
-descriptor_cell (Cut front) kind first size = descriptor_digits first size
+unfoldable pub descriptor_cell : DisplayedName → (kind : ℕ) → (first : List ℕ) → (has_more : Bool) → List ℕ
+descriptor_cell (Whole name) kind first has_more = unwrap_or (note_content name kind first has_more) (descriptor_digits first has_more)
+descriptor_cell (Cut front) kind first has_more = descriptor_digits first has_more
 
 -- the text of a descriptor in its column
 abbrev pub descriptor_text : Format → DisplayedName → (kind : ℕ) → (descriptor : List ℕ) → List ℕ
-descriptor_text Table name kind descriptor = descriptor_cell name kind (take SHOWN_DESCRIPTOR descriptor) (length descriptor)
-descriptor_text Columns name kind descriptor = descriptor_digits (take SHOWN_DESCRIPTOR descriptor) (length descriptor)
+descriptor_text Table name kind descriptor = descriptor_cell name kind (take SHOWN_DESCRIPTOR descriptor) (nat_lt SHOWN_DESCRIPTOR (length descriptor))
+descriptor_text Columns name kind descriptor = descriptor_digits (take SHOWN_DESCRIPTOR descriptor) (nat_lt SHOWN_DESCRIPTOR (length descriptor))
 descriptor_text Object name kind descriptor = hex_bytes (take SHOWN_DESCRIPTOR descriptor)
 
 -- a line that ends in a name and a descriptor: in an object the descriptor has only the bytes that
