@@ -6,4 +6,5 @@ pub mod OtherTexts
 pub mod OnTableExamples
 pub mod OnTraits
 pub mod OnApplyExamples
+pub mod OnBytesExamples
 pub mod OnTables
