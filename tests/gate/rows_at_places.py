@@ -233,10 +233,12 @@ def compare_names(program, paths, chance, count):
     """The symbols of addresses, as `nm` has them."""
     left = count
     for path in paths:
+        if left <= 0:
+            break
         done = subprocess.run(["nm", "-DSP", "--defined-only", path], stdout=subprocess.PIPE, stderr=subprocess.DEVNULL, check=False)
         rows = [line.split() for line in done.stdout.decode(errors="replace").splitlines()]
         known = [(int(row[2], 16), int(row[3], 16), row[0].split("@")[0]) for row in rows if len(row) == 4 and row[1] in "TtWwi"]
-        if not known or left <= 0:
+        if not known:
             continue
         for value, size, name in chance.sample(known, min(len(known), 40, left)):
             address = value + chance.randrange(size) if size else value
