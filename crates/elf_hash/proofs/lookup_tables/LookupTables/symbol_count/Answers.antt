@@ -1,5 +1,5 @@
 -- The counts of the table, and what its words give.
-use Rattle.std.proofs.Common.{ap, ◌∙◌, arith}
+use Rattle.std.proofs.Common.{◌+◌, ap, ◌∙◌, arith}
 use Rattle.std.proofs.lemmas.Result.{err_from_is_err_and}
 use Rattle.elf_hash.specs.Prelude.{extent_bytes}
 use Rattle.elf_hash.specs.declared.place.HashTableLocation.{HashTableLocation}
