@@ -1,6 +1,6 @@
-"""A second implementation of what `elfsee archive`, `list` and `check` must answer without a budget, and of the order in
-which commands over many files read directories, from the rules. The members of an
-archive are those of made_archives.py, and their listings those of reported.py."""
+"""A second implementation of what `elfsee archive`, `list` and `check` must answer without a budget, and of the order
+in which commands over many files read directories, from the rules. The members of an archive are those of
+made_archives.py, and their listings those of reported.py."""
 
 import os
 import stat

@@ -1,5 +1,4 @@
-"""A second implementation of how many bytes of a file a listing may read, from the
-rules."""
+"""A second implementation of how many bytes of a file a listing may read, from the rules."""
 
 import struct
 

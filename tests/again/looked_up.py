@@ -1,6 +1,5 @@
-"""A second implementation of what `elfsee find --gnu` must answer, from the rules, and of how many bytes of the
-file it may read. It is written for clarity alone, and holds whole
-files: bytes, or a map of a file."""
+"""A second implementation of what `elfsee find --gnu` must answer, from the rules, and of how many bytes of the file
+it may read. It is written for clarity alone, and holds whole files: bytes, or a map of a file."""
 
 import struct
 

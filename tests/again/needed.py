@@ -1,11 +1,12 @@
 #!/usr/bin/env python3
-"""A second implementation of what `elfsee needs` must answer without a budget, from the rules. It is written for clarity alone, and holds whole files. Its modules are needed_files.py, needed_versions.py,
-needed_symbols.py, loader_caches.py and rooted.py.
+"""A second implementation of what `elfsee needs` must answer without a budget, from the rules. It is written for
+clarity alone, and holds whole files. Its modules are needed_files.py, needed_versions.py, needed_symbols.py,
+loader_caches.py and rooted.py.
 
-usage: tests/again/needed.py [needs] [OPTION]... PATH...
+usage: python3 tests/again/needed.py [needs] [OPTION]... PATH...
 
-The options are those of `elfsee needs`, with the value as the next word or after `=`: --library-path, --default, --root,
---cache, --max-tries, --headers, and without a value --no-cache, --symbols, --unused, --json, --problems."""
+The options are those of `elfsee needs`, with the value as the next word or after `=`: --library-path, --default,
+--root, --cache, --max-tries, --headers, and without a value --no-cache, --symbols, --unused, --json, --problems."""
 
 import json
 import os

@@ -1,6 +1,5 @@
-"""Queries for an ELF64 little-endian file: names to look up
-and sections to write, with the items that give each entry an address. It reads the headers with
-code of its own, and only of well-formed files."""
+"""Queries for an ELF64 little-endian file: names to look up and sections to write, with the items that give each
+entry an address. It reads the headers with code of its own, and only of well-formed files."""
 
 import os
 import shutil

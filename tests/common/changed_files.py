@@ -1,5 +1,5 @@
-"""Changed copies of ELF files: bytes, fields, headers, tables or the
-length are changed by a generator, so that the same generator over the same files gives the same copies."""
+"""Changed copies of ELF files: bytes, fields, headers, tables or the length are changed by a generator, so that the
+same generator over the same files gives the same copies."""
 
 import struct
 

@@ -1,5 +1,5 @@
-"""Copies of ELF files and archives with hostile numbers in them and the files from
-which they are made. The same random generator over the same files gives the same copy."""
+"""Copies of ELF files and archives with hostile numbers in them, and the files from which they are made. The same
+random generator over the same files gives the same copy."""
 
 import os
 import shutil

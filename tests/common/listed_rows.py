@@ -1,6 +1,5 @@
-"""The lines of a listing, made from the rows that the library's module for Python
-returns. The columns and the names of numbers are those of
-docs/FORMAT.md."""
+"""The lines of a listing, made from the rows that the library's module for Python returns. The columns and the names
+of numbers are those of docs/FORMAT.md."""
 
 import os
 import re
