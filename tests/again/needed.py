@@ -3,7 +3,7 @@
 clarity alone, and holds whole files. Its modules are needed_files.py, needed_versions.py, needed_symbols.py,
 loader_caches.py and rooted.py.
 
-usage: python3 tests/again/needed.py [needs] [OPTION]... PATH...
+usage: tests/again/needed.py [needs] [OPTION]... PATH...
 
 The options are those of `elfsee needs`, with the value as the next word or after `=`: --library-path, --default,
 --root, --cache, --max-tries, --headers, and without a value --no-cache, --symbols, --unused, --json, --problems."""

@@ -5,7 +5,6 @@ import os
 import shutil
 import struct
 import subprocess
-import sys
 
 # The environment of what is run.
 PLAIN = {"PATH": "/usr/bin:/bin", "LC_ALL": "C"}
@@ -28,7 +27,7 @@ class Cases:
         return os.path.join(self.folder, name)
 
     def run(self, words, **more):
-        call = [*([] if self.is_whole else [sys.executable]), self.program, "needs", *map(str, words)]
+        call = [self.program, "needs", *map(str, words)]
         done = subprocess.run(call, capture_output=True, timeout=120, env=PLAIN, stdin=subprocess.DEVNULL, **more)
         return done.returncode, done.stdout.decode("utf-8", "surrogateescape"), done.stderr.decode()
 
