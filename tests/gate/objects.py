@@ -178,11 +178,10 @@ def compare(counts, program, kinds, patterns, words, first=1000, step=50):
         counts.check("jq " + " ".join(words), read.returncode == 0 and read.stdout.count(b"\n") == len(objects) - 1)
 
 
-def machine_files():
-    """The ELF files and archives of the machine, each once."""
-    paths = {os.path.realpath(os.path.join(here, name))
-             for top in MACHINE for here, _, names in os.walk(top) for name in names}
-    for path in sorted(paths):
+def machine_files(step=1):
+    """The ELF files and archives of the machine, each once; or those among one in so many of its files."""
+    paths = sorted(os.path.join(here, name) for top in MACHINE for here, _, names in os.walk(top) for name in names)
+    for path in sorted({os.path.realpath(path) for path in paths[::step]}):
         try:
             with open(path, "rb") as file:
                 front = file.read(8) if os.path.isfile(path) else b""
@@ -196,7 +195,7 @@ def machine_files():
 
 def sweep(counts, program, kinds, patterns, step):
     """Each file of the machine, or one in so many, in one way or the other."""
-    for row, (command, path) in enumerate(list(machine_files())[::step]):
+    for row, (command, path) in enumerate(machine_files(step)):
         compare(counts, program, kinds, patterns, [command, *MACHINE_WAYS[row % 2], path], 10, 100)
 
 
