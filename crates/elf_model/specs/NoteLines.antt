@@ -51,14 +51,24 @@ abi_tag words = elim (name_of abi_systems (field words 0 4)) [ None ↦ None | S
 unfoldable pub x86_features : List (List ℕ)
 x86_features = codes "IBT" ∷ codes "SHSTK" ∷ codes "LAM_U48" ∷ codes "LAM_U57" ∷ []
 
-abbrev pub feature_words : ℕ → List ℕ
-feature_words n = if n == 0 then codes "none" else flags_text (codes ", ") x86_features n
+-- the property of the levels of the x86-64 instruction set that its code needs, and these levels
+abbrev pub GNU_PROPERTY_X86_ISA_1_NEEDED : ℕ
+GNU_PROPERTY_X86_ISA_1_NEEDED = 0xc0008002
 
--- a property: the words of the x86 features, or its type and its data
+unfoldable pub x86_levels : List (List ℕ)
+x86_levels = codes "baseline" ∷ codes "v2" ∷ codes "v3" ∷ codes "v4" ∷ []
+
+-- the words of the bits of a property
+abbrev pub property_words : List (List ℕ) → ℕ → List ℕ
+property_words words n = if n == 0 then codes "none" else flags_text (codes ", ") words n
+
+-- a property: the words of x86 features or levels, or its type and its data
 unfoldable pub property_text : Property → List ℕ
 property_text property =
-    if property.kind == GNU_PROPERTY_X86_FEATURE_1_AND && length property.content == 4
-    then codes "x86 feature: " ++ feature_words (number property.content)
+    if length property.content == 4 && property.kind == GNU_PROPERTY_X86_FEATURE_1_AND
+    then codes "x86 feature: " ++ property_words x86_features (number property.content)
+    else if length property.content == 4 && property.kind == GNU_PROPERTY_X86_ISA_1_NEEDED
+    then codes "x86 ISA: " ++ property_words x86_levels (number property.content)
     else codes "0x" ++ short_hex property.kind ++ codes ": " ++ hex_bytes property.content
 
 -- properties one after another
