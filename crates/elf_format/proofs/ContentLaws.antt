@@ -4,9 +4,9 @@ use Rattle.std.specs.Prelude.{codes, unwrap_or}
 use Rattle.std.proofs.lemmas.Bool.{and_right}
 use Rattle.std.proofs.lemmas.Bool.Decides.{nat_tests}
 use Rattle.std.proofs.lemmas.List.{drop_all, take_all}
-use Rattle.elf_model.specs.Prelude.{DisplayedName, ListEnds, NoProperty, OneProperty, Property, PropertyWalk, abi_systems, abi_tag, abi_version, bare_property, before_nul, core_types, descriptor_digits, descriptor_mark, escaped, field, is_text, linux_core_types, name_byte_text, name_of, next_property, note_content, padded_property, pr_datasz, pr_type, properties_from, properties_in, properties_text, property_text, property_words, separator, slice, space, with_properties, with_property, x86_features, x86_levels}
+use Rattle.elf_model.specs.Prelude.{DisplayedName, ListEnds, NoProperty, OneProperty, Property, PropertyWalk, abi_systems, abi_tag, abi_version, bare_property, before_nul, core_types, descriptor_digits, descriptor_mark, escaped, field, is_note_name, linux_core_types, name_byte_text, name_of, next_property, note_content, padded_property, pr_datasz, pr_type, properties_from, properties_in, properties_text, property_text, property_words, separator, slice, space, with_properties, with_property, x86_features, x86_levels}
 use Rattle.elf_model.specs.Properties.{NextProperty}
-use Rattle.elf_format.specs.Properties.{IsNext, is_cut, is_none_listed, other_text}
+use Rattle.elf_format.specs.Properties.{IsNextProperty, is_cut, is_none_listed, other_text}
 
 -- an ABI tag, by the name of its system
 pub abi_none : (words : List ℕ) → name_of abi_systems (field words 0 4) ≡ None → abi_tag words ≡ None
@@ -193,7 +193,7 @@ pub list_cut : (bytes left : List ℕ) (property : Property) (size : ℕ) (cut :
 list_cut bytes left property size cut e rest before = rw rest (sym (list_next bytes property size e).1 ∙ before)
 
 -- no property is left
-pub done_items : (bytes : List ℕ) (is_first : Bool) (line whole : List ℕ) → IsNext bytes None → line ++ with_properties is_first (properties_in bytes).properties ≡ whole → line ≡ whole
+pub done_items : (bytes : List ℕ) (is_first : Bool) (line whole : List ℕ) → IsNextProperty bytes None → line ++ with_properties is_first (properties_in bytes).properties ≡ whole → line ≡ whole
 unfolding with_properties
 done_items bytes is_first line whole (inl ends) before = sym (append-nil line) ∙ (rw (list_ends bytes ends.1) at before)
 done_items bytes is_first line whole (inr broken) before = sym (append-nil line) ∙ (rw (list_broken bytes broken.1) at before)
@@ -202,11 +202,11 @@ and_only : (x y : Bool) → y ≡ true → (x && y) ≡ x
 and_only true y is = is
 and_only false y is = refl
 
-pub done_empty : (bytes : List ℕ) (is_first none : Bool) → IsNext bytes None → (is_first && is_none_listed (properties_in bytes)) ≡ none → is_first ≡ none
+pub done_empty : (bytes : List ℕ) (is_first none : Bool) → IsNextProperty bytes None → (is_first && is_none_listed (properties_in bytes)) ≡ none → is_first ≡ none
 done_empty bytes is_first none (inl ends) before = sym (and_only is_first (is_none_listed (properties_in bytes)) (ap is_none_listed (list_ends bytes ends.1))) ∙ before
 done_empty bytes is_first none (inr broken) before = sym (and_only is_first (is_none_listed (properties_in bytes)) (ap is_none_listed (list_broken bytes broken.1))) ∙ before
 
-pub done_cut : (bytes : List ℕ) (cut : Bool) → IsNext bytes None → is_cut (properties_in bytes) ≡ cut → not (length bytes == 0) ≡ cut
+pub done_cut : (bytes : List ℕ) (cut : Bool) → IsNextProperty bytes None → is_cut (properties_in bytes) ≡ cut → not (length bytes == 0) ≡ cut
 done_cut bytes cut (inl ends) before = rw ends.0 (rw (list_ends bytes ends.1) at before)
 done_cut bytes cut (inr broken) before =
     let some = ne_eqb (length bytes) 0 (λ e. omega (arith, e, broken.0)) in rw some (rw (list_broken bytes broken.1) at before)
@@ -225,11 +225,11 @@ shown_by first has_more is_empty cut shown empty is says shows =
     sym (text_shown first has_more ∙ rw visible refl)
 
 -- notes of cores
-pub core_content : (name first : List ℕ) (kind : ℕ) (has_more : Bool) → is_text (codes "GNU") name ≡ false → is_text (codes "CORE") name ≡ true → note_content name kind first has_more ≡ name_of core_types kind
+pub core_content : (name first : List ℕ) (kind : ℕ) (has_more : Bool) → is_note_name (codes "GNU") name ≡ false → is_note_name (codes "CORE") name ≡ true → note_content name kind first has_more ≡ name_of core_types kind
 unfolding note_content
 core_content name first kind has_more other is = rw (other, is, note_content) refl
 
-pub linux_content : (name first : List ℕ) (kind : ℕ) (has_more : Bool) → is_text (codes "GNU") name ≡ false → is_text (codes "CORE") name ≡ false → is_text (codes "LINUX") name ≡ true
+pub linux_content : (name first : List ℕ) (kind : ℕ) (has_more : Bool) → is_note_name (codes "GNU") name ≡ false → is_note_name (codes "CORE") name ≡ false → is_note_name (codes "LINUX") name ≡ true
     → note_content name kind first has_more ≡ name_of linux_core_types kind
 unfolding note_content
 linux_content name first kind has_more other another is = rw (other, another, is, note_content) refl

@@ -4,19 +4,19 @@ use Rattle.std.proofs.lemmas.Bool.Decides.{nat_tests}
 use Rattle.std.proofs.lemmas.List.{take_all}
 use Rattle.std.specs.Borrow.{Bor}
 use Rattle.std.specs.Prelude.{codes}
-use Rattle.elf_model.specs.Prelude.{separator, short_hex, with_words}
+use Rattle.elf_model.specs.Prelude.{separator, short_hex, words_from}
 use Rattle.elf_format.specs.Flags.{are_short_words, texts}
 
 -- the words of the bits from one on: its own, and those after it
 pub words_next : (between : List ℕ) (others : ℕ) (is_first : Bool) (word : List ℕ) (words : List (List ℕ)) (n : ℕ)
-    → with_words between others is_first (word ∷ words) n
-    ≡ (if n % 2 == 1 then separator between is_first ++ word else []) ++ with_words between others (is_first && not (n % 2 == 1)) words (n / 2)
-unfolding with_words
+    → words_from between others is_first (word ∷ words) n
+    ≡ (if n % 2 == 1 then separator between is_first ++ word else []) ++ words_from between others (is_first && not (n % 2 == 1)) words (n / 2)
+unfolding words_from
 words_next between others is_first word words n = by (n % 2 == 1) is_first
   where
     by : (is_set is_first : Bool)
-        → (if is_set then separator between is_first ++ word ++ with_words between others false words (n / 2) else with_words between others is_first words (n / 2))
-        ≡ (if is_set then separator between is_first ++ word else []) ++ with_words between others (is_first && not is_set) words (n / 2)
+        → (if is_set then separator between is_first ++ word ++ words_from between others false words (n / 2) else words_from between others is_first words (n / 2))
+        ≡ (if is_set then separator between is_first ++ word else []) ++ words_from between others (is_first && not is_set) words (n / 2)
     by true true = refl
     by true false = refl
     by false true = refl
@@ -29,12 +29,12 @@ all_but_one word words =
 -- the word of a bit was appended, if it is set
 pub word_put : (other : Bor (List ℕ)) (words : List (Bor (List ℕ))) (between : List ℕ) (others : ℕ) (is_first next : Bool) (n : ℕ) (line items whole word : List ℕ)
     → 1 ≤ length words → word ≡ (get_or words 0 other).now → items ≡ line ++ (if n % 2 == 1 then separator between is_first ++ word else []) → next ≡ (is_first && not (n % 2 == 1))
-    → line ++ with_words between others is_first (texts words) n ≡ whole
-    → items ++ with_words between others next (texts (take (length words - 1) (drop 1 words))) (n / 2) ≡ whole
+    → line ++ words_from between others is_first (texts words) n ≡ whole
+    → items ++ words_from between others next (texts (take (length words - 1) (drop 1 words))) (n / 2) ≡ whole
 word_put other [] between others is_first next n line items whole word some is put follows left = absurd (omega arith)
 word_put other (first ∷ words) between others is_first next n line items whole word some is put follows left =
     let here : List ℕ = if n % 2 == 1 then separator between is_first ++ first.now else [] in
-    let later : List ℕ = with_words between others (is_first && not (n % 2 == 1)) (texts words) (n / 2) in
+    let later : List ℕ = words_from between others (is_first && not (n % 2 == 1)) (texts words) (n / 2) in
     let made : items ≡ line ++ here = rw is at put in
     rw (all_but_one first words, follows, made, append_assoc line here later)
     (ap (λ (xs : List ℕ). line ++ xs) (sym (words_next between others is_first first.now (texts words) n)) ∙ left)
@@ -68,7 +68,7 @@ texts_length (word ∷ words) = ap suc (texts_length words)
 -- no words are left: the bits without a word
 pub words_done : (words : List (Bor (List ℕ))) (between : List ℕ) (others : ℕ) (is_first : Bool) (n : ℕ) (line items whole : List ℕ)
     → length words < 1 → items ≡ line ++ (if others == 0 then [] else separator between is_first ++ codes "0x" ++ short_hex others)
-    → line ++ with_words between others is_first (texts words) n ≡ whole → items ≡ whole
-unfolding with_words
+    → line ++ words_from between others is_first (texts words) n ≡ whole → items ≡ whole
+unfolding words_from
 words_done [] between others is_first n line items whole none put left = put ∙ left
 words_done (word ∷ words) between others is_first n line items whole none put left = absurd (omega arith)

@@ -3,7 +3,7 @@ ghost use Rattle.std.specs.Prelude.{◌≡◌, ◌+◌, ◌*◌, ◌≤◌, ◌+
 ghost use Rattle.arrayvec.specs.ArrayVec.{array_vec_len};
 ghost use Rattle.elf_model.specs.Prelude.{hex_bytes, properties_in, property_text, property_words, separator, with_properties};
 ghost use Rattle.elf_format.specs.Flags.{are_short_words, texts};
-ghost use Rattle.elf_format.specs.Properties.{IsNext, is_cut, is_none_listed, other_text, property_of};
+ghost use Rattle.elf_format.specs.Properties.{IsNextProperty, is_cut, is_none_listed, other_text, property_of};
 
 use crate::dynamic_flags::{Words, append, put_flags, put_number, put_separator};
 use crate::note_contents::word_at;
@@ -20,7 +20,7 @@ const X86_ISA_1_NEEDED: u32 = 0xc000_8002;
 
 /// A property (Linux Extensions to gABI, Program Property).
 #[derive(Clone, Copy)]
-pub(crate) struct Property<'a> {
+pub(crate) struct ListedProperty<'a> {
     /// Its type.
     pub(crate) kind: u32,
     /// Its data.
@@ -63,9 +63,9 @@ pub(crate) fn put_properties(text: &mut Words, bytes: &[u8]) -> ListEnd
 
 /// Returns the property at the beginning of some bytes, if there is a whole one. The padding of the
 /// last may be missing.
-fn next_property(bytes: &[u8]) -> Option<Property<'_>>
+fn next_property(bytes: &[u8]) -> Option<ListedProperty<'_>>
     requires { length bytes.now ≤ 32 }
-    ensures next { IsNext bytes.now result }
+    ensures next { IsNextProperty bytes.now result }
     ensures size { IfSome result (λ property. (8 + length property.content.now ≤ length bytes.now)
         × (8 + length property.content.now ≤ property.size)
         × (property.size ≤ length bytes.now)) }
@@ -80,7 +80,7 @@ fn next_property(bytes: &[u8]) -> Option<Property<'_>>
     }
     let bare = HEAD_BYTES + datasz;
     let padded = bare + (8 - bare % 8) % 8;
-    Some(Property {
+    Some(ListedProperty {
         kind,
         content: &bytes[HEAD_BYTES..bare],
         size: padded.min(bytes.len()),
@@ -89,7 +89,7 @@ fn next_property(bytes: &[u8]) -> Option<Property<'_>>
 
 /// Appends the text of a property, after a semicolon if it is not the first.
 #[tactic(auto, using(crate::proofs::ContentLaws::property_features, crate::proofs::ContentLaws::property_levels, crate::proofs::ContentLaws::property_sized, crate::proofs::ContentLaws::property_kind))]
-fn put_property(text: &mut Words, is_first: bool, property: &Property<'_>)
+fn put_property(text: &mut Words, is_first: bool, property: &ListedProperty<'_>)
     requires few { length property.now.content.now ≤ 24 }
     requires room { array_vec_len text.old ≤ 300 }
     ensures items { text.new.items ≡ text.old.items
@@ -115,7 +115,7 @@ fn put_property(text: &mut Words, is_first: bool, property: &Property<'_>)
 }
 
 /// Appends the type of a property as a number, and its data.
-fn put_other(text: &mut Words, property: &Property<'_>)
+fn put_other(text: &mut Words, property: &ListedProperty<'_>)
     requires few { length property.now.content.now ≤ 24 }
     requires room { array_vec_len text.old ≤ 302 }
     ensures items { text.new.items ≡ text.old.items ++ other_text (property_of property.now) }
