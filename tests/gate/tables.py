@@ -6,7 +6,8 @@
 Each file is listed twice: with --table, and as lines with the options that --table implies. Each line is taken apart
 by the tables of docs/FORMAT.md and written as a row of a table by that page's section on tables: without its letter,
 hexadecimal numbers without leading zeros in the widths given there, and before the first line of a letter an empty line
-and the names of the columns. So are the answers of lookups, the lines of check, traits, list, archive and needs, and
+and the names of the columns. The words of flags and of notes are worked out here from the numbers and digits of the
+lines, and compared with those of readelf. So are the answers of lookups, the lines of check, traits, list, archive and needs, and
 refusals. S and P rows of /bin/ls have at most 80 columns up to the name. Without FILE these are some files of the
 system and some that are made here; with --all each ELF file and archive of the machine too.
 
@@ -15,6 +16,7 @@ It needs Python 3.9 or newer. The last line is `N passed, N failed`.
 
 import os
 import re
+import shutil
 import struct
 import subprocess
 import sys
@@ -32,6 +34,73 @@ SPECIAL = {"C": ["state", "place", "cause", "path"], "L": ["index", "needed_by",
            "B": ["object", "symbol", "state", "definer", "definition", "name"]}
 RIGHT = {"index", "needed_by", "place", "object", "provider", "symbol", "definer", "definition"}
 WIDTHS = {"C": [12, 9, 14, 0], "L": [5, 5, 8, 9, 14, 0], "I": [8, 0], "U": [5, 5, 8, 0], "B": [5, 10, 8, 5, 10, 0]}
+
+# The words of the flags of dynamic entries, from the lowest bit.
+FLAGS = {"FLAGS": "ORIGIN SYMBOLIC TEXTREL BIND_NOW STATIC_TLS".split(),
+         "FLAGS_1": "NOW GLOBAL GROUP NODELETE LOADFLTR INITFIRST NOOPEN ORIGIN DIRECT TRANS INTERPOSE NODEFLIB NODUMP CONFALT "
+                    "ENDFILTEE DISPRELDNE DISPRELPND NODIRECT IGNMULDEF NOKSYMS NOHDR EDITED NORELOC SYMINTPOSE GLOBAUDIT "
+                    "SINGLETON STUB PIE KMOD WEAKFILTER NOCOMMON".split()}
+# The properties that are bits with words.
+BITS = {0xc0000002: ("x86 feature: ", ["IBT", "SHSTK", "LAM_U48", "LAM_U57"]),
+        0xc0008002: ("x86 ISA: ", ["baseline", "v2", "v3", "v4"])}
+SYSTEMS = ["Linux", "Hurd", "Solaris", "FreeBSD", "NetBSD", "Syllable", "NaCl"]
+# The types of notes of cores, by the names of the notes.
+CORES = {"CORE": {1: "PRSTATUS", 2: "FPREGSET", 3: "PRPSINFO", 4: "TASKSTRUCT", 6: "AUXV", 0x46494c45: "FILE", 0x53494749: "SIGINFO"},
+         "LINUX": {0x100: "PPC_VMX", 0x102: "PPC_VSX", 0x200: "386_TLS", 0x202: "X86_XSTATE", 0x204: "X86_SHSTK", 0x400: "ARM_VFP",
+                   0x401: "ARM_TLS", 0x402: "ARM_HW_BREAK", 0x403: "ARM_HW_WATCH", 0x405: "ARM_SVE", 0x406: "ARM_PAC_MASK",
+                   0x46e62b7f: "PRXFPREG"}}
+
+
+def flag_words(names, value, between=" "):
+    """The words of the bits of a number, and the bits without one as a number."""
+    words = [word for bit, word in enumerate(names) if value >> bit & 1]
+    others = value >> len(names) << len(names)
+    return between.join(words + ([f"0x{others:x}"] if others else []))
+
+
+def property_text(kind, data):
+    """A property in words."""
+    if kind in BITS and len(data) == 4:
+        value, (title, words) = int.from_bytes(data, "little"), BITS[kind]
+        return title + (flag_words(words, value, ", ") if value else "none")
+    return f"0x{kind:x}: {data.hex()}"
+
+
+def properties_text(data, mark):
+    """The properties that end in some bytes; None if a list without more bytes has a broken one, or if there are none."""
+    texts, at = [], 0
+    while at < len(data):
+        kind, size = struct.unpack_from("<II", data, at) if at + 8 <= len(data) else (0, len(data))
+        if at + 8 + size > len(data):
+            break
+        texts.append(property_text(kind, data[at + 8:at + 8 + size]))
+        at += 8 + size + -size % 8
+    return "; ".join(texts) + mark if texts and (mark or at >= len(data)) else None
+
+
+def escaped(data):
+    """A text as it is escaped in a name."""
+    return "".join("\\\\" if byte == 92 else chr(byte) if 32 <= byte < 127 else f"\\x{byte:02x}" for byte in data)
+
+
+def note_content(name, kind, data, mark):
+    """The content of a note in words, or None."""
+    if name in CORES:
+        return CORES[name].get(kind)
+    if name == "GNU" and kind == 1 and len(data) == 16 and not mark:
+        system, *version = struct.unpack("<4I", data)
+        return f"{SYSTEMS[system]} {'.'.join(map(str, version))}" if system < len(SYSTEMS) else None
+    if name == "GNU" and kind == 4:
+        return escaped(data.partition(b"\0")[0]) + mark
+    return properties_text(data, mark) if name == "GNU" and kind == 5 else None
+
+
+def described(text, kind):
+    """The name and the descriptor of a note in a table, by those of its line."""
+    name, _, digits = text.rpartition(" ")
+    mark = "\\+" if digits.endswith("\\+") else ""
+    content = note_content(name, kind, bytes.fromhex(digits.removesuffix("\\+")), mark)
+    return f"{name} {digits if content is None else content}"
 
 
 def widths_of(text):
@@ -120,6 +189,10 @@ class Rows:
         cells = []
         for (_, _, _, _, name, form), text in zip(self.kinds[letter][1][1:], groups):
             cells.append(self.cell(letter, name, form, text.decode(), 0))
+        if letter == "N":
+            cells[-1] = described(cells[-1], int(cells[1], 16))
+        if letter == "D" and cells[1].strip() in FLAGS:
+            cells[-1] = flag_words(FLAGS[cells[1].strip()], int(cells[2], 16))
         return " ".join(cells)
 
     def checked(self, line, at):
@@ -208,6 +281,77 @@ def check_types(counts, program, folder):
             counts.check(f"relocations of {machine}", found == wanted, f"{row}, wanted {wanted}")
 
 
+def section_of(kind, at, size, link=0, align=1, entry=0):
+    """A section header."""
+    return struct.pack("<IIQQQQIIQQ", 0, kind, 0, 0, at, size, link, 0, align, entry)
+
+
+def note_bytes(name, kind, data):
+    """A note, padded to four bytes."""
+    return struct.pack("<III", len(name), len(data), kind) + name + bytes(-len(name) % 4) + data + bytes(-len(data) % 4)
+
+
+def made_notes():
+    """Notes with a content in words, and such whose content is malformed, or is not all shown."""
+    listed = lambda kind, data: struct.pack("<II", kind, len(data)) + data + bytes(-len(data) % 8)
+    words = lambda *numbers: struct.pack(f"<{len(numbers)}I", *numbers)
+    features = [listed(0xc0000002, words(n)) for n in (3, 0, 0x80000001, 0xffffffff)]
+    features.append(listed(0xc0008002, words(0xf7)))
+    for system in range(8):
+        yield note_bytes(b"GNU\0", 1, words(system, 3, 2 ** 32 - 1, 0))
+    for data in (b"", words(0, 1, 2), words(0, 1, 2, 3, 4), words(0, 1, 2, 3) + bytes(20)):
+        yield note_bytes(b"GNU\0", 1, data)
+    for data in (b"", b"gold 1.16\0\0\0", b"\0", b"a\\b\x7f\xff \n", b"x" * 32, b"x" * 33, b"gold\0" + b"y" * 40):
+        yield note_bytes(b"GNU\0", 4, data)
+    lists = [b"", *features, features[0] + features[2], b"".join(features), features[0][:12], features[0][:11], features[0] + bytes(3),
+             features[0] + listed(0xc0008002, words(1)), listed(2, b""), 4 * listed(7, b""), 5 * listed(7, b""), listed(9, bytes(24)),
+             listed(9, bytes(25)), listed(9, bytes(40)), listed(0xc0000002, bytes(8)), features[0] + listed(8, bytes(9)),
+             features[0] + listed(8, bytes(8)) + listed(0xc0000002, words(1)), struct.pack("<II", 0xc0000002, 2 ** 32 - 1) + bytes(8)]
+    for data in lists:
+        yield note_bytes(b"GNU\0", 5, data)
+        yield note_bytes(b"GNU", 5, data)
+        yield note_bytes(b"XGNU", 5, data)
+    for name in (b"CORE\0", b"LINUX\0", b"GNU\0", b"COR\0", b"COREX\0", b""):
+        for kind in (*range(10), 0x100, 0x102, 0x200, 0x201, 0x202, 0x203, 0x204, *range(0x400, 0x408), 0x46494c45, 0x53494749, 0x46e62b7f):
+            yield note_bytes(name, kind, bytes(range(kind % 40)))
+
+
+def made_entries():
+    """Dynamic entries with each flag, with all, with none, and with flags that have no word."""
+    for tag in (30, 0x6ffffffb, 24, 0x6ffffef5):
+        for value in (0, *(1 << bit for bit in range(64)), 2 ** 64 - 1, 2 ** 31 - 1, 0x8000001, 0x29, 2 ** 64 - 2 ** 31, 2 ** 63 + 31):
+            yield struct.pack("<QQ", tag, value)
+    yield struct.pack("<QQ", 0, 0)
+
+
+def write_contents(path):
+    """Writes a file with those notes and entries."""
+    notes, entries = b"".join(made_notes()), b"".join(made_entries())
+    at = 64 + len(notes)
+    end = at + len(entries)
+    headers = bytes(64) + section_of(7, 64, len(notes), align=4) + section_of(6, at, len(entries), link=3, align=8, entry=16)
+    headers += section_of(3, end, 8)
+    front = b"\x7fELF\x02\x01\x01".ljust(16, b"\0")
+    front += struct.pack("<HHIQQQIHHHHHH", 1, 62, 1, 0, 0, end + 8, 0, 64, 0, 0, 64, 4, 0)
+    with open(path, "wb") as file:
+        file.write(front + notes + entries + bytes(8) + headers)
+
+
+def check_readelf(counts, program, path):
+    """The words of flags, the ABI tag and the x86 features of a file are those of readelf."""
+    run = lambda *words: subprocess.run(words, capture_output=True, check=False, text=True, errors="replace").stdout
+    table = run(program, "show", "--table", "--only", "dynamic,notes", path)
+    told = run("readelf", "-dnW", path)
+    for flags in re.findall(r"^ 0x\w+ \((?:FLAGS|FLAGS_1)\) +(?:Flags: )?(.*?) *$", told, re.M):
+        counts.check(f"flags of {path}", re.search(rf" FLAGS\w* +[0-9a-f]+ {re.escape(flags)}$", table, re.M) is not None, flags)
+    for system, version in re.findall(r"OS: (\w+), ABI: ([0-9.]+)", told):
+        counts.check(f"ABI of {path}", f" GNU {system} {version}\n" in table, f"{system} {version}")
+    for words in re.findall(r"x86 feature: ([A-Z0-9_, ]+)$", told, re.M):
+        counts.check(f"x86 features of {path}", f"x86 feature: {words}" in table, words)
+    for words in re.findall(r"x86 ISA needed: ([a-z0-9, -]+)$", told, re.M):
+        counts.check(f"x86 levels of {path}", f"x86 ISA: {words.replace('x86-64-', '')}" in table, words)
+
+
 def check_widths(counts, program):
     """S and P rows of /bin/ls have at most 80 columns up to the name."""
     for part, most in (("sections", 80), ("segments", 80)):
@@ -234,6 +378,10 @@ def main():
         files = [name for name in words or objects.SYSTEM if os.path.exists(name)]
         if not words:
             files += objects.made(folder)
+        contents = os.path.join(folder, "contents.o")
+        if not words:
+            write_contents(contents)
+            files.append(contents)
         full = ["--gnu", "--versions"]
         for file in files:
             for way in [[], ["--by-segments"], ["--max-read", "3000"], ["--headers", "2"], ["--names", "3"]]:
@@ -248,6 +396,8 @@ def main():
         compare(counts, rows, program, ["check", *files, os.path.join(folder, "missing")], ["--gnu"])
         compare(counts, rows, program, ["list", "--only", "header", *files, folder], full)
         check_types(counts, program, folder)
+        for file in [name for name in files if not name.startswith(folder) and shutil.which("readelf")]:
+            check_readelf(counts, program, file)
         compare(counts, rows, program, ["traits", "--require", "relro=full,stack=nx,cet=ibt", *files, folder], [])
     if given.all:
         for command, path in objects.machine_files():

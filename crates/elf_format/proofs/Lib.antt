@@ -8,6 +8,8 @@ pub mod HexText
 pub mod LackText
 pub mod Names
 pub mod NoteText
+pub mod FlagLaws
+pub mod ContentLaws
 pub mod PutsSteps
 pub mod TagBits
 pub mod ShortDigits

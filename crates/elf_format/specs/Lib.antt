@@ -4,6 +4,8 @@ pub mod Pieces
 pub mod Rooms
 pub mod Told
 pub mod Notes
+pub mod Flags
+pub mod Properties
 pub mod Rows
 pub mod Tables
 pub mod TableWriters

@@ -8,6 +8,7 @@ mod buffers;
 mod check_rows;
 mod columns;
 mod constant_names;
+mod dynamic_flags;
 mod dynamic_rows;
 mod fields;
 mod hexadecimal;
@@ -20,9 +21,11 @@ mod named;
 mod needed_object_rows;
 mod needed_objects;
 mod needed_version_rows;
+mod note_contents;
 mod note_rows;
 mod objects;
 mod path_rows;
+mod properties;
 mod relocation_names;
 mod relocation_rows;
 mod render;
@@ -41,6 +44,7 @@ pub use buffers::LINES_BUFFER_BYTES;
 pub use check_rows::{put_fault, show_check, show_unnamed};
 pub use columns::{LineBuf, line_of, number_sign, put, put_where};
 pub use constant_names::ConstantNames;
+pub use dynamic_flags::{Words, flag_words};
 pub use dynamic_rows::dynamic_prefix;
 pub use fields::{
     LinePrefix, begin, begin_named, put_closing, put_decimal, put_half, put_hex_field,

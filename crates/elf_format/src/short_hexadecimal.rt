@@ -26,7 +26,7 @@ pub(crate) fn put_short_hex(line: &mut LineBuf, width: usize, sign: &[u8], numbe
 }
 
 /// Returns digits without the zeros before the first other digit; the last digit stays.
-fn without_zeros(digits: &[u8]) -> &[u8]
+pub(crate) fn without_zeros(digits: &[u8]) -> &[u8]
     ensures digits { result.now ≡ without_zeros digits.now }
     ensures short { length result.now ≤ length digits.now }
 {

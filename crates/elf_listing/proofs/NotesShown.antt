@@ -164,7 +164,7 @@ named_as NameCut name shown is = is
 -- the line of a note, by what it shows
 pub note_is : (style : ListingStyle) (index align kind namesz descsz : ℕ) (shown : DisplayedName) (given : FileNote) → kind ≡ given.note.kind → namesz ≡ length given.note.name → descsz ≡ length given.note.descriptor
     → note_shown style.cap given.note ≡ shown
-    → note_row style index align given ≡ placed_line style (place_of_record given.at (padded_size align given.note)) (note_line (note_prefix style.format index kind namesz descsz) shown given.note.descriptor)
+    → note_row style index align given ≡ placed_line style (place_of_record given.at (padded_size align given.note)) (note_line (note_prefix style.format index kind namesz descsz) kind shown given.note.descriptor)
 unfolding note_row
 note_is style index align kind namesz descsz shown given k n d s = rw (k, n, d, s) refl
 

@@ -33,8 +33,8 @@ pub record FetchesLinked {S W : Type 0} {s : Sources S} {w : Sinks W} (old new :
   pub defined : (file : List ℕ) (header : ℕ) → old.src.now.seen.file ≡ Some file → RefersTo file header linked → (symbol == 0) ≡ false
       → IfOk result (λ read. read.is_defined ≡ not (st_shndx file (entry_at file (linked_at file header) SYMBOL_SIZE symbol) == SHN_UNDEF))
 
--- the string of the dynamic entry at an offset; it is empty if the entry refers to none
+-- the string of the dynamic entry at an offset, or what it has in place of one
 pub record FetchesString {S W : Type 0} {s : Sources S} {w : Sinks W} (old new : Listing S W s w) (result : Result NameEnd Fault) (entry : Dyn) (strings : DynamicStringTable) (at : ℕ) : Type 0 where
   pub fetches : ListingReads old new result (name_bytes old.style.cap.bytes)
   pub read : (file : List ℕ) → old.src.now.seen.file ≡ Some file → AreOf file strings → IsDyn file at entry
-      → ToldRead at result new.name (string_told (strings_reported strings file) file old.style.cap.bytes at)
+      → ToldRead at result new.name (string_told (strings_reported strings file) old.style.format file old.style.cap.bytes at)

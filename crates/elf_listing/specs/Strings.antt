@@ -1,8 +1,9 @@
 -- The strings that dynamic entries refer to.
 use Rattle.std.specs.Prelude.{ℕ, ◌≡◌, Bool, true, false, List, Result, Ok, Err, IfOk, IfErr}
-use Rattle.elf_model.specs.Prelude.{DisplayedName, d_tag, d_un, is_string_tag, no_name, shown, strings_at}
+use Rattle.elf_model.specs.Prelude.{DisplayedName, d_tag, d_un, is_string_tag, shown, strings_at, value_name}
 use Rattle.elf_model.specs.declared.causes.Cause.{Cause}
 use Rattle.elf_model.specs.declared.causes.Refusal.{Refusal}
+use Rattle.elf_model.specs.declared.formats.Format.{Format}
 use Rattle.elf_table.specs.Prelude.{HoldsProgramHeaders, IsOfCheck, NameRead, StringTableRange, StringsInBounds, strings_in}
 use Rattle.elf_table.specs.declared.fault.Fault.{Fault as Failure}
 use Rattle.elf_table.specs.declared.names.NameEnd.{NameEnd}
@@ -39,15 +40,16 @@ pub record FindsStrings (strings : DynamicStringTable) (at : ℕ) (result : Resu
   pub within : (size : ℕ) → AreWithin size strings → IfOk result (StringsInBounds size)
   pub refusal : IfErr result IsOfCheck
 
--- the string of the entry at an offset, as shown; the refusal if its string table is refused
-abbrev pub string_told_by : Bool → Result (List ℕ) Refusal → (List ℕ → Result DisplayedName Cause) → Result (Result DisplayedName Cause) Refusal
-string_told_by false table name = Ok no_name
-string_told_by true (Err refusal) name = Err refusal
-string_told_by true (Ok strings) name = Ok (name strings)
+-- the string of the entry at an offset, as shown, or what it has in place of one; the refusal if
+-- its string table is refused
+abbrev pub string_told_by : Bool → (other : Result DisplayedName Cause) → Result (List ℕ) Refusal → (List ℕ → Result DisplayedName Cause) → Result (Result DisplayedName Cause) Refusal
+string_told_by false other table name = Ok other
+string_told_by true other (Err refusal) name = Err refusal
+string_told_by true other (Ok strings) name = Ok (name strings)
 
-abbrev pub string_told : (ℕ → Result (List ℕ) Refusal) → List ℕ → ℕ → ℕ → Result (Result DisplayedName Cause) Refusal
-string_told strings file cap entry_at =
-    string_told_by (is_string_tag (d_tag file entry_at)) (strings entry_at) (λ table. shown table (d_un file entry_at) cap)
+abbrev pub string_told : (ℕ → Result (List ℕ) Refusal) → Format → List ℕ → ℕ → ℕ → Result (Result DisplayedName Cause) Refusal
+string_told strings format file cap entry_at =
+    string_told_by (is_string_tag (d_tag file entry_at)) (value_name file format entry_at) (strings entry_at) (λ table. shown table (d_un file entry_at) cap)
 
 -- that string was read, or its string table is refused
 abbrev pub ToldRead : ℕ → Result NameEnd Failure → List ℕ → Result (Result DisplayedName Cause) Refusal → Type 0

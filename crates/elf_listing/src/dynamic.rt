@@ -51,7 +51,7 @@ impl<'f> TableRows for DynamicEntries<'f> {
     ) -> Result<(), RunFault> {
         let gnu = listing.style.gnu;
         let entry = Dyn::decode(row.whole());
-        let end = listing.read_string(&entry, &self.strings, row.at)?;
+        let end = listing.read_string::<R>(&entry, &self.strings, row.at)?;
         let place = RowPlace::record(row.at, DYNAMIC_BYTES);
         if !listing.is_place_shown::<C>(&place) {
             return Ok(());

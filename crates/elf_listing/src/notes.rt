@@ -124,14 +124,7 @@ impl<S: Source, W: Sink> Listing<'_, '_, '_, '_, S, W> {
         let name = self.name.bytes();
         let mut front = LinePrefix::new();
         note_prefix::<R>(&mut front, index, &row.head);
-        show_note(
-            &mut front,
-            name,
-            is_cut,
-            row.desc,
-            row.head.descsz,
-            self.out,
-        )?;
+        show_note::<R, W>(&mut front, &row.head, name, is_cut, row.desc, self.out)?;
         Ok(())
     }
 }

@@ -25,16 +25,16 @@ abbrev pub separator : (between : List ℕ) → (is_first : Bool) → List ℕ
 separator between is_first = if is_first then [] else between
 
 -- the words of the bits of a number that are set, from the lowest, and then other bits as a number
-unfoldable pub with_words : (between : List ℕ) → (others : ℕ) → (is_first : Bool) → List (List ℕ) → ℕ → List ℕ
-with_words between others is_first [] n =
+unfoldable pub words_from : (between : List ℕ) → (others : ℕ) → (is_first : Bool) → List (List ℕ) → ℕ → List ℕ
+words_from between others is_first [] n =
     if others == 0 then [] else separator between is_first ++ codes "0x" ++ short_hex others
-with_words between others is_first (word ∷ words) n =
-    if n % 2 == 1 then separator between is_first ++ word ++ with_words between others false words (n / 2)
-    else with_words between others is_first words (n / 2)
+words_from between others is_first (word ∷ words) n =
+    if n % 2 == 1 then separator between is_first ++ word ++ words_from between others false words (n / 2)
+    else words_from between others is_first words (n / 2)
 
 -- THE WORDS OF FLAGS, with a text between two of them: a bit above those with a word has none
 unfoldable pub flags_text : (between : List ℕ) → List (List ℕ) → ℕ → List ℕ
-flags_text between words n = with_words between (n - n % 2 ^ length words) true words n
+flags_text between words n = words_from between (n - n % 2 ^ length words) true words n
 
 -- the words of a dynamic entry's value, if it is flags
 unfoldable pub flag_words : (tag value : ℕ) → List ℕ

@@ -111,16 +111,16 @@ linux_core_types =
     ∷ (0x46e62b7f, codes "PRXFPREG") ∷ []
 
 -- two texts are the same
-abbrev pub is_text : (text name : List ℕ) → Bool
-is_text text name = length name == length text && starts_with nat_eq name text
+abbrev pub is_note_name : (text name : List ℕ) → Bool
+is_note_name text name = length name == length text && starts_with nat_eq name text
 
 -- THE CONTENT of a note in words, if it has one: by its name, its type, the first bytes of its
 -- descriptor, and whether it has more
 unfoldable pub note_content : (name : List ℕ) → (kind : ℕ) → (first : List ℕ) → (has_more : Bool) → Option (List ℕ)
 note_content name kind first has_more =
-    if is_text (codes "GNU") name then gnu_content kind first has_more
-    else if is_text (codes "CORE") name then name_of core_types kind
-    else if is_text (codes "LINUX") name then name_of linux_core_types kind
+    if is_note_name (codes "GNU") name then gnu_content kind first has_more
+    else if is_note_name (codes "CORE") name then name_of core_types kind
+    else if is_note_name (codes "LINUX") name then name_of linux_core_types kind
     else None
 
 -- a descriptor in a table: its content, or otherwise its digits; a name that is cut says nothing

@@ -68,8 +68,8 @@ pub use Rattle.elf_model.specs.LibraryFiles.{Accepted, DF_1_NODEFLIB, LibraryFil
 unfoldable pub use Rattle.elf_model.specs.LibraryFiles.{flags_1_by_segments, is_program_file, library_file, library_links}
 unfoldable pub use Rattle.elf_model.specs.LineFronts.{dynamic_prefix, note_prefix, relocation_prefix, section_prefix, symbol_prefix}
 pub use Rattle.elf_model.specs.FlagWords.{separator, value_text}
-unfoldable pub use Rattle.elf_model.specs.FlagWords.{dynamic_flags, dynamic_flags_1, flag_words, flags_text, with_words}
-pub use Rattle.elf_model.specs.NoteLines.{GNU_PROPERTY_X86_ISA_1_NEEDED, NT_GNU_ABI_TAG, NT_GNU_GOLD_VERSION, SHOWN_DESCRIPTOR, abi_version, descriptor_mark, descriptor_text, is_text, note_line, property_words}
+unfoldable pub use Rattle.elf_model.specs.FlagWords.{dynamic_flags, dynamic_flags_1, flag_words, flags_text, words_from}
+pub use Rattle.elf_model.specs.NoteLines.{GNU_PROPERTY_X86_ISA_1_NEEDED, NT_GNU_ABI_TAG, NT_GNU_GOLD_VERSION, SHOWN_DESCRIPTOR, abi_version, descriptor_mark, descriptor_text, is_note_name, note_line, property_words}
 unfoldable pub use Rattle.elf_model.specs.NoteLines.{abi_systems, abi_tag, core_types, descriptor_cell, descriptor_digits, gnu_content, line_described, linux_core_types, note_content, properties_text, property_text, with_properties, x86_features, x86_levels}
 pub use Rattle.elf_model.specs.Lines.{cut_mark, name_member, named_line}
 pub use Rattle.elf_model.specs.LineFronts.{names_of_types, type_width}

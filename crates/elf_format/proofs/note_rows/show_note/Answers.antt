@@ -1,17 +1,18 @@
--- The encoder's digits are the bytes of the descriptor in hexadecimal, and the tail is the text
--- after the name.
-use Rattle.std.proofs.Common.{◌∙◌, ap, arith}
-use Rattle.elf_model.specs.Lines.{hex_bytes}
+-- The text after the name is the content, or the digits.
 use Rattle.elf_format.specs.Named.{shown_as}
-use Rattle.elf_format.proofs.HexText.{encoded}
-use Rattle.elf_format.proofs.NoteText.{note-tailed}
+use Rattle.elf_format.proofs.NoteText.{described_by}
 use Rattle.elf_format.proofs.note_rows.show_note.Goals as goal
 
-pub returns-clause-puts : goal.returns-clause-puts
-returns-clause-puts g c = λ descriptor known.
+pub returns-in-Some-clause-puts : goal.returns-in-Some-clause-puts
+returns-in-Some-clause-puts g c = λ descriptor known.
     let front = c.args.front.now in
-    let written = rw c.unwrap.ensures at c.encode_to_slice.ensures.written in
-    let digits = written ∙ encoded c.args.first_bytes.now (λ i. omega (arith, c.type_inv.first_bytes i)) ∙ ap hex_bytes known.first_is in
-    let tail = c.deref.ensures.0 ∙ c.note_end-tail.ensures.items in
-    let same = note-tailed front.format front.key.now front.line.items (shown_as c.args.is_cut c.args.name.now) descriptor in
-    rw same (rw (tail, digits, known.size_is) at c.show_tailed.ensures.puts)
+    let content = rw (← c.requires.format) at c.in-Some.ensures.content in
+    rw (described_by front.format front.key.now front.line.items c.args.head.now.kind c.args.head.now.descsz (shown_as c.args.is_cut c.args.name.now) c.args.first_bytes.now descriptor _ known.first_is known.size_is content)
+    c.show_content.ensures.puts
+
+pub returns-in-None-clause-puts : goal.returns-in-None-clause-puts
+returns-in-None-clause-puts g c = λ descriptor known.
+    let front = c.args.front.now in
+    let content = rw (← c.requires.format) at c.in-None.ensures.content in
+    rw (described_by front.format front.key.now front.line.items c.args.head.now.kind c.args.head.now.descsz (shown_as c.args.is_cut c.args.name.now) c.args.first_bytes.now descriptor _ known.first_is known.size_is content)
+    c.show_digits.ensures.puts

@@ -25,7 +25,7 @@ pub returns-clause-lists : goal.returns-clause-lists
 returns-clause-lists g c = ListingCalls-named _ _ _ _ _ _ _ _ (omega arith) c.in_ok-end.ensures.fetches c.named_line.ensures (λ file held at of_kind row.
     let decoded = c.decode-entry.ensures.stands file c.args.row.now.at (c.whole.ensures ∙ row.bytes) in
     let here : c.args.row.now.at ≡ dynamic_at at c.args.row.now.index = omega (arith, row.here) in
-    let read = told_shown c.args.row.now.at _ _ (string_told (strings_reported c.args.self.now.strings file) file c.args.listing.now.style.cap.bytes c.args.row.now.at) (c.in_ok-end.ensures.read file held of_kind decoded) in
+    let read = told_shown c.args.row.now.at _ _ (string_told (strings_reported c.args.self.now.strings file) c.args.listing.now.style.format file c.args.listing.now.style.cap.bytes c.args.row.now.at) (c.in_ok-end.ensures.read file held of_kind decoded) in
     let choice = dynamic_choice (style_of c.args.listing.now.style) c.args.row.now.at in
     let placed = placed-as c.args.listing.now.style _ _ (place_of_dynamic c.args.row.now.at) _ true c.in_ok-end.ensures.fetches.0.same_style c.record-place.ensures c.is_place_shown.ensures c.if-not-is_place_shown.false in
     let front = rw c.requires.format at (c.dynamic_prefix.ensures.front file c.args.row.now.at decoded) in
@@ -39,7 +39,7 @@ pub returns-then-not-is_place_shown-clause-lists : goal.returns-then-not-is_plac
 returns-then-not-is_place_shown-clause-lists g c = ListingCalls-hidden _ _ _ _ _ _ (omega arith) c.in_ok-end.ensures.fetches (λ file held at of_kind row.
     let decoded = c.decode-entry.ensures.stands file c.args.row.now.at (c.whole.ensures ∙ row.bytes) in
     let here : c.args.row.now.at ≡ dynamic_at at c.args.row.now.index = omega (arith, row.here) in
-    let read = told_shown c.args.row.now.at _ _ (string_told (strings_reported c.args.self.now.strings file) file c.args.listing.now.style.cap.bytes c.args.row.now.at) (c.in_ok-end.ensures.read file held of_kind decoded) in
+    let read = told_shown c.args.row.now.at _ _ (string_told (strings_reported c.args.self.now.strings file) c.args.listing.now.style.format file c.args.listing.now.style.cap.bytes c.args.row.now.at) (c.in_ok-end.ensures.read file held of_kind decoded) in
     let choice = dynamic_choice (style_of c.args.listing.now.style) c.args.row.now.at in
     let front = dynamic_prefix c.args.listing.now.style.format c.args.listing.now.style.gnu file c.args.row.now.at c.args.row.now.index in
     let hidden = placed-as c.args.listing.now.style _ _ (place_of_dynamic c.args.row.now.at) _ false c.in_ok-end.ensures.fetches.0.same_style c.record-place.ensures c.is_place_shown.ensures c.if-not-is_place_shown.true in

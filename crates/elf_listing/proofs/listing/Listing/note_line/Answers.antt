@@ -28,7 +28,7 @@ returns-in_err-show_note g c = record {
       ∙ ap (shown_as c.is_cut-is_cut.result) (sym c.bytes-name.ensures.value) in
       let puts = c.in_err-show_note.ensures.puts given.note.descriptor (record { first_is = is.first_bytes; size_is = is.descsz }) in
       let line = note_is (style_of c.args.self.now.style) c.args.index (align_of c.args.is_wide) _ _ _ _ given is.kind is.namesz is.descsz shown
-      ∙ ap (λ f. placed_line (style_of c.args.self.now.style) here (note_line f (shown_as c.is_cut-is_cut.result c.bytes-name.result.now) given.note.descriptor)) (sym front)
+      ∙ ap (λ f. placed_line (style_of c.args.self.now.style) here (note_line f c.args.row.now.head.kind (shown_as c.is_cut-is_cut.result c.bytes-name.result.now) given.note.descriptor)) (sym front)
       ∙ line-shown (style_of c.args.self.now.style) here _ placed in
       rw (p.1, p.2, line) (WroteUntilStop-line _ puts.0);
 }
@@ -46,7 +46,7 @@ returns g c = record {
       ∙ ap (shown_as c.is_cut-is_cut.result) (sym c.bytes-name.ensures.value) in
       let puts = c.in_ok-show_note.ensures.puts given.note.descriptor (record { first_is = is.first_bytes; size_is = is.descsz }) in
       let line = note_is (style_of c.args.self.now.style) c.args.index (align_of c.args.is_wide) _ _ _ _ given is.kind is.namesz is.descsz shown
-      ∙ ap (λ f. placed_line (style_of c.args.self.now.style) here (note_line f (shown_as c.is_cut-is_cut.result c.bytes-name.result.now) given.note.descriptor)) (sym front)
+      ∙ ap (λ f. placed_line (style_of c.args.self.now.style) here (note_line f c.args.row.now.head.kind (shown_as c.is_cut-is_cut.result c.bytes-name.result.now) given.note.descriptor)) (sym front)
       ∙ line-shown (style_of c.args.self.now.style) here _ placed in
       rw line (Whole-line _ puts.0);
 }

@@ -12,7 +12,7 @@ returns-then-not-tells_of_string g c = record {
   fetches = search rules;
   read = λ file held of decoded.
       let none : is_string_tag (d_tag file c.args.at) ≡ false = let is = c.tells_of_string.ensures file c.args.at decoded in cc in
-      rw (reported_none (strings_reported c.args.strings.now file) file c.args.self.now.style.cap.bytes c.args.at none) (ap (λ name. Ok (Whole name)) (sym c.clear.ensures));
+      rw (reported_none (strings_reported c.args.strings.now file) c.args.self.now.style.format file c.args.self.now.style.cap.bytes c.args.at none) (ap (λ name. Ok (Whole name)) (sym (rw c.requires.format at (c.put_value_text.ensures file c.args.at decoded))));
 }
 
 pub returns-in_err-names : goal.returns-in_err-names
@@ -21,7 +21,7 @@ returns-in_err-names g c = record {
   read = λ file held of decoded.
       let p = err_from_is_err_and c.from_residual.result c.from_residual.ensures.1 in
       let tells : is_string_tag (d_tag file c.args.at) ≡ true = let is = c.tells_of_string.ensures file c.args.at decoded in cc in
-      rw (p.1, p.2) (told_refused (strings_reported c.args.strings.now file) file c.args.self.now.name c.args.self.now.style.cap.bytes c.args.at _ _ refl tells (c.in_err-names.ensures.told file of));
+      rw (p.1, p.2) (told_refused (strings_reported c.args.strings.now file) c.args.self.now.style.format file c.args.self.now.name c.args.self.now.style.cap.bytes c.args.at _ _ refl tells (c.in_err-names.ensures.told file of));
 }
 
 pub returns : goal.returns
@@ -29,8 +29,8 @@ returns g c = record {
   fetches = search rules;
   read = λ file held of decoded.
       let tells : is_string_tag (d_tag file c.args.at) ≡ true = let is = c.tells_of_string.ensures file c.args.at decoded in cc in
-      told_read (strings_reported c.args.strings.now file) file _ c.args.self.now.style.cap.bytes c.args.at _ _ _ _ refl tells (c.in_ok-names.ensures.told file of) decoded.d_un (c.read_name.ensures.read file held);
+      told_read (strings_reported c.args.strings.now file) c.args.self.now.style.format file _ c.args.self.now.style.cap.bytes c.args.at _ _ _ _ refl tells (c.in_ok-names.ensures.told file of) decoded.d_un (c.read_name.ensures.read file held);
 }
 
 pub read_name-requires : goal.read_name-requires
-read_name-requires g c = c.in_ok-names.ensures.within c.args.self.now.src.now.seen.size c.requires
+read_name-requires g c = c.in_ok-names.ensures.within c.args.self.now.src.now.seen.size c.requires.within
