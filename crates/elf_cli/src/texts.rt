@@ -40,6 +40,19 @@ Example: elfsee apply example.o 1 at:1=0x401000 def:main=0x401200
 Output: the section's bytes, or a line
   !  place cause";
 
+pub(crate) const COPIED: &str = "\
+Writes the bytes that the section or the segment has in the file, as they are:
+a compressed section stays compressed. A section of the type NOBITS or NULL has
+none. SECTION is an index, or the first section of that name; a name begins with
+a dot or a letter. If there is no section of that name, the status is 1.
+
+Examples:
+  elfsee bytes /lib/libexample.so .comment
+  elfsee bytes --segment 2 /lib/libexample.so
+
+Output: the bytes, or a line
+  !  place cause";
+
 pub(crate) const FOUND: &str = "\
 The answer is the first match in the file's SysV hash chain; a loader may
 choose differently.
