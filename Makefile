@@ -43,7 +43,7 @@ INSTALL_DATA = $(INSTALL) -m 644
 LDCONFIG = ldconfig
 LOADER_LEARNS = if [ -z '$(DESTDIR)' ] && [ "$$(id -u)" = 0 ]; then $(LDCONFIG) || true; fi
 
-# What pkg-config gives; elfsee_version and `elfsee version` give the same. tests/one_truth compares them.
+# What pkg-config gives; elfsee_version and `elfsee version` give the same. tests/gate/one_truth.py compares them.
 library_version = 0.1.0
 
 .PHONY: all library check install install-program install-library install-strip uninstall

@@ -4,7 +4,7 @@
 #     elfsee show FILE | LC_ALL=C awk -f examples/names.awk
 #     elfsee show --gnu FILE | LC_ALL=C awk -v kind=V -f examples/names.awk
 #
-# It runs in any POSIX awk. docs/FORMAT.md describes the columns; tests/format runs this.
+# It runs in any POSIX awk. docs/FORMAT.md describes the columns; tests/machine/format.py runs this.
 # How much wider than its usual width a field is.
 function grown(field, width) {
     return length(field) > width ? length(field) - width : 0

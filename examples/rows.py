@@ -1,7 +1,7 @@
 """Reads a listing, as bytes, into rows: a letter and fields, numbers as numbers, texts as texts, names as
 bytes with whether they are whole. A line of `check` is its state, its place and its cause, which are None if
 the file is not refused, and its path; the last one may be the word `unnamed` and a number. docs/FORMAT.md describes
-the columns; tests/format runs this module."""
+the columns; tests/machine/format.py runs this module."""
 
 import re
 

@@ -1,6 +1,6 @@
 /* Prints the layout of the structs of elfsee.h: a line `STRUCT FIELD OFFSET SIZE` for each field,
  * and before those of a struct the line `STRUCT . 0 SIZE`, with the size of the whole. Those who call the
- * library from other languages compare theirs with it; tests/library compares the crate's. */
+ * library from other languages compare theirs with it; tests/gate/library.py compares the crate's. */
 #include "elfsee.h"
 
 #include <stdio.h>

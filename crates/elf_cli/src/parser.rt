@@ -34,7 +34,7 @@ pub fn parse_arguments<'a, S: AsStr>(
     }
 }
 
-/// Returns whether the arguments are the option that other programs have for their version.
+/// Returns `true` if the only argument is `--version` or `-V`.
 fn is_version<S: AsStr>(words: &[S]) -> bool
     ensures given { result ≡ true → spelled (map S.text words.now) ≡ codes "version" ∷ [] }
     ensures other { result ≡ false → spelled (map S.text words.now) ≡ map S.text words.now }

@@ -111,7 +111,7 @@ used with --undefined.
 
 --at PLACE shows only the rows at this byte of the file, --address ADDR only
 those of this address in memory; both numbers are decimal, or hexadecimal after
-0x. The offset of a line ! is that of its row.
+0x. --at with the offset of a line ! shows what contains the malformed row.
 
 Examples:
   elfsee show --only symbols /bin/ls

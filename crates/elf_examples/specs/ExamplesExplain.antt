@@ -1,6 +1,6 @@
 -- Worked examples of what a layout lacks if the entry of a call, at 0x48, is refused.
 use Rattle.std.specs.Prelude.{◌≡◌, ℕ, List, [], ◌∷◌, ◌++◌, Option, None, Some, Ok, codes, replicate}
-use Rattle.elf_model.specs.Prelude.{Cut, Layout, empty_layout, explained, explanation, little, missing, missing_line, one_call, placed_layout, refused_in, resolved_symbol_name, two_relocation_sections, with_bytes, with_symbol}
+use Rattle.elf_model.specs.Prelude.{Compared, Cut, Layout, empty_layout, explained, explanation, little, missing, missing_line, one_call, overflow_line, placed_layout, refused_in, resolved_symbol_name, two_relocation_sections, why_refused, with_bytes, with_symbol}
 use Rattle.elf_model.specs.declared.causes.Cause.{Cause}
 use Rattle.elf_model.specs.declared.missing.LayoutAddress.{LayoutAddress}
 use Rattle.elf_model.specs.declared.relocation_types.RelocationBase.TheVariants.{Linkage, Table, Thread}
@@ -67,6 +67,41 @@ TellsOfCall =
     × ExplainsAs (with_symbol 0 (little 4 0)) empty_layout Unplaced (codes "elfsee: PLT32: at:1=ADDR would help\n")
     × ExplainsAs (with_symbol 0 (little 4 9)) placed_layout Undefined []
     × ExplainsAs one_call placed_layout Overflow []
+
+-- what is printed if the entry of the call was refused since its value does not fit
+abbrev TellsOverflow : List ℕ → Layout → List ℕ → Type 0
+TellsOverflow file layout line = why_refused file 1 layout (record { at = 0x48; cause = Overflow }) ≡ line
+
+-- the section at 0x1000
+abbrev far_layout : ℕ → Layout
+far_layout linkage = record {
+  lookup = Compared;
+  sections = (1, 0x1000) ∷ [];
+  definitions = [];
+  linkage = (codes "f", linkage) ∷ [];
+  table = [];
+  thread = [];
+}
+
+-- a value above the range, and one below; one that fits, or that is not there; other causes are
+-- explained as before
+abbrev pub TellsOfOverflow : Type 0
+TellsOfOverflow =
+    TellsOverflow one_call (far_layout 0x80001005) (codes "elfsee: section 1, offset 0x1: relocation truncated to fit: R_X86_64_PLT32 against symbol `f': value 0x80000000\n")
+    × TellsOverflow one_call (far_layout 0xffffffff00000000) (codes "elfsee: section 1, offset 0x1: relocation truncated to fit: R_X86_64_PLT32 against symbol `f': value 0xfffffffeffffeffb\n")
+    × TellsOverflow one_call (far_layout 0x2000) []
+    × TellsOverflow one_call placed_layout []
+    × (why_refused one_call 1 placed_layout (record { at = 0x48; cause = Undefined }) ≡ codes "elfsee: PLT32 to f: plt:f=ADDR or def:f=ADDR would help\n")
+
+-- a symbol without a name is told by its index, and symbol 0 is not
+abbrev pub TellsOfUnnamedOverflow : Type 0
+TellsOfUnnamedOverflow =
+    (overflow_line (record { overflowed = record { kind = 10; symbol = 3; section = 2; offset = 0x20; value = 0x100000000 }; name = Whole [] })
+    ≡ codes "elfsee: section 2, offset 0x20: relocation truncated to fit: R_X86_64_32 against symbol 3: value 0x100000000\n")
+    × (overflow_line (record { overflowed = record { kind = 14; symbol = 0; section = 2; offset = 0; value = 0x100 }; name = Whole [] })
+    ≡ codes "elfsee: section 2, offset 0x0: relocation truncated to fit: R_X86_64_8: value 0x100\n")
+    × (overflow_line (record { overflowed = record { kind = 12; symbol = 1; section = 2; offset = 0; value = 0x10000 }; name = Cut (codes "f") })
+    ≡ codes "elfsee: section 2, offset 0x0: relocation truncated to fit: R_X86_64_16 against symbol `f\\+': value 0x10000\n")
 
 -- an entry of the offset from the thread pointer has an item of its own
 abbrev pub ThreadItemHelps : Type 0

@@ -33,8 +33,8 @@ FixedKinds =
     × TraitsAre (typed 2 (without_interpreter program_with_traits)) (codes "T static full    nx    w^x   fixed ibt+shstk canary fortify -       p\n")
     × TraitsAre (typed 4 program_with_traits) (codes "T core   full    -     w^x   fixed ibt+shstk canary fortify -       p\n")
     × TraitsAre (typed 0xfe00 program_with_traits) (codes "T other  full    nx    w^x   fixed ibt+shstk canary fortify -       p\n")
-    × TraitsAre one_symbol_table (codes "T object -       -     -     -     -         -      -       -       p\n")
-    × TraitsCost one_symbol_table 64
+    × TraitsAre one_symbol_table (codes "T object -       exec  -     -     -         -      -       -       p\n")
+    × TraitsCost one_symbol_table 512
     × TraitsAre one_load (codes "T static none    exec  w^x   fixed -         -      -       -       p\n")
     × TraitsCost one_load 120
 
@@ -71,6 +71,7 @@ TraitRefusalsInOrder =
     TraitsAre (with_bytes 0x198 (little 4 0) (with_bytes 0x22c (little 4 0xffffffff) program_with_traits)) (codes "C refused      0000000000000238 hash-shape p\n")
     × TraitsAre (with_bytes 0x22c (little 4 0xffffffff) (with_bytes 0x1e0 (little 4 32) program_with_traits)) (codes "C refused      0000000000000228 note-cut p\n")
 
--- the upper bound of traits in 120 bytes with one header: five symbols have room in them
+-- the upper bound of traits in 120 bytes with one header: five symbols have room in them, and of a
+-- relocatable file the name of one section is compared
 abbrev pub TraitsCeiling : Type 0
-TraitsCeiling = traits_ceiling 120 1 ≡ 64 + (56 + 120) + 4 * 120 + 16 + 5 * (24 + 64)
+TraitsCeiling = traits_ceiling 120 1 ≡ 64 + (56 + 120) + 4 * 120 + 16 + 5 * (24 + 64) + (64 + 1 * (64 + 64))

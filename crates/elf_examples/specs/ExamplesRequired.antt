@@ -13,7 +13,8 @@ use Rattle.elf_model.specs.declared.traits.TraitColumn.TheVariants as column
 abbrev weak : ProgramKind → Hardening
 weak its_kind = record {
   kind = its_kind;
-  segments = Some (record { relro = relro.Partial; stack_executable = true; pages_writable = false; text_patched = false });
+  segments = Some (record { relro = relro.Partial; pages_writable = false; text_patched = false });
+  stack = Some true;
   ibt = false;
   shstk = false;
   canary = false;
@@ -50,7 +51,7 @@ RequiredRows =
 -- nothing is required of files that are neither programs nor libraries
 abbrev pub NothingRequired : Type 0
 NothingRequired =
-    (traits_text Columns (weak kind.Core) (full ∷ []) (codes "p") ≡ codes "T core   partial -     w^x   fixed -         -      fortify rpath   p\n")
+    (traits_text Columns (weak kind.Core) (full ∷ []) (codes "p") ≡ codes "T core   partial exec  w^x   fixed -         -      fortify rpath   p\n")
     × (traits_status (weak kind.Core) (full ∷ []) ≡ 0)
     × (traits_status (weak kind.Object) (full ∷ []) ≡ 0)
     × (traits_status (weak kind.Other) (full ∷ []) ≡ 0)
@@ -81,7 +82,8 @@ AlternativesAreWords =
 abbrev mixed : Hardening
 mixed = record {
   kind = kind.Exec;
-  segments = Some (record { relro = relro.Absent; stack_executable = false; pages_writable = true; text_patched = true });
+  segments = Some (record { relro = relro.Absent; pages_writable = true; text_patched = true });
+  stack = Some false;
   ibt = true;
   shstk = false;
   canary = true;

@@ -3,6 +3,7 @@ pub mod ListedArchives
 pub mod ListedBsdNames
 pub mod ListedBudgets
 pub mod ListedChecks
+pub mod ListedContents
 pub mod ListedCosts
 pub mod ListedHeaders
 pub mod ListedMembers
@@ -31,6 +32,7 @@ pub mod ExamplesNotes
 pub mod ExamplesProperties
 pub mod ExamplesRequired
 pub mod ExamplesSegments
+pub mod ExamplesStack
 pub mod ExamplesSymbols
 pub mod ListedDynamic
 pub mod ListedNotes

@@ -53,9 +53,9 @@ ObjectsOfLines =
     ≡ codes "{\"line\":\"R\",\"table\":3,\"offset\":5135868584551137600,\"type\":1263159624,\"symbol\":1330531660,\"addend\":6293311349960364368")
     × ((dynamic_prefix Object false (numbers_from 0 128) 0x40 5).text
     ≡ codes "{\"line\":\"D\",\"index\":5,\"tag\":5135868584551137600,\"value\":5714589967255750984")
-    × (note_line (note_prefix Object 1 3 4 40) (Whole (codes "GNU")) (numbers_from 0 40)
+    × (note_line (note_prefix Object 1 3 4 40) 3 (Whole (codes "GNU")) (numbers_from 0 40)
     ≡ codes "{\"line\":\"N\",\"index\":1,\"type\":3,\"namesz\":4,\"descsz\":40,\"name\":\"GNU\",\"descriptor\":\"000102030405060708090a0b0c0d0e0f101112131415161718191a1b1c1d1e1f\"}\n")
-    × (note_line (note_prefix Object 1 3 4 1) (Cut (codes "G")) (5 ∷ [])
+    × (note_line (note_prefix Object 1 3 4 1) 3 (Cut (codes "G")) (5 ∷ [])
     ≡ codes "{\"line\":\"N\",\"index\":1,\"type\":3,\"namesz\":4,\"descsz\":1,\"name\":\"G\",\"cut\":true,\"descriptor\":\"05\"}\n")
     × (named_line (version_prefix Object Definition 4 2 1 0x0d696910) (Whole (codes "V1"))
     ≡ codes "{\"line\":\"V\",\"index\":4,\"kind\":\"DEF\",\"number\":2,\"flags\":1,\"hash\":225011984,\"name\":\"V1\"}\n")

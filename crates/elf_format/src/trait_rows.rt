@@ -63,7 +63,7 @@ fn traits_row<R: Render>(front: &mut LinePrefix, traits: Hardening)
     let line = &mut front.line;
     put_trait::<R>(line, b"kind", 6, file_kind_name(traits.kind));
     put_trait::<R>(line, b"relro", 7, relro_word(traits.segments));
-    put_trait::<R>(line, b"stack", 5, stack_word(traits.kind, traits.segments));
+    put_trait::<R>(line, b"stack", 5, stack_word(traits.stack));
     put_trait::<R>(line, b"pages", 5, pages_word(traits.segments));
     put_trait::<R>(line, b"text", 5, text_word(traits.segments));
     put_trait::<R>(line, b"cet", 9, cet_word(traits.ibt, traits.shstk));
@@ -108,7 +108,7 @@ pub fn column_word(traits: Hardening, column: TraitColumn) -> &'static str
     match column {
         TraitColumn::Kind => file_kind_name(traits.kind),
         TraitColumn::Relro => relro_word(traits.segments),
-        TraitColumn::Stack => stack_word(traits.kind, traits.segments),
+        TraitColumn::Stack => stack_word(traits.stack),
         TraitColumn::Pages => pages_word(traits.segments),
         TraitColumn::Text => text_word(traits.segments),
         TraitColumn::Cet => cet_word(traits.ibt, traits.shstk),
@@ -169,13 +169,13 @@ fn relro_word(segments: Option<SegmentTraits>) -> &'static str
 }
 
 #[tactic(auto, unfolding(elf_model::specs::TraitWords::stack_word))]
-fn stack_word(kind: ProgramKind, segments: Option<SegmentTraits>) -> &'static str
-    ensures word { result.now ≡ stack_word kind segments }
+fn stack_word(stack: Option<bool>) -> &'static str
+    ensures word { result.now ≡ stack_word stack }
     ensures short { length result.now ≤ 4 }
 {
-    match (kind, segments) {
-        (ProgramKind::Core, _) | (_, None) => "-",
-        (_, Some(told)) => { if told.stack_executable { "exec" } else { "nx" } }
+    match stack {
+        None => "-",
+        Some(executable) => { if executable { "exec" } else { "nx" } }
     }
 }
 

@@ -228,8 +228,8 @@ fn name_at<'a>(items: &[LentName<'a>], i: usize) -> &'a [u8]
     items[i].name
 }
 
-/// Returns `true` if bytes are a valid name in a layout.
-pub(crate) fn is_name(name: &[u8]) -> bool
+/// Returns `true` if bytes are a valid name in a layout: 1 to 255 bytes, none a NUL.
+pub fn is_name(name: &[u8]) -> bool
     ensures { MatchBool result (IsName name.now) (IsName name.now → ⊥) }
 {
     !name.is_empty() && name.len() <= ITEM_NAME_BYTES && name_end(name) == name.len()

@@ -17,7 +17,7 @@ mod texts;
 pub use addresses::{Addresses, Among, BorrowedLayout};
 pub use items::{Items, LayoutFileFault};
 pub use layout::{Item, Layout, LayoutFault};
-pub use lent::{LentName, LentSection, SortedNames, SortedSections};
+pub use lent::{LentName, LentSection, SortedNames, SortedSections, is_name};
 pub use named::{ITEM_NAME_BYTES, NamedAddress};
 pub use spelled::item;
 pub use texts::{TextEnd, read_text};

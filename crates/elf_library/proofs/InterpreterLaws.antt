@@ -4,7 +4,7 @@ use Rattle.std.proofs.Common.{◌≡◌, ℕ, ◌+◌, ◌-◌, ◌*◌, ◌<◌
 use Rattle.elf_model.specs.Prelude.{Check, e_shnum, e_type, field, first_refusal, header_checks, interpreter_at, interpreter_by_segments, interpreter_of, is_interpreter, is_outside, load_checks, loaded_interpreter, p_filesz, p_offset, refuse, segment_at, slice, whole_name, without_sections}
 use Rattle.elf_model.specs.Interpreters.{interpreter_checks}
 use Rattle.elf_model.specs.Links.{machine_in}
-use Rattle.elf_model.specs.TraitNumbers.{ET_DYN, ET_EXEC}
+use Rattle.elf_model.specs.TraitNumbers.{is_linked_type}
 use Rattle.elf_model.specs.declared.causes.Cause.TheVariants.{NameUnended, TableOutside}
 use Rattle.elf_model.specs.declared.causes.Refusal.{Refusal}
 use Rattle.elf_model.proofs.Slices.{field-slice}
@@ -140,7 +140,7 @@ interpreter_masked {a} {b} {c} {d} headers path result hide show did = record {
 -- A FILE CAN BE THE INTERPRETER of a program of a machine, by its first bytes
 abbrev fits : (machine : ℕ) → Option ℕ → ℕ → Bool
 fits machine None kind = false
-fits machine (Some found) kind = found == machine && (kind == ET_EXEC || kind == ET_DYN)
+fits machine (Some found) kind = found == machine && is_linked_type kind
 
 module _ (machine : ℕ) (file : List ℕ) where
   fits_with : (found : Option ℕ) → machine_in file ≡ found → fits machine found (e_type file) ≡ is_interpreter machine file

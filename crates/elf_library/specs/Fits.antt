@@ -3,7 +3,7 @@ use Rattle.std.specs.Prelude.{ℕ, ◌≡◌, ◌⊎◌, ◌==◌, ◌||◌, not
 use Rattle.elf_model.specs.Bytes.{field}
 use Rattle.elf_model.specs.Checks.{Check, refuse}
 use Rattle.elf_model.specs.Prelude.{Accepted, IsBudgetRefusal, LibraryFile, RefusedAt, Skipped, e_type}
-use Rattle.elf_model.specs.TraitNumbers.{ET_DYN, ET_EXEC}
+use Rattle.elf_model.specs.TraitNumbers.{is_linked_type}
 use Rattle.elf_model.specs.declared.causes.Cause.TheVariants.{BadVersion, Short, Unsupported}
 use Rattle.elf_library.specs.declared.candidates.SearchEnd.{SearchEnd}
 use Rattle.elf_library.specs.declared.candidates.SearchEnd.TheVariants as stop
@@ -22,7 +22,7 @@ fitted fit.Accepted = Accepted
 abbrev pub type_checks : List ℕ → List Check
 type_checks file =
     refuse (not (field file 20 4 == 1)) 20 BadVersion
-    ∷ refuse (not (e_type file == ET_EXEC || e_type file == ET_DYN)) 16 Unsupported
+    ∷ refuse (not (is_linked_type (e_type file))) 16 Unsupported
     ∷ []
 
 -- it is what is given; or a read failed, or the budget is used up

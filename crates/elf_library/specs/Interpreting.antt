@@ -2,7 +2,7 @@
 use Rattle.std.specs.Prelude.{ℕ, ◌≡◌, ◌+◌, ◌-◌, ◌==◌, ◌&&◌, ◌||◌, nat_lt, not, Bool, true, false, List, [], ◌∷◌, Option, None, Some, Result, Ok, Err}
 use Rattle.elf_model.specs.Prelude.{IsBudgetRefusal, e_type, field, first_refusal, is_outside, refuse}
 use Rattle.elf_model.specs.Interpreters.{INTERPRETER_BYTES}
-use Rattle.elf_model.specs.TraitNumbers.{ET_DYN, ET_EXEC}
+use Rattle.elf_model.specs.TraitNumbers.{is_linked_type}
 use Rattle.elf_model.specs.declared.causes.Cause.TheVariants.{NameUnended, TableOutside}
 use Rattle.elf_model.specs.declared.causes.Refusal.{Refusal}
 use Rattle.elf_table.specs.Prelude.{StringTableRange, checked, strings}
@@ -41,7 +41,7 @@ end_refusal file path place = first_refusal (refuse (not (field file (path.at + 
 abbrev pub interprets : (machine : ℕ) → List ℕ → Bool
 interprets machine front = elim (machine_by front) [
   | None ↦ false
-  | Some found ↦ found == machine && (e_type front == ET_EXEC || e_type front == ET_DYN)
+  | Some found ↦ found == machine && is_linked_type (e_type front)
 ]
 
 -- a file can be it or not; or a read failed, or the budget is used up

@@ -1,14 +1,9 @@
 -- Which of many files have needs that are listed: those that a loader links.
-use Rattle.std.specs.Prelude.{ℕ, ◌≡◌, ◌==◌, ◌&&◌, ◌||◌, ◌++◌, is_some, Bool, List, None, Some, Result, Ok, Err}
-use Rattle.elf_model.specs.Prelude.{IsBudgetRefusal, dynamic_segment_index, e_type, first_refusal, header_checks, load_checks, without_sections}
-use Rattle.elf_model.specs.TraitNumbers.{ET_DYN, ET_EXEC}
+use Rattle.std.specs.Prelude.{ℕ, ◌≡◌, ◌&&◌, ◌++◌, is_some, Bool, List, None, Some, Result, Ok, Err}
+use Rattle.elf_model.specs.Prelude.{IsBudgetRefusal, dynamic_segment_index, e_type, first_refusal, header_checks, is_linked_type, load_checks, without_sections}
 use Rattle.elf_model.specs.declared.causes.Refusal.{Refusal}
 use Rattle.elf_table.specs.declared.fault.Fault.{Fault}
 use Rattle.elf_table.specs.declared.fault.Fault.TheVariants.{Refused, Source}
-
--- a loader links files of a type
-abbrev pub is_linked_type : ℕ → Bool
-is_linked_type kind = kind == ET_EXEC || kind == ET_DYN
 
 -- it links a file: its type is EXEC or DYN, and it has a segment of dynamic entries
 abbrev pub is_linked : List ℕ → Bool

@@ -10,8 +10,8 @@ ghost use Rattle.elf_library.specs.Sought.{ReturnsWhole};
 use crate::link_reader::{FRONT_BYTES, byte_at, machine_by};
 use crate::reference::whole_name;
 use elf_hash::load_by_segments;
-use elf_record::numbers::{ET_DYN, ET_EXEC, PT_INTERP};
-use elf_record::{Cause, Phdr, u16_at};
+use elf_record::numbers::PT_INTERP;
+use elf_record::{Cause, Phdr, is_linked_type, u16_at};
 use elf_source::{Counted, Source};
 use elf_table::{
     ExecutionView, Fault, HeaderStore, NameBuf, Names, fill, is_out_of_bounds, refused,
@@ -174,13 +174,12 @@ pub fn is_interpreter<S: Source>(src: &mut Counted<S>, machine: u16) -> Result<b
     Ok(interprets(&front, machine))
 }
 
-/// Returns whether a file with these first bytes can be that interpreter.
+/// Returns `true` if a file with these first bytes can be that interpreter.
 fn interprets(front: &[u8; FRONT_BYTES], machine: u16) -> bool
     ensures { result ≡ interprets machine front.now }
 {
-    let kind = u16_at(front, 16);
     match machine_by(front) {
-        Some(found) => found == machine && (kind == ET_EXEC || kind == ET_DYN),
+        Some(found) => found == machine && is_linked_type(u16_at(front, 16)),
         None => false,
     }
 }

@@ -5,8 +5,7 @@ ghost use Rattle.elf_model.specs.Prelude.{RefusedAt, field, first_refusal, has_o
 ghost use Rattle.elf_library.specs.Fits.{ReturnsLibrary, fitted, type_checks};
 
 use crate::link_reader::{CLASS_64, LITTLE_ENDIAN, MAGIC, byte_at, word_at};
-use elf_record::numbers::{ET_DYN, ET_EXEC};
-use elf_record::{Cause, Refusal, u16_at, u64_at};
+use elf_record::{Cause, Refusal, is_linked_type, u16_at, u64_at};
 use elf_source::{Counted, Source};
 use elf_table::{Fault, fill};
 
@@ -108,8 +107,7 @@ fn refused_type(front: &[u8; FRONT_BYTES]) -> Option<Refusal>
             cause: Cause::BadVersion,
         });
     }
-    let kind = u16_at(front, 16);
-    if kind != ET_EXEC && kind != ET_DYN {
+    if !is_linked_type(u16_at(front, 16)) {
         return Some(Refusal {
             at: 16,
             cause: Cause::Unsupported,

@@ -1,11 +1,12 @@
 //! Which of many files have needs that are listed.
 ghost use Rattle.std.specs.Prelude.{◌≡◌, ◌+◌, ◌*◌, ◌<◌, ℕ, List, is_some};
 ghost use Rattle.elf_table.specs.Prelude.{CallDid, HoldsProgramHeaders, fault_of_result};
-ghost use Rattle.elf_model.specs.Prelude.{dynamic_segment_index, e_shnum, e_type};
-ghost use Rattle.elf_library.specs.Linked.{ReturnsLinked, is_linked, is_linked_type, linked_file, linked_shown};
+ghost use Rattle.elf_model.specs.Prelude.{dynamic_segment_index, e_shnum, e_type, is_linked_type};
+ghost use Rattle.elf_library.specs.Linked.{ReturnsLinked, is_linked, linked_file, linked_shown};
 
 use elf_hash::load_by_segments;
-use elf_record::numbers::{ET_DYN, ET_EXEC, PT_DYNAMIC};
+use elf_record::is_linked_type;
+use elf_record::numbers::PT_DYNAMIC;
 use elf_source::{Counted, Source};
 use elf_table::{ExecutionView, Fault, HeaderStore};
 
@@ -61,11 +62,4 @@ fn has_dynamic_entries(view: &ExecutionView<'_>) -> bool
         result ≡ is_some (dynamic_segment_index file) }
 {
     view.first_segment(PT_DYNAMIC).is_some()
-}
-
-/// Returns `true` if a loader links files of a type.
-fn is_linked_type(kind: u16) -> bool
-    ensures { result ≡ is_linked_type kind }
-{
-    kind == ET_EXEC || kind == ET_DYN
 }

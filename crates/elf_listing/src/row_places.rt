@@ -2,7 +2,6 @@
 ghost use Rattle.std.specs.Prelude.{◌≡◌, ◌==◌, ◌%◌, ◌||◌, ◌+◌, ◌<◌, ◌≤◌, ℕ, List};
 ghost use Rattle.elf_model.specs.Prelude.{bytes_to_alignment, descriptor_start, place_of_header, place_of_record, place_of_relocation, place_of_section, place_of_segment, place_of_symbol, place_of_version};
 ghost use Rattle.elf_model.specs.RowPlaces.{is_address, is_in_memory_type};
-ghost use Rattle.elf_model.specs.TraitNumbers.{ET_DYN as DYN_TYPE, ET_EXEC as EXEC_TYPE};
 ghost use Rattle.elf_model.specs.Records.{e_type};
 ghost use Rattle.elf_model.specs.Versions.{VisitedRecord, record_size};
 ghost use Rattle.elf_note.specs.Prelude.{IsVersion};
@@ -16,14 +15,14 @@ use elf_model::{PlaceRange, RowPlace};
 use elf_note::VersionRecord;
 use elf_record::gnu_numbers::PT_GNU_RELRO;
 use elf_record::numbers::{
-    ET_DYN, ET_EXEC, PT_DYNAMIC, PT_LOAD, PT_NOTE, PT_TLS, SHN_ABS, SHN_LORESERVE, SHN_UNDEF,
+    PT_DYNAMIC, PT_LOAD, PT_NOTE, PT_TLS, SHN_ABS, SHN_LORESERVE, SHN_UNDEF, SHN_XINDEX,
     SHT_NOBITS, STT_FILE, STT_SECTION, STT_TLS,
 };
 use elf_record::sizes::{
     PROGRAM_HEADER_BYTES, RELOCATION_BYTES, SECTION_HEADER_BYTES, SYMBOL_BYTES,
     VERSION_DEFINITION_BYTES, VERSION_NAME_BYTES, VERSION_NEED_BYTES,
 };
-use elf_record::{NoteHead, Phdr, Rela, SectionFlags, Shdr, Sym, VersionKind};
+use elf_record::{NoteHead, Phdr, Rela, SectionFlags, Shdr, Sym, VersionKind, is_linked_type};
 
 /// The size of the file header in bytes (gABI 4, ELF Header).
 const FILE_HEADER_BYTES: u64 = 64;
@@ -112,7 +111,7 @@ fn has_address(symbol: &Sym) -> bool
     let place = symbol.st_shndx;
     !(kind == STT_TLS || kind == STT_SECTION || kind == STT_FILE)
         && place != SHN_UNDEF
-        && (place < SHN_LORESERVE || place == SHN_ABS)
+        && (place < SHN_LORESERVE || place == SHN_ABS || place == SHN_XINDEX)
 }
 
 /// Returns the place of a relocation entry at `at` in a file of the given type: in a program or a
@@ -127,15 +126,8 @@ pub(crate) fn place_of_relocation(kind: u16, at: u64, entry: &Rela) -> RowPlace
             size: RELOCATION_BYTES,
         },
         bytes: PlaceRange::nowhere(),
-        memory: PlaceRange::when(is_linked(kind), entry.r_offset, 8),
+        memory: PlaceRange::when(is_linked_type(kind), entry.r_offset, 8),
     }
-}
-
-/// Returns `true` if the relocation entries of a file of the given type have addresses.
-fn is_linked(kind: u16) -> bool
-    ensures { result ≡ (kind == EXEC_TYPE || kind == DYN_TYPE) }
-{
-    kind == ET_EXEC || kind == ET_DYN
 }
 
 /// Returns the place of a record of definitions or needs: a definition also describes its first

@@ -1,6 +1,6 @@
 -- The first fault of a listing, whatever rows are shown.
 use Rattle.std.proofs.Common.{◌≡◌, ℕ, zero, suc, ◌==◌, ◌/◌, ◌&&◌, ◌||◌, not, nat_lt, if◌then◌else◌, Bool, true, false, List, [], ◌∷◌, ◌++◌, Option, None, Some, Result, Ok, Err, refl, sym, ap, ap₂, ◌∙◌}
-use Rattle.elf_model.specs.Prelude.{Check, DisplayedName, EveryRow, Fault, HEADER, HeaderTable, Line, LinePrefix, ListingItem, ListingStyle, NoSuffix, NoteRow, RowFilter, SECTIONS, SEGMENTS, Suffix, TableKind, VERSYM_SIZE, VisitedRecord, after_refusal, all_checks, chooses, chosen_row, d_tag, d_un, dynamic_at, dynamic_count, dynamic_prefix, dynamic_row, e_machine, e_phnum, e_shnum, each, entry_at, entry_count, fault_of, first_refusal, guarded, has, has_symbols, has_tables, header_checks, header_row, is_string_tag, kinds_rows, known_parts, linked_at, listing, load_checks, load_items, loaded_items, mapped_strings, name_index, named_at, narrowed, no_name, note_align, note_row, note_rows, notes_rows, number_in, numbered_row, or_refusal, p_align, p_filesz, p_offset, padded_size, place_of_dynamic, place_of_header, place_of_record, place_of_section, place_of_segment, place_of_version, placed_choice, r_sym, refused_row, relocation_choice, relocation_prefix, relocation_row, relocation_row_with_version, relocations, relocations_with_versions, section_at, section_dynamic, section_name, section_notes, section_prefix, section_row, section_versions, segment_at, segment_dynamic, segment_notes, segment_row, sh_addralign, sh_link, sh_offset, sh_size, shown as shown_name, shows_place, shows_symbol, slice, st_name, strings_of, suffixed_relocation_rows, suffixed_row, suffixed_symbol_rows, suffixed_symbols, suffixes_refusal, symbol_choice, symbol_named, symbol_prefix, symbol_row, symbol_row_with_version, symbol_suffix, symbol_version_prefix, symbol_version_row, symbol_version_rows, symbol_versions, symbols, table_headers, table_items, table_rows, version_definitions, version_named, version_needs, version_prefix, version_row, version_strings, versioned_count, versioned_symbols, versions_rows, versym, view_checks, viewed, walk_rows, walked}
+use Rattle.elf_model.specs.Prelude.{Check, DisplayedName, EveryRow, Fault, HEADER, HeaderTable, Line, LinePrefix, ListingItem, ListingStyle, NoSuffix, NoteRow, RowFilter, SECTIONS, SEGMENTS, Suffix, TableKind, VERSYM_SIZE, VisitedRecord, after_refusal, all_checks, chooses, chosen_row, d_tag, d_un, dynamic_at, dynamic_count, dynamic_prefix, dynamic_row, e_machine, e_phnum, e_shnum, each, entry_at, entry_count, fault_of, first_refusal, guarded, has, has_symbols, has_tables, header_checks, header_row, is_string_tag, kinds_rows, known_parts, linked_at, listing, load_checks, load_items, loaded_items, mapped_strings, name_index, named_at, no_name, note_align, note_row, note_rows, notes_rows, number_in, numbered_row, or_refusal, p_align, p_filesz, p_offset, padded_size, place_of_dynamic, place_of_header, place_of_record, place_of_section, place_of_segment, place_of_version, placed_choice, r_sym, refused_row, relocation_choice, relocation_prefix, relocation_row, relocation_row_with_version, relocations, relocations_with_versions, section_at, section_dynamic, section_name, section_notes, section_prefix, section_row, section_versions, segment_at, segment_dynamic, segment_notes, segment_row, sh_addralign, sh_link, sh_offset, sh_size, shown as shown_name, shows_place, slice, st_name, strings_of, suffixed_relocation_rows, suffixed_row, suffixed_symbol_rows, suffixed_symbols, suffixes_refusal, symbol_choice, symbol_named, symbol_prefix, symbol_row, symbol_row_with_version, symbol_suffix, symbol_version_prefix, symbol_version_row, symbol_version_rows, symbol_versions, symbols, table_headers, table_items, table_rows, value_name, version_definitions, version_named, version_needs, version_prefix, version_row, version_strings, versioned_count, versioned_symbols, versions_rows, versym, view_checks, viewed, walk_rows, walked}
 use Rattle.elf_model.specs.TableKinds.{dynamic_rows}
 use Rattle.elf_model.specs.VersionRows.{visited_rows}
 use Rattle.elf_model.specs.Versions.{flags_word, hash_word, number_word}
@@ -185,9 +185,9 @@ module _ (file : List ℕ) (style : ListingStyle) (rows : RowFilter) (filter : S
       by_table (Ok table) = chosen_fault (here selected) (here style) front at (shown_name table (d_un file at) style.cap)
 
       by : (string : Bool) (table : Result (List ℕ) Refusal)
-          → SameFault (elim string as (λ _. List ListingItem) [ false ↦ chosen_row (here selected) front at no_name | true ↦ rest selected table ])
-          (elim string as (λ _. List ListingItem) [ false ↦ chosen_row (here style) front at no_name | true ↦ rest style table ])
-      by false table = chosen_fault (here selected) (here style) front at no_name
+          → SameFault (elim string as (λ _. List ListingItem) [ false ↦ chosen_row (here selected) front at (value_name file selected.format at) | true ↦ rest selected table ])
+          (elim string as (λ _. List ListingItem) [ false ↦ chosen_row (here style) front at (value_name file style.format at) | true ↦ rest style table ])
+      by false table = chosen_fault (here selected) (here style) front at (value_name file style.format at)
       by true table = by_table table
 
   dynamics_same : (offset entries : ℕ) (strings : ℕ → ℕ → Result (List ℕ) Refusal) → SameFault (dynamic_rows file selected offset entries strings) (dynamic_rows file style offset entries strings)

@@ -13,7 +13,7 @@ use Rattle.elf_model.specs.declared.relocation_types.RelocationBase.{RelocationB
 use Rattle.elf_model.specs.declared.relocation_types.RelocationBase.TheVariants.{Symbol, Linkage, Table, Thread}
 
 -- there is no name
-abbrev is_unnamed : DisplayedName → Bool
+abbrev pub is_unnamed : DisplayedName → Bool
 is_unnamed (Whole name) = length name == 0
 is_unnamed (Cut front) = false
 

@@ -12,7 +12,7 @@ use Rattle.elf_model.specs.Links.{machine_in}
 use Rattle.elf_model.specs.Names.DisplayedName.{Whole}
 use Rattle.elf_model.specs.Records.{e_type, p_filesz, p_offset, segment_at}
 use Rattle.elf_model.specs.Style.{without_sections}
-use Rattle.elf_model.specs.TraitNumbers.{ET_DYN, ET_EXEC, PT_INTERP}
+use Rattle.elf_model.specs.TraitNumbers.{PT_INTERP, is_linked_type}
 use Rattle.elf_model.specs.Traits.{segment_of}
 use Rattle.elf_model.specs.declared.causes.Cause.TheVariants.{NameUnended, TableOutside}
 use Rattle.elf_model.specs.declared.causes.Refusal.{Refusal}
@@ -60,7 +60,7 @@ interpreter_of file headers = interpreter_by_segments (without_sections file) he
 unfoldable pub is_interpreter : (machine : ℕ) → List ℕ → Bool
 is_interpreter machine file = elim (machine_in file) [
   | None ↦ false
-  | Some found ↦ found == machine && (e_type file == ET_EXEC || e_type file == ET_DYN)
+  | Some found ↦ found == machine && is_linked_type (e_type file)
 ]
 
 -- the word of whether it is found

@@ -17,6 +17,8 @@ pub mod RelocationNames
 pub mod Fields
 pub mod LineFronts
 pub mod Lines
+pub mod FlagWords
+pub mod NoteLines
 pub mod Checks
 pub mod Tables
 pub mod RowPlaces
@@ -61,6 +63,8 @@ pub mod Apply
 pub mod ApplyCost
 pub mod Explain
 pub mod ExplainLine
+pub mod Overflow
+pub mod OverflowLine
 pub mod FindApplyAnswer
 pub mod BytesQuery
 pub mod HashLaws

@@ -11,7 +11,7 @@ use Rattle.elf_model.specs.LoaderScope.{dynamic_segment_index}
 use Rattle.elf_model.specs.Records.{FILE_HEADER_SIZE, e_machine, e_type, has_elf_magic, p_filesz, p_offset, segment_at}
 use Rattle.elf_model.specs.Style.{without_sections}
 use Rattle.elf_model.specs.Tables.{DYNAMIC_SIZE}
-use Rattle.elf_model.specs.TraitNumbers.{DF_1_PIE, DT_FLAGS_1, ET_DYN, ET_EXEC}
+use Rattle.elf_model.specs.TraitNumbers.{DF_1_PIE, DT_FLAGS_1, ET_EXEC, is_linked_type}
 use Rattle.elf_model.specs.declared.causes.Cause.TheVariants.{BadData, BadVersion, NotElf, Short, Unsupported}
 use Rattle.elf_model.specs.declared.causes.Refusal.{Refusal}
 
@@ -50,7 +50,7 @@ library_checks file =
     ∷ refuse (not (field file 6 1 == 1)) 6 BadVersion
     ∷ refuse (has_other_abi file) 7 Unsupported
     ∷ refuse (not (field file 20 4 == 1)) 20 BadVersion
-    ∷ refuse (not (e_type file == ET_EXEC || e_type file == ET_DYN)) 16 Unsupported
+    ∷ refuse (not (is_linked_type (e_type file))) 16 Unsupported
     ∷ []
 
 abbrev refused_or_accepted : Option Refusal → LibraryFile

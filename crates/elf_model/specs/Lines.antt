@@ -1,8 +1,8 @@
 -- The lines of a listing. Each is its letter and its fields, and for most lines a name.
-use Rattle.std.specs.Prelude.{ℕ, ◌==◌, ◌&&◌, nat_le, nat_lt, if◌then◌else◌, Bool, List, [], ◌∷◌, ◌++◌, codes, take, length}
+use Rattle.std.specs.Prelude.{ℕ, ◌==◌, ◌&&◌, nat_le, if◌then◌else◌, Bool, List, [], ◌∷◌, ◌++◌, codes}
 use Rattle.elf_model.specs.Fields.{Fields, LinePrefix, member_key, quoted, closed_line, closing}
 use Rattle.elf_model.specs.Fields.Field.{Decimal, Hexadecimal, ArgSpec, NameOrHexadecimal}
-use Rattle.elf_model.specs.Text.{hex, short_hex, space, newline, name_of}
+use Rattle.elf_model.specs.Text.{hex, short_hex, newline, name_of}
 use Rattle.elf_model.specs.Records.{e_type, e_machine, e_entry, e_phoff, e_shoff, e_flags, e_phnum, e_shnum, e_shstrndx, p_type, p_flags, p_offset, p_vaddr, p_paddr, p_filesz, p_memsz, p_align}
 use Rattle.elf_model.specs.NameTables.{file_types, segment_types, segment_flags_text}
 use Rattle.elf_model.specs.Names.{DisplayedName}
@@ -10,7 +10,7 @@ use Rattle.elf_model.specs.Names.DisplayedName.{Whole, Cut}
 use Rattle.elf_model.specs.Causes.{cause_meaning, cause_word}
 use Rattle.elf_model.specs.declared.causes.Refusal.{Refusal}
 use Rattle.elf_model.specs.declared.formats.Format.{Format}
-use Rattle.elf_model.specs.declared.formats.Format.TheVariants.{Columns, Object, Table}
+use Rattle.elf_model.specs.declared.formats.Format.TheVariants.{Object, Table}
 
 -- the file header: type, machine, entry point, the offsets of the program headers and the section
 -- headers, flags, and how many of them there are
@@ -116,29 +116,3 @@ named_line front name = line_named front.format front.key front.text name
 unfoldable pub hex_bytes : List ℕ → List ℕ
 hex_bytes [] = []
 hex_bytes (byte ∷ bytes) = hex 2 byte ++ hex_bytes bytes
-
--- how many bytes of a descriptor are shown
-abbrev pub SHOWN_DESCRIPTOR : ℕ
-SHOWN_DESCRIPTOR = 32
-
--- a descriptor: its first bytes, marked if it has more
-unfoldable pub descriptor_text : List ℕ → List ℕ
-descriptor_text descriptor =
-    hex_bytes (take SHOWN_DESCRIPTOR descriptor)
-    ++ (if nat_lt SHOWN_DESCRIPTOR (length descriptor) then cut_mark else [])
-
--- the end of a note's line, after the name
-unfoldable pub note_tail : List ℕ → List ℕ
-note_tail descriptor = space ++ descriptor_text descriptor ++ newline
-
--- a line that ends in a name and a descriptor: in an object the descriptor has only the bytes that
--- are shown
-unfoldable pub line_described : Format → (key text : List ℕ) → DisplayedName → List ℕ → List ℕ
-line_described Object key text name descriptor =
-    text ++ (name_member key name
-    ++ (member_key (codes "descriptor") ++ quoted (hex_bytes (take SHOWN_DESCRIPTOR descriptor)) ++ closing Object))
-line_described _ key text name descriptor = text ++ (name_text name ++ note_tail descriptor)
-
--- the line of a note
-abbrev pub note_line : LinePrefix → DisplayedName → List ℕ → List ℕ
-note_line front name descriptor = line_described front.format front.key front.text name descriptor

@@ -9,7 +9,7 @@ use Rattle.elf_model.specs.declared.place_filters.RowPlace.{RowPlace}
 abbrev pub nowhere : PlaceRange
 nowhere = record { start = 0; size = 0 }
 
--- this many bytes from a first one on, if a condition is met
+-- this many bytes from a start, if a condition is met
 abbrev pub range_if : Bool → (start size : ℕ) → PlaceRange
 range_if met start size = if met then record { start = start; size = size } else nowhere
 

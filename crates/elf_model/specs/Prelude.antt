@@ -67,13 +67,17 @@ unfoldable pub use Rattle.elf_model.specs.Interpreters.{interpreter_at, interpre
 pub use Rattle.elf_model.specs.LibraryFiles.{Accepted, DF_1_NODEFLIB, LibraryFile, RefusedAt, Skipped, library_front_checks, has_other_abi, is_for_machine, library_checks}
 unfoldable pub use Rattle.elf_model.specs.LibraryFiles.{flags_1_by_segments, is_program_file, library_file, library_links}
 unfoldable pub use Rattle.elf_model.specs.LineFronts.{dynamic_prefix, note_prefix, relocation_prefix, section_prefix, symbol_prefix}
-pub use Rattle.elf_model.specs.Lines.{SHOWN_DESCRIPTOR, cut_mark, name_member, named_line, note_line}
+pub use Rattle.elf_model.specs.FlagWords.{separator, value_text}
+unfoldable pub use Rattle.elf_model.specs.FlagWords.{dynamic_flags, dynamic_flags_1, flag_words, flags_text, with_words}
+pub use Rattle.elf_model.specs.NoteLines.{GNU_PROPERTY_X86_ISA_1_NEEDED, NT_GNU_ABI_TAG, NT_GNU_GOLD_VERSION, SHOWN_DESCRIPTOR, abi_version, descriptor_mark, descriptor_text, is_text, note_line, property_words}
+unfoldable pub use Rattle.elf_model.specs.NoteLines.{abi_systems, abi_tag, core_types, descriptor_cell, descriptor_digits, gnu_content, line_described, linux_core_types, note_content, properties_text, property_text, with_properties, x86_features, x86_levels}
+pub use Rattle.elf_model.specs.Lines.{cut_mark, name_member, named_line}
 pub use Rattle.elf_model.specs.LineFronts.{names_of_types, type_width}
 unfoldable pub use Rattle.elf_model.specs.RelocationNames.{aarch64_relocation_types, psabi_relocation_types, riscv_relocation_types, x86_64_relocation_types}
 pub use Rattle.elf_model.specs.TableTexts.{TableIsInPieces, before_line, names_line, place_after, table_start, table_text}
 unfoldable pub use Rattle.elf_model.specs.TableTexts.{byte_in_table, headings, state_after, state_at_end, table_from}
 unfoldable pub use Rattle.elf_model.specs.Lines.{told_line}
-unfoldable pub use Rattle.elf_model.specs.Lines.{descriptor_text, escaped, header_line, hex_bytes, line_described, line_named, name_byte_text, name_text, note_tail, refusal_line, segment_line, steps_line}
+unfoldable pub use Rattle.elf_model.specs.Lines.{escaped, header_line, hex_bytes, line_named, name_byte_text, name_text, refusal_line, segment_line, steps_line}
 pub use Rattle.elf_model.specs.Links.{LINK_TEXT_BYTES, LinkState, NeededName, TextRoom, first_text, has_room, is_link, no_link_info, room_after}
 unfoldable pub use Rattle.elf_model.specs.Links.{link_text, linked_by, linked_from, linked_in, linked_with, links_by_segments, links_ceiling, links_of, loaded_links, lookup_refusal, machine_in}
 pub use Rattle.elf_model.specs.Listing.{ALL, DYNAMIC, Fault, GNU_ALL, HEADER, Line, ListingItem, NOTES, RELOCS, SECTIONS, SEGMENTS, SYMBOLS, VERSIONS, all_parts, end_text, fault_of, guarded, has, has_tables, header_row, known_parts, lines_of, placed_line, report_of, where_asked}
@@ -108,17 +112,21 @@ pub use Rattle.elf_model.specs.Overlaps.{first_page, page_behind, takes_memory}
 unfoldable pub use Rattle.elf_model.specs.Overlaps.{loads_from, overlap_checks, overlaps_from}
 pub use Rattle.elf_model.specs.Pieces.{onto_first}
 unfoldable pub use Rattle.elf_model.specs.Pieces.{pieces_at}
+pub use Rattle.elf_model.specs.Overflow.{OverflowEntry, overflow_with, value_by, value_outside, value_there}
+unfoldable pub use Rattle.elf_model.specs.Overflow.{base_there, entry_symbol_name, overflow_in, overflowed, place_there, value_unfit}
+pub use Rattle.elf_model.specs.OverflowLine.{overflow_text}
+unfoldable pub use Rattle.elf_model.specs.OverflowLine.{is_overflow, numbered_symbol, overflow_line, truncated_text, unfit_text, whole_type_text, why_refused}
 pub use Rattle.elf_model.specs.PlaceFilters.{every_place, is_placed, nowhere, range_has, range_if, shows_place}
 pub use Rattle.elf_model.specs.Placing.{Compared, Layout, NameSearch, Searched, named_or, no_items, placed_at, undefined_value}
 unfoldable pub use Rattle.elf_model.specs.Placing.{address_in, address_named, base_value, entry_value, has_base, is_system_specific, place_value, plt_entry_value, section_symbol_value, symbol_value, system_value, unnamed_value}
-pub use Rattle.elf_model.specs.Properties.{GNU_PROPERTY_X86_FEATURE_1_AND, ListEnds, NoProperty, OneProperty, PROPERTY_HEAD_SIZE, Property, PropertyList, PropertyWalk, bare_property, is_gnu_name, is_property_note, padded_property, pr_datasz, pr_type, property_word, with_property}
+pub use Rattle.elf_model.specs.Properties.{GNU_PROPERTY_X86_FEATURE_1_AND, NT_GNU_PROPERTY_TYPE_0, ListEnds, NoProperty, OneProperty, PROPERTY_HEAD_SIZE, Property, PropertyList, PropertyWalk, bare_property, is_gnu_name, is_property_note, padded_property, pr_datasz, pr_type, property_word, with_property}
 unfoldable pub use Rattle.elf_model.specs.Properties.{features_in, first_listing, first_property, listed_from, listed_in, next_property, properties_from, properties_in, property_list}
 pub use Rattle.elf_model.specs.RecordLaws.{FieldsOfSlices, LinesOfSlices}
 pub use Rattle.elf_model.specs.Records.{ELF_MAGIC_SIZE, FILE_HEADER_SIZE, PROGRAM_HEADER_SIZE, SECTION_HEADER_SIZE, d_tag, d_un, e_entry, e_flags, e_machine, e_phentsize, e_phnum, e_phoff, e_shentsize, e_shnum, e_shoff, e_shstrndx, e_type, has_elf_magic, n_descsz, n_namesz, n_type, p_align, p_filesz, p_flags, p_memsz, p_offset, p_paddr, p_type, p_vaddr, r_addend, r_info, r_offset, r_sym, r_type, section_at, segment_at, sh_addr, sh_addralign, sh_entsize, sh_flags, sh_info, sh_link, sh_name, sh_offset, sh_size, sh_type, st_info, st_name, st_other, st_shndx, st_size, st_type, st_value, twos_complement, vd_aux, versym, vn_aux, vn_file, vn_next, vna_name}
 pub use Rattle.elf_model.specs.Report.{items, report, report_fault}
 unfoldable pub use Rattle.elf_model.specs.Report.{kinds_rows, listing, load_items, loaded_items, table_items, table_rows, view_checks}
 pub use Rattle.elf_model.specs.RowPlaces.{is_address, is_in_memory_type, place_of_dynamic, place_of_header, place_of_record, place_of_relocation, place_of_section, place_of_segment, place_of_symbol}
-pub use Rattle.elf_model.specs.Rows.{chosen_row, is_string_tag, named_row, no_name, placed_choice, refused_row, relocation_choice, symbol_choice}
+pub use Rattle.elf_model.specs.Rows.{chosen_row, is_string_tag, named_row, no_name, placed_choice, refused_row, relocation_choice, symbol_choice, value_name}
 unfoldable pub use Rattle.elf_model.specs.Rows.{dynamic_row, note_row, notes_rows, relocation_row, section_name, section_row, segment_row, symbol_named, symbol_row, walk_rows}
 pub use Rattle.elf_model.specs.Searches.{NulFound}
 pub use Rattle.elf_model.specs.ShownNames.{shown_as}
@@ -138,12 +146,13 @@ unfoldable pub use Rattle.elf_model.specs.TableKinds.{relocations, relocations_w
 pub use Rattle.elf_model.specs.Tables.{DYNAMIC_SIZE, RELA_SIZE, SYMBOL_SIZE, all_checks, dynamic_table_checks, entry_at, entry_count, has_symbols, linked_at, linked_table_checks, relocation_table_checks, segment_dynamic_checks, strings_of, symbol_checks_of, symbol_table, symbol_table_checks}
 pub use Rattle.elf_model.specs.Text.{newline, space, spaces}
 unfoldable pub use Rattle.elf_model.specs.Text.{digit, hex, left_in, name_of, right_decimal, right_in, short_hex, without_zeros}
-unfoldable pub use Rattle.elf_model.specs.TraitCost.{hash_words_asked, properties_asked, segment_traits_cost, symbols_asked, trait_entries_asked, traits_ceiling, traits_cost}
-pub use Rattle.elf_model.specs.TraitNumbers.{DT_BIND_NOW, DT_FLAGS, DT_FLAGS_1, DT_TEXTREL, has_bits}
+unfoldable pub use Rattle.elf_model.specs.TraitCost.{hash_words_asked, properties_asked, sections_asked, segment_traits_cost, stack_asked, symbols_asked, trait_entries_asked, traits_ceiling, traits_cost}
+pub use Rattle.elf_model.specs.TraitCost.{named_section_bytes, segment_traits_ceiling}
+pub use Rattle.elf_model.specs.TraitNumbers.{SHF_EXECINSTR, DT_BIND_NOW, DT_FLAGS, DT_FLAGS_1, DT_TEXTREL, has_bits, is_linked_type}
 pub use Rattle.elf_model.specs.TraitWords.{Required, alternatives, either_word, has_word, lacking_status, lacking_text, segments_word, trait_line}
 unfoldable pub use Rattle.elf_model.specs.TraitWords.{canary_word, cet_word, column_name, column_word, file_kind_name, fortify_word, is_program, lacking, lacking_columns, lacking_line, lacking_lines, pages_word, path_word, relro_text, relro_word, stack_word, text_word, trait_front, traits_status, traits_text}
-pub use Rattle.elf_model.specs.Traits.{SymbolTraitFlags, TRAIT_NAME_BYTES, has_none, is_last_in, is_writable_code, marked_by, marked_with_symbol, no_symbol_traits, segment_of}
-unfoldable pub use Rattle.elf_model.specs.Traits.{before_strings, binds_now, dynamic_entry_value, find_symbol_traits, gnu_symbols, has_text_relocations, has_wx_load, hashed_symbol_count, is_any_of, is_fortify_call, is_stack_executable, kind_of_shared, known_symbols, loaded_traits, marks_from, max_bucket, path_of, program_kind, relro_of, segment_traits, traits_by_segments, traits_of, traits_with, unfound, x86_feature_word}
+pub use Rattle.elf_model.specs.Traits.{STACK_SECTION, SymbolTraitFlags, TRAIT_NAME_BYTES, has_none, is_last_in, is_stack_section, is_that_name, is_writable_code, linked_stack, marked_by, marked_with_symbol, no_symbol_traits, segment_of, with_stack}
+unfoldable pub use Rattle.elf_model.specs.Traits.{before_strings, binds_now, dynamic_entry_value, find_symbol_traits, gnu_symbols, has_text_relocations, has_wx_load, hashed_symbol_count, is_any_of, is_fortify_call, is_relocatable, is_stack_executable, kind_of_shared, known_symbols, loaded_stack, loaded_traits, marks_from, max_bucket, path_of, program_kind, relro_of, segment_traits, stack_by_sections, stack_by_segments, stack_section, traits_by_segments, traits_of, traits_with, traits_with_stack, unfound, x86_feature_word}
 pub use Rattle.elf_model.specs.ValueLaws.{AddendIsItsBits, DifferenceWraps, SignedFits, SumWraps, sign_extended}
 pub use Rattle.elf_model.specs.Values.{FormulaTerms, base_address, is_signed, is_unsigned, low_bytes, overflows, takes_place, value_of}
 unfoldable pub use Rattle.elf_model.specs.Values.{fits_in_range, kind_in, kind_of, kinds, modulo_2_64, patch_of, value, whole}

@@ -1,10 +1,10 @@
 -- Where the rows of a listing are: the bytes of each row's record, and what the row describes.
 use Rattle.std.specs.Prelude.{ℕ, ◌==◌, ◌&&◌, ◌||◌, nat_lt, not, if◌then◌else◌, Bool, List}
-use Rattle.elf_model.specs.Numbers.{PT_DYNAMIC, PT_LOAD, PT_NOTE, PT_TLS, SHF_ALLOC, SHN_ABS, SHN_LORESERVE, SHN_UNDEF, SHT_NOBITS, STT_FILE, STT_SECTION, STT_TLS}
+use Rattle.elf_model.specs.Numbers.{PT_DYNAMIC, PT_LOAD, PT_NOTE, PT_TLS, SHF_ALLOC, SHN_ABS, SHN_LORESERVE, SHN_UNDEF, SHN_XINDEX, SHT_NOBITS, STT_FILE, STT_SECTION, STT_TLS}
 use Rattle.elf_model.specs.PlaceFilters.{range_if, nowhere}
 use Rattle.elf_model.specs.Records.{FILE_HEADER_SIZE, PROGRAM_HEADER_SIZE, SECTION_HEADER_SIZE, e_type, p_filesz, p_memsz, p_offset, p_type, p_vaddr, r_offset, sh_addr, sh_flags, sh_offset, sh_size, sh_type, st_shndx, st_size, st_type, st_value}
 use Rattle.elf_model.specs.Tables.{DYNAMIC_SIZE, RELA_SIZE, SYMBOL_SIZE}
-use Rattle.elf_model.specs.TraitNumbers.{ET_DYN, ET_EXEC, PT_GNU_RELRO, has_bits}
+use Rattle.elf_model.specs.TraitNumbers.{PT_GNU_RELRO, has_bits, is_linked_type}
 use Rattle.elf_model.specs.declared.place_filters.RowPlace.{RowPlace}
 
 -- a record of this many bytes at an offset, which describes no others
@@ -40,12 +40,13 @@ place_of_segment file at = record {
   memory = range_if (is_in_memory_type (p_type file at)) (p_vaddr file at) (p_memsz file at);
 }
 
--- the value of a symbol, by its type and its section index, is an address: it is of a section or
--- absolute, and is no offset in thread-local storage, no section and no file
+-- the value of a symbol, by its type and its section index, is an address: it is of a section, whose
+-- index may be in another table, or absolute, and is no offset in thread-local storage, no section
+-- and no file
 abbrev pub is_address : (type shndx : ℕ) → Bool
 is_address type shndx =
     not (type == STT_TLS || (type == STT_SECTION || type == STT_FILE))
-    && (not (shndx == SHN_UNDEF) && (nat_lt shndx SHN_LORESERVE || shndx == SHN_ABS))
+    && (not (shndx == SHN_UNDEF) && (nat_lt shndx SHN_LORESERVE || (shndx == SHN_ABS || shndx == SHN_XINDEX)))
 
 -- a symbol at an offset: it describes its bytes in memory, or if it has no size the one at its
 -- address
@@ -62,5 +63,5 @@ abbrev pub place_of_relocation : List ℕ → ℕ → RowPlace
 place_of_relocation file at = record {
   entry = record { start = at; size = RELA_SIZE };
   bytes = nowhere;
-  memory = range_if (e_type file == ET_EXEC || e_type file == ET_DYN) (r_offset file at) 8;
+  memory = range_if (is_linked_type (e_type file)) (r_offset file at) 8;
 }

@@ -14,11 +14,14 @@ use Rattle.elf_model.specs.Tables.{SYMBOL_SIZE, RELA_SIZE, section_bytes, string
 use Rattle.elf_model.specs.Checks.{first_refusal}
 use Rattle.elf_model.specs.Fields.{LinePrefix}
 use Rattle.elf_model.specs.LineFronts.{section_prefix, symbol_prefix, relocation_prefix, note_prefix, dynamic_prefix}
-use Rattle.elf_model.specs.Lines.{named_line, note_line, segment_line}
+use Rattle.elf_model.specs.FlagWords.{value_text}
+use Rattle.elf_model.specs.Lines.{named_line, segment_line}
+use Rattle.elf_model.specs.NoteLines.{note_line}
 use Rattle.elf_model.specs.Listing.{ListingItem, Line, Fault, placed_line}
 use Rattle.elf_model.specs.declared.causes.Cause.{Cause}
 use Rattle.elf_model.specs.declared.causes.Cause.TheVariants.{NoteCut}
 use Rattle.elf_model.specs.declared.causes.Refusal.{Refusal}
+use Rattle.elf_model.specs.declared.formats.Format.{Format}
 use Rattle.elf_model.specs.declared.place_filters.RowPlace.{RowPlace}
 
 -- a row that is refused, at an offset
@@ -108,7 +111,7 @@ unfoldable pub note_row : ListingStyle → (index a : ℕ) → NoteRow → List 
 note_row style index a row =
     let note = row.note in
     let front = note_prefix style.format index note.kind (length note.name) (length note.descriptor) in
-    placed_line style (place_of_record row.at (padded_size a note)) (note_line front (note_shown style.cap note) note.descriptor)
+    placed_line style (place_of_record row.at (padded_size a note)) (note_line front note.kind (note_shown style.cap note) note.descriptor)
 
 -- the rows of notes
 unfoldable pub notes_rows : ListingStyle → (index a : ℕ) → List NoteRow → List ListingItem
@@ -129,6 +132,10 @@ walk_rows style index a table_at walk = notes_rows style index a (note_rows a ta
 abbrev pub is_string_tag : ℕ → Bool
 is_string_tag tag = tag == DT_NEEDED || tag == DT_SONAME || tag == DT_RPATH || tag == DT_RUNPATH
 
+-- what an entry has in place of a string: in a table the words of its flags
+abbrev pub value_name : List ℕ → Format → ℕ → Result DisplayedName Cause
+value_name file format dynamic_at = Ok (Whole (value_text format (d_tag file dynamic_at) (d_un file dynamic_at)))
+
 -- the row of the dynamic entry of an index at an offset, with its string if its value is a string
 -- table index: only then the string table is located, which may be refused
 unfoldable pub dynamic_row : List ℕ → ListingStyle → (ℕ → Result (List ℕ) Refusal) → ℕ → ℕ → List ListingItem
@@ -136,7 +143,7 @@ dynamic_row file style strings dynamic_at index =
     let front = dynamic_prefix style.format style.gnu file dynamic_at index in
     let choice = placed_choice style (place_of_dynamic dynamic_at) EveryRow in
     elim (is_string_tag (d_tag file dynamic_at)) [
-      | false ↦ chosen_row choice front dynamic_at no_name
+      | false ↦ chosen_row choice front dynamic_at (value_name file style.format dynamic_at)
       | true ↦ elim (strings dynamic_at) [
         | Err refusal ↦ Fault refusal ∷ []
         | Ok table ↦ chosen_row choice front dynamic_at (shown table (d_un file dynamic_at) style.cap)

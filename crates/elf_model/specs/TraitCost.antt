@@ -1,19 +1,21 @@
 -- How many bytes the traits of a file read at most, and their upper bound.
-use Rattle.std.specs.Prelude.{ℕ, ◌+◌, ◌-◌, ◌*◌, ◌/◌, ◌==◌, List, length, None, Some, Ok, Err}
+use Rattle.std.specs.Prelude.{ℕ, ◌+◌, ◌-◌, ◌*◌, ◌/◌, ◌==◌, List, length, None, Some, Result, Ok, Err}
 use Rattle.elf_model.specs.Checks.{first_refusal, pass, before_headers}
 use Rattle.elf_model.specs.Cost.{cost_where, sum_over, table_cost}
 use Rattle.elf_model.specs.GnuHash.{gnu_nbucket}
 use Rattle.elf_model.specs.HeaderTables.{file_segments}
 use Rattle.elf_model.specs.LoaderFind.{segments_asked}
 use Rattle.elf_model.specs.LoaderScope.{GnuTable, SysvTable, LookupTables, dynamic_segment_index}
-use Rattle.elf_model.specs.Names.{name_bytes}
+use Rattle.elf_model.specs.Names.{name_bytes, pad64}
 use Rattle.elf_model.specs.Numbers.{EM_X86_64}
 use Rattle.elf_model.specs.Properties.{property_list}
-use Rattle.elf_model.specs.Records.{FILE_HEADER_SIZE, PROGRAM_HEADER_SIZE, e_machine, e_phnum, p_filesz, segment_at}
+use Rattle.elf_model.specs.Records.{FILE_HEADER_SIZE, PROGRAM_HEADER_SIZE, SECTION_HEADER_SIZE, e_machine, e_phnum, e_shnum, p_filesz, segment_at}
 use Rattle.elf_model.specs.Style.{without_sections}
 use Rattle.elf_model.specs.TableKinds.{segment_notes}
 use Rattle.elf_model.specs.Tables.{SYMBOL_SIZE, segment_dynamic_checks}
-use Rattle.elf_model.specs.Traits.{TRAIT_NAME_BYTES, known_symbols, hashed_symbol_count}
+use Rattle.elf_model.specs.Traits.{STACK_SECTION, TRAIT_NAME_BYTES, hashed_symbol_count, is_relocatable, known_symbols, traits_by_segments}
+use Rattle.elf_model.specs.declared.causes.Refusal.{Refusal}
+use Rattle.elf_model.specs.declared.traits.Hardening.{Hardening}
 
 -- the first table of dynamic entries, if its checks pass
 unfoldable pub trait_entries_asked : List ℕ → ℕ
@@ -55,11 +57,34 @@ segment_traits_cost file headers = elim (first_refusal (before_headers file head
       FILE_HEADER_SIZE + segments_asked file + trait_entries_asked file + properties_asked file + symbols_asked file
 ]
 
-unfoldable pub traits_cost : List ℕ → ℕ → ℕ
-traits_cost file headers = segment_traits_cost (without_sections file) headers
+-- a section header, and the bytes of its section's name that are compared
+abbrev pub named_section_bytes : ℕ
+named_section_bytes = SECTION_HEADER_SIZE + pad64 (length STACK_SECTION + 1)
 
--- their upper bound, only by the file's length and how many headers are allowed
-unfoldable pub traits_ceiling : (size headers : ℕ) → ℕ
-traits_ceiling size headers =
+-- what the stack of a relocatable file reads after that: the file header again, and the section
+-- headers with their names
+unfoldable pub sections_asked : List ℕ → ℕ → ℕ
+sections_asked file headers = elim (first_refusal (before_headers file headers)) [
+  | Some refusal ↦ FILE_HEADER_SIZE
+  | None ↦ FILE_HEADER_SIZE + e_shnum file * named_section_bytes
+]
+
+-- nothing for any other file
+unfoldable pub stack_asked : List ℕ → ℕ → Result Hardening Refusal → ℕ
+stack_asked file headers (Err refusal) = 0
+stack_asked file headers (Ok t) = cost_where (is_relocatable t.kind) (sections_asked file headers)
+
+-- of any file
+unfoldable pub traits_cost : List ℕ → ℕ → ℕ
+traits_cost file headers =
+    segment_traits_cost (without_sections file) headers + stack_asked file headers (traits_by_segments (without_sections file) headers)
+
+-- the upper bound of what the segments read
+abbrev pub segment_traits_ceiling : (size headers : ℕ) → ℕ
+segment_traits_ceiling size headers =
     FILE_HEADER_SIZE + headers * (PROGRAM_HEADER_SIZE + size) + 4 * size + 16
     + size / SYMBOL_SIZE * (SYMBOL_SIZE + name_bytes TRAIT_NAME_BYTES)
+
+-- of all, only by the file's length and how many headers are allowed
+unfoldable pub traits_ceiling : (size headers : ℕ) → ℕ
+traits_ceiling size headers = segment_traits_ceiling size headers + (FILE_HEADER_SIZE + headers * named_section_bytes)

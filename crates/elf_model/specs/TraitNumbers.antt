@@ -1,5 +1,5 @@
 -- The numbers that say how a file is hardened.
-use Rattle.std.specs.Prelude.{ℕ, ◌==◌, Bool}
+use Rattle.std.specs.Prelude.{ℕ, ◌==◌, ◌||◌, Bool}
 use Rattle.std.specs.Int.RustNames.{bit_and}
 
 -- types of files (gABI 4, ELF Header)
@@ -11,6 +11,18 @@ ET_DYN = 3
 
 abbrev pub ET_CORE : ℕ
 ET_CORE = 4
+
+-- a loader links files of a type
+abbrev pub is_linked_type : ℕ → Bool
+is_linked_type type = type == ET_EXEC || type == ET_DYN
+
+-- the machine of i386 (gABI 4, ELF Header)
+abbrev pub EM_386 : ℕ
+EM_386 = 3
+
+-- the flag of a section with instructions (gABI 4, Section Attribute Flags)
+abbrev pub SHF_EXECINSTR : ℕ
+SHF_EXECINSTR = 0x4
 
 -- the segment that names an interpreter (gABI 5, Program Interpreter)
 abbrev pub PT_INTERP : ℕ

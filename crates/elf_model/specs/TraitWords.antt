@@ -50,10 +50,9 @@ either_word false first second = second
 unfoldable pub relro_word : Option SegmentTraits → List ℕ
 relro_word segments = segments_word segments (λ s. relro_text s.relro)
 
--- the segments of a core are those of its memory: none says what its program's stack was to be
-unfoldable pub stack_word : ProgramKind → Option SegmentTraits → List ℕ
-stack_word kind.Core segments = not_told
-stack_word _ segments = segments_word segments (λ s. either_word s.stack_executable (codes "exec") (codes "nx"))
+unfoldable pub stack_word : Option Bool → List ℕ
+stack_word None = not_told
+stack_word (Some executable) = either_word executable (codes "exec") (codes "nx")
 
 unfoldable pub pages_word : Option SegmentTraits → List ℕ
 pages_word segments = segments_word segments (λ s. either_word s.pages_writable (codes "wx") (codes "w^x"))
@@ -86,7 +85,7 @@ trait_fields t = record {
   fields =
       ArgSpec (codes "kind") 6 (file_kind_name t.kind)
       ∷ ArgSpec (codes "relro") 7 (relro_word t.segments)
-      ∷ ArgSpec (codes "stack") 5 (stack_word t.kind t.segments)
+      ∷ ArgSpec (codes "stack") 5 (stack_word t.stack)
       ∷ ArgSpec (codes "pages") 5 (pages_word t.segments)
       ∷ ArgSpec (codes "text") 5 (text_word t.segments)
       ∷ ArgSpec (codes "cet") 9 (cet_word t.ibt t.shstk)
@@ -118,7 +117,7 @@ column_name column.Path = codes "path"
 unfoldable pub column_word : Hardening → TraitColumn → List ℕ
 column_word t column.Kind = file_kind_name t.kind
 column_word t column.Relro = relro_word t.segments
-column_word t column.Stack = stack_word t.kind t.segments
+column_word t column.Stack = stack_word t.stack
 column_word t column.Pages = pages_word t.segments
 column_word t column.Text = text_word t.segments
 column_word t column.Cet = cet_word t.ibt t.shstk

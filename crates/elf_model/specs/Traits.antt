@@ -1,11 +1,11 @@
 -- HOW A FILE IS HARDENED, by its program headers and dynamic entries, as a loader sees it: each
 -- trait with the standard or the convention that defines it. The definitions are over a file that
--- has no section headers.
+-- has no section headers, except for the stack of a relocatable file.
 use Rattle.std.specs.Prelude.{ℕ, zero, suc, ◌-◌, ◌/◌, ◌==◌, ◌&&◌, ◌||◌, nat_eq, nat_lt, not, is_some, min, max, if◌then◌else◌, Bool, true, false, List, [], ◌∷◌, ◌++◌, length, codes, Option, None, Some, unwrap_or, Result, Ok, Err}
 use Rattle.std.specs.List.{starts_with, ends_with}
 use Rattle.elf_model.specs.Bytes.{field}
 use Rattle.elf_model.specs.Chains.{HashTable}
-use Rattle.elf_model.specs.Checks.{first_refusal, header_checks, load_checks}
+use Rattle.elf_model.specs.Checks.{first_refusal, has_section_names, header_checks, load_checks}
 use Rattle.elf_model.specs.Dynamic.{listed_value}
 use Rattle.elf_model.specs.Find.{first_that}
 use Rattle.elf_model.specs.GnuHash.{chain_word, is_chain_end, gnu_bucket_at, gnu_first, gnu_nbucket, is_chained}
@@ -13,14 +13,14 @@ use Rattle.elf_model.specs.Hash.{sysv_nchain}
 use Rattle.elf_model.specs.Loader.{DynamicSymbols, symbol_offset}
 use Rattle.elf_model.specs.LoaderFind.{counts_check}
 use Rattle.elf_model.specs.LoaderScope.{GnuTable, SysvTable, LookupTables, dynamic_segment_index, lookup_tables_by_segments}
-use Rattle.elf_model.specs.Names.{DisplayedName, shown}
+use Rattle.elf_model.specs.Names.{DisplayedName, same, shown}
 use Rattle.elf_model.specs.Names.DisplayedName.{Whole, Cut}
 use Rattle.elf_model.specs.Numbers.{EM_X86_64, ET_REL, PT_LOAD, SHN_UNDEF, DT_SONAME, DT_RPATH, DT_RUNPATH}
 use Rattle.elf_model.specs.Properties.{GNU_PROPERTY_X86_FEATURE_1_IBT, GNU_PROPERTY_X86_FEATURE_1_SHSTK, features_in, property_list}
-use Rattle.elf_model.specs.Records.{e_type, e_machine, e_phnum, p_type, p_flags, p_offset, p_filesz, segment_at, st_name, st_shndx}
+use Rattle.elf_model.specs.Records.{e_type, e_machine, e_phnum, e_shnum, e_shstrndx, p_type, p_flags, p_offset, p_filesz, section_at, segment_at, sh_flags, sh_name, st_name, st_shndx}
 use Rattle.elf_model.specs.Style.{without_sections}
-use Rattle.elf_model.specs.Tables.{DYNAMIC_SIZE, SYMBOL_SIZE}
-use Rattle.elf_model.specs.TraitNumbers.{ET_EXEC, ET_DYN, ET_CORE, PT_INTERP, PT_GNU_STACK, PT_GNU_RELRO, PF_X, PF_W, DT_TEXTREL, DT_BIND_NOW, DT_FLAGS, DT_FLAGS_1, DF_TEXTREL, DF_BIND_NOW, DF_1_NOW, DF_1_PIE, has_bits}
+use Rattle.elf_model.specs.Tables.{DYNAMIC_SIZE, SYMBOL_SIZE, section_bytes}
+use Rattle.elf_model.specs.TraitNumbers.{EM_386, SHF_EXECINSTR, ET_EXEC, ET_DYN, ET_CORE, PT_INTERP, PT_GNU_STACK, PT_GNU_RELRO, PF_X, PF_W, DT_TEXTREL, DT_BIND_NOW, DT_FLAGS, DT_FLAGS_1, DF_TEXTREL, DF_BIND_NOW, DF_1_NOW, DF_1_PIE, has_bits}
 use Rattle.elf_model.specs.declared.causes.Cause.{Cause}
 use Rattle.elf_model.specs.declared.causes.Cause.TheVariants.{NoHash}
 use Rattle.elf_model.specs.declared.causes.Refusal.{Refusal}
@@ -50,6 +50,14 @@ permits file bits i = has_bits (p_flags file (segment_at file i)) bits
 -- Header)
 unfoldable pub is_stack_executable : List ℕ → Bool
 is_stack_executable file = elim (segment_of file PT_GNU_STACK) [ None ↦ true | Some i ↦ permits file PF_X i ]
+
+-- by the segments, if the file has any; those of a core are of its memory, and do not say what its
+-- program's stack was to be
+unfoldable pub stack_by_segments : List ℕ → Option Bool
+stack_by_segments file = elim (e_phnum file == 0 || e_type file == ET_CORE) [
+  | true ↦ None
+  | false ↦ Some (is_stack_executable file)
+]
 
 -- PAGES: a LOAD segment is writable and executable (gABI 5, Segment Permissions)
 abbrev pub is_writable_code : List ℕ → ℕ → Bool
@@ -125,7 +133,6 @@ segment_traits file = elim (e_phnum file == 0) [
   | false ↦
       Some (record {
         relro = relro_of file;
-        stack_executable = is_stack_executable file;
         pages_writable = has_wx_load file;
         text_patched = has_text_relocations file;
       })
@@ -256,6 +263,7 @@ unfoldable pub traits_with : List ℕ → ℕ → SymbolTraitFlags → Hardening
 traits_with file word marks = record {
   kind = program_kind file;
   segments = segment_traits file;
+  stack = stack_by_segments file;
   ibt = has_bits word GNU_PROPERTY_X86_FEATURE_1_IBT;
   shstk = has_bits word GNU_PROPERTY_X86_FEATURE_1_SHSTK;
   canary = marks.canary;
@@ -284,6 +292,68 @@ traits_by_segments file headers = elim (first_refusal (header_checks file ++ loa
   | None ↦ loaded_traits file
 ]
 
--- THE TRAITS OF A FILE, with this many headers allowed: for any section headers
+-- THE STACK OF A RELOCATABLE FILE: a section with this name says what its code needs (GNU assembler)
+abbrev pub STACK_SECTION : List ℕ
+STACK_SECTION = codes ".note.GNU-stack"
+
+-- a name is there, and is the one that is looked for; one with a fault is not
+abbrev pub is_that_name : Result Bool Cause → Bool
+is_that_name (Ok same) = same
+is_that_name (Err cause) = false
+
+-- the section of an index has that name
+abbrev pub is_stack_section : List ℕ → ℕ → Bool
+is_stack_section file index =
+    is_that_name (same (section_bytes file (section_at file (e_shstrndx file))) (sh_name file (section_at file index)) STACK_SECTION)
+
+-- the first such section, if sections have names
+unfoldable pub stack_section : List ℕ → Option ℕ
+stack_section file = elim (has_section_names file) [
+  | true ↦ first_that (is_stack_section file) 0 (e_shnum file)
+  | false ↦ None
+]
+
+-- without such a section a linker makes the stack executable on some machines (GNU ld)
+abbrev pub linked_stack : (machine : ℕ) → Option Bool
+linked_stack machine = if machine == EM_X86_64 || machine == EM_386 then Some true else None
+
+-- by the sections, once their headers are loaded: whether the section of that name is executable
+unfoldable pub loaded_stack : List ℕ → Option Bool
+loaded_stack file = elim (stack_section file) [
+  | None ↦ linked_stack (e_machine file)
+  | Some index ↦ Some (has_bits (sh_flags file (section_at file index)) SHF_EXECINSTR)
+]
+
+-- it is not known if the section headers do not pass their checks
+unfoldable pub stack_by_sections : List ℕ → ℕ → Option Bool
+stack_by_sections file headers = elim (first_refusal (header_checks file ++ load_checks file headers)) [
+  | Some refusal ↦ None
+  | None ↦ loaded_stack file
+]
+
+-- traits with another stack
+abbrev pub with_stack : Option Bool → Hardening → Hardening
+with_stack stack t = record {
+  kind = t.kind;
+  segments = t.segments;
+  stack = stack;
+  ibt = t.ibt;
+  shstk = t.shstk;
+  canary = t.canary;
+  fortify = t.fortify;
+  path = t.path;
+}
+
+unfoldable pub is_relocatable : ProgramKind → Bool
+is_relocatable kind.Object = true
+is_relocatable _ = false
+
+-- the traits by the segments, and of a relocatable file the stack by its sections
+unfoldable pub traits_with_stack : List ℕ → ℕ → Result Hardening Refusal → Result Hardening Refusal
+traits_with_stack file headers (Err refusal) = Err refusal
+traits_with_stack file headers (Ok t) = Ok (if is_relocatable t.kind then with_stack (stack_by_sections file headers) t else t)
+
+-- THE TRAITS OF A FILE, with this many headers allowed: for any section headers, except for the
+-- stack of a relocatable file
 unfoldable pub traits_of : List ℕ → ℕ → Result Hardening Refusal
-traits_of file headers = traits_by_segments (without_sections file) headers
+traits_of file headers = traits_with_stack file headers (traits_by_segments (without_sections file) headers)

@@ -38,7 +38,7 @@ mod versions;
 
 pub use causes::{Cause, Refusal};
 pub use formats::{Format, LinePlace, TableState};
-pub use missing::{LayoutAddress, MissingAddress};
+pub use missing::{LayoutAddress, MissingAddress, OverflowedValue};
 pub use place_filters::{PlaceFilter, PlaceRange, RowPlace};
 pub use relocation_types::{Formula, RelocationBase, RelocationType, ValueRange};
 pub use states::{BindingState, FileMagic, FileStatus, VersionState};

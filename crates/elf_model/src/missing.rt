@@ -1,4 +1,4 @@
-//! What a layout lacks.
+//! What a layout lacks, and a value that does not fit.
 use crate::relocation_types::RelocationBase;
 
 /// An address that a layout may have.
@@ -21,4 +21,19 @@ pub struct MissingAddress {
     pub name: u32,
     /// The address that the layout does not have.
     pub wanted: LayoutAddress,
+}
+
+/// The value of a relocation entry that was refused because it does not fit.
+#[derive(Clone, Copy)]
+pub struct OverflowedValue {
+    /// The number of the entry's relocation type.
+    pub kind: u32,
+    /// The index of the symbol that it names.
+    pub symbol: u32,
+    /// The index of the section that is relocated.
+    pub section: u16,
+    /// The offset in that section at which the value would be stored.
+    pub offset: u64,
+    /// The value, modulo 2^64.
+    pub value: u64,
 }

@@ -3,7 +3,7 @@ ghost use Rattle.std.specs.Prelude.{◌≡◌};
 ghost use Rattle.elf_model.specs.PlaceFilters.{every_place, range_if, range_has, is_placed, nowhere, shows_place};
 ghost use Rattle.elf_model.specs.RowPlaces.{place_of_record};
 
-/// A number of bytes from a first one on, in a file or in memory.
+/// A range of bytes of a file or of memory.
 #[derive(Clone, Copy)]
 pub struct PlaceRange {
     /// The offset or the address of the first byte.
@@ -33,14 +33,14 @@ pub struct PlaceFilter {
 }
 
 impl PlaceRange {
-    /// Returns an range without bytes.
+    /// Returns a range without bytes.
     pub fn nowhere() -> PlaceRange
         ensures { result ≡ nowhere }
     {
         PlaceRange { start: 0, size: 0 }
     }
 
-    /// Returns `size` bytes from `start` on if `met` is `true`, otherwise none.
+    /// Returns the `size` bytes at `start` if `met` is `true`, otherwise none.
     pub fn when(met: bool, start: u64, size: u64) -> PlaceRange
         ensures { result ≡ range_if met start size }
     {

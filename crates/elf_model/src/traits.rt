@@ -47,8 +47,6 @@ pub enum SearchPath {
 pub struct SegmentTraits {
     /// What is read-only after relocation.
     pub relro: Relro,
-    /// The stack is executable.
-    pub stack_executable: bool,
     /// A segment is writable and executable.
     pub pages_writable: bool,
     /// Relocations change a segment that is not writable.
@@ -64,6 +62,9 @@ pub struct Hardening {
     pub kind: ProgramKind,
     /// The traits of its segments, if it has program headers.
     pub segments: Option<SegmentTraits>,
+    /// The stack is executable, if that is known: by the segments, or of a relocatable file by its
+    /// sections.
+    pub stack: Option<bool>,
     /// Indirect branches go only to marked targets (x86-64 psABI, Program Property).
     pub ibt: bool,
     /// Returns use a shadow stack (x86-64 psABI, Program Property).

@@ -113,10 +113,10 @@ listed P word [] each is = cc
 listed P word (other ∷ words) each is = first_listed P word other (list_any (bytes_eq word) words) (bytes_eq word other) refl each.0 (listed P word words each.1) is
 
 abbrev plain : Hardening
-plain = record { kind = kind.Exec; segments = None; ibt = false; shstk = false; canary = false; fortify = false; path = path.Absent }
+plain = record { kind = kind.Exec; segments = None; stack = None; ibt = false; shstk = false; canary = false; fortify = false; path = path.Absent }
 
 abbrev segments : SegmentTraits
-segments = record { relro = relro.Full; stack_executable = false; pages_writable = false; text_patched = false }
+segments = record { relro = relro.Full; pages_writable = false; text_patched = false }
 
 abbrev with_segments : SegmentTraits → Hardening
 with_segments told = record plain { segments = Some told }
@@ -128,7 +128,7 @@ each_told : (its_column : TraitColumn) → Each (Tells its_column) (column_words
 unfolding column_words column_word file_kind_name relro_text relro_word stack_word pages_word text_word cet_word canary_word fortify_word path_word
 each_told column.Kind = ((plain, refl), ((record plain { kind = kind.Pie }, refl), ((record plain { kind = kind.Static }, refl), ((record plain { kind = kind.Lib }, refl), ((record plain { kind = kind.Object }, refl), ((record plain { kind = kind.Core }, refl), ((record plain { kind = kind.Other }, refl), tt)))))))
 each_told column.Relro = ((with_segments segments, refl), ((with_segments (record segments { relro = relro.Partial }), refl), ((with_segments (record segments { relro = relro.Absent }), refl), ((plain, refl), tt))))
-each_told column.Stack = ((with_segments segments, refl), ((with_segments (record segments { stack_executable = true }), refl), ((plain, refl), tt)))
+each_told column.Stack = ((record plain { stack = Some false }, refl), ((record plain { stack = Some true }, refl), ((plain, refl), tt)))
 each_told column.Pages = ((with_segments segments, refl), ((with_segments (record segments { pages_writable = true }), refl), ((plain, refl), tt)))
 each_told column.Text = ((with_segments segments, refl), ((with_segments (record segments { text_patched = true }), refl), ((plain, refl), tt)))
 each_told column.Cet = ((record plain { ibt = true; shstk = true }, refl), ((record plain { ibt = true }, refl), ((record plain { shstk = true }, refl), ((plain, refl), tt))))
@@ -184,21 +184,16 @@ either_of its_column first second tells_first absent one other =
     segments_listed (column_words its_column) (λ s. either_word (tells_first s) first second) absent
     (λ s. either_listed (column_words its_column) first second one other (tells_first s))
 
-stack_listed : (k : ProgramKind) (o : Option SegmentTraits) → list_any (bytes_eq (stack_word k o)) (column_words column.Stack) ≡ true
+stack_listed : (stack : Option Bool) → list_any (bytes_eq (stack_word stack)) (column_words column.Stack) ≡ true
 unfolding column_words stack_word
-stack_listed kind.Core o = refl
-stack_listed kind.Exec o = either_of column.Stack (codes "exec") (codes "nx") (λ s. s.stack_executable) refl refl refl o
-stack_listed kind.Pie o = either_of column.Stack (codes "exec") (codes "nx") (λ s. s.stack_executable) refl refl refl o
-stack_listed kind.Static o = either_of column.Stack (codes "exec") (codes "nx") (λ s. s.stack_executable) refl refl refl o
-stack_listed kind.Lib o = either_of column.Stack (codes "exec") (codes "nx") (λ s. s.stack_executable) refl refl refl o
-stack_listed kind.Object o = either_of column.Stack (codes "exec") (codes "nx") (λ s. s.stack_executable) refl refl refl o
-stack_listed kind.Other o = either_of column.Stack (codes "exec") (codes "nx") (λ s. s.stack_executable) refl refl refl o
+stack_listed None = refl
+stack_listed (Some executable) = either_listed (column_words column.Stack) (codes "exec") (codes "nx") refl refl executable
 
 word_listed : (t : Hardening) (its_column : TraitColumn) → list_any (bytes_eq (column_word t its_column)) (column_words its_column) ≡ true
 unfolding column_words column_word relro_word pages_word text_word canary_word fortify_word
 word_listed t column.Kind = kind_listed t.kind
 word_listed t column.Relro = segments_listed (column_words column.Relro) (λ s. relro_text s.relro) refl (λ s. relro_listed s.relro) t.segments
-word_listed t column.Stack = stack_listed t.kind t.segments
+word_listed t column.Stack = stack_listed t.stack
 word_listed t column.Pages = either_of column.Pages (codes "wx") (codes "w^x") (λ s. s.pages_writable) refl refl refl t.segments
 word_listed t column.Text = either_of column.Text (codes "patch") (codes "fixed") (λ s. s.text_patched) refl refl refl t.segments
 word_listed t column.Cet = cet_listed t.ibt t.shstk

@@ -1,9 +1,11 @@
 //! The file header.
 ghost use Rattle.std.specs.Prelude.{◌≡◌, ℕ, List, length};
+ghost use Rattle.elf_model.specs.Prelude.{is_linked_type};
 
 use crate::fields::{
     array_at, put_array, put_u8, put_u16, put_u32, put_u64, u8_at, u16_at, u32_at, u64_at,
 };
+use crate::numbers::{ET_DYN, ET_EXEC};
 use arrayvec::ArrayVec;
 use elf_model::{Cause, Refusal};
 
@@ -195,4 +197,12 @@ impl Ehdr {
         put_u16(&mut out, self.e_shstrndx);
         out
     }
+}
+
+/// Returns `true` if a loader links files of the type `e_type`: executable files and shared objects
+/// (gABI 4, ELF Header).
+pub fn is_linked_type(e_type: u16) -> bool
+    ensures { result ≡ is_linked_type e_type }
+{
+    e_type == ET_EXEC || e_type == ET_DYN
 }

@@ -22,7 +22,7 @@ mod version_numbers;
 mod words;
 
 pub use dyn_entry::Dyn;
-pub use ehdr::Ehdr;
+pub use ehdr::{Ehdr, is_linked_type};
 pub use elf_model::{Cause, Refusal, VersionKind};
 pub use fields::{u16_at, u64_at};
 pub use flags::{SectionFlags, SegmentFlags};

@@ -1,7 +1,7 @@
 //! Relocations applied to a section.
 ghost use Rattle.std.specs.Prelude.{◌≡◌, ◌+◌, ◌*◌, ◌<◌, ◌≤◌, ◌==◌, ◌||◌, nat_lt, not, true, ℕ};
 ghost use Rattle.std.specs.Prelude.{List, length, None, Some, IfOk, IfErr};
-ghost use Rattle.elf_model.specs.Prelude.{applied, apply_cost_by_order, entries_for, has_no_bytes, is_compressed, section_at};
+ghost use Rattle.elf_model.specs.Prelude.{applied, apply_cost_by_order, entries_for, is_compressed, section_at};
 ghost use Rattle.elf_record.specs.Shdr.{IsShdr};
 ghost use Rattle.elf_source.specs.Growth.{OutGrows};
 ghost use Rattle.elf_table.specs.Prelude.{HoldsSectionHeaders, IsOfCheck};
@@ -20,11 +20,12 @@ use crate::in_order::write_one_pass;
 use crate::passes::{Checked, check};
 use crate::windows::write_by_windows;
 use elf_layout::{Addresses, Layout};
-use elf_record::numbers::{EM_X86_64, ET_REL, SHT_NOBITS, SHT_NULL};
+use elf_record::numbers::{EM_X86_64, ET_REL};
 use elf_record::{Cause, Refusal, SectionFlags, Shdr};
 use elf_source::{Counted, Out, Sink, Source};
 use elf_table::{
-    Fault, HeaderStore, Loaded, RunFault, SectionView, header, is_out_of_bounds, load, refused,
+    Fault, HeaderStore, Loaded, RunFault, SectionView, has_no_bytes, header, is_out_of_bounds,
+    load, refused,
 };
 
 /// The result of applying relocations.
@@ -85,14 +86,6 @@ pub(crate) fn is_section(section: u16, count: u16) -> bool
     ensures { result ≡ not (section == 0 || not (nat_lt section count)) }
 {
     section != 0 && section < count
-}
-
-/// Returns `true` if a section holds no bytes in the file (gABI 4, Section Types).
-fn has_no_bytes(header: &Shdr) -> bool
-    ensures { (bytes : List ℕ) (at : ℕ) → IsShdr bytes at header.now →
-        result ≡ has_no_bytes bytes at }
-{
-    header.sh_type == SHT_NOBITS || header.sh_type == SHT_NULL
 }
 
 /// Returns `true` if a section is compressed, so that relocation entries refer to other bytes than
