@@ -49,7 +49,8 @@ returns-in_err-write_range-clause-writes g c =
     let query = query_as c.args.query.now in
     let did = c.in_ok-range.ensures.did in
     let most = ceiling_is c.args.src.now.seen.size slots query in
-    let within = c.write_range.requires.within in
+    let ends = rw c.in-Some.is at c.in_ok-range.ensures.within in
+    let within = ends.within in
     record {
       says =
           rw (p.1, p.2) (says_after c.write_range.new.src c.write_range.new.out _ _ c.in_err-write_range.field-0 did.costs.reads (omega (arith, most, within, did.costs.reads.at_most, did.costs.reads.keeps.same_size)) c.in_err-write_range.ensures.says);
@@ -76,7 +77,8 @@ returns-clause-writes g c =
     let query = query_as c.args.query.now in
     let did = c.in_ok-range.ensures.did in
     let most = ceiling_is c.args.src.now.seen.size slots query in
-    let within = c.write_range.requires.within in
+    let ends = rw c.in-Some.is at c.in_ok-range.ensures.within in
+    let within = ends.within in
     record {
       says = tt;
       text = λ file held.
