@@ -3,7 +3,7 @@ use Rattle.std.proofs.Common.{◌≡◌, ℕ, ◌+◌, ◌*◌, ◌≤◌, Bool,
 use Rattle.std.specs.Prelude.{IfErr, is_none}
 use Rattle.std.proofs.Math.Nat.{mul-le-mul_right}
 use Rattle.elf_model.specs.Archive.{FileRange}
-use Rattle.elf_model.specs.BytesQuery.{BytesQuery as Asked, OfName, OfSection, OfSegment, first_section_named, queried_file, queried_range, range_in, range_of_name, range_of_section, range_of_segment}
+use Rattle.elf_model.specs.BytesQuery.{BytesQuery, OfName, OfSection, OfSegment, first_section_named, queried_file, queried_range, range_in, range_of_name, range_of_section, range_of_segment}
 use Rattle.elf_model.specs.Prelude.{before_headers, cost_where, e_shnum, e_phnum, first_refusal, header_checks, load_checks, pad64, without_sections}
 use Rattle.elf_model.specs.declared.causes.Refusal.{Refusal}
 use Rattle.elf_model.proofs.StyleLemmas.{view_tells_of_none}
@@ -39,12 +39,12 @@ all_slots slots loaded k few =
     let all : slots * (64 + k) ≡ slots * 64 + slots * k = omega arith in omega (arith, names, all)
 
 module _ (file : List ℕ) (headers : ℕ) where
-  pub refused_all : (query : Asked) (refusal : Refusal) → first_refusal (header_checks (queried_file query file) ++ load_checks (queried_file query file) headers) ≡ Some refusal
+  pub refused_all : (query : BytesQuery) (refusal : Refusal) → first_refusal (header_checks (queried_file query file) ++ load_checks (queried_file query file) headers) ≡ Some refusal
       → queried_range file headers query ≡ Err refusal
   unfolding queried_range
   refused_all query refusal h = rw (h, queried_range) refl
 
-  passed_all : (query : Asked) → first_refusal (header_checks (queried_file query file) ++ load_checks (queried_file query file) headers) ≡ None
+  passed_all : (query : BytesQuery) → first_refusal (header_checks (queried_file query file) ++ load_checks (queried_file query file) headers) ≡ None
       → queried_range file headers query ≡ range_in (queried_file query file) query
   unfolding queried_range
   passed_all query h = rw (h, queried_range) refl

@@ -2,7 +2,7 @@
 use Rattle.std.proofs.Common.{◌≡◌, ℕ, ◌+◌, ◌≤◌, Bool, true, false, List, ◌++◌, Option, None, Some, Result, Ok, Err, refl, sym, ap, subst, ◌∙◌, arith}
 use Rattle.std.proofs.lemmas.List.{append_assoc}
 use Rattle.elf_model.specs.Archive.{FileRange}
-use Rattle.elf_model.specs.BytesQuery.{BytesQuery as Asked, bytes_ceiling, bytes_cost, headers_cost, queried_file, queried_range, range_size}
+use Rattle.elf_model.specs.BytesQuery.{BytesQuery, bytes_ceiling, bytes_cost, headers_cost, queried_file, queried_range, range_size}
 use Rattle.elf_model.specs.Prelude.{before_headers, early_checks, first_refusal, header_checks, load_checks, section_name_checks, slice}
 use Rattle.elf_model.specs.declared.causes.Refusal.{Refusal}
 use Rattle.elf_model.proofs.CheckSteps.{first_refusal-some}
@@ -17,12 +17,12 @@ use Rattle.elf_reloc.specs.Queried.{FindsAs, WritesFound, found_bytes, range_as,
 use Rattle.elf_reloc.proofs.QueriedSteps.{refused_all}
 use Rattle.elf_reloc.proofs.WindowSteps.{front_none}
 
-pub ceiling_is : (size slots : ℕ) (query : Asked) → bytes_ceiling size slots query ≡ range_ceiling slots query + size
+pub ceiling_is : (size slots : ℕ) (query : BytesQuery) → bytes_ceiling size slots query ≡ range_ceiling slots query + size
 unfolding bytes_ceiling
 ceiling_is size slots query = refl
 
 -- the cost is that of the range and its bytes
-module _ (file : List ℕ) (slots : ℕ) (query : Asked) where
+module _ (file : List ℕ) (slots : ℕ) (query : BytesQuery) where
   abbrev read : List ℕ
   read = queried_file query file
 

@@ -1,7 +1,7 @@
 -- The bytes of a section or of a program header, as they are in the file.
 use Rattle.std.specs.Prelude.{ℕ, ◌≡◌, ◌+◌, ◌*◌, ◌^◌, ◌<◌, ◌≤◌, true, false, if◌then◌else◌, Bool, List, [], ◌++◌, is_none, Option, None, Some, option_map, Result, Ok, Err, IfErr, IfSome}
 use Rattle.elf_model.specs.Archive.{FileRange, bytes_in}
-use Rattle.elf_model.specs.BytesQuery.{BytesQuery as Asked, OfName, OfSection, OfSegment, bytes_ceiling, bytes_cost, compared_bytes, headers_cost, queried_file, queried_range, range_by_section, range_if_passed, range_of_segment}
+use Rattle.elf_model.specs.BytesQuery.{BytesQuery, OfName, OfSection, OfSegment, bytes_ceiling, bytes_cost, compared_bytes, headers_cost, queried_file, queried_range, range_by_section, range_if_passed, range_of_segment}
 use Rattle.elf_model.specs.Prelude.{FILE_HEADER_SIZE, IsBudgetRefusal, SECTION_HEADER_SIZE, before_headers, cost_where, e_shnum, first_refusal, has_no_bytes, header_checks, load_checks, range_checks}
 use Rattle.elf_model.specs.declared.causes.Refusal.{Refusal}
 use Rattle.elf_source.specs.Prelude.{CountedState, OutGrows, OutState, SinkTakes, SinkTakesPrefix}
@@ -12,11 +12,11 @@ use Rattle.elf_table.specs.declared.fault.Fault.TheVariants.{Refused as Refuses,
 use Rattle.elf_table.specs.declared.run_fault.RunFault.{RunFault}
 use Rattle.elf_table.specs.declared.run_fault.RunFault.TheVariants.{Refused, Source, Out}
 use Rattle.elf_reloc.specs.Applied.{ApplySays, BudgetTooSmall, ReadsWithin}
-use Rattle.elf_reloc.specs.declared.bytes_query.BytesQuery.{BytesQuery}
-use Rattle.elf_reloc.specs.declared.bytes_query.BytesQuery.TheVariants.{Section, Name, Segment}
+use Rattle.elf_reloc.specs.declared.wanted_bytes.WantedBytes.{WantedBytes}
+use Rattle.elf_reloc.specs.declared.wanted_bytes.WantedBytes.TheVariants.{Section, Name, Segment}
 
 -- what is requested, in the definition's words
-abbrev pub query_as : BytesQuery → Asked
+abbrev pub query_as : WantedBytes → BytesQuery
 query_as (Section section) = OfSection section
 query_as (Name name) = OfName name.bytes.now
 query_as (Segment segment) = OfSegment segment
@@ -73,13 +73,13 @@ pub record HoldsAll (size : ℕ) (store : StoreState) (loaded : LoadedFile) : Ty
   pub fits : size < 2 ^ 64
 
 -- how many bytes are read until the range is known
-abbrev pub range_cost : List ℕ → ℕ → Asked → ℕ
+abbrev pub range_cost : List ℕ → ℕ → BytesQuery → ℕ
 range_cost file headers query =
     FILE_HEADER_SIZE
     + cost_where (is_none (first_refusal (before_headers (queried_file query file) headers))) (headers_cost (queried_file query file) query)
 
 -- for every source
-abbrev pub range_ceiling : ℕ → Asked → ℕ
+abbrev pub range_ceiling : ℕ → BytesQuery → ℕ
 range_ceiling headers query = FILE_HEADER_SIZE + headers * (SECTION_HEADER_SIZE + compared_bytes query)
 
 -- the range of a program header of a file that locates no section headers
@@ -90,7 +90,7 @@ range_if_loaded file headers segment = elim (first_refusal (header_checks file +
 ]
 
 -- THE RANGE of a known file: what it costs to find it, and the range
-pub record FindsQueried {X : Type 0} (as_found : X → Option FileRange) (file : List ℕ) (headers : ℕ) (query : Asked) (old new : CountedState) (result : Result X Fault) : Type 0 where
+pub record FindsQueried {X : Type 0} (as_found : X → Option FileRange) (file : List ℕ) (headers : ℕ) (query : BytesQuery) (old new : CountedState) (result : Result X Fault) : Type 0 where
   pub costs : CallReads old new (fault_of_result result) (range_cost file headers query)
   pub finds : FindsAs as_found result (queried_range file headers query)
 
@@ -115,7 +115,7 @@ WritesFound old new (Err (Source fault at)) file answer = SinkTakesPrefix old ne
 WritesFound old new (Err (Out fault)) file answer = SinkTakesPrefix old new (found_bytes file answer)
 
 -- THE EFFECT OF A CALL that writes the bytes that are requested, with a number of slots for headers
-pub record WritesQueried (before after : CountedState) (old new : OutState) (result : Result Bool RunFault) (slots : ℕ) (query : Asked) : Type 0 where
+pub record WritesQueried (before after : CountedState) (old new : OutState) (result : Result Bool RunFault) (slots : ℕ) (query : BytesQuery) : Type 0 where
   pub says : IfErr result (ApplySays before after new (bytes_ceiling before.seen.size slots query))
   pub text : (file : List ℕ) → before.seen.file ≡ Some file → WritesFound old new result file (queried_range file slots query)
   pub enough : (file : List ℕ) → before.seen.file ≡ Some file → IfErr result (BudgetTooSmall before (bytes_cost file slots query))

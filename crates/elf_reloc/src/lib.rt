@@ -4,7 +4,6 @@
 #![tactic(auto)]
 
 mod apply_section;
-mod bytes_query;
 mod entries;
 mod entry;
 mod explanation;
@@ -18,10 +17,10 @@ mod section_bytes;
 mod symbol_name;
 mod values;
 mod walk;
+mod wanted_bytes;
 mod windows;
 
 pub use apply_section::{Applied, apply, apply_with};
-pub use bytes_query::{BytesQuery, SectionName};
 pub use elf_layout::{Item, Layout, LayoutFault};
 pub use elf_model::{Formula, RelocationBase, RelocationType, ValueRange};
 pub use elf_table::RunFault as ApplyFault;
@@ -30,3 +29,4 @@ pub use patch::Patch;
 pub use relocation_types::{relocation_type, takes_place};
 pub use section_bytes::write_bytes;
 pub use values::{ValueFault, patch_of, value};
+pub use wanted_bytes::{SectionName, WantedBytes};

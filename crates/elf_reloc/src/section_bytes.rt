@@ -15,8 +15,8 @@ ghost use Rattle.elf_reloc.specs.Queried.{some_range};
 ghost use Rattle.elf_reloc.specs.Windows.{WroteBytes};
 
 use crate::apply_section::{held_range, is_section};
-use crate::bytes_query::BytesQuery;
 use crate::in_order::copy;
+use crate::wanted_bytes::WantedBytes;
 use elf_hash::load_by_segments;
 use elf_record::{Cause, Refusal};
 use elf_source::{Counted, Out, Sink, Source};
@@ -44,7 +44,7 @@ use elf_table::{
 pub fn write_bytes<S: Source, W: Sink>(
     src: &mut Counted<S>,
     store: &mut HeaderStore,
-    query: &BytesQuery<'_>,
+    query: &WantedBytes<'_>,
     out: &mut Out<W>,
 ) -> Result<bool, RunFault>
     ensures slots { store.new.slots ≡ store.old.slots }
@@ -61,7 +61,7 @@ pub fn write_bytes<S: Source, W: Sink>(
 fn write_within<S: Source, W: Sink>(
     src: &mut Counted<S>,
     store: &mut HeaderStore,
-    query: &BytesQuery<'_>,
+    query: &WantedBytes<'_>,
     out: &mut Out<W>,
 ) -> Result<bool, RunFault>
     ensures slots { store.new.slots ≡ store.old.slots }
@@ -115,7 +115,7 @@ fn has_left<S: Source>(src: &Counted<S>, size: u64) -> bool
 fn find_range<S: Source>(
     src: &mut Counted<S>,
     store: &mut HeaderStore,
-    query: &BytesQuery<'_>,
+    query: &WantedBytes<'_>,
 ) -> Result<Option<(u64, u64)>, Fault>
     ensures did { CallDid src.old src.new (fault_of_result result)
         (range_ceiling store.old.slots (query_as query.now))
@@ -125,9 +125,9 @@ fn find_range<S: Source>(
     ensures within { IfOk result (λ found. IfSome found (EndsWithin src.old.seen.size)) }
 {
     match query {
-        BytesQuery::Section(section) => Ok(Some(find_section_range(src, store, *section)?)),
-        BytesQuery::Name(name) => find_named_range(src, store, name.bytes),
-        BytesQuery::Segment(segment) => Ok(Some(find_segment_range(src, store, *segment)?)),
+        WantedBytes::Section(section) => Ok(Some(find_section_range(src, store, *section)?)),
+        WantedBytes::Name(name) => find_named_range(src, store, name.bytes),
+        WantedBytes::Segment(segment) => Ok(Some(find_segment_range(src, store, *segment)?)),
     }
 }
 

@@ -7,7 +7,7 @@ use Rattle.elf_cli.specs.declared.command_args.CommandName.TheVariants as comman
 use Rattle.elf_cli.specs.declared.faults.RequestFault.TheVariants.{BadName, BadSection}
 use Rattle.elf_cli.specs.declared.faults.RequestFault.{RequestFault}
 use Rattle.elf_model.specs.Placing.{no_items}
-use Rattle.elf_model.specs.Prelude.{BytesQuery as Asked}
+use Rattle.elf_model.specs.BytesQuery.{BytesQuery}
 use Rattle.elf_requests.specs.Asked.{AsksBytes, IsText, Makes}
 use Rattle.elf_requests.specs.AskedTraits.{IsWordFault}
 use Rattle.elf_requests.specs.Layouts.{LaysWords}
@@ -23,7 +23,7 @@ LaysBadly args fault = (args.command ≡ command.Apply) × LaysWords no_items (t
 
 -- a section is given by neither an index nor a name
 abbrev LocatesNothing : CommandArgs → RequestFault → Type 0
-LocatesNothing args fault = (fault ≡ BadSection) × (args.command ≡ command.Bytes) × ((query : Asked) → AsksBytes args query → ⊥)
+LocatesNothing args fault = (fault ≡ BadSection) × (args.command ≡ command.Bytes) × ((query : BytesQuery) → AsksBytes args query → ⊥)
 
 -- the fault of the arguments of a command: no memory or an invalid required trait; the first fault
 -- of all arguments; or a name, an item or a section that is not valid

@@ -1,7 +1,8 @@
 -- What the arguments of a command request.
 use Rattle.std.specs.Prelude.{Bool, true, false, ◌≡◌, ◌≤◌, ◌==◌, ◌&&◌, ◌||◌, nat_lt, [], ◌∷◌, length, option_map, None, Some, Ok}
 use Rattle.clap.specs.Walk.{Text, texts}
-use Rattle.elf_model.specs.Prelude.{BytesQuery as Asked, IsWanted, OfName, OfSection, OfSegment, is_complete, no_items, parse_query}
+use Rattle.elf_model.specs.BytesQuery.{BytesQuery, OfName, OfSection, OfSegment}
+use Rattle.elf_model.specs.Prelude.{IsWanted, is_complete, no_items, parse_query}
 use Rattle.elf_cli.specs.UsageFaults.{selects_rows}
 use Rattle.elf_cli.specs.declared.command_args.CommandArgs.{CommandArgs}
 use Rattle.elf_cli.specs.declared.command_args.CommandName.{CommandName}
@@ -42,7 +43,7 @@ pub record IsSectionName (text : Text) : Type 0 where
 
 -- whose bytes are requested: the program header's of an index, if one is given; or the section's of
 -- an index, if a number is given; or the first section's of a name
-abbrev pub AsksBytes : CommandArgs → Asked → Type 0
+abbrev pub AsksBytes : CommandArgs → BytesQuery → Type 0
 AsksBytes args (OfSegment segment) = (args.segment ≡ Some segment) × (segment ≤ 65535)
 AsksBytes args (OfSection section) = (args.segment ≡ None) × (args.wanted_index ≡ Some section) × (section ≤ 65535)
 AsksBytes args (OfName name) =

@@ -1,6 +1,7 @@
 -- What a request does: what it writes of a file, what it costs, and what it reads.
 use Rattle.std.specs.Prelude.{ℕ, ◌≡◌, ◌≤◌, ◌+◌, ⊤, Bool, List, length, Option, Some, Result, IfErr, IfSome}
-use Rattle.elf_model.specs.Prelude.{BytesQuery as Asked, IsAnswered, IsShown, Layout, apply_answer, apply_cost_by_order, bytes_answer, bytes_ceiling, bytes_cost, find_answer, find_cost, listing_cost, loader_answer, loader_ceiling, loader_cost, looked_at, parse_query, show_answer_by}
+use Rattle.elf_model.specs.BytesQuery.{BytesQuery, bytes_answer, bytes_ceiling, bytes_cost}
+use Rattle.elf_model.specs.Prelude.{IsAnswered, IsShown, Layout, apply_answer, apply_cost_by_order, find_answer, find_cost, listing_cost, loader_answer, loader_ceiling, loader_cost, looked_at, parse_query, show_answer_by}
 use Rattle.elf_model.specs.declared.formats.Format.TheVariants.{Columns}
 use Rattle.elf_model.specs.declared.formats.Format.{Format}
 use Rattle.elf_source.specs.Prelude.{CountedState, OutGrows, OutState}
@@ -69,7 +70,7 @@ RunsApply limits section layout old new before after result =
     (λ answer. ⊤))
 
 -- the bytes of a section or of a program header
-abbrev pub RunsBytes : Limits → Asked → CountedState → CountedState → OutState → OutState → Result ℕ RunFault → Type 0
+abbrev pub RunsBytes : Limits → BytesQuery → CountedState → CountedState → OutState → OutState → Result ℕ RunFault → Type 0
 RunsBytes limits query old new before after result =
     Runs old new before after result (AsksUpTo limits.budget old new (bytes_ceiling old.seen.size limits.headers query))
     (λ file. bytes_cost file limits.headers query)

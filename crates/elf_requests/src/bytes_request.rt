@@ -1,11 +1,11 @@
 //! The request for the bytes of a section or of a program header.
-ghost use Rattle.std.specs.Prelude.{◌≡◌, ◌^◌, ◌≤◌};
+ghost use Rattle.std.specs.Prelude.{◌≡◌, ◌^◌, ◌≤◌, if◌then◌else◌};
 ghost use Rattle.elf_reloc.specs.Queried.{query_as};
 ghost use Rattle.elf_requests.specs.Requests.{RunsBytes};
 
 use elf_listing::show_stop;
 use elf_model::Format;
-use elf_reloc::{BytesQuery, write_bytes};
+use elf_reloc::{WantedBytes, write_bytes};
 use elf_source::{Counted, Out, Sink, Source};
 use elf_table::{HeaderStore, Limits, RunFault};
 
@@ -20,7 +20,7 @@ pub(crate) fn write_raw<S: Source, W: Sink>(
     src: &mut Counted<S>,
     store: &mut HeaderStore,
     limits: Limits,
-    query: &BytesQuery<'_>,
+    query: &WantedBytes<'_>,
     out: &mut Out<W>,
 ) -> Result<u8, RunFault>
     requires { (store.old.slots ≡ limits.headers) × (src.old.asked ≤ 2 ^ 127) }
@@ -29,8 +29,14 @@ pub(crate) fn write_raw<S: Source, W: Sink>(
 {
     src.limit(limits.budget);
     match write_bytes(src, store, query, out) {
-        Ok(true) => Ok(0),
-        Ok(false) => Ok(1),
+        Ok(written) => Ok(status_of(written)),
         Err(stop) => Err(show_stop(stop, Format::Columns, out)),
     }
+}
+
+/// Returns the status: 0 if the bytes were written, 1 if there is no section of the name.
+fn status_of(written: bool) -> u8
+    ensures { result ≡ (if written then 0 else 1) }
+{
+    if written { 0 } else { 1 }
 }

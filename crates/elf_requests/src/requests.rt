@@ -5,7 +5,7 @@ ghost use Rattle.elf_model.specs.Prelude.{IsWanted, is_complete, parse_query};
 use elf_layout::{Addresses, Layout};
 use elf_model::Format;
 use elf_record::Parts;
-use elf_reloc::BytesQuery;
+use elf_reloc::WantedBytes;
 use elf_table::{Limits, ListingStyle};
 
 /// A request: which file, how much of it may be read, and what is done with it.
@@ -57,7 +57,7 @@ pub enum Task<'a> {
     /// Write the bytes of one of its sections or program headers.
     Bytes {
         /// Which of them.
-        query: BytesQuery<'a>,
+        query: WantedBytes<'a>,
     },
     /// The same as [`Task::Apply`], with addresses in another representation.
     Place {

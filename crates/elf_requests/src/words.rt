@@ -8,7 +8,7 @@ ghost use Rattle.elf_model.specs.Placing.{no_items};
 ghost use Rattle.elf_requests.specs.Answered.{HasFault, IsAsked, IsRefusal, WordsAsk, WordsRefused};
 ghost use Rattle.elf_requests.specs.Asked.{AsksBytes, IsTask, IsText, Makes};
 ghost use Rattle.elf_reloc.specs.Queried.{query_as};
-ghost use Rattle.elf_model.specs.Prelude.{BytesQuery as Asked};
+ghost use Rattle.elf_model.specs.BytesQuery.{BytesQuery};
 ghost use Rattle.elf_requests.specs.AskedTraits.{AreRequired};
 ghost use Rattle.elf_requests.specs.Layouts.{LaysWords};
 ghost use Rattle.elf_requests.specs.declared.requests.Task.TheVariants.{Show};
@@ -24,7 +24,7 @@ use elf_cli::{
 };
 use elf_layout::Layout;
 use elf_options::RequiredTrait;
-use elf_reloc::BytesQuery;
+use elf_reloc::WantedBytes;
 use std::alloc::Global;
 use std::convert::AsStr;
 
@@ -219,17 +219,17 @@ fn bytes_command<'a>(args: &CommandArgs<'a>) -> Result<ParsedCommand<'a>, Reques
 
 /// Returns whose bytes are requested: the program header's of an index, if one is given, or the
 /// section's. Returns `None` if that is given by neither an index nor a name.
-fn bytes_query<'a>(args: &CommandArgs<'a>) -> Option<BytesQuery<'a>>
+fn bytes_query<'a>(args: &CommandArgs<'a>) -> Option<WantedBytes<'a>>
     ensures some { IfSome result (λ query. AsksBytes args.now (query_as query)) }
-    ensures none { result ≡ None → (query : Asked) → AsksBytes args.now query → ⊥ }
+    ensures none { result ≡ None → (query : BytesQuery) → AsksBytes args.now query → ⊥ }
 {
     if let Some(segment) = args.segment {
-        return Some(BytesQuery::Segment(index_of(segment)?));
+        return Some(WantedBytes::Segment(index_of(segment)?));
     }
     if let Some(section) = args.wanted_index {
-        return Some(BytesQuery::Section(index_of(section)?));
+        return Some(WantedBytes::Section(index_of(section)?));
     }
-    Some(BytesQuery::Name(checked_section(args.wanted?)?))
+    Some(WantedBytes::Name(checked_section(args.wanted?)?))
 }
 
 /// Returns a number as an index, if it is at most 65,535.

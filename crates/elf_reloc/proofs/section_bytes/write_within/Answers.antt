@@ -53,15 +53,15 @@ returns-in_err-write_range-clause-writes g c =
     let within = ends.within in
     record {
       says =
-          rw (p.1, p.2) (says_after c.write_range.new.src c.write_range.new.out _ _ c.in_err-write_range.field-0 did.costs.reads (omega (arith, most, within, did.costs.reads.at_most, did.costs.reads.keeps.same_size)) c.in_err-write_range.ensures.says);
+          rw (p.1, p.2) (says_after c.write_range.new.src c.write_range.new.out _ _ _ did.costs.reads (omega (arith, most, within, did.costs.reads.at_most, did.costs.reads.keeps.same_size)) c.in_err-write_range.ensures.says);
       text = λ file held.
           let found = (did.known file held).finds ∙ ap (λ found. Ok (some_range found)) c.in-Some.is in
-          rw (p.1, p.2) (written file slots query _ _ c.in-Some.range c.write_range.result c.in_err-write_range.field-0 found (c.in_err-write_range.ensures.text file (did.costs.reads.keeps.same_file ∙ held)));
+          rw (p.1, p.2) (written file slots query _ _ c.in-Some.range c.write_range.result _ found (c.in_err-write_range.ensures.text file (did.costs.reads.keeps.same_file ∙ held)));
       enough = λ file held.
           let found = (did.known file held).finds ∙ ap (λ found. Ok (some_range found)) c.in-Some.is in
           let cost = cost_found file slots query (Some c.in-Some.range) found c.in-Some.range.1 refl in
-          rw (p.1, p.2) (wants_after _ _ c.in_err-write_range.field-0 did.costs.reads (omega (arith, cost, (did.known file held).costs.reads.at_most))
-          (says_wants c.find_range.new.src c.write_range.new.src c.write_range.new.out _ c.in_err-write_range.field-0 c.in_err-write_range.ensures.says));
+          rw (p.1, p.2) (wants_after _ _ _ did.costs.reads (omega (arith, cost, (did.known file held).costs.reads.at_most))
+          (says_wants c.find_range.new.src c.write_range.new.src c.write_range.new.out _ _ c.in_err-write_range.ensures.says));
       cost = λ file held.
           let found = (did.known file held).finds ∙ ap (λ found. Ok (some_range found)) c.in-Some.is in
           let cost = cost_found file slots query (Some c.in-Some.range) found c.in-Some.range.1 refl in

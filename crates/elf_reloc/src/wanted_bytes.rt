@@ -3,7 +3,7 @@ ghost use Rattle.std.specs.Prelude.{◌≤◌, length};
 
 /// Whose bytes are requested.
 #[derive(Clone, Copy)]
-pub enum BytesQuery<'a> {
+pub enum WantedBytes<'a> {
     /// Those of the section of an index.
     Section(u16),
     /// Those of the first section of a name.
