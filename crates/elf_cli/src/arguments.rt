@@ -295,7 +295,7 @@ static ARGUMENTS: [ArgSpec; 41] = [
         alias: None,
         kind: ArgKind::Number(ValueParser::Unsigned(0, 65535)),
         help: "Write the bytes of the program header of index N,\n\
-            instead of a section's",
+            0 to 65535, not a section's",
         commands: BYTES,
     },
     ArgSpec {
