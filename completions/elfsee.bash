@@ -10,6 +10,7 @@ _elfsee_options() {
     list) set -- --headers --names --max-read --only --gnu --by-segments --json --table --versions --name --name-list --defined --undefined --dynamic --at --address --members --files0-from ;;
     find) set -- --headers --max-read --gnu --by-segments --json --table ;;
     apply) set -- --headers --max-read --layout --explain ;;
+    bytes) set -- --headers --max-read --segment ;;
     needs | deps) set -- --headers --max-read --max-tries --library-path --default --root --cache --no-cache --symbols --unused --problems --json --table --files0-from ;;
     traits | hardening) set -- --headers --max-read --require --json --table --files0-from ;;
     *) set -- ;;
@@ -63,7 +64,7 @@ _elfsee() {
         else
             case $word in
             --) ended=1 before= ;;
-            --headers | --max-headers | --names | --max-name-len | --max-read | --max-tries | --only | -o | --name | -n | --name-list | --at | --address | --layout | --require | --library-path | --default | --root | --sysroot | --cache | --files0-from) skip=1 ;;
+            --headers | --max-headers | --names | --max-name-len | --max-read | --max-tries | --only | -o | --name | -n | --name-list | --at | --address | --layout | --segment | --require | --library-path | --default | --root | --sysroot | --cache | --files0-from) skip=1 ;;
             -*) ;;
             *) if [[ $command ]]; then files=$((files + 1)); else command=$word; fi ;;
             esac
@@ -76,7 +77,7 @@ _elfsee() {
             mapfile -t COMPREPLY < <(compgen -W "$parts" -- "$current")
             return
             ;;
-        --headers | --max-headers | --names | --max-name-len | --max-read | --max-tries | --name | -n | --require | --library-path | --default) return ;;
+        --headers | --max-headers | --names | --max-name-len | --max-read | --max-tries | --name | -n | --segment | --require | --library-path | --default) return ;;
         --name-list | --layout | --root | --sysroot | --cache | --files0-from)
             _elfsee_files
             return
@@ -95,9 +96,9 @@ _elfsee() {
         esac
     fi
     case $command in
-    '') mapfile -t COMPREPLY < <(compgen -W 'show sample find apply check list traits needs archive explain version help' -- "$current") ;;
-    help) [[ $files != 0 ]] || mapfile -t COMPREPLY < <(compgen -W 'show sample find apply check list traits needs archive explain version' -- "$current") ;;
-    show | find | archive) [[ $files != 0 ]] || _elfsee_files ;;
+    '') mapfile -t COMPREPLY < <(compgen -W 'show sample find apply bytes check list traits needs archive explain version help' -- "$current") ;;
+    help) [[ $files != 0 ]] || mapfile -t COMPREPLY < <(compgen -W 'show sample find apply bytes check list traits needs archive explain version' -- "$current") ;;
+    show | find | bytes | archive) [[ $files != 0 ]] || _elfsee_files ;;
     check | list | traits | hardening | needs | deps) _elfsee_files ;;
     apply)
         case $files in

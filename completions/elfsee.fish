@@ -1,6 +1,6 @@
 # Completion of elfsee for fish.
 
-set -l commands show sample find apply check list traits needs archive explain version help
+set -l commands show sample find apply bytes check list traits needs archive explain version help
 set -l listing '__fish_seen_subcommand_from show sample check list archive'
 set -l parts 'header\t"the file header"
 sections\t"the section headers"
@@ -27,7 +27,7 @@ function __elfsee_plain_words
             set -a plain $word
         else if test "$word" = --
             set ended 1
-        else if contains -- $word --headers --max-headers --names --max-name-len --max-read --max-tries --only --name --name-list --at --address --layout --require --library-path --default --root --sysroot --cache --files0-from
+        else if contains -- $word --headers --max-headers --names --max-name-len --max-read --max-tries --only --name --name-list --at --address --layout --segment --require --library-path --default --root --sysroot --cache --files0-from
             set skip 1
         else if not string match -q -- '-*' $word
             set -a plain $word
@@ -40,7 +40,7 @@ end
 # Succeeds if the file is not named yet.
 function __elfsee_wants_file
     set -l plain (__elfsee_plain_words)
-    test (count $plain) -eq 1; and contains -- $plain[1] show find apply archive; and return
+    test (count $plain) -eq 1; and contains -- $plain[1] show find apply bytes archive; and return
     test (count $plain) -ge 1; and contains -- $plain[1] check list traits hardening needs deps
 end
 
@@ -61,6 +61,7 @@ complete -c elfsee -n "not __fish_seen_subcommand_from $commands" -a show -d 'li
 complete -c elfsee -n "not __fish_seen_subcommand_from $commands" -a sample -d 'list a small file that is built into the program'
 complete -c elfsee -n "not __fish_seen_subcommand_from $commands" -a find -d 'look up a name in the hash table of a file'
 complete -c elfsee -n "not __fish_seen_subcommand_from $commands" -a apply -d 'write a section with its relocations applied'
+complete -c elfsee -n "not __fish_seen_subcommand_from $commands" -a bytes -d 'write the bytes of a section or of a segment'
 complete -c elfsee -n "not __fish_seen_subcommand_from $commands" -a check -d 'check many files: which are malformed, where and why'
 complete -c elfsee -n "not __fish_seen_subcommand_from $commands" -a list -d 'list many files, whole or parts of each'
 complete -c elfsee -n "not __fish_seen_subcommand_from $commands" -a traits -d 'print how each of many files is hardened'
@@ -69,16 +70,16 @@ complete -c elfsee -n "not __fish_seen_subcommand_from $commands" -a archive -d 
 complete -c elfsee -n "not __fish_seen_subcommand_from $commands" -a explain -d 'print what causes and states mean'
 complete -c elfsee -n "not __fish_seen_subcommand_from $commands" -a version -d 'print the version of the program'
 complete -c elfsee -n "not __fish_seen_subcommand_from $commands" -a help -d 'print the commands and options'
-complete -c elfsee -n '__fish_seen_subcommand_from help; and test (count (commandline -opc)) -eq 2' -a 'show sample find apply check list traits needs archive explain version'
+complete -c elfsee -n '__fish_seen_subcommand_from help; and test (count (commandline -opc)) -eq 2' -a 'show sample find apply bytes check list traits needs archive explain version'
 complete -c elfsee -n __elfsee_wants_file -F
 complete -c elfsee -n __elfsee_wants_item -a at: -d 'the address of a section, at:INDEX=ADDR'
 complete -c elfsee -n __elfsee_wants_item -a def: -d 'the address of an undefined or common symbol, def:NAME=ADDR'
 complete -c elfsee -n __elfsee_wants_item -a plt: -d 'the address of an entry in the procedure linkage table, plt:NAME=ADDR'
 complete -c elfsee -n __elfsee_wants_item -a got: -d 'the address of an entry in the global offset table, got:NAME=ADDR'
 complete -c elfsee -n __elfsee_wants_item -a tpgot: -d 'the address of an entry there of an offset from the thread pointer, tpgot:NAME=ADDR'
-complete -c elfsee -n "__fish_seen_subcommand_from show sample find apply check list traits needs archive; and __elfsee_lacks --headers" -l headers -x -d 'allow this many headers of each kind, 1 to 65279 [4096]'
+complete -c elfsee -n "__fish_seen_subcommand_from show sample find apply bytes check list traits needs archive; and __elfsee_lacks --headers" -l headers -x -d 'allow this many headers of each kind, 1 to 65279 [4096]'
 complete -c elfsee -n "$listing; and __elfsee_lacks --names" -l names -x -d 'show at most this many bytes of a name, 1 to 4096 [256]'
-complete -c elfsee -n "__fish_seen_subcommand_from show sample find apply check list traits needs archive; and __elfsee_lacks --max-read" -l max-read -x -d 'read at most this many bytes of the file'
+complete -c elfsee -n "__fish_seen_subcommand_from show sample find apply bytes check list traits needs archive; and __elfsee_lacks --max-read" -l max-read -x -d 'read at most this many bytes of the file'
 complete -c elfsee -n "$listing; and __elfsee_lacks --only" -s o -l only -x -a $parts -d 'list one part'
 complete -c elfsee -n '__fish_seen_subcommand_from archive; and __elfsee_lacks --only' -s o -l only -x -a $members -d 'list one part'
 complete -c elfsee -n "$listing; and __elfsee_lacks --gnu" -s g -l gnu -d 'also name the numbers defined by GNU, and list symbol versions'
@@ -109,4 +110,5 @@ complete -c elfsee -n '__fish_seen_subcommand_from check list; and __elfsee_lack
 complete -c elfsee -n '__fish_seen_subcommand_from check list traits needs; and __elfsee_lacks --files0-from' -l files0-from -r -F -d 'also take the paths in a file, each ended by a NUL byte'
 complete -c elfsee -n '__fish_seen_subcommand_from apply; and __elfsee_lacks --layout' -l layout -r -F -d 'also take the items in a file, one per line'
 complete -c elfsee -n '__fish_seen_subcommand_from apply; and __elfsee_lacks --explain' -l explain -d 'if an address is missing, print the item that would help'
+complete -c elfsee -n '__fish_seen_subcommand_from bytes; and __elfsee_lacks --segment' -l segment -x -d 'write the bytes of the program header of this index'
 complete -c elfsee -s h -l help -d 'print the commands and options'

@@ -218,6 +218,8 @@ def try_all(trial, paths):
     refuse_each(trial, "a line that is reported", ["apply", "--layout", paths["bad items"], small, "1"])
     same_requests(trial, "sections applied with the items of a file", ["apply", "--layout", paths["items"], small, "1"],
                   ["apply", "--layout", paths["items"], large, "3"])
+    refuse_each(trial, "the bytes of a section", ["bytes", small, "1"])
+    same_requests(trial, "the bytes of sections", ["bytes", small, "1"], ["bytes", large, "1"])
     refuse_each(trial, "rows of some names", ["show", "--name", "call", "--name-list", paths["items"], small])
     refuse_each(trial, "rows of some names of an archive", ["archive", "--name-list", paths["items"], paths["small archive"]])
     same_requests(trial, "rows of some names", ["show", "--name-list", paths["items"], small],

@@ -133,9 +133,9 @@ def tables_of(sources):
         having = [command for command, _, bit, _ in commands if set_of(words, sets) & set_of(bit, sets)]
         others = [command for command in usage if command not in having]
         of = ", ".join(having) if len(others) > 2 else f"all but {' and '.join(others)}"
-        if kind in ("Needed", "Index", "Any"):
+        if kind in ("Needed", "Index", "Optional", "Any"):
             for command in having:
-                usage[command] += f" [{name}]..." if kind == "Any" else f" {name}"
+                usage[command] += {"Any": f" [{name}]...", "Optional": f" [{name}]"}.get(kind, f" {name}")
             continue
         quoted = re.search(r'"(\w+)"', more)
         value = {"Flag": "", "Number": " N", "Count": " N"}.get(kind)

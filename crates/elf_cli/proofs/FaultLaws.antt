@@ -9,7 +9,7 @@ use Rattle.clap.specs.declared.error.Error.{Error}
 use Rattle.clap.specs.declared.parser.matches.ArgMatches.{ArgMatches}
 use Rattle.clap.proofs.OnLiterals.{clap_on_literals}
 use Rattle.elf_cli.specs.Prelude.{AreMatched, AreRejected, IsFaultOf, IsOneOf, program}
-use Rattle.elf_cli.specs.declared.faults.RequestFault.TheVariants.{BadItem, BadName, LayoutFull, LayoutRepeat, Memory, NamesFull, UnknownTrait, Words}
+use Rattle.elf_cli.specs.declared.faults.RequestFault.TheVariants.{BadItem, BadName, BadSection, LayoutFull, LayoutRepeat, Memory, NamesFull, UnknownTrait, Words}
 use Rattle.elf_cli.specs.declared.faults.RequestFault.{RequestFault}
 
 -- the command line is one whose matches and faults are known: no argument has a rule on another
@@ -26,6 +26,7 @@ fault_told kinds error Memory is has = tt
 fault_told kinds error (Words told) is (inl memory) = absurd (is.1 memory)
 fault_told kinds error (Words told) is (inr among) = subst (λ e. IsAmong (kind_of e) kinds) (sym is.0) among
 fault_told kinds error BadName is has = is
+fault_told kinds error BadSection is has = is
 fault_told kinds error NamesFull is has = is
 fault_told kinds error BadItem is has = is
 fault_told kinds error LayoutFull is has = is

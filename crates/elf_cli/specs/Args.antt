@@ -49,6 +49,9 @@ pub record AreOptions (rows : List Row) (args : CommandArgs) : Type 0 where
   pub file : option_map (λ path. path.now) args.file ≡ first_of (codes "FILE") rows
   pub name : args.name.now ≡ unwrap_or (first_of (codes "NAME") rows) []
   pub section : IsCount 0 65535 (one_of (codes "SECTION") rows) args.section
+  pub wanted : option_map (λ text. text.now) args.wanted ≡ first_of (codes "SECTION") rows
+  pub wanted_index : HasPlace (first_of (codes "SECTION") rows) args.wanted_index
+  pub segment : (value : Option ℕ) → HasNumber (one_of (codes "segment") rows) value → args.segment ≡ value
   pub items : texts args.items.items ≡ values_of (codes "ITEM") rows
   pub layout : option_map (λ path. path.now) args.layout ≡ first_of (codes "layout") rows
   pub explain : args.explain ≡ is_option_set (first_of (codes "explain") rows)

@@ -10,7 +10,7 @@ use Rattle.clap.specs.declared.builder.value_parser.ValueParser.{ValueParser}
 use Rattle.clap.specs.declared.builder.value_parser.ValueParser.TheVariants.{NonEmptyString, Signed, Unsigned}
 use Rattle.elf_cli.specs.declared.command_args.CommandName.{CommandName}
 use Rattle.elf_cli.specs.declared.command_args.CommandName.TheVariants as command
-use Rattle.elf_cli.specs.declared.command_sets.TheConstants.{SHOW, SAMPLE, FIND, APPLY, CHECK, LIST, TRAITS, NEEDS, ARCHIVE, EXPLAIN, VERSION}
+use Rattle.elf_cli.specs.declared.command_sets.TheConstants.{SHOW, SAMPLE, FIND, APPLY, BYTES, CHECK, LIST, TRAITS, NEEDS, ARCHIVE, EXPLAIN, VERSION}
 
 -- an option that may also be given by a letter, as in -g
 abbrev pub by_letter : Text → Rule → Rule
@@ -48,13 +48,17 @@ required name = record (new_rule name) { required = true }
 abbrev pub indexed : Text → ValueParser → Rule
 indexed name parser = record (required name) { parser = Some parser }
 
+-- an argument that may be left out
+abbrev pub optional : Text → Rule
+optional name = new_rule name
+
 -- any number of arguments
 abbrev pub any_words : Text → Rule
 any_words name = record (new_rule name) { range = Some (record { start_inclusive = 0; end_inclusive = usize_max }) }
 
 -- the commands that read the file that an argument names
 abbrev one_file : ℕ
-one_file = SHOW + FIND + APPLY + ARCHIVE
+one_file = SHOW + FIND + APPLY + BYTES + ARCHIVE
 
 -- those that read many files
 abbrev many_files : ℕ
@@ -103,11 +107,13 @@ argument_rows =
     ∷ (selecting, valued (codes "address"))
     ∷ (APPLY, valued (codes "layout"))
     ∷ (APPLY, flag (codes "explain"))
+    ∷ (BYTES, option (codes "segment") (Unsigned 0 65535))
     ∷ (CHECK + LIST, flag (codes "members"))
     ∷ (many_files, valued (codes "files0-from"))
     ∷ (one_file, required (codes "FILE"))
     ∷ (FIND, required (codes "NAME"))
     ∷ (APPLY, indexed (codes "SECTION") (Signed (pos 0) (pos 65535)))
+    ∷ (BYTES, optional (codes "SECTION"))
     ∷ (APPLY, any_words (codes "ITEM"))
     ∷ (many_files, any_words (codes "PATH"))
     ∷ (EXPLAIN, any_words (codes "CAUSE"))
@@ -124,6 +130,7 @@ command_rows =
     ∷ (codes "sample", command.Sample, SAMPLE, [])
     ∷ (codes "find", command.Find, FIND, [])
     ∷ (codes "apply", command.Apply, APPLY, [])
+    ∷ (codes "bytes", command.Bytes, BYTES, [])
     ∷ (codes "check", command.Check, CHECK, [])
     ∷ (codes "list", command.List, LIST, [])
     ∷ (codes "traits", command.Traits, TRAITS, codes "hardening" ∷ [])

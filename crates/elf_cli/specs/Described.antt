@@ -3,11 +3,11 @@ use Rattle.std.specs.Prelude.{ℕ, List, [], ◌∷◌, Option, None, Some}
 use Rattle.std.specs.Borrow.{Bor}
 use Rattle.clap.specs.Walk.{Rule, Text}
 use Rattle.clap.specs.declared.builder.value_parser.ValueParser.TheVariants.{NonEmptyString}
-use Rattle.elf_cli.specs.CommandLine.{CommandRow, any_words, flag, indexed, numbered_option, option, repeated, required, valued}
+use Rattle.elf_cli.specs.CommandLine.{CommandRow, any_words, flag, indexed, numbered_option, option, optional, repeated, required, valued}
 use Rattle.elf_cli.specs.declared.builder.CommandSpec.{CommandSpec}
 use Rattle.elf_cli.specs.declared.arg_specs.ArgSpec.{ArgSpec}
 use Rattle.elf_cli.specs.declared.arg_specs.ArgKind.{ArgKind}
-use Rattle.elf_cli.specs.declared.arg_specs.ArgKind.TheVariants.{Flag, Value, Repeated, Number, Count, Filled, Needed, Index, Any}
+use Rattle.elf_cli.specs.declared.arg_specs.ArgKind.TheVariants.{Flag, Value, Repeated, Number, Count, Filled, Needed, Index, Optional, Any}
 use Rattle.elf_record.specs.declared.parts.Parts.{Parts}
 
 -- the rule of an argument of this name and kind
@@ -20,6 +20,7 @@ rule_of_kind name (Count parser default) = numbered_option name parser default.n
 rule_of_kind name (Filled value) = option name NonEmptyString
 rule_of_kind name Needed = required name
 rule_of_kind name (Index parser) = indexed name parser
+rule_of_kind name Optional = optional name
 rule_of_kind name Any = any_words name
 
 -- another name, if there is one

@@ -8,7 +8,7 @@ use Rattle.elf_table.specs.declared.run_fault.RunFault.TheVariants.{Out}
 use Rattle.elf_table.specs.declared.run_fault.RunFault.{RunFault}
 use Rattle.elf_table.specs.declared.run_fault.RunFault.TheVariants.{Refused, Source}
 use Rattle.elf_cli.specs.declared.faults.RequestFault.{RequestFault}
-use Rattle.elf_cli.specs.declared.faults.RequestFault.TheVariants.{Words, BadName, NamesFull, BadItem, LayoutFull, LayoutRepeat, UnknownTrait, Memory}
+use Rattle.elf_cli.specs.declared.faults.RequestFault.TheVariants.{Words, BadName, BadSection, NamesFull, BadItem, LayoutFull, LayoutRepeat, UnknownTrait, Memory}
 use Rattle.elf_cli.specs.declared.outputs.RunEnd.{RunEnd}
 use Rattle.elf_cli.specs.declared.outputs.RunEnd.TheVariants.{Status, Told, Unwritten}
 
@@ -28,6 +28,7 @@ error_line (Err (Out fault)) = codes "elfsee: write fault"
 abbrev pub refused_status : RequestFault → ℕ
 refused_status (Words error) = 2
 refused_status BadName = 2
+refused_status BadSection = 2
 refused_status NamesFull = 2
 refused_status BadItem = 2
 refused_status LayoutFull = 2
@@ -38,6 +39,7 @@ refused_status Memory = 3
 abbrev pub refused_line : RequestFault → List ℕ
 refused_line (Words error) = []
 refused_line BadName = codes "elfsee: bad name"
+refused_line BadSection = codes "elfsee: bad section"
 refused_line NamesFull = codes "elfsee: too many names"
 refused_line BadItem = codes "elfsee: bad item"
 refused_line LayoutFull = codes "elfsee: layout-full"

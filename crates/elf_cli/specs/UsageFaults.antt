@@ -10,11 +10,11 @@ use Rattle.elf_cli.specs.Faults.{IsUnasked}
 use Rattle.elf_cli.specs.Options.{are_part_names}
 use Rattle.elf_cli.specs.declared.command_args.CommandArgs.{CommandArgs}
 use Rattle.elf_cli.specs.declared.command_args.CommandName.{CommandName}
-use Rattle.elf_cli.specs.declared.command_args.CommandName.TheVariants.{Show, Find, Apply, Check, List as Listings, Traits, Needs, Archive}
+use Rattle.elf_cli.specs.declared.command_args.CommandName.TheVariants.{Show, Find, Apply, Bytes, Check, List as Listings, Traits, Needs, Archive}
 use Rattle.elf_cli.specs.declared.faults.RequestFault.{RequestFault}
 use Rattle.elf_cli.specs.declared.faults.RequestFault.TheVariants as fault
 use Rattle.elf_cli.specs.declared.usage_faults.UsageFault.{UsageFault}
-use Rattle.elf_cli.specs.declared.usage_faults.UsageFault.TheVariants.{UnknownPart, TwoFormats, TwoFilters, BadByte, BadAddress, NamesFull, BadName, NoGnu, NamesLimited, NoRows, NoPath, NoFile}
+use Rattle.elf_cli.specs.declared.usage_faults.UsageFault.TheVariants.{UnknownPart, TwoFormats, TwoFilters, BadByte, BadAddress, NamesFull, BadName, NoGnu, NamesLimited, NoRows, NoPath, NoFile, NoSection, TwoRanges}
 
 -- a text of 1 to 4,096 bytes without NUL; and if a name may have a version, neither is empty
 abbrev pub is_name : (versions : Bool) → Text → Bool
@@ -41,6 +41,7 @@ abbrev pub takes_file : CommandName → Bool
 takes_file Show = true
 takes_file Find = true
 takes_file Apply = true
+takes_file Bytes = true
 takes_file Archive = true
 takes_file command = false
 
@@ -82,6 +83,17 @@ has_two_filters symbols = symbols.defined && symbols.undefined
 abbrev pub is_unread : {X : Type 0} → Option X → Option ℕ → Bool
 is_unread text number = is_some text && not (is_some number)
 
+-- neither a section nor a program header is given whose bytes are to be written, or both are
+abbrev pub is_of_bytes : CommandName → Bool
+is_of_bytes Bytes = true
+is_of_bytes command = false
+
+abbrev pub section_is_missing : CommandArgs → Bool
+section_is_missing args = is_of_bytes args.command && (not (is_some args.wanted) && not (is_some args.segment))
+
+abbrev pub has_two_ranges : CommandArgs → Bool
+has_two_ranges args = is_of_bytes args.command && (is_some args.wanted && is_some args.segment)
+
 -- THE FAULT OF ARGUMENTS: the first of these
 abbrev pub usage_fault : CommandArgs → Option UsageFault
 usage_fault args =
@@ -97,6 +109,8 @@ usage_fault args =
     else if selects_rows args && not (has_named_rows args.parts.0) then Some NoRows
     else if path_is_missing args then Some NoPath
     else if file_is_missing args then Some NoFile
+    else if section_is_missing args then Some NoSection
+    else if has_two_ranges args then Some TwoRanges
     else None
 
 -- how it is reported: for names by a fault of its own, otherwise by an error of the kind

@@ -2,7 +2,7 @@
 ghost use Rattle.std.specs.Prelude.{IfOk};
 ghost use Rattle.elf_cli.specs.Building.{IsArg};
 ghost use Rattle.elf_cli.specs.CommandLine.{any_words, flag, indexed, numbered_option};
-ghost use Rattle.elf_cli.specs.CommandLine.{option, repeated, required, valued};
+ghost use Rattle.elf_cli.specs.CommandLine.{option, optional, repeated, required, valued};
 ghost use Rattle.elf_cli.specs.Described.{lettered, rule_by, rule_of_kind};
 
 use clap::builder::ValueParser;
@@ -40,6 +40,8 @@ pub(crate) enum ArgKind {
     Needed,
     /// A required argument, a number.
     Index(ValueParser<'static>),
+    /// An argument that may be left out.
+    Optional,
     /// Any number of arguments.
     Any,
 }
@@ -83,6 +85,7 @@ fn arg_of_kind<'a>(alloc: Global, word: &ArgSpec) -> Arg<'a>
         ArgKind::Filled(value) => parsed(alloc, word, value, ValueParser::NonEmptyString),
         ArgKind::Needed => required(alloc, word),
         ArgKind::Index(parser) => index(alloc, word, parser),
+        ArgKind::Optional => optional(alloc, word),
         ArgKind::Any => any(alloc, word),
     }
 }
@@ -150,6 +153,13 @@ fn index<'a>(alloc: Global, word: &ArgSpec, parser: ValueParser<'a>) -> Arg<'a>
     ensures { IsArg (indexed word.now.name.now parser.entry) result }
 {
     required(alloc, word).value_parser(parser)
+}
+
+/// Returns an argument that may be left out.
+fn optional<'a>(alloc: Global, word: &ArgSpec) -> Arg<'a>
+    ensures { IsArg (optional word.now.name.now) result }
+{
+    Arg::new(alloc, word.name).help(word.help)
 }
 
 /// Returns an argument with any number of values.

@@ -5,12 +5,12 @@ ghost use Rattle.elf_cli.specs.Described.{argument_row};
 
 use crate::arg_specs::{ArgKind, ArgSpec};
 use crate::command_sets::{
-    APPLY, ARCHIVE, CHECK, EXPLAIN, FIND, LINES, LIST, LISTING, MANY_FILES, NEEDS, ONE_FILE,
+    APPLY, ARCHIVE, BYTES, CHECK, EXPLAIN, FIND, LINES, LIST, LISTING, MANY_FILES, NEEDS, ONE_FILE,
     READING, SAMPLE, SELECTING, SHOW, TRAITS,
 };
 use clap::builder::ValueParser;
 
-static ARGUMENTS: [ArgSpec; 39] = [
+static ARGUMENTS: [ArgSpec; 41] = [
     ArgSpec {
         name: "headers",
         short: None,
@@ -290,6 +290,15 @@ static ARGUMENTS: [ArgSpec; 39] = [
         commands: APPLY,
     },
     ArgSpec {
+        name: "segment",
+        short: None,
+        alias: None,
+        kind: ArgKind::Number(ValueParser::Unsigned(0, 65535)),
+        help: "Write the bytes of the program header of index N,\n\
+            0 to 65535, not a section's",
+        commands: BYTES,
+    },
+    ArgSpec {
         name: "members",
         short: None,
         alias: None,
@@ -329,6 +338,15 @@ static ARGUMENTS: [ArgSpec; 39] = [
         kind: ArgKind::Index(ValueParser::Signed(0, 65535)),
         help: "The index of the section to write: 0 to 65535",
         commands: APPLY,
+    },
+    ArgSpec {
+        name: "SECTION",
+        short: None,
+        alias: None,
+        kind: ArgKind::Optional,
+        help: "The section to write: its index, or its name if that\n\
+            begins with a dot or a letter",
+        commands: BYTES,
     },
     ArgSpec {
         name: "ITEM",

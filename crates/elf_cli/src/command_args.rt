@@ -29,6 +29,8 @@ pub enum CommandName {
     Find,
     /// Writes a section with its relocations applied.
     Apply,
+    /// Writes the bytes of a section or of a program header.
+    Bytes,
     /// Checks many files.
     Check,
     /// Lists many files.
@@ -57,6 +59,12 @@ pub struct CommandArgs<'a> {
     pub name: &'a str,
     /// The index of the section to write.
     pub section: u16,
+    /// The section whose bytes are written, by its index or its name.
+    pub wanted: Option<&'a str>,
+    /// The index of that section, if it is given by a number.
+    pub wanted_index: Option<u64>,
+    /// The index of the program header whose bytes are written.
+    pub segment: Option<u64>,
     /// The items of a layout.
     pub items: Vec<&'a str>,
     /// The path of a file with more items, one per line.
@@ -205,6 +213,9 @@ fn read<'a>(
         file: options.text("FILE"),
         name: options.text_or_empty("NAME"),
         section: options.count("SECTION", 0, 65_535, 0),
+        wanted: options.text("SECTION"),
+        wanted_index: options.place("SECTION"),
+        segment: options.number("segment"),
         items: options.values(alloc, "ITEM")?,
         layout: options.text("layout"),
         explain: options.is_set("explain"),

@@ -8,17 +8,17 @@ ghost use Rattle.elf_cli.specs.Args.{command_named};
 use crate::builder::{CommandSpec, clap_command_of, new_command, with_command};
 use crate::command_args::CommandName;
 use crate::command_sets::{
-    APPLY, ARCHIVE, CHECK, EXPLAIN, FIND, LIST, NEEDS, SAMPLE, SHOW, TRAITS, VERSION,
+    APPLY, ARCHIVE, BYTES, CHECK, EXPLAIN, FIND, LIST, NEEDS, SAMPLE, SHOW, TRAITS, VERSION,
 };
 use crate::texts::{
-    ABOUT, CHECKED, EXPLAINED, FOUND, HARDENED, ITEMS, LISTED, MEMBERS, MORE, NEEDED, SAMPLED,
-    SHOWN,
+    ABOUT, CHECKED, COPIED, EXPLAINED, FOUND, HARDENED, ITEMS, LISTED, MEMBERS, MORE, NEEDED,
+    SAMPLED, SHOWN,
 };
 use clap::Command;
 use std::alloc::{AllocError, Global};
 
 // In the order of `CommandName`, which is that of help.
-static COMMANDS: [CommandSpec; 11] = [
+static COMMANDS: [CommandSpec; 12] = [
     CommandSpec {
         name: "show",
         command: CommandName::Show,
@@ -50,6 +50,14 @@ static COMMANDS: [CommandSpec; 11] = [
         bit: APPLY,
         about: "Write a section's bytes with its relocations applied",
         more: ITEMS,
+    },
+    CommandSpec {
+        name: "bytes",
+        command: CommandName::Bytes,
+        alias: None,
+        bit: BYTES,
+        about: "Write the bytes of a section or of a segment",
+        more: COPIED,
     },
     CommandSpec {
         name: "check",

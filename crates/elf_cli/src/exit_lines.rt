@@ -31,6 +31,9 @@ pub const WRITE_FAULT: ExitLine = (3, "elfsee: write fault");
 /// The argument is not a name that can be looked up.
 const BAD_NAME: ExitLine = (2, "elfsee: bad name");
 
+/// The argument is neither the index nor the name of a section.
+const BAD_SECTION: ExitLine = (2, "elfsee: bad section");
+
 /// The argument is not a layout item.
 const BAD_ITEM: ExitLine = (2, "elfsee: bad item");
 
@@ -66,6 +69,7 @@ pub(crate) fn refused(fault: &RequestFault) -> ExitLine
     match fault {
         RequestFault::Words(_) | RequestFault::UnknownTrait(_) => BAD_WORDS,
         RequestFault::BadName => BAD_NAME,
+        RequestFault::BadSection => BAD_SECTION,
         RequestFault::NamesFull => NAMES_FULL,
         RequestFault::BadItem => BAD_ITEM,
         RequestFault::LayoutFull => LAYOUT_FULL,

@@ -13,6 +13,9 @@ pub enum RequestFault {
     /// The arguments give a name that cannot be looked up.
     #[error("bad name")]
     BadName,
+    /// The argument is neither the index nor the name of a section.
+    #[error("bad section")]
+    BadSection,
     /// The arguments ask for the rows of more than 64 names.
     #[error("too many names")]
     NamesFull,

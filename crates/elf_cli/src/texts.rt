@@ -40,6 +40,19 @@ Example: elfsee apply example.o 1 at:1=0x401000 def:main=0x401200
 Output: the section's bytes, or a line
   !  place cause";
 
+pub(crate) const COPIED: &str = "\
+The bytes are those that the section or the segment has in the file: a compressed
+section stays compressed, and one of the type NOBITS or NULL has none. SECTION is
+an index, or a name that begins with a dot or a letter: then it is the first
+section of that name. If there is none, the status is 1.
+
+Examples:
+  elfsee bytes /lib/libexample.so .comment
+  elfsee bytes --segment 2 /lib/libexample.so
+
+Output: the bytes, or a line
+  !  place cause";
+
 pub(crate) const FOUND: &str = "\
 The answer is the first match in the file's SysV hash chain; a loader may
 choose differently.

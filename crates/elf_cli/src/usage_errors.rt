@@ -62,6 +62,16 @@ pub fn request_fault(alloc: Global, args: &CommandArgs<'_>, fault: UsageFault) -
             command,
             "the following required arguments were not provided:\n  <FILE>",
         ),
+        UsageFault::NoSection => usage_error(
+            alloc,
+            command,
+            "the following required arguments were not provided:\n  <SECTION>",
+        ),
+        UsageFault::TwoRanges => usage_error(
+            alloc,
+            command,
+            "the argument '--segment <N>' cannot be used with '[SECTION]'",
+        ),
     }
 }
 

@@ -3,6 +3,7 @@ ghost use Rattle.std.specs.Prelude.{◌≡◌};
 ghost use Rattle.clap.specs.Walk.{texts};
 ghost use Rattle.elf_model.specs.Prelude.{VERSIONS, has};
 ghost use Rattle.elf_cli.specs.UsageFaults.{are_names, has_named_rows, has_two_filters, is_name, is_of_many_files};
+ghost use Rattle.elf_cli.specs.UsageFaults.{has_two_ranges, is_of_bytes, section_is_missing};
 ghost use Rattle.elf_cli.specs.UsageFaults.{usage_fault, file_is_missing, gnu_option_is_missing, path_is_missing, takes_file};
 
 use crate::command_args::{CommandArgs, CommandName};
@@ -41,6 +42,10 @@ pub enum UsageFault {
     NoPath,
     /// There is no file.
     NoFile,
+    /// There is neither a section nor a program header whose bytes are to be written.
+    NoSection,
+    /// There are both.
+    TwoRanges,
 }
 
 /// Returns the first fault of the arguments of a command, if they have one.
@@ -82,6 +87,12 @@ pub fn usage_fault(args: &CommandArgs<'_>) -> Option<UsageFault>
     }
     if file_is_missing(args) {
         return Some(UsageFault::NoFile);
+    }
+    if section_is_missing(args) {
+        return Some(UsageFault::NoSection);
+    }
+    if has_two_ranges(args) {
+        return Some(UsageFault::TwoRanges);
     }
     None
 }
@@ -142,7 +153,35 @@ fn takes_file(command: CommandName) -> bool
     ensures { result ≡ takes_file command }
 {
     match command {
-        CommandName::Show | CommandName::Find | CommandName::Apply | CommandName::Archive => true,
+        CommandName::Show
+        | CommandName::Find
+        | CommandName::Apply
+        | CommandName::Bytes
+        | CommandName::Archive => true,
+        _ => false,
+    }
+}
+
+/// Returns `true` if neither a section nor a program header is given whose bytes are to be written.
+fn section_is_missing(args: &CommandArgs<'_>) -> bool
+    ensures { result ≡ section_is_missing args.now }
+{
+    is_of_bytes(args.command) && args.wanted.is_none() && args.segment.is_none()
+}
+
+/// Returns `true` if both are given.
+fn has_two_ranges(args: &CommandArgs<'_>) -> bool
+    ensures { result ≡ has_two_ranges args.now }
+{
+    is_of_bytes(args.command) && args.wanted.is_some() && args.segment.is_some()
+}
+
+/// Returns `true` if a command writes the bytes of a section or of a program header.
+fn is_of_bytes(command: CommandName) -> bool
+    ensures { result ≡ is_of_bytes command }
+{
+    match command {
+        CommandName::Bytes => true,
         _ => false,
     }
 }

@@ -8,13 +8,17 @@ pub mod HeldSteps
 pub mod InOrderSteps
 pub mod NameSteps
 pub mod Opened
+pub mod NamedSteps
 pub mod PassSteps
+pub mod QueriedSteps
 pub mod ReadLaws
+pub mod RangeSteps
 pub mod RisingSteps
 pub mod RoomSteps
 pub mod WalkSteps
 pub mod WindowSteps
 pub mod Words
+pub mod WrittenSteps
 pub mod EntryLaws
 pub mod ExplainLaws
 pub mod LackLaws

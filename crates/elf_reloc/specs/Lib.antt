@@ -6,5 +6,6 @@ pub mod InOrder
 pub mod Passes
 pub mod Walk
 pub mod Windows
+pub mod Queried
 pub mod Explained
 pub mod Prelude

@@ -1,7 +1,7 @@
 //! Relocations applied to a section.
-ghost use Rattle.std.specs.Prelude.{◌≡◌, ◌+◌, ◌*◌, ◌≤◌, ◌==◌, ◌||◌, nat_lt, not, true, ℕ};
+ghost use Rattle.std.specs.Prelude.{◌≡◌, ◌+◌, ◌*◌, ◌<◌, ◌≤◌, ◌==◌, ◌||◌, nat_lt, not, true, ℕ};
 ghost use Rattle.std.specs.Prelude.{List, length, None, Some, IfOk, IfErr};
-ghost use Rattle.elf_model.specs.Prelude.{applied, apply_cost_by_order, entries_for, is_compressed};
+ghost use Rattle.elf_model.specs.Prelude.{applied, apply_cost_by_order, entries_for, is_compressed, section_at};
 ghost use Rattle.elf_record.specs.Shdr.{IsShdr};
 ghost use Rattle.elf_source.specs.Growth.{OutGrows};
 ghost use Rattle.elf_table.specs.Prelude.{HoldsSectionHeaders, IsOfCheck};
@@ -10,6 +10,7 @@ ghost use Rattle.elf_reloc.specs.Applied.{ApplySays, HasSection, HeldIs, MayAppl
 ghost use Rattle.elf_reloc.specs.Applied.{ReadsWithin, BudgetTooSmall, WritesWithin, WroteMost};
 ghost use Rattle.elf_reloc.specs.Applied.{apply_ceiling, passes_cost, write_passes};
 ghost use Rattle.elf_reloc.specs.InOrder.{OffsetsAscend};
+ghost use Rattle.elf_reloc.specs.Queried.{EndsWithin, FindsAs, held_range_of, one_range};
 ghost use Rattle.elf_reloc.specs.Walk.{entries_from, walk_all};
 ghost use Rattle.elf_reloc.specs.Windows.{Copies, MayWrite, NotForBudget, OfPatches, WritesBytes};
 ghost use Rattle.elf_reloc.specs.Windows.{windows};
@@ -55,14 +56,25 @@ fn held(file: &SectionView<'_>, section: u16) -> Result<(u64, u64), Fault>
     if !is_section(section, header.e_shnum) {
         return refused(0x3c, Cause::BadLink);
     }
-    let found = file.section(section);
-    if is_compressed(&found) {
+    if is_compressed(&file.section(section)) {
         return refused(file.place(section), Cause::Unsupported);
     }
+    held_range(file, section)
+}
+
+/// Returns the file offset and the number of the bytes that a section has in the file.
+pub(crate) fn held_range(file: &SectionView<'_>, section: u16) -> Result<(u64, u64), Fault>
+    requires { section < file.now.loaded.header.e_shnum }
+    ensures refusal { IfErr result IsOfCheck }
+    ensures within { IfOk result (EndsWithin file.now.loaded.size) }
+    ensures held { (bytes : List ℕ) → HoldsSectionHeaders bytes file.now.loaded file.now.store.now →
+        FindsAs one_range result (held_range_of bytes (section_at bytes section)) }
+{
+    let size = file.loaded.size();
+    let found = file.section(section);
     if has_no_bytes(&found) {
         return Ok((0, 0));
     }
-    let size = file.loaded.size();
     if is_out_of_bounds(size, found.sh_offset, found.sh_size) {
         return refused(file.place(section), Cause::TableOutside);
     }
@@ -70,7 +82,7 @@ fn held(file: &SectionView<'_>, section: u16) -> Result<(u64, u64), Fault>
 }
 
 /// Returns `true` if an index names a section that has relocations: section 0 has none.
-fn is_section(section: u16, count: u16) -> bool
+pub(crate) fn is_section(section: u16, count: u16) -> bool
     ensures { result ≡ not (section == 0 || not (nat_lt section count)) }
 {
     section != 0 && section < count

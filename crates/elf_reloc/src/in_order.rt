@@ -243,7 +243,7 @@ fn width_of(patch: Patch) -> usize
 
 /// Writes bytes of the source unchanged.
 #[tactic(auto, using(crate::proofs::WindowSteps::stopping))]
-fn copy<S: Source, W: Sink>(
+pub(crate) fn copy<S: Source, W: Sink>(
     src: &mut Counted<S>,
     at: u64,
     size: u64,

@@ -13,9 +13,11 @@ mod missing_item;
 mod passes;
 mod patch;
 mod relocation_types;
+mod section_bytes;
 mod symbol_name;
 mod values;
 mod walk;
+mod wanted_bytes;
 mod windows;
 
 pub use apply_section::{Applied, apply, apply_with};
@@ -25,4 +27,6 @@ pub use elf_table::RunFault as ApplyFault;
 pub use explanation::explain;
 pub use patch::Patch;
 pub use relocation_types::{relocation_type, takes_place};
+pub use section_bytes::write_bytes;
 pub use values::{ValueFault, patch_of, value};
+pub use wanted_bytes::{SectionName, WantedBytes};

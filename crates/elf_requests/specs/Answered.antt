@@ -4,10 +4,11 @@ use Rattle.clap.specs.Walk.{Row, Text, texts}
 use Rattle.elf_cli.specs.Prelude.{AreArgs, AreRead, AreRefused, HasUsageFault, IsUnread, usage_fault}
 use Rattle.elf_cli.specs.declared.command_args.CommandArgs.{CommandArgs}
 use Rattle.elf_cli.specs.declared.command_args.CommandName.TheVariants as command
-use Rattle.elf_cli.specs.declared.faults.RequestFault.TheVariants.{BadName}
+use Rattle.elf_cli.specs.declared.faults.RequestFault.TheVariants.{BadName, BadSection}
 use Rattle.elf_cli.specs.declared.faults.RequestFault.{RequestFault}
 use Rattle.elf_model.specs.Placing.{no_items}
-use Rattle.elf_requests.specs.Asked.{IsText, Makes}
+use Rattle.elf_model.specs.BytesQuery.{BytesQuery}
+use Rattle.elf_requests.specs.Asked.{AsksBytes, IsText, Makes}
 use Rattle.elf_requests.specs.AskedTraits.{IsWordFault}
 use Rattle.elf_requests.specs.Layouts.{LaysWords}
 use Rattle.elf_requests.specs.declared.parsed_command.ParsedCommand.{ParsedCommand}
@@ -20,11 +21,15 @@ NamesBadly args fault = (fault ≡ BadName) × (args.command ≡ command.Find) �
 abbrev LaysBadly : CommandArgs → RequestFault → Type 0
 LaysBadly args fault = (args.command ≡ command.Apply) × LaysWords no_items (texts args.items.items) (Err fault)
 
+-- a section is given by neither an index nor a name
+abbrev LocatesNothing : CommandArgs → RequestFault → Type 0
+LocatesNothing args fault = (fault ≡ BadSection) × (args.command ≡ command.Bytes) × ((query : BytesQuery) → AsksBytes args query → ⊥)
+
 -- the fault of the arguments of a command: no memory or an invalid required trait; the first fault
--- of all arguments; or a name or an item that is not valid
+-- of all arguments; or a name, an item or a section that is not valid
 abbrev pub HasFault : CommandArgs → RequestFault → Type 0
 HasFault args fault =
-    IsWordFault (option_map (λ text. text.now) args.require) fault ⊎ (HasUsageFault args fault ⊎ (NamesBadly args fault ⊎ LaysBadly args fault))
+    IsWordFault (option_map (λ text. text.now) args.require) fault ⊎ (HasUsageFault args fault ⊎ (NamesBadly args fault ⊎ (LaysBadly args fault ⊎ LocatesNothing args fault)))
 
 -- a command with the values of its arguments requests just this, without a fault
 abbrev pub IsAsked : Option (Text × List Row) → ParsedCommand → Type 0

@@ -1,5 +1,6 @@
 -- What a request does: what it writes of a file, what it costs, and what it reads.
 use Rattle.std.specs.Prelude.{ℕ, ◌≡◌, ◌≤◌, ◌+◌, ⊤, Bool, List, length, Option, Some, Result, IfErr, IfSome}
+use Rattle.elf_model.specs.BytesQuery.{BytesQuery, bytes_answer, bytes_ceiling, bytes_cost}
 use Rattle.elf_model.specs.Prelude.{IsAnswered, IsShown, Layout, apply_answer, apply_cost_by_order, find_answer, find_cost, listing_cost, loader_answer, loader_ceiling, loader_cost, looked_at, parse_query, show_answer_by}
 use Rattle.elf_model.specs.declared.formats.Format.TheVariants.{Columns}
 use Rattle.elf_model.specs.declared.formats.Format.{Format}
@@ -10,9 +11,10 @@ use Rattle.elf_options.specs.declared.caps.Limits.{Limits}
 use Rattle.elf_table.specs.declared.run_fault.RunFault.{RunFault}
 use Rattle.elf_hash.specs.Lookups.{find_bytes}
 use Rattle.elf_reloc.specs.Applied.{apply_ceiling}
+use Rattle.elf_reloc.specs.Queried.{query_as}
 use Rattle.elf_listing.specs.Reports.{AsksWithin, FaultSays, KeepsSourceUnlimited}
 use Rattle.elf_requests.specs.declared.requests.Task.{Task}
-use Rattle.elf_requests.specs.declared.requests.Task.TheVariants.{Show, Find, Resolve, Apply, Place}
+use Rattle.elf_requests.specs.declared.requests.Task.TheVariants.{Show, Find, Resolve, Apply, Bytes, Place}
 use Rattle.elf_requests.specs.Answers.{Answers, WholeOrUsedUp}
 
 -- at most n bytes are requested, and at most the budget
@@ -67,6 +69,15 @@ RunsApply limits section layout old new before after result =
     (IsAnswered Columns limits.budget (length file) (apply_cost_by_order file limits.headers section layout) (apply_answer file limits.headers section layout))
     (λ answer. ⊤))
 
+-- the bytes of a section or of a program header
+abbrev pub RunsBytes : Limits → BytesQuery → CountedState → CountedState → OutState → OutState → Result ℕ RunFault → Type 0
+RunsBytes limits query old new before after result =
+    Runs old new before after result (AsksUpTo limits.budget old new (bytes_ceiling old.seen.size limits.headers query))
+    (λ file. bytes_cost file limits.headers query)
+    (λ file. Answers before after result
+    (IsAnswered Columns limits.budget (length file) (bytes_cost file limits.headers query) (bytes_answer file limits.headers query))
+    (λ answer. ⊤))
+
 -- a task, within its limits
 abbrev pub RunsTask : Limits → Task → CountedState → CountedState → OutState → OutState → Result ℕ RunFault → Type 0
 RunsTask limits (Show parts style) old new before after result = RunsShow (record { limits = limits; style = style }) parts.0 old new before after result
@@ -74,4 +85,5 @@ RunsTask limits (Find wanted format) old new before after result = RunsFind limi
 RunsTask limits (Resolve wanted by_segments format) old new before after result =
     RunsResolve limits wanted.text.now by_segments format old new before after result
 RunsTask limits (Apply section layout explain) old new before after result = RunsApply limits section layout.now old new before after result
+RunsTask limits (Bytes query) old new before after result = RunsBytes limits (query_as query) old new before after result
 RunsTask limits (Place section addresses explain) old new before after result = RunsApply limits section addresses.now old new before after result

@@ -1,10 +1,12 @@
 //! What can be requested on a command line: [`request`] parses arguments to a [`ParsedCommand`],
 //! and [`run`] carries out the [`Request`] for one file: a listing, a lookup of a name, a lookup as
-//! a loader does it, or a section with its relocations applied.
+//! a loader does it, a section with its relocations applied, or the bytes of a section or of a
+//! program header.
 #![tactic(auto)]
 
 mod apply_request;
 mod archive_request;
+mod bytes_request;
 mod find_request;
 mod items;
 mod names;

@@ -1,10 +1,11 @@
 //! Names that can be looked up.
 ghost use Rattle.std.specs.Prelude.{◌≡◌, ◌≤◌, IsNone, IfSome, length, true};
 ghost use Rattle.elf_model.specs.NameLaws.{IsWanted};
-ghost use Rattle.elf_requests.specs.Asked.{IsText};
+ghost use Rattle.elf_requests.specs.Asked.{IsSectionName, IsText, begins_name};
 
 use crate::requests::{LookupName, LookupSymbol};
 use elf_options::{is_valid_row_name, parse_query};
+use elf_reloc::SectionName;
 
 /// Returns a name that can be looked up: an argument of 1 to 4,096 bytes, none of them NUL. Returns
 /// `None` for any other argument.
@@ -31,6 +32,30 @@ pub fn checked_symbol(word: &str) -> Option<LookupSymbol<'_>>
         return None;
     }
     Some(LookupSymbol { text })
+}
+
+/// Returns the name of a section: an argument of at most 4,096 bytes, none of them NUL, that begins
+/// with a dot or a letter. Returns `None` for any other argument.
+pub fn checked_section(word: &str) -> Option<SectionName<'_>>
+    ensures named { IfSome result (λ name.
+        (name.bytes.now ≡ word.now) × IsSectionName word.now) }
+    ensures unnamed { IsNone result → IsSectionName word.now → ⊥ }
+{
+    let bytes = name_bytes(word)?;
+    if !begins_name(bytes) {
+        return None;
+    }
+    Some(SectionName { bytes })
+}
+
+/// Returns `true` if bytes begin with a dot or a letter.
+fn begins_name(bytes: &[u8]) -> bool
+    ensures { result ≡ begins_name bytes.now }
+{
+    match bytes.first() {
+        Some(first) => *first == b'.' || first.is_ascii_alphabetic(),
+        None => false,
+    }
 }
 
 /// Returns the bytes of an argument that has 1 to 4,096 of them, none NUL.

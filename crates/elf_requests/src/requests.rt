@@ -5,6 +5,7 @@ ghost use Rattle.elf_model.specs.Prelude.{IsWanted, is_complete, parse_query};
 use elf_layout::{Addresses, Layout};
 use elf_model::Format;
 use elf_record::Parts;
+use elf_reloc::WantedBytes;
 use elf_table::{Limits, ListingStyle};
 
 /// A request: which file, how much of it may be read, and what is done with it.
@@ -53,7 +54,12 @@ pub enum Task<'a> {
         /// Whether the item that would help is printed if an address is missing.
         explain: bool,
     },
-    /// The same, with addresses in another representation.
+    /// Write the bytes of one of its sections or program headers.
+    Bytes {
+        /// Which of them.
+        query: WantedBytes<'a>,
+    },
+    /// The same as [`Task::Apply`], with addresses in another representation.
     Place {
         /// The section's index.
         section: u16,

@@ -3,6 +3,7 @@ ghost use Rattle.std.specs.Prelude.{◌≡◌, ◌^◌, ◌≤◌};
 ghost use Rattle.elf_requests.specs.Requests.{RunsShow, RunsTask};
 
 use crate::apply_request::write_applied;
+use crate::bytes_request::write_raw;
 use crate::find_request::look_up;
 use crate::requests::{Request, Task};
 use crate::resolve_request::{LookupStyle, resolve};
@@ -14,8 +15,8 @@ use elf_table::{Caps, HeaderStore, RunFault};
 
 /// Carries out a request on a source: writes its text and returns its status.
 ///
-/// The status is 0 if the file was listed, the name was found or the relocations were applied, and
-/// 1 if there is no such name. The store has a slot for each header that the request allows, and at
+/// The status is 0 if the file was listed, the name was found, the relocations were applied or the
+/// bytes were written, and 1 if there is no such name. The store has a slot for each header that the request allows, and at
 /// most 2^127 bytes were requested from the source before. On return no limit is set on the source.
 ///
 /// # Errors
@@ -61,6 +62,7 @@ pub fn run<S: Source, W: Sink>(
             addresses,
             ..
         } => write_applied(src, store, limits, section, addresses, out),
+        Task::Bytes { query } => write_raw(src, store, limits, &query, out),
     }
 }
 

@@ -1,18 +1,20 @@
 //! The arguments of a command line.
-ghost use Rattle.std.specs.Prelude.{◌≡◌, IfErr, IfOk, IfSome, None, Ok, Err, map, option_map};
+ghost use Rattle.std.specs.Prelude.{◌≡◌, ◌≤◌, IfErr, IfOk, IfSome, None, Ok, Err, map, option_map};
 ghost use Rattle.clap.specs.Walk.{texts};
 ghost use Rattle.clap.specs.Words.{subcommand_rows_of};
 ghost use Rattle.elf_cli.specs.UsageFaults.{usage_fault};
-ghost use Rattle.elf_cli.specs.declared.command_args.CommandName.TheVariants.{Apply, Find};
+ghost use Rattle.elf_cli.specs.declared.command_args.CommandName.TheVariants.{Apply, Bytes, Find};
 ghost use Rattle.elf_model.specs.Placing.{no_items};
 ghost use Rattle.elf_requests.specs.Answered.{HasFault, IsAsked, IsRefusal, WordsAsk, WordsRefused};
-ghost use Rattle.elf_requests.specs.Asked.{IsTask, IsText, Makes};
+ghost use Rattle.elf_requests.specs.Asked.{AsksBytes, IsTask, IsText, Makes};
+ghost use Rattle.elf_reloc.specs.Queried.{query_as};
+ghost use Rattle.elf_model.specs.BytesQuery.{BytesQuery};
 ghost use Rattle.elf_requests.specs.AskedTraits.{AreRequired};
 ghost use Rattle.elf_requests.specs.Layouts.{LaysWords};
 ghost use Rattle.elf_requests.specs.declared.requests.Task.TheVariants.{Show};
 
 use crate::items::lay;
-use crate::names::{checked_name, checked_symbol};
+use crate::names::{checked_name, checked_section, checked_symbol};
 use crate::parsed_command::{ApplyWithLayout, ParsedCommand, TraitsRequest};
 use crate::requests::{Request, Task};
 use crate::trait_words::required_of;
@@ -22,6 +24,7 @@ use elf_cli::{
 };
 use elf_layout::Layout;
 use elf_options::RequiredTrait;
+use elf_reloc::WantedBytes;
 use std::alloc::Global;
 use std::convert::AsStr;
 
@@ -30,6 +33,7 @@ use std::convert::AsStr;
 /// # Errors
 /// - `Words` for arguments that are invalid or request help.
 /// - `BadName` if they give a name that is not of 1 to 4,096 bytes without NUL.
+/// - `BadSection` if they give a section by neither an index nor a name.
 /// - `NamesFull` if they request the rows of more than 64 names.
 /// - `BadItem`, `LayoutRepeat` and `LayoutFull` for the first layout item that is malformed,
 ///   repeats an item, or is one more of its type than a layout holds.
@@ -94,6 +98,7 @@ fn made_of<'a>(
         CommandName::Show | CommandName::Sample => Ok(ParsedCommand::File(listing_of(&args))),
         CommandName::Find => lookup_command(&args),
         CommandName::Apply => section_of(&args, layout),
+        CommandName::Bytes => bytes_command(&args),
         CommandName::Check => Ok(ParsedCommand::Check(args)),
         CommandName::List => Ok(ParsedCommand::List(args)),
         CommandName::Traits => Ok(ParsedCommand::Traits(TraitsRequest { args, required })),
@@ -191,6 +196,51 @@ fn section_of<'a>(
         Some(list) => Ok(ParsedCommand::Laid(ApplyWithLayout { request, list })),
         None => Ok(ParsedCommand::File(request)),
     }
+}
+
+/// Returns the request for the bytes of a section or of a program header.
+///
+/// # Errors
+/// `BadSection` if the section is given by neither an index nor a name.
+fn bytes_command<'a>(args: &CommandArgs<'a>) -> Result<ParsedCommand<'a>, RequestFault>
+    requires { args.now.command ≡ Bytes }
+    ensures asked { IfOk result (Makes args.now) }
+    ensures refused { IfErr result (HasFault args.now) }
+{
+    let Some(query) = bytes_query(args) else {
+        return Err(RequestFault::BadSection);
+    };
+    Ok(ParsedCommand::File(Request {
+        file: args.file,
+        limits: args.caps.limits,
+        task: Task::Bytes { query },
+    }))
+}
+
+/// Returns whose bytes are requested: the program header's of an index, if one is given, or the
+/// section's. Returns `None` if that is given by neither an index nor a name.
+fn bytes_query<'a>(args: &CommandArgs<'a>) -> Option<WantedBytes<'a>>
+    ensures some { IfSome result (λ query. AsksBytes args.now (query_as query)) }
+    ensures none { result ≡ None → (query : BytesQuery) → AsksBytes args.now query → ⊥ }
+{
+    if let Some(segment) = args.segment {
+        return Some(WantedBytes::Segment(index_of(segment)?));
+    }
+    if let Some(section) = args.wanted_index {
+        return Some(WantedBytes::Section(index_of(section)?));
+    }
+    Some(WantedBytes::Name(checked_section(args.wanted?)?))
+}
+
+/// Returns a number as an index, if it is at most 65,535.
+fn index_of(number: u64) -> Option<u16>
+    ensures some { IfSome result (λ index. (index ≡ number) × (number ≤ 65535)) }
+    ensures none { result ≡ None → number ≤ 65535 → ⊥ }
+{
+    if number > 65_535 {
+        return None;
+    }
+    Some(number as u16)
 }
 
 /// Returns the layout that these arguments give, which is empty if there are none.

@@ -6,6 +6,7 @@ mod layouts;
 mod lists;
 mod many;
 mod missing_reason;
+mod missing_section;
 mod names;
 mod needs;
 mod needs_of_files;
@@ -34,6 +35,7 @@ use layouts::apply_laid;
 use lists::list_files;
 use many::{check_many, report_traits};
 use missing_reason::report_missing_reason;
+use missing_section::{is_section_missing, report_missing_section};
 use names::show_chosen;
 use needs::report_needs;
 use std::alloc::Global;
@@ -140,7 +142,7 @@ fn format_of(task: &Task<'_>) -> Format {
     match task {
         Task::Show { style, .. } => style.format,
         Task::Find { format, .. } | Task::Resolve { format, .. } => *format,
-        Task::Apply { .. } | Task::Place { .. } => Format::Columns,
+        Task::Apply { .. } | Task::Place { .. } | Task::Bytes { .. } => Format::Columns,
     }
 }
 
@@ -196,7 +198,7 @@ fn read_request<'a>(
 }
 
 /// Carries out a request and writes the rest of the output; if the line of a refusal was written,
-/// reports what would help. Returns how the program ends, and the sink. It is not inlined: the
+/// reports what would help, and if there is no section of a name, that. Returns how the program ends, and the sink. It is not inlined: the
 /// stack of its caller would hold the buffers of a listing twice, once for each type of source.
 #[inline(never)]
 fn write_answer<S: Source + Drop, W: Write + Drop>(
@@ -217,6 +219,9 @@ fn write_answer<S: Source + Drop, W: Write + Drop>(
     let (ending, output) = end_answer(&answer, out.into_inner().into_inner());
     if let Some(refusal) = refusal_told(&answer, &output) {
         report_missing_reason(alloc, request, refusal, &mut src, &mut store, errors);
+    }
+    if is_section_missing(request, &answer) {
+        report_missing_section(errors);
     }
     (ending, output)
 }

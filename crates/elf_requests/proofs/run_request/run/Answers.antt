@@ -15,3 +15,6 @@ returns-in-Apply-clause-runs g c = rw (c.in-Apply.is, ← c.fixed-addresses.ensu
 
 pub returns-in-Place-clause-runs : goal.returns-in-Place-clause-runs
 returns-in-Place-clause-runs g c = rw (c.in-Place.is) c.write_applied-in-Place.ensures.runs
+
+pub returns-in-Bytes-clause-runs : goal.returns-in-Bytes-clause-runs
+returns-in-Bytes-clause-runs g c = rw (c.in-Bytes.is) c.write_raw.ensures.runs
