@@ -16,6 +16,7 @@ COLUMNS = ("kind", "relro", "stack", "pages", "text", "cet", "canary", "fortify"
 # The bytes of a symbol's name that are read.
 NAME_BYTES = 63
 HARDENED_KINDS = ("exec", "pie", "static", "lib")
+STACK_NAME, HAS_CODE, EXECUTABLE_BY_DEFAULT = b".note.GNU-stack\0", 4, (62, 3)
 
 
 class Table:
@@ -34,7 +35,8 @@ class Traits:
         cet = self.cet()
         canary, fortify = self.of_symbols(*symbols)
         has_none = not self.segments
-        self.words = (self.kind(), "-" if has_none else self.relro(), "-" if has_none else self.stack(),
+        stack = stack_of_object(content, most) if self.type == 1 else "-" if has_none else self.stack()
+        self.words = (self.kind(), "-" if has_none else self.relro(), stack,
                       "-" if has_none else self.pages(), "-" if has_none else self.text(), cet, canary, fortify, self.path())
 
     def begin(self, content, most):
@@ -199,6 +201,22 @@ class Traits:
         return room
 
 
+def stack_of_object(content, most):
+    """The stack of a relocatable file, by its sections."""
+    try:
+        headers = load(content, most)
+    except Refused:
+        return "-"
+    names, = struct.unpack_from("<H", content, 62)
+    table = content[headers[names].offset:][:headers[names].size] if headers and names else b""
+    for header in headers:
+        start, = struct.unpack_from("<I", content, header.at)
+        if table[start:start + len(STACK_NAME)] == STACK_NAME:
+            return "exec" if header.flags & HAS_CODE else "nx"
+    machine, = struct.unpack_from("<H", content, 18)
+    return "exec" if machine in EXECUTABLE_BY_DEFAULT else "-"
+
+
 def rows_before(strings, symbols, table, room):
     """How many symbols have room before their strings; none with the hash table between, or without room."""
     rows = max(strings - symbols, 0) // 24
@@ -219,8 +237,26 @@ def feature_of(at, properties):
 
 
 def cost(content, most=4096):
-    """How many bytes the traits of a file may read: its header, its program headers, its dynamic entries twice, its notes and the
-    list of properties, the words of its hash table, and its symbols with 64 bytes of each name."""
+    """How many bytes the traits of a file may read: what its segments do, and for a relocatable file its header again, its
+    section headers, and 64 bytes of each name."""
+    asked = segments_cost(content, most)
+    try:
+        if Traits(content, most).type != 1:
+            return asked
+    except Refused:
+        return asked
+    shnum, names = struct.unpack_from("<2H", content, 60)
+    try:
+        # The section of the names is checked after the headers were read.
+        load(content[:62] + bytes(2) + content[64:] if names < shnum else content, most)
+    except Refused:
+        return asked + 64
+    return asked + 64 + (64 + 64) * shnum
+
+
+def segments_cost(content, most):
+    """Of the segments: the header, the program headers, the dynamic entries twice, the notes and the list of properties, the
+    words of the hash table, and its symbols with 64 bytes of each name."""
     content, asked = without_section_headers(content), 64
     try:
         load(content, most)

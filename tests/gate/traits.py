@@ -3,10 +3,10 @@
 
     tests/gate/traits.py [--program PROGRAM] [--hardening PROGRAM] [--quick] [--time FOLDER] [FOLDER OR FILE..]
 
-Each column of a T line is computed once more from `readelf -hlWdn --dyn-syms`: the kind from the file's type,
+Each column of a T line is computed once more from `readelf -hSlWdn --dyn-syms`: the kind from the file's type,
 SONAME, INTERP and the flag PIE; relro from GNU_RELRO with BIND_NOW or NOW; stack and pages from the flags of segments;
 text from TEXTREL; cet from the x86 features of the notes; canary and fortify from the dynamic symbols; rpath from the
-entries. Without arguments all files of the machine that begin as ELF files do are compared, except those of /proc, /sys
+entries. The stack of a relocatable file is that of its first section named `.note.GNU-stack`. Without arguments all files of the machine that begin as ELF files do are compared, except those of /proc, /sys
 and /dev. A file that elfsee refuses has a C line, with the place and the cause: it is counted and reported, and no row is
 compared. `readelf` uses section headers if there are some, and elfsee segments, as a loader does: for a file without a
 DYNAMIC segment, or without a hash table, what readelf has by its sections is left out, and the file is reported.
@@ -59,7 +59,7 @@ def run(program, *words, given=b"", **more):
 # The columns by the words of `readelf`.
 
 def readelf(path):
-    words = ["readelf", "-hlWdn", "--dyn-syms", "--", path]
+    words = ["readelf", "-hSlWdn", "--dyn-syms", "--", path]
     done = subprocess.run(words, stdin=subprocess.DEVNULL, stdout=subprocess.PIPE, stderr=subprocess.PIPE, timeout=300,
                           env={**os.environ, "LC_ALL": "C"})
     return done.stdout.decode("latin-1"), done.stderr.decode("latin-1")
@@ -90,6 +90,14 @@ def symbols_of(text):
         if row and row[1] != "0":
             rows.append((row[3].split("@")[0], row[2] == "UND"))
     return rows
+
+
+def stack_of_object(text, machine):
+    """The stack of a relocatable file, by its sections."""
+    section = re.search(r"^  \[ *\d+\] \.note\.GNU-stack +\S+ +\w+ \w+ \w+ \w+ +([A-Za-z]*) +\d+ +\d+ +\d+$", text, re.M)
+    if section:
+        return "exec" if "X" in section[1] else "nx"
+    return "exec" if "X86-64" in machine or "80386" in machine else "-"
 
 
 def kind_of(file_type, types, tags, flags_1):
@@ -125,6 +133,8 @@ def columns_of(path, text):
         row["text"] = "patch" if "TEXTREL" in tags or "TEXTREL" in flags else "fixed"
     else:
         row.update(relro="-", stack="-", pages="-", text="-")
+    if file_type == "REL":
+        row["stack"] = stack_of_object(text, machine)
     feature = re.search(r"x86 feature: ([^\n]*)", text) if "X86-64" in machine and "NOTE" in types else None
     words = [word.lower() for word in re.findall(r"IBT|SHSTK", feature[1])] if feature else []
     row["cet"] = "+".join(words) or "-"
@@ -261,6 +271,19 @@ def made(file_type=3, headers=(), entries=(), machine=62):
     return front + b"".join(headers) + b"".join(struct.pack("<QQ", *entry) for entry in entries)
 
 
+def object_of(sections, machine=62, names=True):
+    """A relocatable file of some sections, each a name and flags, and of their names."""
+    strings = b"\0" + b"".join(name + b"\0" for name, _ in sections)
+    at, start, headers = 64 + len(strings), 1, [bytes(64)]
+    for name, flags in sections:
+        headers.append(struct.pack("<IIQQQQIIQQ", start, 1, flags, 0, 64, 0, 0, 0, 1, 0))
+        start += len(name) + 1
+    headers.append(struct.pack("<IIQQQQIIQQ", 0, 3, 0, 0, 64, len(strings), 0, 0, 1, 0))
+    return MAGIC + b"\2\1\1" + bytes(9) + struct.pack(
+        "<HHIQQQIHHHHHH", 1, machine, 1, 0, 0, at, 0, 64, 0, 0, 64, len(headers),
+        len(headers) - 1 if names else 0) + strings + b"".join(headers)
+
+
 def put(top, files):
     for name, content in files.items():
         path = os.path.join(top, name)
@@ -280,7 +303,34 @@ PIE_WORDS = ("pie", "full", "nx", "w^x", "fixed", "-", "-", "-", "runpath")
 WEAK = made(2, [program_header(LOAD, 7, 0, 64)])
 WEAK_WORDS = ("static", "none", "exec", "wx", "fixed", "-", "-", "-", "-")
 OBJECT = made(1)
-OBJECT_WORDS = ("object", "-", "-", "-", "-", "-", "-", "-", "-")
+OBJECT_WORDS = ("object", "-", "exec", "-", "-", "-", "-", "-", "-")
+
+
+STACKS = (
+    ("nx", object_of([(b".text", 6), (b".note.GNU-stack", 0)])),
+    ("exec", object_of([(b".note.GNU-stack", 4)])),
+    ("exec", object_of([(b".note.GNU-stack", 4)], machine=183)),
+    ("nx", object_of([(b".note.GNU-stack", 3), (b".note.GNU-stack", 4)])),
+    ("exec", object_of([(b".note.GNU-stac", 0), (b".note.GNU-stack2", 0)])),
+    ("exec", object_of([(b".note.GNU-stack", 0)], names=False)),
+    ("exec", object_of([], machine=3)),
+    ("-", object_of([(b".text", 6)], machine=183)),
+    ("-", object_of([(b".note.GNU-stack", 0)])[:-1]),
+)
+
+
+def check_stacks(counts, program, top):
+    """The stack of a relocatable file, and what it reads."""
+    for index, (stack, content) in enumerate(STACKS):
+        put(top, {"o": content})
+        words = ("object", "-", stack, *OBJECT_WORDS[3:])
+        counts.check(f"object {index}", (line(*words, f"{top}/o") + "\n").encode(), run(program, f"{top}/o")[0])
+    put(top, {"o": STACKS[1][1]})
+    words = ("object", "-", "exec", *OBJECT_WORDS[3:])
+    # Both reads of the file header, three section headers, and two names.
+    for budget, wanted in (("352", (line(*words, f"{top}/o") + "\n").encode()),
+                           ("351", f"C refused      0000000000000041 budget {top}/o\n".encode())):
+        counts.check(f"object within {budget}", wanted, run(program, "--max-read", budget, f"{top}/o")[0])
 
 
 def check_rows(counts, program, top):
@@ -425,6 +475,7 @@ def check_compiled(counts, program, top):
 def check_made(counts, program):
     with tempfile.TemporaryDirectory() as top:
         check_rows(counts, program, top)
+        check_stacks(counts, program, top)
         check_required(counts, program, top)
         check_objects(counts, program, top)
         check_unread(counts, program, top)

@@ -285,8 +285,9 @@ static ARGUMENTS: [ArgSpec; 41] = [
         short: None,
         alias: None,
         kind: ArgKind::Flag,
-        help: "If an address is missing, print the type, the\n\
-            symbol and the item that would help",
+        help: "If an address is missing or a value does not fit,\n\
+            print the type, the symbol and what would help, or\n\
+            the value",
         commands: APPLY,
     },
     ArgSpec {

@@ -6,6 +6,7 @@ pub mod Pieces
 pub mod ToldText
 pub mod HexText
 pub mod LackText
+pub mod OverflowText
 pub mod Names
 pub mod NoteText
 pub mod FlagLaws

@@ -161,7 +161,7 @@ fn show_item<W: Sink>(
 /// # Errors
 /// Returns a fault of the output; a prefix of the text was written.
 #[tactic(auto, unfolding(crate::specs::Named::line_tailed))]
-fn show_around<W: Sink>(
+pub(crate) fn show_around<W: Sink>(
     line: LineBuf,
     name: &[u8],
     is_cut: bool,

@@ -26,5 +26,6 @@ pub mod TraitReadLaws
 pub mod SegmentLaws
 pub mod ShownLaws
 pub mod SpendLaws
+pub mod StackLaws
 pub mod ValueLaws
 pub mod WordLaws

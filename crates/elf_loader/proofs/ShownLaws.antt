@@ -1,6 +1,6 @@
 -- What a file without section headers implies, up to its load, and the cost of finding it.
 use Rattle.std.proofs.Common.{◌≡◌, ℕ, ◌+◌, ◌*◌, ◌/◌, ◌≤◌, List, ◌++◌, Option, None, Some, Err, refl, ap, arith, mul-add}
-use Rattle.elf_model.specs.Prelude.{before_headers, e_phnum, e_shnum, first_refusal, header_checks, load_checks, loaded_traits, properties_asked, segment_traits_cost, segments_asked, symbols_asked, trait_entries_asked, traits_by_segments, traits_ceiling}
+use Rattle.elf_model.specs.Prelude.{before_headers, e_phnum, e_shnum, first_refusal, header_checks, load_checks, loaded_traits, properties_asked, segment_traits_cost, segments_asked, symbols_asked, segment_traits_ceiling, trait_entries_asked, traits_by_segments}
 use Rattle.elf_model.specs.declared.traits.Hardening.{Hardening}
 use Rattle.elf_model.specs.declared.causes.Refusal.{Refusal}
 use Rattle.elf_table.specs.Prelude.{StoreState}
@@ -12,8 +12,7 @@ use Rattle.elf_hash.proofs.LoadingLaws.{cost_passed, early_pass}
 use Rattle.elf_loader.specs.Features.{ReturnsValue}
 
 -- all that is requested is within the upper bound
-pub ceiling_is : (size headers : ℕ) → traits_ceiling size headers ≡ 64 + (headers * 56 + headers * size) + 4 * size + 16 + size / 24 * 88
-unfolding traits_ceiling
+pub ceiling_is : (size headers : ℕ) → segment_traits_ceiling size headers ≡ 64 + (headers * 56 + headers * size) + 4 * size + 16 + size / 24 * 88
 ceiling_is size headers = ap (λ (n : ℕ). 64 + n + 4 * size + 16 + size / 24 * 88) (mul-add headers 56 size)
 
 module _ (file : List ℕ) (headers : ℕ) where

@@ -12,4 +12,5 @@ pub mod TraitStages
 pub mod Known
 pub mod Lists
 pub mod Marks
+pub mod Stacks
 pub mod Prelude

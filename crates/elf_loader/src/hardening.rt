@@ -1,19 +1,21 @@
 //! The hardening of a file.
 ghost use Rattle.std.specs.Prelude.{◌≡◌, ℕ, ◌<◌, ◌^◌, Ok};
 ghost use Rattle.elf_table.specs.Prelude.{CallDid, HoldsProgramHeaders, fault_of_result};
-ghost use Rattle.elf_model.specs.Prelude.{e_shnum, traits_ceiling};
+ghost use Rattle.elf_model.specs.Prelude.{e_shnum, is_relocatable, segment_traits_ceiling, traits_ceiling};
+ghost use Rattle.elf_loader.specs.Stacks.{FindsMasked};
 ghost use Rattle.elf_loader.specs.TraitStages.{FindsMarks, FindsShown, FindsTraits, FindsViewed};
 ghost use Rattle.elf_loader.specs.TraitStages.{marks_bytes, view_bytes};
 ghost use Rattle.elf_loader.specs.Known.{KnownLie, ReturnsKnown};
 
 use crate::known::{CountedSymbols, known_symbols};
+use crate::section_stack::stack_by_sections;
 use crate::symbol_traits::{SymbolTraits, no_symbol_traits};
 use crate::trait_notes::x86_feature_word;
 use crate::trait_symbols::find_symbol_traits;
 use crate::trait_tags::trait_entries;
 use crate::traits::traits_with;
 use elf_hash::load_by_segments;
-use elf_model::Hardening;
+use elf_model::{Hardening, ProgramKind};
 use elf_source::{Counted, Source};
 use elf_table::{ExecutionView, Fault, HeaderStore};
 
@@ -21,6 +23,10 @@ use elf_table::{ExecutionView, Fault, HeaderStore};
 /// first PT_DYNAMIC segment, the first list of properties in its notes, and its dynamic symbols,
 /// which are those that its hash table covers. The fields of its header that locate section headers
 /// are masked meanwhile. The program headers are loaded into the store.
+///
+/// Only whether the stack of a relocatable file is executable comes from its sections, as a linker
+/// sees them; their headers are loaded into the store after that. If a check of them fails, it is
+/// not known.
 ///
 /// If the source's file is known the traits are those of the file, and so is the refusal; no more
 /// is read than they cost, also if the source fails.
@@ -43,6 +49,36 @@ pub fn find_traits<S: Source>(
         (λ file. FindsTraits file store.old.slots src.old src.new result) }
     ensures slots { store.new.slots ≡ store.old.slots }
 {
+    let traits = masked_traits(src, store)?;
+    if !is_relocatable(traits.kind) {
+        return Ok(traits);
+    }
+    let stack = stack_by_sections(src, store)?;
+    Ok(Hardening { stack, ..traits })
+}
+
+/// Returns `true` if a file is relocatable.
+#[tactic(auto, unfolding(elf_model::specs::Traits::is_relocatable))]
+fn is_relocatable(kind: ProgramKind) -> bool
+    ensures { result ≡ is_relocatable kind }
+{
+    matches!(kind, ProgramKind::Object)
+}
+
+/// Returns the traits of a file by its segments, with the fields of its header that locate section
+/// headers masked meanwhile.
+///
+/// # Errors
+/// Those of [`find_traits`].
+fn masked_traits<S: Source>(
+    src: &mut Counted<S>,
+    store: &mut HeaderStore,
+) -> Result<Hardening, Fault>
+    ensures did { CallDid src.old src.new (fault_of_result result)
+        (segment_traits_ceiling src.old.seen.size store.old.slots)
+        (λ file. FindsMasked file store.old.slots src.old src.new result) }
+    ensures slots { store.new.slots ≡ store.old.slots }
+{
     let hides = src.hides();
     src.mask_section_headers(true);
     let found = shown_traits(src, store);
@@ -59,7 +95,7 @@ fn shown_traits<S: Source>(
     store: &mut HeaderStore,
 ) -> Result<Hardening, Fault>
     ensures did { CallDid src.old src.new (fault_of_result result)
-        (traits_ceiling src.old.seen.size store.old.slots)
+        (segment_traits_ceiling src.old.seen.size store.old.slots)
         (λ file. e_shnum file ≡ 0 →
         FindsShown file store.old.slots src.old src.new result) }
     ensures slots { store.new.slots ≡ store.old.slots }

@@ -15,6 +15,7 @@ mod name_comparison;
 mod properties;
 mod property;
 mod resolved_version_name;
+mod section_stack;
 mod symbol_names;
 mod symbol_traits;
 mod trait_notes;

@@ -1,7 +1,7 @@
 //! The traits of a file, computed from what was read.
 ghost use Rattle.std.specs.Prelude.{◌≡◌, ℕ, List, is_some, unwrap_or, Option};
 ghost use Rattle.elf_table.specs.Load.{HoldsProgramHeaders};
-ghost use Rattle.elf_model.specs.Prelude.{binds_now, has_bits, has_text_relocations, kind_of_shared, path_of, program_kind, relro_of, segment_traits, traits_with};
+ghost use Rattle.elf_model.specs.Prelude.{binds_now, has_bits, has_text_relocations, kind_of_shared, path_of, program_kind, relro_of, segment_traits, stack_by_segments, traits_with};
 ghost use Rattle.elf_loader.specs.Entries.{AreTraitEntries};
 ghost use Rattle.elf_loader.specs.Marks.{symbol_traits_of};
 
@@ -45,6 +45,7 @@ pub(crate) fn traits_with(
     Hardening {
         kind: program_kind(view, entries),
         segments: segment_traits(view, entries),
+        stack: stack_by_segments(view),
         ibt: has_bits(u64::from(word), FEATURE_IBT),
         shstk: has_bits(u64::from(word), FEATURE_SHSTK),
         canary: marks.canary,
@@ -107,10 +108,22 @@ fn segment_traits(view: &ExecutionView<'_>, entries: &TraitTags) -> Option<Segme
     }
     Some(SegmentTraits {
         relro: relro_of(view, entries),
-        stack_executable: is_stack_executable(view),
         pages_writable: has_wx_load(view),
         text_patched: has_text_relocations(entries),
     })
+}
+
+/// Returns whether the stack is executable, by program headers if there are any; those of a core
+/// are of its memory, and do not say what its program's stack was to be.
+#[tactic(auto, unfolding(elf_model::specs::Traits::stack_by_segments))]
+fn stack_by_segments(view: &ExecutionView<'_>) -> Option<bool>
+    ensures { (file : List ℕ) → HoldsProgramHeaders file view.now.loaded view.now.store.now →
+        result ≡ stack_by_segments file }
+{
+    if view.segments() == 0 || view.loaded.header().e_type == ET_CORE {
+        return None;
+    }
+    Some(is_stack_executable(view))
 }
 
 /// Returns how much is read-only after relocation.

@@ -51,11 +51,11 @@ module _ (file : List ℕ) (section : ℕ) (layout : Layout) (refusal : Refusal)
       by_section (Some index) e = somewhere index e ∙ ap (lack_of file (section_at file index)) (misses_none file (section_at file index) layout section refusal h)
 
 -- what is missing, with its name
-told_of : (file : List ℕ) (header : ℕ) (lacking : MissingItem) → (lacking.missing.name ≢ 0 → strings_in file lacking.names ≡ strings_of file (linked_at file header))
-    → resolved_symbol_name (strings_in file lacking.names) lacking.missing.name ≡ resolved_symbol_name (strings_of file (linked_at file header)) lacking.missing.name
+told_of : (file : List ℕ) (header : ℕ) (lacking : MissingItem) → (lacking.missing.name ≢ 0 → strings_in file lacking.named.names ≡ strings_of file (linked_at file header))
+    → resolved_symbol_name (strings_in file lacking.named.names) lacking.missing.name ≡ resolved_symbol_name (strings_of file (linked_at file header)) lacking.missing.name
 told_of file header lacking names = by_name lacking.missing.name refl
   where
-    by_name : (n : ℕ) → lacking.missing.name ≡ n → resolved_symbol_name (strings_in file lacking.names) lacking.missing.name ≡ resolved_symbol_name (strings_of file (linked_at file header)) lacking.missing.name
+    by_name : (n : ℕ) → lacking.missing.name ≡ n → resolved_symbol_name (strings_in file lacking.named.names) lacking.missing.name ≡ resolved_symbol_name (strings_of file (linked_at file header)) lacking.missing.name
     by_name zero e = unnamed _ _ e ∙ sym (unnamed _ _ e)
     by_name (suc n) e = ap (λ (strings : List ℕ). resolved_symbol_name strings lacking.missing.name) (names (λ zero. omega (arith, zero, e)))
 
@@ -64,9 +64,11 @@ unfolding lack_of
 lacks_nothing file header missed lacks = rw (lacks, lack_of) refl
 
 pub lacks_told : (file : List ℕ) (header : ℕ) (missed : Option MissingAddress) (lacking : MissingItem) → Lacks file header missed (Some lacking)
-    → lack_of file header missed ≡ lack_with lacking.missing (resolved_symbol_name (strings_in file lacking.names) lacking.missing.name)
+    → lack_of file header missed ≡ lack_with lacking.missing (resolved_symbol_name (strings_in file lacking.named.names) lacking.named.name)
 unfolding lack_of
-lacks_told file header missed lacking lacks = rw (lacks.0, lack_of) (ap (lack_with lacking.missing) (sym (told_of file header lacking lacks.1)))
+lacks_told file header missed lacking lacks =
+    rw (lacks.0, lack_of)
+    (ap (lack_with lacking.missing) (sym (told_of file header lacking lacks.2) ∙ ap (resolved_symbol_name (strings_in file lacking.named.names)) (sym lacks.1)))
 
 -- a refusal of the file's own checks
 pub header_explains : (file : List ℕ) (headers : ℕ) (lack : Option MissingEntry) (fault : Fault) (name : List ℕ) → HeaderRead file (Err fault) → Explains file headers lack (Err fault) name

@@ -6,7 +6,7 @@ use Rattle.elf_model.specs.declared.missing.LayoutAddress.{LayoutAddress}
 use Rattle.elf_model.specs.declared.missing.MissingAddress.{MissingAddress}
 use Rattle.elf_model.specs.declared.causes.Refusal.{Refusal}
 use Rattle.elf_model.specs.declared.relocation_types.RelocationType.{RelocationType}
-use Rattle.elf_table.specs.Prelude.{RefersToSymbol, StringTableRange, strings_in}
+use Rattle.elf_table.specs.Prelude.{RefersToSymbol, strings_in}
 use Rattle.elf_table.specs.declared.fault.Fault.{Fault}
 use Rattle.elf_table.specs.declared.fault.Fault.TheVariants.{Refused, Source}
 use Rattle.elf_table.specs.declared.linked_symbol.LinkedSymbol.{LinkedSymbol}
@@ -44,8 +44,11 @@ unfolding missing_of
 lacks_by file header rela kind named wanted missed None is same lack = same ∙ lack
 lacks_by file header rela kind named None missed (Some lacking) is same lack = absurd (cc)
 lacks_by file header rela kind named (Some wanted) missed (Some lacking) is same lack =
-    let here : named.name ≡ lacking.missing.name = grind arith in
-    (same ∙ lack.0, λ some. ap (λ (n : StringTableRange). strings_in file n) lack.1 ∙ names_of file header rela named is (λ zero. some (sym here ∙ zero)))
+    let here : named.name ≡ lacking.missing.name = grind arith in (
+      same ∙ lack.0,
+      ap (λ (n : RelocationSymbol). n.name) lack.1 ∙ here,
+      λ some. ap (λ (n : RelocationSymbol). strings_in file n.names) lack.1 ∙ names_of file header rela named is (λ zero. some (sym here ∙ zero)),
+    )
 
 -- the type of an entry, and its symbol, as the code has them
 pub type_is : (file : List ℕ) (at : ℕ) (entry : Rela) {kind : ℕ} → EntryRead file at (Ok entry) → kind ≡ entry.r_info % 2 ^ 32 → kind ≡ r_type file at

@@ -23,3 +23,4 @@ pub mod EntryLaws
 pub mod ExplainLaws
 pub mod LackLaws
 pub mod NamingLaws
+pub mod OverflowLaws

@@ -91,13 +91,13 @@ EntrySymbolRead file header rela (Err fault) = IsOfRead fault
 -- needed
 abbrev pub LackOf : (kind : ℕ) → RelocationSymbol → Option LayoutAddress → Option MissingItem → Type 0
 LackOf kind named wanted None = missing_of kind named.name wanted ≡ None
-LackOf kind named wanted (Some lacking) = (missing_of kind named.name wanted ≡ Some lacking.missing) × (lacking.names ≡ named.names)
+LackOf kind named wanted (Some lacking) = (missing_of kind named.name wanted ≡ Some lacking.missing) × (lacking.named ≡ named)
 
 -- what is missing is known, with the string table of the symbol's name if it has one
 abbrev pub Lacks : List ℕ → (header : ℕ) → Option MissingAddress → Option MissingItem → Type 0
 Lacks file header missing None = missing ≡ None
 Lacks file header missing (Some lacking) =
-    (missing ≡ Some lacking.missing) × (lacking.missing.name ≢ 0 → strings_in file lacking.names ≡ strings_of file (linked_at file header))
+    (missing ≡ Some lacking.missing) × (lacking.named.name ≡ lacking.missing.name) × (lacking.missing.name ≢ 0 → strings_in file lacking.named.names ≡ strings_of file (linked_at file header))
 
 -- that, once the entry was read
 abbrev pub LacksRead : List ℕ → (header : ℕ) → Option MissingAddress → Result (Option MissingItem) Fault → Type 0

@@ -8,4 +8,5 @@ pub mod Walk
 pub mod Windows
 pub mod Queried
 pub mod Explained
+pub mod Overflowed
 pub mod Prelude

@@ -178,7 +178,7 @@ fn unnamed_value(base: RelocationBase, at: u64) -> Result<u64, Fault>
 /// Returns B of the symbol of an index, which the entry at `at` names; for symbol 0 nothing is
 /// read.
 #[tactic(auto, unfolding(crate::proofs::Words::term))]
-fn named_value<S: Source>(
+pub(crate) fn named_value<S: Source>(
     src: &mut Counted<S>,
     target: &ApplyTarget<'_>,
     symbol: u32,
@@ -202,7 +202,7 @@ fn named_value<S: Source>(
 /// Returns P, the section's address and an offset modulo 2^64, if the section has an address; 0 if
 /// the formula does not use it.
 #[tactic(auto, unfolding(crate::proofs::Words::place))]
-fn place_value(target: &ApplyTarget<'_>, offset: u64, formula: Formula) -> Option<u64>
+pub(crate) fn place_value(target: &ApplyTarget<'_>, offset: u64, formula: Formula) -> Option<u64>
     ensures { (file : List ℕ) (at : ℕ) → offset ≡ r_offset file at →
         taken_place formula (target_as file target.now) at ≡ value_or result at Unplaced }
 {

@@ -95,7 +95,7 @@ fn explain_loaded<S: Source>(
     let Some(lacking) = lacking_at(src, layout, section, refusal, linked)? else {
         return Ok(None);
     };
-    let Some(end) = read_name(src, &lacking, name)? else {
+    let Some(end) = read_name(src, &lacking.named, name)? else {
         return Ok(None);
     };
     Ok(Some((lacking.missing, end)))

@@ -1,6 +1,7 @@
 //! Relocations of x86-64: [`value`] computes what an entry stores, [`apply`] writes a section of a
-//! relocatable file with its relocations applied, by the addresses of a [`Layout`], and [`explain`]
-//! finds what the layout is missing if the section was refused. No call allocates.
+//! relocatable file with its relocations applied, by the addresses of a [`Layout`]. If the section
+//! was refused, [`explain`] finds what the layout is missing, and [`explain_overflow`] the value
+//! that does not fit. No call allocates.
 #![tactic(auto)]
 
 mod apply_section;
@@ -10,6 +11,7 @@ mod explanation;
 mod in_order;
 mod lookup;
 mod missing_item;
+mod overflow;
 mod passes;
 mod patch;
 mod relocation_types;
@@ -25,6 +27,7 @@ pub use elf_layout::{Item, Layout, LayoutFault};
 pub use elf_model::{Formula, RelocationBase, RelocationType, ValueRange};
 pub use elf_table::RunFault as ApplyFault;
 pub use explanation::explain;
+pub use overflow::explain_overflow;
 pub use patch::Patch;
 pub use relocation_types::{relocation_type, takes_place};
 pub use section_bytes::write_bytes;

@@ -24,13 +24,11 @@ pub(crate) struct RelocationSymbol {
     pub(crate) at: u64,
 }
 
-/// What is missing for an entry, with the string table of its symbol's name, and the symbol's file
-/// offset.
+/// What is missing for an entry, and its symbol.
 #[derive(Clone, Copy)]
 pub(crate) struct MissingItem {
     pub(crate) missing: MissingAddress,
-    pub(crate) names: Names,
-    pub(crate) at: u64,
+    pub(crate) named: RelocationSymbol,
 }
 
 /// Returns what is missing for the entry at a refusal's offset, which refers to these symbols, for
@@ -50,7 +48,7 @@ pub(crate) fn lacking_at<S: Source>(
         (λ file. (header : ℕ) → RefersTo file header linked →
         LacksRead file header (missing file header layout.now section refusal) result) }
     ensures within { IfOk result (λ found.
-        IfSome found (λ lacking. StringsInBounds src.old.seen.size lacking.names)) }
+        IfSome found (λ lacking. StringsInBounds src.old.seen.size lacking.named.names)) }
 {
     let entry = read_entry(src, refusal.at)?;
     let kind = entry.kind();
@@ -69,7 +67,7 @@ pub(crate) fn lacking_at<S: Source>(
 ///
 /// # Errors
 /// Returns a fault of the read, or the refusal `Budget`, at that offset.
-fn read_entry<S: Source>(src: &mut Counted<S>, at: u64) -> Result<Rela, Fault>
+pub(crate) fn read_entry<S: Source>(src: &mut Counted<S>, at: u64) -> Result<Rela, Fault>
     requires { at + 24 ≤ src.old.seen.size }
     ensures { CallDid src.old src.new (fault_of_result result) 24
         (λ file. EntryRead file at result) }
@@ -83,7 +81,7 @@ fn read_entry<S: Source>(src: &mut Counted<S>, at: u64) -> Result<Rela, Fault>
 ///
 /// # Errors
 /// Returns a fault of the read, or the refusal `Budget`, at the symbol's offset.
-fn read_symbol<S: Source>(
+pub(crate) fn read_symbol<S: Source>(
     src: &mut Counted<S>,
     symbol: Option<LinkedSymbol>,
 ) -> Result<RelocationSymbol, Fault>
@@ -127,8 +125,7 @@ fn lacking_of(
             name: named.name,
             wanted,
         },
-        names: named.names,
-        at: named.at,
+        named: *named,
     })
 }
 

@@ -4,7 +4,7 @@ ghost use Rattle.elf_model.specs.Prelude.{pad64, resolved_symbol_name};
 ghost use Rattle.elf_table.specs.Prelude.{CallDid, StringsInBounds, fault_of_result, strings_in};
 ghost use Rattle.elf_reloc.specs.Explained.{ReturnsSymbolName, WithoutName};
 
-use crate::missing_item::MissingItem;
+use crate::missing_item::RelocationSymbol;
 use elf_layout::ITEM_NAME_BYTES;
 use elf_record::Cause;
 use elf_source::{Counted, Source};
@@ -18,15 +18,15 @@ use elf_table::{Fault, NameBuf, NameEnd, NameLimit};
 /// Returns a fault of a read, or the refusal `Budget`, at the offset of the read.
 pub(crate) fn read_name<S: Source>(
     src: &mut Counted<S>,
-    lacking: &MissingItem,
+    named: &RelocationSymbol,
     name: &mut NameBuf,
 ) -> Result<Option<NameEnd>, Fault>
-    requires { StringsInBounds src.old.seen.size lacking.now.names }
+    requires { StringsInBounds src.old.seen.size named.now.names }
     ensures { CallDid src.old src.new (fault_of_result result) (pad64 256)
-        (λ file. ReturnsSymbolName (resolved_symbol_name (strings_in file lacking.now.names)
-        lacking.now.missing.name) result name.new) }
+        (λ file. ReturnsSymbolName (resolved_symbol_name (strings_in file named.now.names)
+        named.now.name) result name.new) }
 {
-    let off = lacking.missing.name;
+    let off = named.name;
     if off == 0 {
         name.clear();
         return Ok(Some(NameEnd::Whole));
@@ -34,10 +34,7 @@ pub(crate) fn read_name<S: Source>(
     let cap = NameLimit {
         bytes: ITEM_NAME_BYTES as u16,
     };
-    match lacking
-        .names
-        .read(src, u64::from(off), lacking.at, cap, name)
-    {
+    match named.names.read(src, u64::from(off), named.at, cap, name) {
         Ok(end) => Ok(Some(end)),
         Err(fault) => unless_refused(fault),
     }

@@ -1,7 +1,7 @@
 -- What is found for a file, by the result of the search for its traits.
 use Rattle.std.proofs.Common.{◌≡◌, ℕ, ◌^◌, ◌<◌, ◌≤◌, ◌++◌, ◌⊎◌, true, false, if◌then◌else◌, List, length, Option, None, Some, Result, Ok, Err, inl, inr, refl, sym, ap, subst, ◌∙◌, nat_lt, arith}
 use Rattle.std.proofs.lemmas.Bool.Decides.{nat_tests}
-use Rattle.elf_model.specs.Prelude.{IsBudgetRefusal, first_refusal, header_checks, is_not_elf, load_checks, loaded_traits, state_of, traits_by_segments, traits_cost, traits_of, without_sections}
+use Rattle.elf_model.specs.Prelude.{IsBudgetRefusal, first_refusal, header_checks, is_not_elf, load_checks, loaded_traits, state_of, traits_by_segments, traits_cost, traits_of, traits_with_stack, without_sections}
 use Rattle.elf_model.specs.declared.causes.Cause.TheVariants.{Budget, Short}
 use Rattle.elf_model.specs.declared.states.FileStatus.{FileStatus}
 use Rattle.elf_model.specs.declared.traits.Hardening.{Hardening}
@@ -29,16 +29,18 @@ unfolding traits_by_segments
 refused_first file headers refusal is =
     subst (λ (first : Option Refusal). traits_by_segments file headers ≡ (elim first as (λ _. Result Hardening Refusal) [ Some it ↦ Err it | None ↦ loaded_traits file ])) is refl
 
-without_sections_are : (file : List ℕ) (headers : ℕ) → traits_of file headers ≡ traits_by_segments (without_sections file) headers
+with_stack_are : (file : List ℕ) (headers : ℕ) → traits_of file headers ≡ traits_with_stack file headers (traits_by_segments (without_sections file) headers)
 unfolding traits_of
-without_sections_are file headers = refl
+with_stack_are file headers = refl
 
 short_traits : (file : List ℕ) (headers : ℕ) → length file < 64 → traits_of file headers ≡ Err (short_refusal file)
+unfolding traits_with_stack
 short_traits file headers short =
     let same : length (without_sections file) ≡ length file = from_length 0 file in
-    without_sections_are file headers
-    ∙ refused_first (without_sections file) headers (short_refusal (without_sections file)) (short_first (without_sections file) headers (omega (arith, same)))
-    ∙ ap (λ at. Err (record { at = at; cause = Short })) same
+    with_stack_are file headers
+    ∙ ap (traits_with_stack file headers)
+    (refused_first (without_sections file) headers (short_refusal (without_sections file)) (short_first (without_sections file) headers (omega (arith, same)))
+    ∙ ap (λ at. Err (record { at = at; cause = Short })) same)
 
 -- what the definitions give is found, within every budget
 told : (budget : Option ℕ) (headers : ℕ) (file : List ℕ) (found : Result Hardening FileStatus) → found ≡ traits_found budget file (traits_of file headers)
