@@ -16,4 +16,4 @@ pub mod SectionLaws
 pub mod SegmentLaws
 pub mod SettleLaws
 pub mod VersionLaws
-mod SymbolCountLaws
+pub mod SymbolCountLaws

@@ -1,9 +1,10 @@
 -- The number of symbols that a hash table covers, and the cost of counting them.
 use Rattle.std.specs.Prelude.{ℕ, suc, ◌≡◌, ◌+◌, ◌-◌, ◌*◌, ◌<◌, List, None, Some, Result}
-use Rattle.elf_model.specs.Prelude.{GnuTable, HashTable, LookupTables, SysvTable, first_that, gnu_nbucket, hashed_symbol_count, is_last_in}
+use Rattle.elf_model.specs.Prelude.{GnuTable, HashTable, LookupTables, SysvTable, first_that, gnu_nbucket, hashed_symbol_count, is_last_in, symbols_hashed}
 use Rattle.elf_source.specs.Source.{CountedState}
 use Rattle.elf_table.specs.Prelude.{CallReads, IsRead, fault_of_result}
 use Rattle.elf_table.specs.declared.fault.Fault.{Fault}
+use Rattle.elf_hash.specs.Results.{ReturnsAs}
 
 -- the number of symbols up to the end of the chain that begins at a symbol index
 abbrev pub last_in : List ℕ → HashTable → ℕ → ℕ
@@ -34,3 +35,9 @@ extent_bytes file scope = elim scope.kind [
 pub record ReturnsExtent (file : List ℕ) (scope : LookupTables) (old new : CountedState) (result : Result ℕ Fault) : Type 0 where
   pub costs : CallReads old new (fault_of_result result) (extent_bytes file scope)
   pub tells : IsRead result (hashed_symbol_count file scope)
+
+-- the same after the counts of the table, or the refusal of these: no more symbols than the symbol
+-- table has
+pub record CountsSymbols (file : List ℕ) (scope : LookupTables) (old new : CountedState) (result : Result ℕ Fault) : Type 0 where
+  pub costs : CallReads old new (fault_of_result result) (16 + extent_bytes file scope)
+  pub tells : ReturnsAs (symbols_hashed file scope) result

@@ -1,14 +1,10 @@
 //! The range of a section's bytes in a file.
-ghost use Rattle.std.specs.Prelude.{◌≡◌, ℕ, List};
-ghost use Rattle.elf_model.specs.Apply.{has_no_bytes};
-ghost use Rattle.elf_record.specs.Shdr.{IsShdr};
 ghost use Rattle.elf_memory.specs.SectionBytes.{ReadsSectionBytes};
 
 use crate::header::find_section;
 use crate::name::ByteRange;
-use elf_record::numbers::{SHT_NOBITS, SHT_NULL};
-use elf_record::{Cause, Refusal, Shdr};
-use elf_table::is_out_of_bounds;
+use elf_record::{Cause, Refusal};
+use elf_table::{has_no_bytes, is_out_of_bounds};
 
 /// Returns the range of a section's bytes in a file in memory; `None` if the file has no such
 /// section, or if its type is NOBITS or NULL, so that it has no bytes there. No other section
@@ -36,12 +32,4 @@ pub fn section_bytes(file: &[u8], section: u16) -> Result<Option<ByteRange>, Ref
         at: header.sh_offset,
         len: header.sh_size,
     }))
-}
-
-/// Returns `true` if a section has no bytes in its file, by its type.
-fn has_no_bytes(header: &Shdr) -> bool
-    ensures { (file : List ℕ) (at : ℕ) → IsShdr file at header.now →
-        result ≡ has_no_bytes file at }
-{
-    header.sh_type == SHT_NOBITS || header.sh_type == SHT_NULL
 }

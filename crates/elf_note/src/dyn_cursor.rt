@@ -119,8 +119,8 @@ pub fn entry_in(row: &Row<'_>) -> Dyn
     Dyn::decode(row.bytes.first_chunk().unwrap())
 }
 
-// Returns `true` if an entry ends its array.
-fn is_null(entry: &Dyn) -> bool
+/// Returns `true` if an entry ends its array: its tag is DT_NULL (gABI 5, Dynamic Section).
+pub fn is_null(entry: &Dyn) -> bool
     ensures { (file : List ℕ) (at : ℕ) → IsDyn file at entry.now →
         result ≡ (d_tag file at == DT_NULL) }
 {

@@ -26,7 +26,7 @@ mod version_cursor;
 mod version_names;
 mod window_bytes;
 
-pub use dyn_cursor::{DynCursor, dynamic_rows, entry_in};
+pub use dyn_cursor::{DynCursor, dynamic_rows, entry_in, is_null};
 pub use name_index::NameIndex;
 pub use note_buffer::NOTES_BUFFER_BYTES;
 pub use note_cursor::NoteCursor;

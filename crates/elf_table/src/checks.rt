@@ -1,5 +1,6 @@
 //! The checks of one section by its header.
 ghost use Rattle.std.specs.Prelude.{◌≡◌, ℕ, ◌<◌, ◌≤◌, List, IfOk, IfErr, MatchResult};
+ghost use Rattle.elf_model.specs.Apply.{has_no_bytes};
 ghost use Rattle.elf_model.specs.Checks.{is_symbol_table};
 ghost use Rattle.elf_record.specs.Shdr.{IsShdr};
 ghost use Rattle.elf_table.specs.Faults.{IsOfCheck};
@@ -10,7 +11,7 @@ use crate::fault::{Fault, refused};
 use crate::names::Names;
 use crate::ranges::is_out_of_bounds;
 use crate::table::Table;
-use elf_record::numbers::{SHT_DYNSYM, SHT_STRTAB, SHT_SYMTAB};
+use elf_record::numbers::{SHT_DYNSYM, SHT_NOBITS, SHT_NULL, SHT_STRTAB, SHT_SYMTAB};
 use elf_record::{Cause, Shdr};
 
 /// Returns the section as a table of rows of `entry` bytes, 1 to 4,096, in a file of `size` bytes.
@@ -104,4 +105,13 @@ pub fn holds_symbols(header: &Shdr) -> bool
         result ≡ is_symbol_table file at }
 {
     header.sh_type == SHT_SYMTAB || header.sh_type == SHT_DYNSYM
+}
+
+/// Returns `true` if the section has no bytes in the file, by its type: NOBITS or NULL (gABI 4,
+/// Section Types).
+pub fn has_no_bytes(header: &Shdr) -> bool
+    ensures { (file : List ℕ) (at : ℕ) → IsShdr file at header.now →
+        result ≡ has_no_bytes file at }
+{
+    header.sh_type == SHT_NOBITS || header.sh_type == SHT_NULL
 }

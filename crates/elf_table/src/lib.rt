@@ -37,7 +37,9 @@ mod table;
 mod window;
 
 pub use buffers::TABLE_BUFFER_BYTES;
-pub use checks::{checked_bytes, checked_rows, checked_strings, checked_table, holds_symbols};
+pub use checks::{
+    checked_bytes, checked_rows, checked_strings, checked_table, has_no_bytes, holds_symbols,
+};
 pub use cursor::Cursor;
 pub use elf_options::{Caps, Limits, ListingStyle, NameLimit};
 pub use fault::{Fault, refusal_at, refused};
