@@ -11,7 +11,7 @@ use Rattle.elf_table.specs.declared.fault.Fault.TheVariants.{Refused, Source}
 use Rattle.elf_hash.specs.Prelude.{HasCounts, IsDynamicSymbols, IsLookupTables, IsPlaceIn, IsTable, RefusesAs, ReturnsAs, SymbolsBegin, counts_bytes, extent_bytes, place_of_table}
 use Rattle.elf_hash.specs.declared.hash_style.HashStyle.{HashStyle}
 use Rattle.elf_hash.specs.declared.hash_style.HashStyle.TheVariants.{Gnu as GnuStyle, Sysv as SysvStyle}
-use Rattle.elf_hash.specs.declared.lookup_tables.LookupTables.{LookupTables as Scope}
+use Rattle.elf_hash.specs.declared.lookup_tables.LookupTables.{LookupTables as Found}
 use Rattle.elf_hash.specs.declared.symbols.DynamicSymbols.{DynamicSymbols}
 use Rattle.elf_hash.specs.declared.table.HashTable.{HashTable}
 use Rattle.elf_hash.specs.declared.table.HashTable.TheVariants.{Gnu, Sysv}
@@ -37,7 +37,7 @@ few_counts GnuStyle = omega arith
 few_counts SysvStyle = omega arith
 
 -- the location of the table
-pub place_of : (file : List ℕ) (told : LookupTables) (scope : Scope) → IsLookupTables file told scope → IsPlaceIn told scope.hash
+pub place_of : (file : List ℕ) (told : LookupTables) (scope : Found) → IsLookupTables file told scope → IsPlaceIn told scope.hash
 place_of file told scope is = record { kind = is.kind; head = is.head; table = record { start = is.place; size = is.size; symbols = is.count } }
 
 -- HOW MANY SYMBOLS a lookup has
