@@ -1,19 +1,21 @@
--- The names of members, by what was read of them.
-use Rattle.std.proofs.Common.{◌≡◌, ℕ, Bool, ◌+◌, ◌-◌, ◌<◌, ◌≤◌, ◌++◌, List, length, take, drop, take-take, true, false, nat_lt, min, is_some, length-take, length-take-le, Option, None, Some, Result, Ok, Err, refl, sym, ap, ◌∙◌, drop-drop, arith}
-use Rattle.std.specs.Prelude.{IfErr, IfOk, OnOk}
+-- The names of members, by the bytes that they begin with.
+use Rattle.std.proofs.Common.{◌≡◌, ◌⊎◌, inl, inr, ℕ, Bool, ◌+◌, ◌-◌, ◌<◌, ◌≤◌, ◌++◌, List, [], ◌∷◌, length, take, drop, take-take, true, false, nat_lt, min, length-take, length-drop, Option, None, Some, Result, Ok, Err, refl, sym, ap, ◌∙◌, drop-drop, arith}
+use Rattle.std.specs.Prelude.{OnOk}
 use Rattle.std.proofs.Math.Seq.{take-add}
 use Rattle.std.proofs.lemmas.Bool.Decides.{nat_tests}
 use Rattle.std.proofs.lemmas.List.{take_all}
-use Rattle.elf_model.specs.Prelude.{FileRange, bsd_name, bsd_name_length, capped, cost_where, is_elsewhere, long_name, long_name_bytes, long_of, long_offset, member_name, name_in_data, newline_in, parsed_member_name, short_name, slice, trimmed, without_slash}
+use Rattle.elf_model.specs.Prelude.{DisplayedName, FileRange, bsd_name, bsd_name_length, capped, is_elsewhere, long_name, long_of, long_offset, member_name, name_in_data, newline_in, parsed_member_name, short_name, slice, trimmed}
 use Rattle.elf_model.specs.declared.causes.Cause.{Cause}
-use Rattle.elf_model.specs.declared.causes.Cause.TheVariants.{NameOutside, NameUnended}
+use Rattle.elf_model.specs.declared.causes.Cause.TheVariants.{NameOutside}
 use Rattle.elf_model.proofs.Slices.{slice-rest}
 use Rattle.elf_table.specs.Prelude.{IsOfRead, Refuses}
 use Rattle.elf_table.specs.declared.fault.Fault.{Fault}
 use Rattle.elf_table.specs.declared.fault.Fault.TheVariants.{Refused, Source}
-use Rattle.elf_format.specs.Named.{shown_as}
-use Rattle.elf_archive.specs.Members.{NameShown, member_name_cost, told_cost}
-use Rattle.elf_archive.proofs.MemberLaws.{name-of}
+use Rattle.elf_archive.specs.Members.{NamesInBounds}
+use Rattle.elf_archive.specs.NameFronts.{FrontLies, front_cost, name_of_front}
+use Rattle.elf_archive.specs.declared.member.FileRange.{FileRange as Place}
+use Rattle.elf_archive.specs.declared.name_fronts.NameForm.{NameForm}
+use Rattle.elf_archive.specs.declared.name_fronts.NameForm.TheVariants.{Data, Field, Table}
 
 -- two slices, one after the other
 pub two_slices : (file first rest : List ℕ) (at n m : ℕ) → first ≡ slice file at n → rest ≡ slice file (at + n) m → first ++ rest ≡ slice file at (n + m)
@@ -65,63 +67,6 @@ long_read file front table offset cap n inside few within whole is =
     let same = front_is file table.at table.size offset cap n (omega arith) few within whole ∙ sym is in
     rw (yes, same) refl
 
--- it ends before a newline
-pub long-found : (cap place : ℕ) (front : List ℕ) → newline_in front ≡ Some place → long_of cap front (newline_in front) ≡ Ok (capped cap (without_slash (take place front)))
-long-found cap place front is = rw is refl
-
--- the table ends before the name does
-pub long-unended : (cap : ℕ) (front : List ℕ) → newline_in front ≡ None → length front < cap + 2 → long_of cap front (newline_in front) ≡ Err NameUnended
-long-unended cap front none short =
-    let no : nat_lt (cap + 1) (length front) ≡ false = grind (arith, nat_tests) in rw (none, no) refl
-
--- it is longer than the bytes read
-pub long-cut : (cap : ℕ) (front : List ℕ) → newline_in front ≡ None → cap + 2 ≤ length front → long_of cap front (newline_in front) ≡ Ok (capped cap front)
-long-cut cap front none long =
-    let yes : nat_lt (cap + 1) (length front) ≡ true = grind (arith, nat_tests) in
-    let more : nat_lt cap (length front) ≡ true = grind (arith, nat_tests) in rw (none, yes, more) refl
-
--- a member's name, by its name field
-pub name-bsd : (file header : List ℕ) (cap at size : ℕ) (names : Option FileRange) → header ≡ slice file at 60 → bsd_name_length (take 16 header) ≡ Some size
-    → member_name file cap names at ≡ Ok (bsd_name file cap (at + 60) size)
-unfolding member_name
-name-bsd file header cap at size names is told =
-    let e : bsd_name_length (slice file at 16) ≡ Some size = ap bsd_name_length (sym (name-of file header at is)) ∙ told in rw (e, member_name) refl
-
-pub name-told : (file header : List ℕ) (cap at : ℕ) (names : Option FileRange) → header ≡ slice file at 60 → bsd_name_length (take 16 header) ≡ None
-    → member_name file cap names at ≡ parsed_member_name file cap names (take 16 header)
-unfolding member_name
-name-told file header cap at names is told =
-    let e : bsd_name_length (slice file at 16) ≡ None = ap bsd_name_length (sym (name-of file header at is)) ∙ told in
-    rw (e, member_name) (ap (parsed_member_name file cap names) (sym (name-of file header at is)))
-
-pub told-long : (file field : List ℕ) (cap offset : ℕ) (names : Option FileRange) → long_offset field ≡ Some offset → parsed_member_name file cap names field ≡ long_name file cap names offset
-unfolding parsed_member_name
-told-long file field cap offset names told = rw (told, parsed_member_name) refl
-
-pub told-short : (file field : List ℕ) (cap : ℕ) (names : Option FileRange) → long_offset field ≡ None → parsed_member_name file cap names field ≡ Ok (capped cap (short_name field))
-unfolding parsed_member_name
-told-short file field cap names told = rw (told, parsed_member_name) refl
-
--- how many bytes of the data it takes, and whether it is elsewhere
-pub in-data : (field : List ℕ) (size : ℕ) → bsd_name_length field ≡ Some size → name_in_data field ≡ size
-unfolding name_in_data
-in-data field size told = rw (told, name_in_data) refl
-
-pub elsewhere-bsd : (field : List ℕ) (size : ℕ) → bsd_name_length field ≡ Some size → is_elsewhere field ≡ true
-unfolding is_elsewhere
-elsewhere-bsd field size told = rw told refl
-
-pub elsewhere-long : (field : List ℕ) → bsd_name_length field ≡ None → is_elsewhere field ≡ is_some (long_offset field)
-unfolding is_elsewhere
-elsewhere-long field told = rw told refl
-
--- what it costs by the header
-pub cost-bsd : (header : List ℕ) (cap size : ℕ) → bsd_name_length (take 16 header) ≡ Some size → member_name_cost header cap ≡ long_name_bytes cap
-cost-bsd header cap size told = ap (λ t. cost_where t (long_name_bytes cap)) (elsewhere-bsd (take 16 header) size told)
-
-pub cost-told : (header : List ℕ) (cap : ℕ) → bsd_name_length (take 16 header) ≡ None → member_name_cost header cap ≡ told_cost (take 16 header) cap
-cost-told header cap told = ap (λ t. cost_where t (long_name_bytes cap)) (elsewhere-long (take 16 header) told)
-
 -- a name at the start of the data, by the bytes read
 pub bsd_looked : (file : List ℕ) (cap start size want : ℕ) → want ≡ min size (cap + 2) → bsd_name file cap start size ≡ capped cap (trimmed 0 (slice file start want))
 unfolding bsd_name
@@ -132,32 +77,100 @@ pub long_front : (file : List ℕ) (table : FileRange) (offset cap n : ℕ) → 
     → long_name file cap (Some table) offset ≡ long_of cap (slice file (table.at + offset) n) (newline_in (slice file (table.at + offset) n))
 long_front file table offset cap n inside few within whole = long_read file (slice file (table.at + offset) n) table offset cap n inside few within whole refl
 
--- and by those that were read into the start of a buffer
-pub long_buffer : (file buffer : List ℕ) (table : FileRange) (offset cap want : ℕ) → want ≤ length buffer → offset < table.size → want ≤ cap + 2 → offset + want ≤ table.size
-    → (want < cap + 2 → offset + want ≡ table.size)
-    → long_name file cap (Some table) offset
-    ≡ long_of cap (slice file (table.at + offset) (length (take want buffer))) (newline_in (slice file (table.at + offset) (length (take want buffer))))
-long_buffer file buffer table offset cap want room inside few within whole =
-    let size : length (take want buffer) ≡ want = length-take-le want buffer room in
-    rw size (long_front file table offset cap want inside few within whole)
+-- bytes at an offset that may be too large, and at the largest
+none_in : (bytes : List ℕ) → length bytes ≡ 0 → bytes ≡ []
+none_in [] none = refl
+none_in (b ∷ bytes) none = absurd (omega (arith, none))
+
+past : (file : List ℕ) (at n : ℕ) → length file ≤ at → slice file at n ≡ []
+past file at n out =
+    none_in (slice file at n) (let a = length-take n (drop at file) in let b = length-drop at file in omega (arith, a, b, out))
+
+saturated : (file : List ℕ) (at n least most : ℕ) → length file ≤ most → least ≡ min at most → slice file least n ≡ slice file at n
+saturated file at n least most small is = by_size (nat_lt most at) refl
+  where
+    by_size : (t : Bool) → nat_lt most at ≡ t → slice file least n ≡ slice file at n
+    by_size true e =
+        let more : most < at = grind (arith, nat_tests) in
+        past file least n (omega (arith, is, small, more)) ∙ sym (past file at n (omega (arith, small, more)))
+    by_size false e =
+        let few : at ≤ most = grind (arith, nat_tests) in
+        let same : least ≡ at = omega (arith, is, few) in
+        ap (λ (k : ℕ). slice file k n) same
+
+-- WHERE A NAME IS, by the name field
+module _ (file field : List ℕ) (cap at : ℕ) (is : field ≡ slice file at 16) where
+  in_data : (names : Option FileRange) (size : ℕ) → bsd_name_length (slice file at 16) ≡ Some size → member_name file cap names at ≡ Ok (bsd_name file cap (at + 60) size)
+  unfolding member_name
+  in_data names size told = rw (told, member_name) refl
+
+  elsewhere : (names : Option FileRange) → bsd_name_length (slice file at 16) ≡ None → member_name file cap names at ≡ parsed_member_name file cap names (slice file at 16)
+  unfolding member_name
+  elsewhere names told = rw (told, member_name) refl
+
+  in_table : (names : Option FileRange) (offset : ℕ) → long_offset (slice file at 16) ≡ Some offset → parsed_member_name file cap names (slice file at 16) ≡ long_name file cap names offset
+  unfolding parsed_member_name
+  in_table names offset told = rw (told, parsed_member_name) refl
+
+  in_field : (names : Option FileRange) → long_offset (slice file at 16) ≡ None → parsed_member_name file cap names (slice file at 16) ≡ Ok (capped cap (short_name (slice file at 16)))
+  unfolding parsed_member_name
+  in_field names told = rw (told, parsed_member_name) refl
+
+  pub data_located : (names : Option FileRange) (size want : ℕ) → bsd_name_length field ≡ Some size → want ≡ min size (cap + 2) → member_name file cap names at ≡ name_of_front Data cap (slice file (at + 60) want)
+  data_located names size want told few = in_data names size (ap bsd_name_length (sym is) ∙ told) ∙ ap Ok (bsd_looked file cap (at + 60) size want few)
+
+  module _ (names : Option FileRange) (other : bsd_name_length field ≡ None) where
+    pub field_located : long_offset field ≡ None → member_name file cap names at ≡ name_of_front Field cap (slice file at 16)
+    field_located told = elsewhere names (ap bsd_name_length (sym is) ∙ other) ∙ in_field names (ap long_offset (sym is) ∙ told)
+
+    pub table_located : (offset : ℕ) → long_offset field ≡ Some offset → member_name file cap names at ≡ long_name file cap names offset
+    table_located offset told = elsewhere names (ap bsd_name_length (sym is) ∙ other) ∙ in_table names offset (ap long_offset (sym is) ∙ told)
+
+-- a name of a table, by the bytes at its offset
+pub line_located : (file : List ℕ) (table : FileRange) (offset cap want least most : ℕ) → offset < table.size → want ≡ min (cap + 2) (table.size - offset) → length file ≤ most → least ≡ min (table.at + offset) most
+    → long_name file cap (Some table) offset ≡ name_of_front Table cap (slice file least want)
+line_located file table offset cap want least most inside is small at =
+    long_read file (slice file (table.at + offset) want) table offset cap want inside (omega (arith, is)) (omega (arith, is, inside)) (λ few. omega (arith, is, inside, few)) refl
+    ∙ ap (λ (front : List ℕ). long_of cap front (newline_in front)) (sym (saturated file (table.at + offset) want least most small at))
+
+-- how many bytes of the data it takes, and whether it is elsewhere
+pub in-data : (field : List ℕ) (size : ℕ) → bsd_name_length field ≡ Some size → name_in_data field ≡ size
+unfolding name_in_data
+in-data field size told = rw (told, name_in_data) refl
+
+pub elsewhere-data : (field : List ℕ) (size : ℕ) → bsd_name_length field ≡ Some size → is_elsewhere field ≡ true
+unfolding is_elsewhere
+elsewhere-data field size told = rw told refl
+
+pub elsewhere-table : (field : List ℕ) (offset : ℕ) → bsd_name_length field ≡ None → long_offset field ≡ Some offset → is_elsewhere field ≡ true
+unfolding is_elsewhere
+elsewhere-table field offset other told = rw (other, told) refl
+
+-- a name of a field, by all of it
+pub field_is : (file field : List ℕ) (at begin n : ℕ) → field ≡ slice file at 16 → begin ≡ at → n ≡ 16 → slice file begin n ≡ field
+field_is file field at begin n is first all = rw (first, all) (sym is)
+
+-- they lie within a source, and are read if they are elsewhere
+pub lies_in : (form : NameForm) (size : ℕ) (names : Option Place) (at n : ℕ) → FrontLies form size names at n → NamesInBounds size names → at + n ≤ size
+lies_in Field size names at n lies within = lies
+lies_in Data size names at n lies within = lies
+lies_in Table size names at n lies within = lies within
+
+pub read_cost : (form : NameForm) (n : ℕ) → (form ≡ Data) ⊎ (form ≡ Table) → front_cost form n ≡ n
+read_cost Data n is = refl
+read_cost Table n is = refl
+read_cost Field n (inl is) = absurd (cc)
+read_cost Field n (inr is) = absurd (cc)
+
+-- a name in a file, by the bytes that it begins with
+pub found_at : (file bytes : List ℕ) (form : NameForm) (at n size : ℕ) (answer : Result DisplayedName Cause) → answer ≡ name_of_front form 4096 (slice file at n) → bytes ≡ slice file at n → size ≤ length bytes
+    → name_of_front form 4096 bytes ≡ Ok (capped 4096 (take size bytes)) → answer ≡ Ok (capped 4096 (slice file at size))
+found_at file bytes form at n size answer located read within told =
+    let few : length bytes ≤ n = rw read (omega (arith, length-take n (drop at file))) in
+    let same : take size bytes ≡ slice file at size = ap (take size) read ∙ take-take size n (drop at file) (omega (arith, within, few)) in
+    located ∙ ap (name_of_front form 4096) (sym read) ∙ told ∙ ap (λ (name : List ℕ). Ok (capped 4096 name)) same
 
 -- a read fault refuses nothing
 pub unread-refuses : {X : Type 0} (at : ℕ) (fault : Fault) (answer : Result X Cause) → IsOfRead fault → Refuses at fault answer
 unread-refuses at (Refused refusal) answer read = λ other. absurd (other read)
 unread-refuses at (Source fault offset) answer read = tt
-
--- and by those that were read into the start of a buffer
-pub bsd-buffer : (file buffer : List ℕ) (cap start size want : ℕ) → want ≡ min size (cap + 2) → want ≤ length buffer → (result : Result Bool Fault) (name : List ℕ)
-    → IfOk result (λ cut. capped cap (trimmed 0 (slice file start (length (take want buffer)))) ≡ shown_as cut name)
-    → IfOk result (λ cut. bsd_name file cap start size ≡ shown_as cut name)
-bsd-buffer file buffer cap start size want is room (Ok cut) name read =
-    let sized : length (take want buffer) ≡ want = length-take-le want buffer room in
-    bsd_looked file cap start size want is ∙ ap (λ n. capped cap (trimmed 0 (slice file start n))) (sym sized) ∙ read
-bsd-buffer file buffer cap start size want is room (Err fault) name read = tt
-
--- what was read of a name at the start of the data is the member's name
-pub bsd-shown : (file header : List ℕ) (cap at size : ℕ) (names : Option FileRange) (result : Result Bool Fault) (name : List ℕ) → header ≡ slice file at 60
-    → bsd_name_length (take 16 header) ≡ Some size → IfErr result IsOfRead → IfOk result (λ cut. bsd_name file cap (at + 60) size ≡ shown_as cut name)
-    → NameShown at result name (member_name file cap names at)
-bsd-shown file header cap at size names (Ok cut) name is told fault read = name-bsd file header cap at size names is told ∙ ap Ok read
-bsd-shown file header cap at size names (Err stop) name is told fault read = unread-refuses at stop (member_name file cap names at) fault

@@ -1,4 +1,5 @@
 pub mod Members
+pub mod NameFronts
 pub mod MemberRows
 pub mod Archives
 pub mod Listed

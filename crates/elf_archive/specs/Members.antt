@@ -1,11 +1,11 @@
 -- What a cursor over members returns.
-use Rattle.std.specs.Prelude.{ℕ, ◌≡◌, ◌+◌, ◌*◌, ◌^◌, ◌<◌, ◌≤◌, if◌then◌else◌, is_some, nat_le, Bool, List, length, take, Option, None, Some, Result, Ok, Err, IfErr, IfSome, option_map}
+use Rattle.std.specs.Prelude.{ℕ, ◌≡◌, ◌+◌, ◌*◌, ◌^◌, ◌<◌, ◌≤◌, if◌then◌else◌, nat_le, Bool, List, take, Option, None, Some, Result, Ok, Err, IfErr, IfSome, option_map}
 use Rattle.elf_source.specs.Source.{CountedState, ReadsUpTo}
 use Rattle.elf_table.specs.Prelude.{IsReadFault, Refuses}
 use Rattle.elf_table.specs.declared.fault.Fault.{Fault}
-use Rattle.elf_model.specs.Prelude.{DisplayedName, FileRange, IsBudgetRefusal, Member, MemberWalkState, OneMember, behind, capped, cost_where, is_elsewhere, is_name_table, long_name_bytes, long_of, long_offset, newline_in, next_member, shown_as}
+use Rattle.elf_model.specs.Prelude.{DisplayedName, FileRange, IsBudgetRefusal, Member, MemberWalkState, OneMember, behind, cost_where, is_elsewhere, is_name_table, long_name_bytes, next_member, shown_as}
 use Rattle.elf_model.specs.declared.causes.Cause.{Cause}
-use Rattle.elf_model.specs.declared.causes.Cause.TheVariants.{MemberCut, NameUnended}
+use Rattle.elf_model.specs.declared.causes.Cause.TheVariants.{MemberCut}
 use Rattle.elf_model.specs.Archive.{Ends, Broken}
 use Rattle.elf_table.specs.declared.fault.Fault.TheVariants.{Refused, Source}
 use Rattle.elf_archive.specs.declared.member.FileRange.{FileRange as Place}
@@ -60,20 +60,6 @@ abbrev pub NameShown : ℕ → Result Bool Fault → List ℕ → Result Display
 NameShown at (Ok cut) name answer = answer ≡ Ok (shown_as cut name)
 NameShown at (Err fault) name answer = Refuses at fault answer
 
--- a read of the bytes at a long name's offset returns whether the name is cut, and leaves its
--- bytes, or none if the bytes end before the name does
-abbrev pub FrontRead : List ℕ → ℕ → Result (Option Bool) Fault → List ℕ → Type 0
-FrontRead front cap (Ok (Some cut)) name = long_of cap front (newline_in front) ≡ Ok (shown_as cut name)
-FrontRead front cap (Ok None) name = long_of cap front (newline_in front) ≡ Err NameUnended
-FrontRead front cap (Err fault) name = Unit {0}
-
--- the bytes at a long name's offset begin with a name of the given length, or they end before the
--- name does
-abbrev pub LengthTold : List ℕ → ℕ → Option ℕ → Type 0
-LengthTold front cap (Some size) =
-    (size ≤ length front) × (0 < length front) × (long_of cap front (newline_in front) ≡ Ok (capped cap (take size front)))
-LengthTold front cap None = long_of cap front (newline_in front) ≡ Err NameUnended
-
 -- a step over the next member: it is returned, with the bytes of its name, or the file's end is
 -- reported, or its refusal
 abbrev pub ReturnsMember : List ℕ → ℕ → MemberWalkState → MemberWalkState → List ℕ → Result (Option Given) Fault → Type 0
@@ -107,10 +93,6 @@ names_passed None header extent = if is_name_table header 0 then Some extent els
 -- what a name costs by the header
 abbrev pub member_name_cost : List ℕ → ℕ → ℕ
 member_name_cost header cap = cost_where (is_elsewhere (take 16 header)) (long_name_bytes cap)
-
--- what a name costs that its field alone gives
-abbrev pub told_cost : List ℕ → ℕ → ℕ
-told_cost bytes cap = cost_where (is_some (long_offset bytes)) (long_name_bytes cap)
 
 -- what a step over the next member reads at most, for any bytes: nothing if no header fits
 abbrev pub step_cost : ℕ → ℕ → MemberWalkState → ℕ

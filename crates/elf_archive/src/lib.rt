@@ -10,6 +10,7 @@ mod lines;
 mod listing;
 mod magic_strings;
 mod member;
+mod name_fronts;
 mod names;
 mod parts;
 mod rows;

@@ -2,7 +2,7 @@
 //! locations of its header, its data and its name, so that nothing is copied. A position is plain
 //! numbers, and no number that a caller sets is invalid: each step checks them.
 ghost use Rattle.std.specs.Prelude.{◌≡◌, ◌+◌, ◌^◌, ◌<◌, ◌≤◌, if◌then◌else◌, length, take, Ok};
-ghost use Rattle.elf_model.specs.Prelude.{bsd_name, long_name, member_name, name_in_data, padded_end, parsed_member_name, slice};
+ghost use Rattle.elf_model.specs.Prelude.{member_name, name_in_data, padded_end, slice};
 ghost use Rattle.elf_model.specs.declared.causes.Cause.TheVariants.{MemberCut};
 ghost use Rattle.elf_archive.specs.MemberRows.{FindsMemberName, NamesMember, OpensMembers, StepsMember};
 ghost use Rattle.elf_archive.specs.MemberRows.{extent_in, names_in};
@@ -10,12 +10,11 @@ ghost use Rattle.elf_archive.specs.Members.{extent_of, extent_of_names, names_pa
 
 use crate::cursor::MAGIC_BYTES;
 use crate::fields::{
-    MEMBER_HEADER_BYTES, NAME_FIELD_BYTES, NUL, bsd_name_length, data_within, is_name_table,
-    long_offset, padded_end, short_length, trimmed_length,
+    MEMBER_HEADER_BYTES, NAME_FIELD_BYTES, data_within, is_name_table, padded_end,
 };
 use crate::magic_strings::magic;
 use crate::member::FileRange;
-use crate::names::{LONG_NAME_BYTES, long_length};
+use crate::name_fronts::{name_front, name_length};
 use elf_memory::{ByteRange, bytes_of, chunk_at};
 use elf_record::{Cause, Refusal};
 use elf_source::{Counted, MemorySource};
@@ -193,73 +192,13 @@ fn find_name(
     ensures { FindsMemberName file.now result
         (member_name file.now 4096 (extent_of_names names) at) }
 {
-    let field = &header[..NAME_FIELD_BYTES];
-    match bsd_name_length(field) {
-        Some(size) => Ok(find_bsd_name(file, at + MEMBER_HEADER_BYTES as u64, size)),
-        None => find_reported(file, names, field, at),
-    }
-}
-
-/// Locates the name in the first `size` bytes of a member's data, which begin at the offset
-/// `start`, without the NULs at the end of the bytes read.
-fn find_bsd_name(file: &[u8], start: u64, size: u64) -> MemberName
-    requires { start + size ≤ length file.now }
-    ensures { FindsMemberName file.now (Ok result) (Ok (bsd_name file.now 4096 start size)) }
-{
-    let looked_at = ByteRange {
-        at: start,
-        len: size.min(LONG_NAME_BYTES as u64),
-    };
-    let front = bytes_of(file, looked_at);
-    shortened(file, start, trimmed_length(NUL, front))
-}
-
-/// Locates the name that the name field, at the offset `at`, alone gives.
-///
-/// # Errors
-/// As for [`next_member`].
-fn find_reported(
-    file: &[u8],
-    names: Option<FileRange>,
-    field: &[u8],
-    at: u64,
-) -> Result<MemberName, Cause>
-    requires within { at + 16 ≤ length file.now }
-    requires field { field.now ≡ slice file.now at 16 }
-    ensures { FindsMemberName file.now result
-        (parsed_member_name file.now 4096 (extent_of_names names) field.now) }
-{
-    match long_offset(field) {
-        Some(offset) => find_long_name(file, names, offset),
-        None => Ok(shortened(file, at, short_length(field))),
-    }
-}
-
-/// Locates the name at an offset of the table of names.
-///
-/// # Errors
-/// As for [`next_member`].
-fn find_long_name(file: &[u8], names: Option<FileRange>, offset: u64) -> Result<MemberName, Cause>
-    ensures { FindsMemberName file.now result
-        (long_name file.now 4096 (extent_of_names names) offset) }
-{
-    let Some(table) = names else {
-        return Err(Cause::NameOutside);
-    };
-    if offset >= table.size {
-        return Err(Cause::NameOutside);
-    }
+    let front = name_front(&header[..NAME_FIELD_BYTES], names, at, NAME_CAP)?;
     let range = ByteRange {
-        at: table.at,
-        len: table.size,
+        at: front.at,
+        len: front.size,
     };
-    let looked_at = ByteRange {
-        at: offset,
-        len: LONG_NAME_BYTES as u64,
-    };
-    let front = bytes_of(bytes_of(file, range), looked_at);
-    match long_length(front, NAME_CAP) {
-        Some(size) => Ok(shortened(file, table.at + offset, size)),
+    match name_length(front.form, bytes_of(file, range), NAME_CAP) {
+        Some(size) => Ok(shortened(file, front.at, size)),
         None => Err(Cause::NameUnended),
     }
 }

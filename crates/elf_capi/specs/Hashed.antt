@@ -1,12 +1,11 @@
 -- The symbols that a file's hash table covers, among which a loader looks up names.
 use Rattle.std.specs.Prelude.{ℕ, ◌≡◌, ◌+◌, ◌*◌, ◌<◌, List, Result, Ok, Err}
-use Rattle.elf_model.specs.Prelude.{DynamicSymbols, IsBudgetRefusal, lookup_tables_of, symbols_hashed}
+use Rattle.elf_model.specs.Prelude.{DynamicSymbols, lookup_tables_of, symbols_hashed}
 use Rattle.elf_model.specs.declared.causes.Refusal.{Refusal}
 use Rattle.elf_source.specs.Source.{CountedState}
 use Rattle.elf_table.specs.Prelude.{CallReads, fault_of_result, strings_in}
 use Rattle.elf_table.specs.declared.fault.Fault.{Fault}
-use Rattle.elf_table.specs.declared.fault.Fault.TheVariants.{Refused, Source}
-use Rattle.elf_hash.specs.Prelude.{extent_bytes, scope_cost}
+use Rattle.elf_hash.specs.Prelude.{RefusesAs, extent_bytes, scope_cost}
 use Rattle.elf_capi.specs.declared.rows.RowPosition.{RowPosition}
 
 -- THE SYMBOLS THAT A LOADER SEES in a file, and how many there are by its hash table; or the first
@@ -34,8 +33,7 @@ pub record PlacesHashed (file : List ℕ) (symbols : DynamicSymbols) (count : �
 -- they are returned, or the refusal, except one for lack of budget
 abbrev pub ReturnsHashedRows : List ℕ → (headers : ℕ) → Result RowPosition Fault → Type 0
 ReturnsHashedRows file headers (Ok rows) = (symbols : DynamicSymbols) × (count : ℕ) × (hashed_of file headers ≡ Ok (symbols, count)) × PlacesHashed file symbols count rows
-ReturnsHashedRows file headers (Err (Refused refusal)) = (IsBudgetRefusal refusal → ⊥) → hashed_of file headers ≡ Err refusal
-ReturnsHashedRows file headers (Err (Source fault at)) = Unit {0}
+ReturnsHashedRows file headers (Err fault) = RefusesAs (hashed_of file headers) fault
 
 -- WHAT IS FOUND in a file, if it is known
 pub record FindsHashed (file : List ℕ) (headers : ℕ) (old new : CountedState) (result : Result RowPosition Fault) : Type 0 where

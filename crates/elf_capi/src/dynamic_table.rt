@@ -4,8 +4,8 @@ ghost use Rattle.elf_model.specs.Prelude.{DT_NULL, d_tag};
 ghost use Rattle.elf_capi.specs.ListedEntries.{CountsListed, ListsWithin, all_listed};
 
 use crate::rows::RowPosition;
-use elf_memory::chunk_at;
-use elf_record::numbers::DT_NULL;
+use crate::table_row::TableRow;
+use elf_note::is_null;
 use elf_record::{Cause, Dyn, Refusal};
 
 /// Returns, of rows that are all entries of a table, those that are listed: up to and including the
@@ -59,7 +59,7 @@ fn listed_count(file: &[u8], at: u64, count: u64, most: u64) -> Option<u64>
         if done == most {
             return None;
         }
-        if is_null(file, (at + 16 * done) as usize) {
+        if ends_at(file, (at + 16 * done) as usize) {
             return Some(done + 1);
         }
         done += 1;
@@ -67,10 +67,10 @@ fn listed_count(file: &[u8], at: u64, count: u64, most: u64) -> Option<u64>
     Some(count)
 }
 
-/// Returns `true` if the entry at an offset of the file has the tag DT_NULL.
-fn is_null(file: &[u8], at: usize) -> bool
+/// Returns `true` if the entry at an offset of the file ends its array.
+fn ends_at(file: &[u8], at: usize) -> bool
     requires { at + 16 ≤ length file.now }
     ensures { result ≡ (d_tag file.now at == DT_NULL) }
 {
-    Dyn::decode(chunk_at(file, at)).d_tag.cast_unsigned() == DT_NULL
+    is_null(&Dyn::read(file, at))
 }

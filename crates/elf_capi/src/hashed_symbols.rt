@@ -4,7 +4,7 @@ ghost use Rattle.elf_table.specs.Ledger.{CallDid, fault_of_result};
 ghost use Rattle.elf_capi.specs.Hashed.{FindsHashed, hashed_bytes};
 
 use crate::rows::RowPosition;
-use elf_hash::{DynamicSymbols, counts, find_lookup_tables};
+use elf_hash::{DynamicSymbols, find_lookup_tables};
 use elf_record::sizes::SYMBOL_BYTES;
 use elf_source::{Counted, Source};
 use elf_table::{Fault, HeaderStore};
@@ -20,8 +20,9 @@ use elf_table::{Fault, HeaderStore};
 /// If the source's file is known, the result is the file's own, and so is the refusal.
 ///
 /// # Errors
-/// The first that fails: those of [`find_lookup_tables`], then those of [`counts`]. Otherwise a
-/// fault of the source, or `Budget` if a read exceeds the limit, at the offset that was requested.
+/// The first that fails: those of [`find_lookup_tables`], then those of
+/// [`elf_hash::LookupTables::symbol_count`]. Otherwise a fault of the source, or `Budget` if a read
+/// exceeds the limit, at the offset that was requested.
 pub fn hashed_rows<S: Source>(
     src: &mut Counted<S>,
     store: &mut HeaderStore,
@@ -34,8 +35,7 @@ pub fn hashed_rows<S: Source>(
         0 < rows.count → rows.at + 24 * rows.count ≤ src.old.seen.size) }
 {
     let scope = find_lookup_tables(src, store)?;
-    let table = counts(src, &scope.hash)?;
-    let count = scope.symbols.extent(src, &table)?;
+    let count = scope.symbol_count(src)?;
     Ok(rows_of(&scope.symbols, count))
 }
 

@@ -6,9 +6,8 @@ ghost use Rattle.elf_capi.specs.DynamicTables.{IsDynamicTable};
 ghost use Rattle.elf_capi.specs.VersionRecords.{FindsRecords};
 
 use elf_memory::MemoryFile;
-use elf_record::Cause;
 use elf_record::sizes::DYNAMIC_BYTES;
-use elf_table::{Fault, Names, Table, is_out_of_bounds, refused};
+use elf_table::{Fault, Names, Table};
 
 /// Returns the dynamic entries of a section with their string table; no bytes for an empty one
 /// (gABI 5, Dynamic Section).
@@ -46,8 +45,8 @@ pub(crate) fn record_names(held: &MemoryFile<'_>, section: u16) -> Result<Names,
     if header.sh_size == 0 {
         return Ok(Names::new(0, 0));
     }
-    if is_out_of_bounds(held.loaded.size(), header.sh_offset, header.sh_size) {
-        return refused(held.place(section), Cause::TableOutside);
-    }
+    let _table = held
+        .loaded
+        .bytes(header.sh_offset, header.sh_size, held.place(section))?;
     held.loaded.strings(&held.headers, section)
 }

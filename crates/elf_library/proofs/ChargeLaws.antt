@@ -1,12 +1,12 @@
 -- What is read of an object within what is left of a budget.
 use Rattle.std.proofs.Common.{◌≡◌, ℕ, ◌+◌, ◌-◌, ◌*◌, ◌/◌, ◌<◌, ◌≤◌, Bool, List, Option, None, Some, IfSome, Result, Ok, option_map, refl, sym, ap, subst, ◌∙◌, arith, mul-le-mul_right}
-use Rattle.elf_hash.specs.Prelude.{IsDynamicSymbols, IsLookupTables, place_of_table}
+use Rattle.elf_hash.specs.Prelude.{CountsSymbols, IsDynamicSymbols, IsLookupTables, ReturnsAs, place_of_table}
 use Rattle.elf_hash.specs.declared.table.HashTable.{HashTable}
 use Rattle.elf_hash.specs.declared.lookup_tables.LookupTables.{LookupTables}
 use Rattle.elf_loader.specs.Lookups.{lookup_bytes}
 use Rattle.elf_loader.specs.Prelude.{comparing_bytes, max_versions_of}
 use Rattle.elf_loader.proofs.ReadLaws.{most_all}
-use Rattle.elf_model.specs.Prelude.{DynamicSymbols as AreSymbolsOf, LookupTables as IsScopeOf, SOUGHT_BYTES, SymbolQuery, Version, VersionRecordTable as IsTableOf, definition_in, file_of_version, is_weak, lacks_version, lookup_tables_of, name_bytes, record_cost, reference_at, state_by_segments, symbol_offset, symbols_hashed, whole_name}
+use Rattle.elf_model.specs.Prelude.{DynamicSymbols as AreSymbolsOf, LookupTables as IsScopeOf, SOUGHT_BYTES, SymbolQuery, Version, VersionRecordTable as IsTableOf, definition_in, file_of_version, is_weak, lacks_version, lookup_tables_of, name_bytes, record_cost, reference_at, state_by_segments, symbol_offset, whole_name}
 use Rattle.elf_model.specs.declared.states.VersionState.{VersionState}
 use Rattle.elf_source.specs.Source.{CountedState, SetsLimit, SourceState}
 use Rattle.elf_table.proofs.LedgerLaws.{CallReads-more}
@@ -22,7 +22,7 @@ use Rattle.elf_library.specs.Indices.{AreIndicesOf, KnowsIndices}
 use Rattle.elf_library.specs.Looks.{FindsDefiner, LooksInObject, Prepares, ReadsReady}
 use Rattle.elf_library.specs.Ready.{IsReadyIf, ready_bytes}
 use Rattle.elf_library.specs.NeedWalks.{FindsVersionState, GoesOnIf, IsNeedsOf, ReadsNeed, ReadsNextNeed, StepsNeedsOf, need_bytes, needed_of}
-use Rattle.elf_library.specs.Sought.{CountsHashed, LooksForVersion, ReadsFileName, ReturnsAs, ReturnsSought, ReturnsWhole, Seeks, SeeksOf, reference_bytes}
+use Rattle.elf_library.specs.Sought.{CountsHashed, LooksForVersion, ReadsFileName, ReturnsSought, ReturnsWhole, Seeks, SeeksOf, reference_bytes}
 use Rattle.elf_library.specs.VersionNames.{HaveVersionNames, KnowsNames}
 use Rattle.elf_library.specs.VersionTables.{AreVersionsOf}
 use Rattle.elf_library.specs.declared.kept_indices.VersionIndices.{VersionIndices}
@@ -69,7 +69,7 @@ module _ {a b c d : CountedState} {left left_new : Option ℕ} {headers : ℕ} (
 
   module _ {scope : LookupTables} {ready : Option HashTable} (kept : IsKept a.seen headers scope ready) where
     pub counts_within : {result : Result ℕ Fault}
-        → CallDid b c (fault_of_result result) (16 + scope.hash.size) (λ file. (told : IsScopeOf) → IsLookupTables file told scope → ReturnsAs (symbols_hashed file told) result)
+        → CallDid b c (fault_of_result result) (16 + scope.hash.size) (λ file. (told : IsScopeOf) → IsLookupTables file told scope → CountsSymbols file told b c result)
         → CountsHashed (object_of a headers) (object_of d headers) left left_new result
     counts_within did =
         let within : scope.hash.size ≤ a.seen.size = omega (arith, kept.lies.table) in
@@ -78,7 +78,7 @@ module _ {a b c d : CountedState} {left left_new : Option ℕ} {headers : ℕ} (
           costs = reads.costs;
           same_headers = refl;
           pays = reads.pays;
-          known = λ file held. let is = kept.known file held in (is.told, is.found, did.known file (rw set.seen held) is.told is.is);
+          known = λ file held. let is = kept.known file held in let counts = did.known file (rw set.seen held) is.told is.is in (is.told, is.found, counts.tells);
         }
 
     pub reads_reference : {stop : Option Fault} → CallReads b c stop (24 + name_bytes SOUGHT_BYTES + (2 + max_versions_of scope.symbols * 28 + name_bytes SOUGHT_BYTES))

@@ -14,14 +14,14 @@ use Rattle.elf_model.specs.declared.versions.VersionKind.TheVariants.{Definition
 use Rattle.elf_table.specs.Prelude.{ComparesName, fault_of_result}
 use Rattle.elf_table.specs.declared.fault.Fault.{Fault}
 use Rattle.elf_table.specs.declared.fault.Fault.TheVariants.{Refused, Source}
-use Rattle.elf_hash.specs.Prelude.{IsVersionRecordTable, VersionRecordsInBounds}
+use Rattle.elf_hash.specs.Prelude.{IsVersionRecordTable, RefusesAs, VersionRecordsInBounds}
 use Rattle.elf_hash.specs.declared.symbols.VersionRecordTable.{VersionRecordTable}
 use Rattle.elf_note.specs.Reading.{GivesVersion, IsVersion, LeadsOn, ReturnsVersion, VersionCursorState, record_position_of, versions_left}
 use Rattle.elf_note.specs.declared.record.VersionRecord.{VersionRecord}
 use Rattle.elf_note.specs.declared.record_position.RecordPosition.{RecordPosition}
 use Rattle.elf_loader.proofs.LeftReadings.{ended-left, left_of, refused-left}
 use Rattle.elf_library.specs.NeedWalks.{AtDefinition, DefinesOne}
-use Rattle.elf_library.specs.Sought.{IsReportedAlone, RefusesAs}
+use Rattle.elf_library.specs.Sought.{IsReportedAlone}
 use Rattle.elf_library.specs.VersionTables.{AreRecordsAt, AreVersionsAt, AreVersionsOf, FileVersionsInBounds, no_file_versions}
 use Rattle.elf_library.specs.declared.version_tables.FileVersions.{FileVersions}
 

@@ -8,6 +8,7 @@ use Rattle.elf_table.specs.Prelude.{CallReads, IsOfRead, row_at}
 use Rattle.elf_table.specs.declared.fault.Fault.{Fault}
 use Rattle.elf_table.specs.declared.fault.Fault.TheVariants.{Refused, Source}
 use Rattle.elf_table.proofs.LedgerLaws.{CallReads-then}
+use Rattle.elf_hash.proofs.SymbolCountLaws.{few_counts}
 use Rattle.elf_hash.specs.Prelude.{GivesWalked, HasCounts, IsLookupTables, IsPlaceIn, ReturnsExcluded, TriesSymbol, WalksChain, counts_bytes, index_of, walk_bytes, walked_in}
 use Rattle.elf_hash.specs.declared.chain_result.ChainResult.{ChainResult}
 use Rattle.elf_hash.specs.declared.symbols.DynamicSymbols.{DynamicSymbols}
@@ -114,14 +115,6 @@ module _ (wanted : SymbolQuery) (before : ℕ) (walk : NoteScan) where
     within = spends;
     tells = ap (λ (w : NoteScan). w.answer) walks.gives.0;
   }
-
--- few bytes, and the location of the table
-pub few_counts : (kind : HashStyle) → counts_bytes kind ≤ 16
-few_counts Gnu = omega arith
-few_counts Sysv = omega arith
-
-pub place_of : (file : List ℕ) (told : IsScopeOf) (scope : LookupTables) → IsLookupTables file told scope → IsPlaceIn told scope.hash
-place_of file told scope is = record { kind = is.kind; head = is.head; table = record { start = is.place; size = is.size; symbols = is.count } }
 
 -- the stages, by the definitions
 module _ (file : List ℕ) (told : IsScopeOf) (wanted : SymbolQuery) where

@@ -16,10 +16,10 @@ use Rattle.elf_table.specs.Views.{segment_place}
 use Rattle.elf_table.specs.declared.fault.Fault.{Fault}
 use Rattle.elf_table.specs.declared.fault.Fault.TheVariants.{Refused, Source}
 use Rattle.elf_hash.proofs.SettleLaws.{checked_fails, checked_passes, passed_both, refused_back, refused_front}
-use Rattle.elf_hash.specs.Prelude.{LoadsSegments}
+use Rattle.elf_hash.specs.Prelude.{LoadsSegments, RefusesAs}
 use Rattle.elf_library.specs.Interpreting.{ReturnsInterpreter, ReturnsRefusal, end_refusal, interprets, path_range}
 use Rattle.elf_library.specs.Reading.{machine_by}
-use Rattle.elf_library.specs.Sought.{RefusesAs, ReturnsWhole}
+use Rattle.elf_library.specs.Sought.{ReturnsWhole}
 use Rattle.elf_library.proofs.MachineLaws.{front_is, short_is}
 
 -- THE PATH that a program header at an offset locates

@@ -7,11 +7,11 @@ use Rattle.elf_table.specs.declared.fault.Fault.{Fault}
 use Rattle.elf_table.specs.declared.fault.Fault.TheVariants.{Refused, Source}
 use Rattle.elf_source.specs.Source.{CountedState}
 use Rattle.elf_loader.specs.Prelude.{CollectsNumbers, comparing_bytes, has_number, max_records_of, max_versions_of}
-use Rattle.elf_hash.specs.Prelude.{AreVersionRecordTables, AreVersymTable, IsDynamicSymbols, table_if_any}
+use Rattle.elf_hash.specs.Prelude.{AreVersionRecordTables, AreVersymTable, IsDynamicSymbols, RefusesAs, ReturnsAs, table_if_any}
 use Rattle.elf_hash.specs.declared.symbols.DynamicSymbols.{DynamicSymbols}
 use Rattle.elf_hash.specs.declared.symbols.VersionRecordTable.{VersionRecordTable}
 use Rattle.elf_hash.specs.declared.symbols.VersymTable.{VersymTable}
-use Rattle.elf_library.specs.Prelude.{RefusesAs, ReturnsAs, definition_if, definitions_of}
+use Rattle.elf_library.specs.Prelude.{definition_if, definitions_of}
 
 -- there is none, or one
 pub none_where : {X : Type 0} (o : Option X) (none : Bool) → is_some o ≡ not none → none ≡ true → o ≡ None

@@ -1,12 +1,12 @@
 -- What a symbol references, by what is read of it.
-use Rattle.std.proofs.Common.{◌≡◌, ℕ, ◌<◌, ◌≤◌, ◌%◌, ◌^◌, min, nat_lt, ◌==◌, length, Bool, true, false, List, [], ◌∷◌, Option, None, Some, Ok, Err, refl, sym, subst, ◌∙◌, arith}
+use Rattle.std.proofs.Common.{◌≡◌, ℕ, ◌<◌, ◌≤◌, ◌%◌, ◌^◌, nat_lt, ◌==◌, length, Bool, true, false, List, [], ◌∷◌, Option, None, Some, Ok, Err, refl, sym, subst, ◌∙◌, arith}
 use Rattle.std.proofs.lemmas.Bool.Decides.{nat_tests}
-use Rattle.elf_model.specs.Prelude.{Cut as ShownCut, DynamicSymbols as AreSymbolsOf, LookupTables as IsScopeOf, NoVersion, NumberNameSource, SOUGHT_BYTES, Version, VersymTable as AreWordsOf, VisitedRecord, counts_check, field, file_before, file_of_version, first_refusal, hashed_symbol_count, is_reference, name_index, named_at, naming_of, number_in, readings, reference_at, reference_by_index, reference_version, shown, st_name, symbol_offset, symbols_hashed, versym, versym_at, whole_name}
+use Rattle.elf_model.specs.Prelude.{Cut as ShownCut, DynamicSymbols as AreSymbolsOf, LookupTables as IsScopeOf, NoVersion, NumberNameSource, SOUGHT_BYTES, Version, VersymTable as AreWordsOf, VisitedRecord, field, file_before, file_of_version, first_refusal, is_reference, name_index, named_at, naming_of, number_in, readings, reference_at, reference_by_index, reference_version, shown, st_name, symbol_offset, versym, versym_at, whole_name}
 use Rattle.elf_model.specs.declared.causes.Refusal.{Refusal}
 use Rattle.elf_model.specs.declared.causes.Cause.TheVariants.{TooLong, VersionCut, VersionIndex}
-use Rattle.elf_table.specs.Prelude.{IsRead, Refuses as RefusesName, row_at, strings_in}
+use Rattle.elf_table.specs.Prelude.{Refuses as RefusesName, row_at, strings_in}
 use Rattle.elf_table.specs.declared.fault.Fault.{Fault}
-use Rattle.elf_hash.specs.Prelude.{AreVersymTable, HasCounts, IsDynamicSymbols}
+use Rattle.elf_hash.specs.Prelude.{AreVersymTable, IsDynamicSymbols, RefusesAs}
 use Rattle.elf_hash.specs.declared.symbols.DynamicSymbols.{DynamicSymbols}
 use Rattle.elf_hash.specs.declared.symbols.VersymTable.{VersymTable}
 use Rattle.elf_model.specs.Names.DisplayedName.{Whole as ShownWhole}
@@ -16,7 +16,7 @@ use Rattle.elf_record.specs.declared.sym.Sym.{Sym}
 use Rattle.elf_table.specs.declared.fault.Fault.TheVariants.{Refused, Source}
 use Rattle.elf_loader.specs.Prelude.{NamesBefore}
 use Rattle.elf_loader.specs.declared.version_name_record.VersionNameRecord.{VersionNameRecord}
-use Rattle.elf_library.specs.Sought.{RefusesAs, ReturnsSought, ReturnsWhole, asked_if}
+use Rattle.elf_library.specs.Sought.{ReturnsSought, ReturnsWhole, asked_if}
 
 -- A WHOLE NAME
 module _ (strings : List ℕ) (index at : ℕ) where
@@ -222,22 +222,3 @@ module _ (file : List ℕ) (told : AreSymbolsOf) (symbols : DynamicSymbols) (ind
       asks full version versioned v =
           let e = sym name_as ∙ named in
           rw (sought, reference_at) (rw (e, full) (rw v refl))
-
--- HOW MANY SYMBOLS a file has
-module _ (file : List ℕ) (told : IsScopeOf) where
-  pub hashed : first_refusal (counts_check file told ∷ []) ≡ None → symbols_hashed file told ≡ Ok (min (hashed_symbol_count file told) told.table.symbols)
-  unfolding symbols_hashed
-  hashed e = rw (e, symbols_hashed) refl
-
-  pub uncounted : (fault : Fault) → HasCounts file told (Err fault) → RefusesAs (symbols_hashed file told) fault
-  unfolding symbols_hashed
-  uncounted (Refused refusal) counts = λ unless. let e = counts unless in rw (e, symbols_hashed) refl
-  uncounted (Source fault at) counts = tt
-
-  pub extends : (count room : ℕ) → first_refusal (counts_check file told ∷ []) ≡ None → count ≡ hashed_symbol_count file told → room ≡ told.table.symbols
-      → symbols_hashed file told ≡ Ok (min count room)
-  extends count room e read most = rw (read, most) (hashed e)
-
-  pub unextended : (fault : Fault) → IsRead (Err fault) (hashed_symbol_count file told) → RefusesAs (symbols_hashed file told) fault
-  unextended (Refused refusal) read = λ unless. absurd (unless read)
-  unextended (Source fault at) read = tt

@@ -9,7 +9,7 @@ use Rattle.elf_table.specs.Prelude.{StringTableRange, checked, strings}
 use Rattle.elf_table.specs.declared.fault.Fault.{Fault}
 use Rattle.elf_table.specs.declared.fault.Fault.TheVariants.{Refused, Source}
 use Rattle.elf_library.specs.Reading.{machine_by}
-use Rattle.elf_library.specs.Sought.{RefusesAs}
+use Rattle.elf_hash.specs.Prelude.{RefusesAs}
 
 -- a path is named and read, or none is; or it is refused, except for lack of budget
 abbrev pub ReturnsInterpreter : Result (Option (List ℕ)) Refusal → (path : List ℕ) → Result Bool Fault → Type 0

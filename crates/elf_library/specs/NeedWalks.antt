@@ -8,13 +8,12 @@ use Rattle.elf_source.specs.Source.{CountedState}
 use Rattle.elf_table.specs.Prelude.{CallDid, fault_of_result}
 use Rattle.elf_table.specs.declared.fault.Fault.{Fault}
 use Rattle.elf_table.specs.declared.fault.Fault.TheVariants.{Refused, Source}
-use Rattle.elf_hash.specs.Prelude.{IsVersionRecordTable, VersionRecordsInBounds}
+use Rattle.elf_hash.specs.Prelude.{IsVersionRecordTable, RefusesAs, ReturnsAs, VersionRecordsInBounds}
 use Rattle.elf_note.specs.Prelude.{IsCursorOf, bytes_each}
 use Rattle.elf_note.specs.declared.record_position.RecordPosition.{RecordPosition}
 use Rattle.elf_loader.proofs.LeftReadings.{left_of}
 use Rattle.elf_library.specs.Kept.{LookupObjectState}
 use Rattle.elf_library.specs.Looks.{SpendsAtMost, SpendsBudget}
-use Rattle.elf_library.specs.Sought.{RefusesAs, ReturnsAs}
 use Rattle.elf_library.specs.declared.needed_versions.NeedsWalk.{NeedsWalk}
 
 -- a walk reads each record of its table alone, in a source of this size

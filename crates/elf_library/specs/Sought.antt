@@ -5,21 +5,12 @@ use Rattle.elf_model.specs.declared.causes.Refusal.{Refusal}
 use Rattle.elf_table.specs.Prelude.{fault_of_result}
 use Rattle.elf_table.specs.declared.fault.Fault.{Fault}
 use Rattle.elf_table.specs.declared.fault.Fault.TheVariants.{Refused, Source}
+use Rattle.elf_hash.specs.Prelude.{RefusesAs, ReturnsAs}
 use Rattle.elf_loader.specs.Naming.{IsFileIf}
 use Rattle.elf_library.specs.Kept.{LookupObjectState}
 use Rattle.elf_library.specs.Looks.{SpendsBudget, SpendsAtMost}
 use Rattle.elf_library.specs.declared.reference.SymbolReference.{SymbolReference}
 use Rattle.elf_library.specs.declared.reference.VersionReference.{VersionReference}
-
--- the refusal is the definition's, except one for lack of budget
-abbrev pub RefusesAs : {X : Type 0} → Result X Refusal → Fault → Type 0
-RefusesAs told (Refused refusal) = (IsBudgetRefusal refusal → ⊥) → told ≡ Err refusal
-RefusesAs told (Source fault at) = Unit {0}
-
--- the result is the definition's; or the refusal, except one for lack of budget
-abbrev pub ReturnsAs : {X : Type 0} → Result X Refusal → Result X Fault → Type 0
-ReturnsAs told (Ok found) = told ≡ Ok found
-ReturnsAs told (Err fault) = RefusesAs told fault
 
 -- a fault is not a refusal of a file: a read failed, or the budget is exhausted
 abbrev pub IsReportedAlone : Fault → Type 0

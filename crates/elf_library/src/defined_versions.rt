@@ -4,10 +4,9 @@ ghost use Rattle.elf_table.specs.Prelude.{CallDid, StringsInBounds, fault_of_res
 ghost use Rattle.elf_model.specs.Prelude.{Meets, Version, VersionRecordRead, VersionRecordTable as IsTableOf, VisitedRecord, define_version, max_records, pad64, readings_of, record_cost, state_by_records, state_by_segments};
 ghost use Rattle.elf_model.specs.declared.states.VersionState.TheVariants as state;
 ghost use Rattle.elf_model.specs.declared.versions.VersionKind.TheVariants.{Definition};
-ghost use Rattle.elf_hash.specs.Prelude.{IsVersionRecordTable, VersionRecordsInBounds};
+ghost use Rattle.elf_hash.specs.Prelude.{IsVersionRecordTable, ReturnsAs, VersionRecordsInBounds};
 ghost use Rattle.elf_note.specs.Reading.{IsVersion};
 ghost use Rattle.elf_library.specs.NeedWalks.{DefinesOne, needed_of};
-ghost use Rattle.elf_library.specs.Sought.{ReturnsAs};
 ghost use Rattle.elf_library.specs.VersionTables.{AreVersionsOf, FileVersionsInBounds};
 
 use crate::faults::is_reported_alone;

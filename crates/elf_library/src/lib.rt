@@ -17,7 +17,6 @@ mod entry_values;
 mod faults;
 mod file_identity;
 mod file_tables;
-mod hashed;
 mod interpreter;
 mod kept_filter;
 mod kept_indices;

@@ -1,7 +1,7 @@
 //! Whether a file lacks a version.
 ghost use Rattle.std.specs.Prelude.{◌≡◌, ◌≤◌, length, MatchBool};
 ghost use Rattle.elf_library.specs.Lacking.{HasNoTable, definition_if, definitions_of};
-ghost use Rattle.elf_library.specs.Sought.{ReturnsAs};
+ghost use Rattle.elf_hash.specs.Prelude.{ReturnsAs};
 ghost use Rattle.elf_table.specs.Ledger.{CallDid, fault_of_result};
 ghost use Rattle.elf_loader.specs.Prelude.{comparing_bytes, max_versions_of};
 ghost use Rattle.elf_model.specs.Prelude.{LookupTables as IsScopeOf, Version, lacks_version};

@@ -18,7 +18,6 @@ use crate::copied_symbols::{copied_at, dynamic_relocations, named_symbol};
 use crate::defined_versions::state_in;
 use crate::definition::find_definer;
 use crate::file_tables::FileTables;
-use crate::hashed::hashed_symbols;
 use crate::kept_filter::KeptFilter;
 use crate::kept_indices::KeptIndices;
 use crate::kept_version_names::KeptVersionNames;
@@ -169,13 +168,12 @@ impl<S: Source> LookupObject<S> {
     /// subtracted. On return no limit is set.
     ///
     /// # Errors
-    /// Those of [`hashed_symbols`].
+    /// Those of [`LookupTables::symbol_count`].
     pub fn symbol_count(&mut self, left: &mut Option<u64>) -> Result<u64, Fault>
         ensures { CountsHashed self.old self.new left.old left.new result }
     {
         let scope = &self.scope;
-        self.source
-            .charge(left, &mut |src| hashed_symbols(src, scope))
+        self.source.charge(left, &mut |src| scope.symbol_count(src))
     }
 
     /// Reads what the symbol at an index references: its name, into `name`, and the version that it

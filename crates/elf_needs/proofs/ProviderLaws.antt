@@ -9,7 +9,7 @@ use Rattle.elf_model.specs.declared.causes.Refusal.{Refusal}
 use Rattle.elf_model.specs.declared.states.VersionState.{VersionState}
 use Rattle.elf_model.specs.declared.states.VersionState.TheVariants as state
 use Rattle.elf_table.specs.declared.fault.Fault.{Fault}
-use Rattle.elf_library.specs.Prelude.{ReturnsAs}
+use Rattle.elf_hash.specs.Prelude.{ReturnsAs}
 use Rattle.elf_library.specs.declared.links.NeededLibrary.{NeededLibrary}
 
 -- WHETHER ONE OF THE ENTRIES that are left has a name: the next one has, or one of the others

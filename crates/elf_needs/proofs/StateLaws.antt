@@ -12,7 +12,8 @@ use Rattle.elf_model.specs.declared.causes.Refusal.{Refusal}
 use Rattle.elf_model.specs.declared.states.BindingState.TheVariants as state
 use Rattle.elf_table.specs.declared.fault.Fault.{Fault}
 use Rattle.elf_table.specs.declared.fault.Fault.TheVariants.{Refused, Source}
-use Rattle.elf_library.specs.Prelude.{IsReportedAlone, RefusesAs, ReturnsAs, ReturnsSought, ReturnsWhole, asked_if}
+use Rattle.elf_hash.specs.Prelude.{RefusesAs, ReturnsAs}
+use Rattle.elf_library.specs.Prelude.{IsReportedAlone, ReturnsSought, ReturnsWhole, asked_if}
 use Rattle.elf_needs.specs.Prelude.{ReturnsBinding, ReturnsItem}
 use Rattle.elf_needs.specs.declared.bind_name.BindFault.{BindFault}
 use Rattle.elf_loader.specs.Naming.{IsFileIf}

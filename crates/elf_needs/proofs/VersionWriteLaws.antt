@@ -10,7 +10,7 @@ use Rattle.elf_source.proofs.PutsLaws.{SinkTakes-nothing}
 use Rattle.elf_table.specs.declared.fault.Fault.{Fault}
 use Rattle.elf_table.specs.declared.fault.Fault.TheVariants.{Refused, Source}
 use Rattle.elf_needs.specs.ItemLines.{ReturnsFault, WritesLines, WritesSoFar}
-use Rattle.elf_library.specs.Prelude.{RefusesAs}
+use Rattle.elf_hash.specs.Prelude.{RefusesAs}
 use Rattle.elf_needs.specs.VersionLines.{WritesNeed, WritesVersion, needed_version_lines}
 use Rattle.elf_needs.specs.declared.search_scope.WriteEnd.{WriteEnd}
 use Rattle.elf_needs.specs.declared.search_scope.WriteEnd.TheVariants.{Cut, Ended, Whole}

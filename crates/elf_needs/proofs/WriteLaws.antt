@@ -8,7 +8,8 @@ use Rattle.elf_needs.specs.ListedLines.{listed_binding, listed_line, listed_text
 use Rattle.elf_needs.specs.declared.line_options.LineOptions.{LineOptions}
 use Rattle.elf_model.specs.declared.causes.Refusal.{Refusal}
 use Rattle.elf_needs.specs.Prelude.{AreObjectFiles}
-use Rattle.elf_library.specs.Prelude.{CountsHashed, LookupObjectState, RefusesAs}
+use Rattle.elf_hash.specs.Prelude.{RefusesAs}
+use Rattle.elf_library.specs.Prelude.{CountsHashed, LookupObjectState}
 use Rattle.elf_needs.specs.declared.search_scope.WriteEnd.TheVariants.{Cut, Ended, Whole}
 use Rattle.elf_library.specs.declared.needs_fault.NeedsFault.{NeedsFault}
 use Rattle.elf_library.specs.declared.needs_fault.NeedsFault.TheVariants.{Out}

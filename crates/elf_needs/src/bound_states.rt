@@ -1,7 +1,8 @@
 //! What binds a symbol that an object of a program references.
 ghost use Rattle.std.specs.Prelude.{◌≡◌, ◌<◌, ◌≤◌, ℕ, [], List, Option, None, Some, Ok, IfErr, get_or, length};
 ghost use Rattle.elf_needs.specs.Binds.{AreObjectFiles};
-ghost use Rattle.elf_library.specs.Prelude.{ReturnsAs, asked_if};
+ghost use Rattle.elf_hash.specs.Prelude.{ReturnsAs};
+ghost use Rattle.elf_library.specs.Prelude.{asked_if};
 ghost use Rattle.elf_model.specs.BoundSymbols.{bound_item, missing_version_requested, object_lacks, state_in};
 ghost use Rattle.elf_model.specs.Loader.{asked_name};
 ghost use Rattle.elf_model.specs.LoaderScope.{LookupTables as IsScopeOf, lookup_tables_of};

@@ -5,7 +5,8 @@ ghost use Rattle.elf_model.specs.Loader.{VersionRecordTable as IsTableOf};
 ghost use Rattle.elf_needs.specs.Binds.{AreObjectFiles};
 ghost use Rattle.elf_needs.specs.Bound.{AsksAll, IsBudgetShort, OnlyShort};
 ghost use Rattle.elf_needs.specs.ItemLines.{WritesLines};
-ghost use Rattle.elf_library.specs.Prelude.{IsNeedsOf, LookupObjectState, ReturnsAs, StepsNeeds, needed_of};
+ghost use Rattle.elf_hash.specs.Prelude.{ReturnsAs};
+ghost use Rattle.elf_library.specs.Prelude.{IsNeedsOf, LookupObjectState, StepsNeeds, needed_of};
 ghost use Rattle.elf_needs.specs.VersionLines.{GoesOnAfter, WritesAllVersions, WritesNeed, WritesVersion, left_versions, needed_version_lines, object_versions};
 ghost use Rattle.elf_needs.specs.Providers.{as_provider, versioned_among, versioned_of};
 

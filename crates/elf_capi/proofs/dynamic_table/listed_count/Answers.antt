@@ -12,10 +12,10 @@ returns-then-done-most c =
     let past = count_past c.args.file.now c.args.at c.args.count c.loop-done.done c.loop-done-test.true c.loop-done.invariant.2 in
     grind (arith, nat_tests, past, holds)
 
-pub returns-then-is_null : goal.returns-then-is_null
-returns-then-is_null c =
-    let test = c.is_null.ensures in
-    let holds = c.if-is_null.true in
+pub returns-then-ends_at : goal.returns-then-ends_at
+returns-then-ends_at c =
+    let test = c.ends_at.ensures in
+    let holds = c.if-ends_at.true in
     let null : d_tag c.args.file.now (c.args.at + 16 * c.loop-done.done) ≡ DT_NULL = grind (arith, nat_tests) in
     let first = count-first c.args.file.now c.args.at c.args.count c.loop-done.done c.loop-done-test.true c.loop-done.invariant.2 null in
     let few = c.loop-done.invariant.1 in

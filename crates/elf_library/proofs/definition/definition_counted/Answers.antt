@@ -4,7 +4,8 @@ use Rattle.std.proofs.lemmas.Result.{err_from_is_err_and}
 use Rattle.elf_table.proofs.LedgerLaws.{CallDid-as, CallDid-then}
 use Rattle.elf_loader.specs.Lookups.{lookup_bytes}
 use Rattle.elf_options.specs.Wants.{query_of}
-use Rattle.elf_library.proofs.DefinerLaws.{defines_counted, defines_uncounted, few_counts, place_of}
+use Rattle.elf_hash.proofs.SymbolCountLaws.{few_counts, place_of}
+use Rattle.elf_library.proofs.DefinerLaws.{defines_counted, defines_uncounted}
 use Rattle.elf_library.proofs.definition.definition_counted.Goals as goal
 
 pub returns-in_err-table-clause-did : goal.returns-in_err-table-clause-did

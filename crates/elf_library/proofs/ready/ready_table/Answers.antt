@@ -4,7 +4,7 @@ use Rattle.std.proofs.lemmas.Result.{err_from_is_err_and}
 use Rattle.elf_table.proofs.LedgerLaws.{CallDid-as, CallDid-then}
 use Rattle.elf_loader.proofs.ReadLaws.{most_all}
 use Rattle.elf_loader.specs.Tables.{max_versions_of}
-use Rattle.elf_library.proofs.DefinerLaws.{few_counts, place_of}
+use Rattle.elf_hash.proofs.SymbolCountLaws.{few_counts, place_of}
 use Rattle.elf_library.proofs.ReadyLaws.{ready_where, ready_within}
 use Rattle.elf_library.proofs.ready.ready_table.Goals as goal
 
