@@ -1,11 +1,11 @@
 -- A check does not depend on which rows a listing shows.
-use Rattle.std.proofs.Common.{◌≡◌, ℕ, ◌<◌, List, [], ◌∷◌, Option, None, Some, inl, inr, refl, sym, ap, subst, ◌∙◌, arith}
-use Rattle.std.specs.Prelude.{zero, suc, Bool, true, false, ◌&&◌}
-use Rattle.elf_model.specs.Prelude.{IsBudgeted, IsStateOf, ListingStyle, MemberWalkState, archive_ceiling, archive_cost, archive_fault, listing, listing_cost, refusal_line, report_of, style_ceiling}
-use Rattle.elf_model.specs.Archive.{Broken, Ends, Member, NextMember, OneMember, behind, bytes_in, is_elf, lists_members, member_listing, members_of, next_member}
-use Rattle.elf_model.specs.ArchiveCost.{member_cost, members_cost}
+use Rattle.std.proofs.Common.{◌≡◌, ℕ, ◌<◌, List, [], ◌∷◌, Option, None, Some, inl, inr, refl, ap, ap₂, ◌∙◌, arith}
+use Rattle.std.specs.Prelude.{zero, suc, ◌+◌, ◌++◌, ◌&&◌, if◌then◌else◌, length, option_map, Bool, true, false}
+use Rattle.elf_model.specs.Prelude.{IsBudgeted, IsStateOf, ListingStyle, MemberWalkState, archive_ceiling, archive_cost, archive_fault, first_refusal, listing, listing_cost, refusal_line, report_of, style_ceiling}
+use Rattle.elf_model.specs.Archive.{Broken, Ends, Member, NextMember, OneMember, archive_checks, before_members, behind, bytes_in, is_elf, lists_members, member_listing, members_of, next_member}
+use Rattle.elf_model.specs.ArchiveCost.{header_cost, member_cost, members_cost}
 use Rattle.elf_model.specs.Budget.{IsCut, IsReport}
-use Rattle.elf_model.specs.FileLists.{first_fault, member_fault}
+use Rattle.elf_model.specs.FileLists.{first_fault, member_fault, placed_after}
 use Rattle.elf_model.specs.Listing.{fault_of, lines_of}
 use Rattle.elf_model.specs.declared.causes.Refusal.{Refusal}
 use Rattle.elf_model.specs.declared.states.FileStatus.{FileStatus}
@@ -58,27 +58,32 @@ module _ (headers : ℕ) (style : ListingStyle) (parts : ℕ) where
     first_same : (members : List Member) (walk : Option Refusal) → first_fault file headers (unshown style) parts members walk ≡ first_fault file headers style parts members walk
     unfolding first_fault
     first_same [] walk = refl
-    first_same (m ∷ members) walk = rw (member_same m, first_same members walk) refl
+    first_same (m ∷ members) walk =
+        ap₂ (λ (first rest : Option Refusal). elim first [ Some refusal ↦ Some refusal | None ↦ rest ]) (member_same m) (first_same members walk)
 
     archive_same : archive_fault file headers (unshown style) parts ≡ archive_fault file headers style parts
     unfolding archive_fault
-    archive_same = rw (first_same (members_of file style.cap).members (members_of file style.cap).refusal) refl
+    archive_same =
+        ap (λ (fault : Option Refusal). elim (first_refusal (archive_checks file)) [ Some refusal ↦ Some refusal | None ↦ fault ])
+        (first_same (members_of file style.cap).members (members_of file style.cap).refusal)
 
     member_costs : (m : Member) → member_cost file headers (unshown style) parts m ≡ member_cost file headers style parts m
     unfolding member_cost
     member_costs m = rw (same_cost (bytes_in file m.extent)) refl
 
+    next_costs : (most : ℕ) (p : MemberWalkState)
+        → ((q : MemberWalkState) → members_cost most file headers (unshown style) parts q ≡ members_cost most file headers style parts q) → (next : NextMember)
+        → header_cost file style.cap p + elim next [ Ends ↦ 0 | Broken refusal ↦ 0 | OneMember member ↦ member_cost file headers (unshown style) parts member + members_cost most file headers (unshown style) parts (behind file p member) ]
+        ≡ header_cost file style.cap p + elim next [ Ends ↦ 0 | Broken refusal ↦ 0 | OneMember member ↦ member_cost file headers style parts member + members_cost most file headers style parts (behind file p member) ]
+    next_costs most p rest Ends = refl
+    next_costs most p rest (Broken refusal) = refl
+    next_costs most p rest (OneMember member) =
+        ap₂ (λ (one others : ℕ). header_cost file style.cap p + (one + others)) (member_costs member) (rest (behind file p member))
+
     members_costs : (most : ℕ) (p : MemberWalkState) → members_cost most file headers (unshown style) parts p ≡ members_cost most file headers style parts p
     unfolding members_cost
     members_costs zero p = refl
-    members_costs (suc most) p = by_next (next_member file style.cap p)
-      where
-        by_next : (next : NextMember)
-            → header_cost file style.cap p + elim next [ Ends ↦ 0 | Broken refusal ↦ 0 | OneMember member ↦ member_cost file headers (unshown style) parts member + members_cost most file headers (unshown style) parts (behind file p member) ]
-            ≡ header_cost file style.cap p + elim next [ Ends ↦ 0 | Broken refusal ↦ 0 | OneMember member ↦ member_cost file headers style parts member + members_cost most file headers style parts (behind file p member) ]
-        by_next Ends = refl
-        by_next (Broken refusal) = refl
-        by_next (OneMember member) = rw (member_costs member, members_costs most (behind file p member)) refl
+    members_costs (suc most) p = next_costs most p (λ q. members_costs most q) (next_member file style.cap p)
 
     archive_costs : archive_cost file headers (unshown style) parts ≡ archive_cost file headers style parts
     unfolding archive_cost
