@@ -13,6 +13,7 @@ pub mod GatherLaws
 pub mod StateLaws
 pub mod FileMagicLaws
 pub mod FileStatusLaws
+pub mod UnshownLaws
 pub mod LinePrefixLaws
 pub mod HeadedLaws
 pub mod ListingToldLaws

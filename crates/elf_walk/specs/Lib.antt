@@ -11,6 +11,7 @@ pub mod Checked
 pub mod Statuses
 pub mod Telling
 pub mod CheckedFile
+pub mod Unshown
 pub mod Members
 pub mod ToldChecks
 pub mod Fronts

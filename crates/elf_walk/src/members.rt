@@ -6,6 +6,7 @@ ghost use Rattle.elf_model.specs.ArchiveCost.{archive_ceiling};
 ghost use Rattle.elf_walk.specs.CheckedFile.{ChecksFile};
 ghost use Rattle.elf_walk.specs.Members.{FindsArchive};
 
+use crate::check_file::without_rows;
 use elf_archive::find_fault;
 use elf_model::FileStatus;
 use elf_record::Parts;
@@ -22,6 +23,22 @@ use elf_table::{Caps, HeaderStore, RunFault};
 /// bytes were requested from the source. If the caps have a budget, it is what the magic string
 /// left, one over all members; on return no limit is set.
 pub fn check_archive<S: Source>(
+    src: &mut Counted<RangeSource<S>>,
+    store: &mut HeaderStore,
+    caps: Caps,
+    parts: Parts,
+) -> FileStatus
+    requires small { (store.old.slots ≡ caps.limits.headers) × (src.old.asked ≤ 2 ^ 127) }
+    requires whole { IsAll src.old }
+    requires begins { BeginsArchive src.old.seen }
+    ensures { ChecksFile store.old.slots store.new.slots caps.entry parts.0 src.old src.new result
+        FindsArchive cost_after_magic archive_ceiling }
+{
+    check_member_rows(src, store, without_rows(caps), parts)
+}
+
+/// Checks one archive as [`check_archive`] does, by the rows that the caps show.
+fn check_member_rows<S: Source>(
     src: &mut Counted<RangeSource<S>>,
     store: &mut HeaderStore,
     caps: Caps,
