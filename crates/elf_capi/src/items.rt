@@ -1,10 +1,9 @@
 //! The items of a layout, as C has them.
 ghost use Rattle.std.specs.Prelude.{MatchBool};
-ghost use Rattle.elf_layout.specs.Layouts.{IsName};
 ghost use Rattle.elf_model.specs.Placing.{Layout as Placed};
 ghost use Rattle.elf_capi.specs.Items.{GivesItem, LaysOut, LaysItem};
 
-use elf_layout::{ITEM_NAME_BYTES, Layout};
+use elf_layout::{Item, Layout, is_name};
 
 /// An address of a section.
 const SECTION: u32 = 0;
@@ -77,13 +76,13 @@ fn put(item: &CallerItem<'_>, layout: &mut Layout) -> bool
 
 /// Returns the item as a layout has it, or `None` if its kind, its index or its name is not
 /// allowed.
-fn item_of<'a>(item: &CallerItem<'a>) -> Option<elf_layout::Item<'a>>
+fn item_of<'a>(item: &CallerItem<'a>) -> Option<Item<'a>>
     ensures { GivesItem item.now result }
 {
     let address = item.address;
     let name = item.name;
     if item.kind == SECTION && item.index <= LAST_INDEX {
-        return Some(elf_layout::Item::Section {
+        return Some(Item::Section {
             index: item.index as u16,
             address,
         });
@@ -92,17 +91,10 @@ fn item_of<'a>(item: &CallerItem<'a>) -> Option<elf_layout::Item<'a>>
         return None;
     }
     match item.kind {
-        DEFINE => Some(elf_layout::Item::Define { name, address }),
-        ENTRY => Some(elf_layout::Item::Entry { name, address }),
-        TABLE => Some(elf_layout::Item::Table { name, address }),
-        THREAD => Some(elf_layout::Item::Thread { name, address }),
+        DEFINE => Some(Item::Define { name, address }),
+        ENTRY => Some(Item::Entry { name, address }),
+        TABLE => Some(Item::Table { name, address }),
+        THREAD => Some(Item::Thread { name, address }),
         _ => None,
     }
-}
-
-/// Returns `true` if bytes are a valid name of an item: 1 to 255 bytes, none a NUL.
-fn is_name(name: &[u8]) -> bool
-    ensures { MatchBool result (IsName name.now) (IsName name.now → ⊥) }
-{
-    !name.is_empty() && name.len() <= ITEM_NAME_BYTES && !name.contains(&0)
 }

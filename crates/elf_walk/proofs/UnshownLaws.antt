@@ -35,9 +35,10 @@ module _ (headers : ℕ) (style : ListingStyle) (parts : ℕ) where
       (report_of style.format (listing file headers style parts), inl record { text_is = refl; fault_is = is.fault_is ∙ same_fault file })
   budgeted (Some bytes) file text fault (inr is) =
       let same = same_cost file in
-      let over : bytes < listing_cost file headers style parts = omega (arith, is.0, same) in
-      (lines_of [] ++ refusal_line style.format is.1.refusal,
-      inr (over, record { front = []; rest = listing file headers style parts; split = refl; no_fault = refl; refusal = is.1.refusal; for_budget = is.1.for_budget; inside = is.1.inside; text_is = refl; fault_is = is.1.fault_is }))
+      let over : bytes < listing_cost file headers style parts = omega (arith, is.0, same) in (
+        lines_of [] ++ refusal_line style.format is.1.refusal,
+        inr (over, record { front = []; rest = listing file headers style parts; split = refl; no_fault = refl; refusal = is.1.refusal; for_budget = is.1.for_budget; inside = is.1.inside; text_is = refl; fault_is = is.1.fault_is }),
+      )
 
   -- and so the file has the same state
   same_state : (budget : Option ℕ) (file : List ℕ) (found : FileStatus) → IsStateOf budget file headers (unshown style) parts found → IsStateOf budget file headers style parts found
