@@ -15,7 +15,7 @@ use Rattle.elf_table.specs.Sections.{names_at, section_names}
 use Rattle.elf_table.specs.declared.fault.Fault.{Fault}
 use Rattle.elf_table.specs.declared.fault.Fault.TheVariants.{Refused, Source}
 use Rattle.elf_table.proofs.LoadLaws.{load-within, load_most}
-use Rattle.elf_loader.specs.Prelude.{AreSectionNames, FoundUnlessRead, IsRefusedByCheck, LoadsAs, LoadsSections, ReturnsValue}
+use Rattle.elf_loader.specs.Prelude.{AreSectionNames, FoundUnlessRead, IsRefusedByCheck, LoadsAs, LoadsForStack, ReturnsValue}
 
 -- what is read for a section, in bytes
 pub named_is : named_section_bytes ≡ 128
@@ -117,7 +117,7 @@ module _ (file : List ℕ) (headers : ℕ) where
   pub loads_told : {a b : CountedState} (header : Ehdr) (size n : ℕ) (store : StoreState) (result : Result LoadedFile Fault)
       → n ≤ 64
       → ((k : ℕ) → n + load_cost header size headers ≤ k → CallReads a b (fault_of_result result) k) → first_refusal (header_checks file) ≡ None → IsEhdr file 0 header
-      → size ≡ length file → store.slots ≡ headers → LoadedAs file result store → LoadsSections file headers store a b result
+      → size ≡ length file → store.slots ≡ headers → LoadedAs file result store → LoadsForStack file headers store a b result
   loads_told header size n store (Ok loaded) few costs passed is long slots loads =
       let most = load_most header size headers in
       let count : header.e_shnum ≡ e_shnum file = is.e_shnum in

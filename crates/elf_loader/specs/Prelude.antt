@@ -11,7 +11,7 @@ pub use Rattle.elf_loader.specs.Marks.{ReturnsMarks, marks_with, symbol_traits_o
 unfoldable pub use Rattle.elf_loader.specs.Marks.{marks_in}
 pub use Rattle.elf_loader.specs.Naming.{HasFile, IsFileIf, NamedAs, NamesBefore, NamesFile}
 pub use Rattle.elf_loader.specs.NumberSets.{has_number}
-pub use Rattle.elf_loader.specs.Stacks.{AreSectionNames, FindsMasked, FindsStack, FoundUnlessRead, IsOpenIn, IsRefusedByCheck, LoadsAll, LoadsAs, LoadsSections, load_asked, stack_section_from}
+pub use Rattle.elf_loader.specs.Stacks.{AreSectionNames, FindsMasked, FindsStack, FoundUnlessRead, IsOpenIn, IsRefusedByCheck, HoldsLoaded, LoadsAs, LoadsForStack, load_asked, stack_section_from}
 pub use Rattle.elf_loader.specs.Tables.{max_records_of, max_versions_of}
 unfoldable pub use Rattle.elf_loader.specs.Tables.{readings_before}
 pub use Rattle.elf_loader.specs.Telling.{ReturnsVersionName, parsed_member_bytes, telling_bytes}

@@ -28,13 +28,13 @@ pub record IsOpenIn (bytes slots : ℕ) (store : StoreState) (loaded : LoadedFil
 
 -- the result of loading a known file, and what it requests: the file header and all section headers;
 -- or the first check that fails, unless the refusal is `Budget`, within what the stack may
-pub record LoadsAll (file : List ℕ) (headers : ℕ) (store : StoreState) (loaded : LoadedFile) : Type 0 where
+pub record HoldsLoaded (file : List ℕ) (headers : ℕ) (store : StoreState) (loaded : LoadedFile) : Type 0 where
   pub header : first_refusal (header_checks file) ≡ None
   pub load : first_refusal (load_checks file headers) ≡ None
   pub belongs : HoldsSectionHeaders file loaded store
 
 abbrev pub LoadsAs : List ℕ → (headers : ℕ) → StoreState → Result LoadedFile Fault → Type 0
-LoadsAs file headers store (Ok loaded) = LoadsAll file headers store loaded
+LoadsAs file headers store (Ok loaded) = HoldsLoaded file headers store loaded
 LoadsAs file headers store (Err (Refused refusal)) = (IsBudgetRefusal refusal → ⊥) → first_refusal (header_checks file ++ load_checks file headers) ≡ Some refusal
 LoadsAs file headers store (Err (Source fault at)) = Unit {0}
 
@@ -42,7 +42,7 @@ abbrev pub load_asked : List ℕ → (headers : ℕ) → Result LoadedFile Fault
 load_asked file headers (Ok loaded) = 64 + 64 * e_shnum file
 load_asked file headers (Err fault) = sections_asked file headers
 
-pub record LoadsSections (file : List ℕ) (headers : ℕ) (store : StoreState) (old new : CountedState) (result : Result LoadedFile Fault) : Type 0 where
+pub record LoadsForStack (file : List ℕ) (headers : ℕ) (store : StoreState) (old new : CountedState) (result : Result LoadedFile Fault) : Type 0 where
   pub costs : CallReads old new (fault_of_result result) (load_asked file headers result)
   pub loads : LoadsAs file headers store result
 

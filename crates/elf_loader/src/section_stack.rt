@@ -2,7 +2,7 @@
 ghost use Rattle.std.specs.Prelude.{◌≡◌, ◌+◌, ◌*◌, ◌<◌, ℕ, List, IfOk, IfSome};
 ghost use Rattle.elf_model.specs.Prelude.{e_shnum, is_stack_section, linked_stack, loaded_stack, named_section_bytes, stack_section};
 ghost use Rattle.elf_table.specs.Prelude.{CallDid, HoldsSectionHeaders, StringsInBounds, fault_of_result};
-ghost use Rattle.elf_loader.specs.Stacks.{AreSectionNames, FindsStack, FoundUnlessRead, IsOpenIn, IsRefusedByCheck, LoadsSections, stack_section_from};
+ghost use Rattle.elf_loader.specs.Stacks.{AreSectionNames, FindsStack, FoundUnlessRead, IsOpenIn, IsRefusedByCheck, LoadsForStack, stack_section_from};
 
 use crate::flags::has_bits;
 use elf_record::Cause;
@@ -46,7 +46,7 @@ pub(crate) fn stack_by_sections<S: Source>(
 /// Those of [`header`] and of [`load`].
 fn load_sections<S: Source>(src: &mut Counted<S>, store: &mut HeaderStore) -> Result<Loaded, Fault>
     ensures did { CallDid src.old src.new (fault_of_result result) (64 + store.old.slots * 64)
-        (λ file. LoadsSections file store.old.slots store.new src.old src.new result) }
+        (λ file. LoadsForStack file store.old.slots store.new src.old src.new result) }
     ensures opens { IfOk result (IsOpenIn src.old.seen.size store.old.slots store.new) }
     ensures slots { store.new.slots ≡ store.old.slots }
 {
