@@ -26,6 +26,11 @@ BEGIN = "<!-- Measured, down to the end. -->"
 END = "<!-- The end of what was measured. -->"
 
 
+def in_memory():
+    """Where many small files are made: a directory in memory if there is one, otherwise None."""
+    return "/dev/shm" if os.access("/dev/shm", os.W_OK) else None
+
+
 def put_into(path, text):
     """Puts a measured text between the markers of a page."""
     with open(path, encoding="utf-8") as file:
