@@ -1,7 +1,7 @@
 use Rattle.std.proofs.Common.{Ok, false, true, refl, sym, ap, ◌∙◌, arith}
 use Rattle.std.proofs.lemmas.Result.{err_from_is_err_and}
 use Rattle.elf_options.specs.Permitted.{style_of}
-use Rattle.elf_model.specs.Prelude.{note_line, padded_size, place_of_record, placed_line}
+use Rattle.elf_model.specs.Prelude.{LinePrefix, note_line, note_prefix, padded_size, place_of_record, placed_line}
 use Rattle.elf_listing.specs.Notes.{align_of}
 use Rattle.elf_listing.proofs.SelectionLaws.{placed-as}
 use Rattle.elf_listing.proofs.ListsLaws.{ListingCalls-nothing}
@@ -59,3 +59,7 @@ returns-then-not-shows g c = ListingCalls-nothing _ _ _ _ (λ given is.
     WroteSome-as {X = Unit {0}} _ _ (Ok tt)
     (note_is style c.args.index (align_of c.args.is_wide) _ _ _ _ given refl refl refl refl ∙ line-hidden style here _ hidden)
     (Whole-none _))
+
+pub show_note-requires-clause-format : goal.show_note-requires-clause-format
+unfolding note_prefix
+show_note-requires-clause-format g c = ap (λ (p : LinePrefix). p.format) c.note_prefix.ensures.front
