@@ -15,7 +15,7 @@ use Rattle.clap.specs.Walk.{Text}
 use Rattle.elf_cli.specs.Building.{IsArg, IsBuilt}
 use Rattle.elf_cli.specs.Described.{rule_of_kind}
 use Rattle.elf_cli.specs.declared.arg_specs.ArgKind.{ArgKind}
-use Rattle.elf_cli.specs.declared.arg_specs.ArgKind.TheVariants.{Flag, Value, Repeated, Number, Count, Filled, Needed, Index, Any}
+use Rattle.elf_cli.specs.declared.arg_specs.ArgKind.TheVariants.{Flag, Value, Repeated, Number, Count, Filled, Needed, Index, Optional, Any}
 
 -- no kind of argument has a letter by itself
 pub without_letter : (name : Text) (kind : ArgKind) → record (rule_of_kind name kind) { short = None } ≡ rule_of_kind name kind
@@ -27,6 +27,7 @@ without_letter name (Count parser default) = refl
 without_letter name (Filled value) = refl
 without_letter name Needed = refl
 without_letter name (Index parser) = refl
+without_letter name Optional = refl
 without_letter name Any = refl
 
 -- and none has another name
@@ -40,6 +41,7 @@ without_names name (Count parser default) letter = refl
 without_names name (Filled value) letter = refl
 without_names name Needed letter = refl
 without_names name (Index parser) letter = refl
+without_names name Optional letter = refl
 without_names name Any letter = refl
 
 with_another_name : (rule : Rule) (old new : Arg) (name : Bor Text) (is_shown : Bool) → IsArg rule old → AddsAliases old new ((name, is_shown) ∷ []) → rule.aliases ≡ []
