@@ -41,10 +41,10 @@ Output: the section's bytes, or a line
   !  place cause";
 
 pub(crate) const COPIED: &str = "\
-The bytes are those that the section or the segment has in the file: a compressed
-section stays compressed, and one of the type NOBITS or NULL has none. SECTION is
-an index, or a name that begins with a dot or a letter: then it is the first
-section of that name. If there is none, the status is 1.
+The bytes are those that the section or the segment has in the file: a
+compressed section stays compressed, and one of the type NOBITS or NULL has
+none. SECTION is an index, or a name that begins with a dot or a letter: then
+it is the first section of that name. If there is none, the status is 1.
 
 Examples:
   elfsee bytes /lib/libexample.so .comment
