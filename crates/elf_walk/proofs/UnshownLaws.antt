@@ -128,9 +128,9 @@ module _ (caps fewer : Caps) (parts : ℕ) (sees : ShowsNoRows caps fewer) where
     slots = did.slots;
     leaves = did.leaves;
     state = λ file held. found file status (did.state file held);
-    cost = λ file held. rw (sees.limits, sees.style) at (did.cost file held);
+    cost = λ file held. let same = same_cost caps.limits.headers (style_of caps.style) parts file in rw (sees.limits, sees.style, same) at (did.cost file held);
     read = did.read;
-    asks = rw (sees.limits, sees.style) at did.asks;
+    asks = let same = ceiling_same caps.limits.headers (style_of caps.style) parts old.seen.size in rw (sees.limits, sees.style, same) at did.asks;
   }
 
   pub checks_archive : {old new : CountedState} {slots now : ℕ} {status : FileStatus}
@@ -142,5 +142,5 @@ module _ (caps fewer : Caps) (parts : ℕ) (sees : ShowsNoRows caps fewer) where
     state = λ file held. found_archive file status (did.state file held);
     cost = λ file held. let same = archive_costs caps.limits.headers (style_of caps.style) parts file in rw (sees.limits, sees.style, same) at (did.cost file held);
     read = did.read;
-    asks = rw (sees.limits, sees.style) at did.asks;
+    asks = let same = archive_ceiling_same caps.limits.headers (style_of caps.style) parts old.seen.size in rw (sees.limits, sees.style, same) at did.asks;
   }
