@@ -2,9 +2,8 @@
 use Rattle.std.proofs.Common.{◌≡◌, ℕ, ◌<◌, List, [], ◌∷◌, Option, None, Some, inl, inr, refl, ap, ap₂, ◌∙◌, arith}
 use Rattle.std.specs.Prelude.{zero, suc, ◌+◌, ◌++◌, ◌&&◌, if◌then◌else◌, length, option_map, Bool, true, false}
 use Rattle.elf_model.specs.Prelude.{IsBudgeted, IsStateOf, ListingStyle, MemberWalkState, archive_ceiling, archive_cost, archive_fault, first_refusal, listing, listing_cost, refusal_line, report_of, style_ceiling}
-use Rattle.elf_model.specs.Archive.{Broken, Ends, Member, NextMember, OneMember, archive_checks, before_members, behind, bytes_in, is_elf, lists_members, member_listing, members_of, next_member}
+use Rattle.elf_model.specs.Archive.{Broken, Ends, Member, NextMember, OneMember, archive_checks, before_members, behind, bytes_in, is_elf, lists_members, members_of, next_member}
 use Rattle.elf_model.specs.ArchiveCost.{header_cost, member_cost, members_cost}
-use Rattle.elf_model.specs.Budget.{IsCut, IsReport}
 use Rattle.elf_model.specs.FileLists.{first_fault, member_fault, placed_after}
 use Rattle.elf_model.specs.Listing.{fault_of, lines_of}
 use Rattle.elf_model.specs.declared.causes.Refusal.{Refusal}
@@ -15,7 +14,7 @@ use Rattle.elf_source.specs.Source.{CountedState}
 use Rattle.elf_options.specs.Prelude.{style_of}
 use Rattle.elf_options.specs.declared.caps.Caps.{Caps}
 use Rattle.elf_archive.specs.FirstFault.{IsArchiveFault, before_magic, cost_after_magic}
-use Rattle.elf_walk.specs.CheckedFile.{AsksNoMore, ChecksFile, FindsState, check_ceiling, check_cost}
+use Rattle.elf_walk.specs.CheckedFile.{ChecksFile, FindsState, check_ceiling, check_cost}
 use Rattle.elf_walk.specs.Members.{FindsArchive}
 use Rattle.elf_walk.specs.Unshown.{ShowsNoRows, unshown}
 
@@ -128,9 +127,9 @@ module _ (caps fewer : Caps) (parts : ℕ) (sees : ShowsNoRows caps fewer) where
     slots = did.slots;
     leaves = did.leaves;
     state = λ file held. found file status (did.state file held);
-    cost = λ file held. rw (sees.limits, sees.style) at (did.cost file held);
+    cost = λ file held. let same = same_cost caps.limits.headers (style_of caps.style) parts file in rw (sees.limits, sees.style, same) at (did.cost file held);
     read = did.read;
-    asks = rw (sees.limits, sees.style) at did.asks;
+    asks = let same = ceiling_same caps.limits.headers (style_of caps.style) parts old.seen.size in rw (sees.limits, sees.style, same) at did.asks;
   }
 
   pub checks_archive : {old new : CountedState} {slots now : ℕ} {status : FileStatus}
@@ -142,5 +141,5 @@ module _ (caps fewer : Caps) (parts : ℕ) (sees : ShowsNoRows caps fewer) where
     state = λ file held. found_archive file status (did.state file held);
     cost = λ file held. let same = archive_costs caps.limits.headers (style_of caps.style) parts file in rw (sees.limits, sees.style, same) at (did.cost file held);
     read = did.read;
-    asks = rw (sees.limits, sees.style) at did.asks;
+    asks = let same = archive_ceiling_same caps.limits.headers (style_of caps.style) parts old.seen.size in rw (sees.limits, sees.style, same) at did.asks;
   }

@@ -9,7 +9,7 @@ use elf_listing::show;
 use elf_model::{FileMagic, FileStatus, PlaceFilter};
 use elf_record::Parts;
 use elf_source::{Counted, NullSink, Out, Source};
-use elf_table::{Caps, HeaderStore, RunFault};
+use elf_table::{Caps, HeaderStore, ListingStyle, RunFault};
 
 /// How many bytes a file header has.
 const HEADER_BYTES: u64 = 64;
@@ -19,12 +19,17 @@ const HEADER_BYTES: u64 = 64;
 pub(crate) fn without_rows<'n>(caps: Caps<'n>) -> Caps<'n>
     ensures { ShowsNoRows caps.entry result }
 {
-    let mut fewer = caps;
-    fewer.style.place = PlaceFilter {
+    let place = PlaceFilter {
         at: Some(u64::MAX),
         address: None,
     };
-    fewer
+    Caps {
+        style: ListingStyle {
+            place,
+            ..caps.style
+        },
+        ..caps
+    }
 }
 
 /// Checks one file: reads its listing, the parts that `parts` has, and returns the state given by

@@ -1,5 +1,5 @@
 -- How the program ends, by what it did.
-use Rattle.std.specs.Prelude.{ℕ, ◌≡◌, ◌⊎◌, ◌≤◌, ◌+◌, ⊤, Bool, true, false, List, [], codes, Option, None, Some, Result, Ok, Err, IfErr, IfOk}
+use Rattle.std.specs.Prelude.{ℕ, ◌≡◌, ◌⊎◌, ◌≤◌, ◌+◌, ◌==◌, ⊤, Bool, true, false, List, [], codes, Option, None, Some, Result, Ok, Err, IfErr, IfOk}
 use Rattle.std.specs.Io.Buffered.{writer_buffer, writer_contents, writer_inner}
 use Rattle.std.specs.declared.io.buffered.BufWriter.{BufWriter}
 use Rattle.elf_model.specs.Fixtures.{one_symbol_table}
@@ -16,6 +16,8 @@ use Rattle.elf_walk.specs.declared.lists.ListFault.{ListFault}
 use Rattle.elf_walk.specs.declared.lists.ListFault.TheVariants as list
 use Rattle.elf_cli.specs.Prelude.{ProgramEnds, PutsRest, wants_rest}
 use Rattle.elf_requests.specs.ArchiveAnswers.{refused_by}
+use Rattle.elf_requests.specs.declared.requests.Task.TheVariants.{Bytes}
+use Rattle.elf_requests.specs.declared.requests.Task.{Task}
 use Rattle.elfsee.specs.declared.many.FilesEnd.{FilesEnd}
 use Rattle.elfsee.specs.declared.many.FilesEnd.TheVariants as visit
 
@@ -27,11 +29,26 @@ EndsWithoutMemory status line = (status ≡ 3) × (line ≡ codes "elfsee: out o
 abbrev pub EndsWithoutFile : ℕ → List ℕ → Type 0
 EndsWithoutFile status line = (status ≡ 3) × ((line ≡ codes "elfsee: cannot open") ⊎ (line ≡ codes "elfsee: read fault"))
 
+-- whether the bytes of a section are requested and no section has its name: their status is 1 only
+-- then
+unfoldable pub lacks_section : Task → Result ℕ RunFault → Bool
+lacks_section (Bytes query) (Ok status) = status == 1
+lacks_section task answer = false
+
+-- how the program ends if a section is lacking, unless the output failed; otherwise as its run
+abbrev pub EndsLacking : Bool → Result ℕ RunFault → Bool → ℕ → List ℕ → Type 0
+EndsLacking true answer false status line = (status ≡ 1) × (line ≡ codes "elfsee: no such section")
+EndsLacking lacking answer failed status line = ProgramEnds answer failed status line
+
+-- how the program ends that carries out a task
+abbrev pub EndsTask : Task → Result ℕ RunFault → Bool → ℕ → List ℕ → Type 0
+EndsTask task answer failed status line = EndsLacking (lacks_section task answer) answer failed status line
+
 -- A RUN ENDS THE PROGRAM: over a source from which nothing was requested, and an output, it did
 -- what is requested; by its result, and by whether the output failed, the program ends; and the
 -- rest of the output was written, as far as its writer took it
-pub record EndsRunOver {W A : Type 0} (contents : W → Option (List ℕ)) (does : CountedState → CountedState → OutState → OutState → Result ℕ RunFault → Type 0) (seen : SourceState)
-    (output : BufWriter W A) (status : ℕ) (line : List ℕ) (sink : Writing W) : Type 0 where
+pub record EndsRunOver {W A : Type 0} (contents : W → Option (List ℕ)) (does : CountedState → CountedState → OutState → OutState → Result ℕ RunFault → Type 0)
+    (ends_by : Result ℕ RunFault → Bool → ℕ → List ℕ → Type 0) (seen : SourceState) (output : BufWriter W A) (status : ℕ) (line : List ℕ) (sink : Writing W) : Type 0 where
   pub old : CountedState
   pub new : CountedState
   pub same_size : old.seen.size ≡ seen.size
@@ -44,15 +61,15 @@ pub record EndsRunOver {W A : Type 0} (contents : W → Option (List ℕ)) (does
   pub did : does old new before after answer
   pub last : BufWriter W A
   pub stands : after.taken ≡ writer_contents contents last
-  pub ends : ProgramEnds answer sink.failed status line
+  pub ends : ends_by answer sink.failed status line
   pub rest : PutsRest (wants_rest answer) sink.failed (writer_buffer last) (contents (writer_inner last)) (contents sink.writer)
 
 -- A RUN OVER THE FILE AT A PATH ENDS THE PROGRAM, or over the sample if there is no path
-pub record AnswersFile {P W A : Type 0} (contents : W → Option (List ℕ)) (does : CountedState → CountedState → OutState → OutState → Result ℕ RunFault → Type 0) (path : Option P)
-    (output : BufWriter W A) (status : ℕ) (line : List ℕ) (sink : Writing W) : Type 0 where
+pub record AnswersFile {P W A : Type 0} (contents : W → Option (List ℕ)) (does : CountedState → CountedState → OutState → OutState → Result ℕ RunFault → Type 0)
+    (ends_by : Result ℕ RunFault → Bool → ℕ → List ℕ → Type 0) (path : Option P) (output : BufWriter W A) (status : ℕ) (line : List ℕ) (sink : Writing W) : Type 0 where
   pub seen : SourceState
   pub sample : path ≡ None → seen.file ≡ Some one_symbol_table
-  pub ends : EndsRunOver contents does seen output status line sink
+  pub ends : EndsRunOver contents does ends_by seen output status line sink
 
 -- the refusal whose line was written
 abbrev pub told_refusal : Result ℕ RunFault → Bool → Option Refusal

@@ -1,5 +1,6 @@
 //! The listing of an archive.
 ghost use Rattle.std.specs.Prelude.{◌≡◌, ◌⊎◌, IfErr, length};
+ghost use Rattle.elf_cli.specs.Prelude.{ProgramEnds};
 ghost use Rattle.elfsee.specs.Ends.{EndsRunOver, EndsWithoutFile, EndsWithoutMemory, RunsArchive};
 ghost use Rattle.elfsee.specs.Naming.{EndsWithoutNames};
 
@@ -95,7 +96,7 @@ fn write_archive<S: Source + Drop, W: Write + Drop>(
 ) -> (ExitLine, WriteSink<W>)
     requires slots { store.slots ≡ caps.limits.headers }
     requires none { length held.items ≡ 0 }
-    ensures { EndsRunOver W.contents (RunsArchive caps.entry parts.0)
+    ensures { EndsRunOver W.contents (RunsArchive caps.entry parts.0) ProgramEnds
         (S.seen source) output result.0.0 result.0.1.now result.1 }
 {
     let mut src = Counted::new(RangeSource::new(source));

@@ -6,17 +6,17 @@ mod layouts;
 mod lists;
 mod many;
 mod missing_reason;
-mod missing_section;
 mod names;
 mod needs;
 mod needs_of_files;
 mod needs_report;
+mod task_end;
 
 ghost use Rattle.std.specs.Prelude.{◌≡◌, ◌⊎◌, IfErr, IfOk, map, string_bytes};
 ghost use Rattle.elf_requests.specs.Prelude.{RunsTask, WordsAsk};
 ghost use Rattle.elf_cli.specs.Prelude.{EndsWords};
 ghost use Rattle.elf_cli.specs.declared.faults.RequestFault.{RequestFault};
-ghost use Rattle.elfsee.specs.Ends.{AnswersFile, EndsRunOver, EndsWithoutFile, EndsWithoutMemory, told_refusal};
+ghost use Rattle.elfsee.specs.Ends.{AnswersFile, EndsRunOver, EndsTask, EndsWithoutFile, EndsWithoutMemory, told_refusal};
 
 use archives::list_archive;
 use elf_cli::{
@@ -35,7 +35,6 @@ use layouts::apply_laid;
 use lists::list_files;
 use many::{check_many, report_traits};
 use missing_reason::report_missing_reason;
-use missing_section::{is_section_missing, report_missing_section};
 use names::show_chosen;
 use needs::report_needs;
 use std::alloc::Global;
@@ -43,6 +42,7 @@ use std::io::{self, BufWriter, Input, IsTerminal, Stderr, Write};
 use std::os::unix::fs::FileExt;
 use std::process::ExitCode;
 use std::rt::{Env, Files};
+use task_end::task_ending;
 
 fn main(rt: HostRuntime) -> ExitCode {
     let errors = rt.stderr();
@@ -163,8 +163,8 @@ where
     R::File: FileExt,
     requires { store.slots ≡ request.now.limits.headers }
     ensures ran { IfOk result (λ ended. AnswersFile W.contents
-        (RunsTask request.now.limits request.now.task) request.now.file output
-        ended.0.0 ended.0.1.now ended.1) }
+        (RunsTask request.now.limits request.now.task) (EndsTask request.now.task)
+        request.now.file output ended.0.0 ended.0.1.now ended.1) }
     ensures unopened { IfErr result (λ ending. EndsWithoutFile ending.0 ending.1.now) }
 {
     let alloc = rt.alloc();
@@ -198,8 +198,9 @@ fn read_request<'a>(
 }
 
 /// Carries out a request and writes the rest of the output; if the line of a refusal was written,
-/// reports what would help, and if there is no section of a name, that. Returns how the program ends, and the sink. It is not inlined: the
-/// stack of its caller would hold the buffers of a listing twice, once for each type of source.
+/// reports what would help, or which value does not fit. Returns how the program ends, and the
+/// sink. It is not inlined: the stack of its caller would hold the buffers of a listing twice, once
+/// for each type of source.
 #[inline(never)]
 fn write_answer<S: Source + Drop, W: Write + Drop>(
     alloc: Global,
@@ -211,7 +212,8 @@ fn write_answer<S: Source + Drop, W: Write + Drop>(
 ) -> (ExitLine, WriteSink<W>)
     requires { store.slots ≡ request.now.limits.headers }
     ensures { EndsRunOver W.contents (RunsTask request.now.limits request.now.task)
-        (S.seen source) output result.0.0 result.0.1.now result.1 }
+        (EndsTask request.now.task) (S.seen source) output
+        result.0.0 result.0.1.now result.1 }
 {
     let mut src = Counted::new(source);
     let mut out = Out::new(WriteSink::new(output));
@@ -220,9 +222,7 @@ fn write_answer<S: Source + Drop, W: Write + Drop>(
     if let Some(refusal) = refusal_told(&answer, &output) {
         report_missing_reason(alloc, request, refusal, &mut src, &mut store, errors);
     }
-    if is_section_missing(request, &answer) {
-        report_missing_section(errors);
-    }
+    let ending = task_ending(&request.task, &answer, output.failed(), ending);
     (ending, output)
 }
 

@@ -20,6 +20,6 @@ returns g c =
       did = ran.ensures.runs;
       last = c.into_inner-2.result;
       stands = sym (ap (writer_contents g.W.Write.contents) c.into_inner-2.ensures ∙ c.into_inner.ensures.taken);
-      ends = c.end_answer-output.ensures.ends;
+      ends = c.task_ending-ending.ensures;
       rest = c.end_answer-output.ensures.rest;
     }
