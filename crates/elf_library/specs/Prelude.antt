@@ -14,5 +14,5 @@ pub use Rattle.elf_library.specs.NeedWalks.{IsNeedsOf, NeedsWalkGoesOn, ReturnsN
 pub use Rattle.elf_library.specs.Opens.{KeepsIndex, KeepsOne, OpensObject, SpendsBudgetAtLeast}
 pub use Rattle.elf_library.specs.Reading.{ReturnsLookupRefusal, linked_in_segments, lookup_passed}
 pub use Rattle.elf_library.specs.Ready.{IsReadyIf, ReturnsReady, ready_bytes}
-pub use Rattle.elf_library.specs.Sought.{CountsHashed, IsReportedAlone, RefusesAs, ReturnsAs, ReturnsSought, ReturnsWhole, asked_if}
+pub use Rattle.elf_library.specs.Sought.{CountsHashed, IsReportedAlone, ReturnsSought, ReturnsWhole, asked_if}
 pub use Rattle.elf_library.specs.VersionTables.{AreNeedsOf, AreRecordsAt}
