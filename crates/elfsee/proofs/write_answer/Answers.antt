@@ -1,7 +1,8 @@
 -- What the run did ends the program.
-use Rattle.std.proofs.Common.{◌∙◌, ap, sym}
+use Rattle.std.proofs.Common.{◌∙◌, ap, subst, sym}
 use Rattle.std.specs.Io.Buffered.{writer_contents}
 use Rattle.elf_source.specs.Source.{SourceState}
+use Rattle.elfsee.specs.Ends.{EndsTask}
 use Rattle.elfsee.proofs.write_answer.Goals as goal
 
 pub returns : goal.returns
@@ -20,6 +21,6 @@ returns g c =
       did = ran.ensures.runs;
       last = c.into_inner-2.result;
       stands = sym (ap (writer_contents g.W.Write.contents) c.into_inner-2.ensures ∙ c.into_inner.ensures.taken);
-      ends = c.task_ending-ending.ensures;
+      ends = subst (λ failed. EndsTask c.args.request.now.task ran.result failed c.task_ending-ending.result.0 c.task_ending-ending.result.1.now) c.failed.ensures c.task_ending-ending.ensures;
       rest = c.end_answer-output.ensures.rest;
     }
