@@ -27,7 +27,7 @@ OUTPUT_BYTES = 65536
 LAYOUT_BYTES = 40000
 # What is requested for the arguments, with all commands and options, and what of it is held at one time: less than these
 # numbers of bytes. A list that grows is requested anew each time.
-WORDS_BYTES, WORDS_HELD = 232000, 130000
+WORDS_BYTES, WORDS_HELD = 240000, 138000
 # The pages of a file that are kept if there is no read budget, each with its offset and its length.
 PAGES_BYTES = 64 * (4096 + 16)
 OUT_OF_MEMORY = b"elfsee: out of memory\n"
@@ -258,7 +258,7 @@ def try_all(trial, paths):
     check(f"the headers, one buffer for the output, one layout, the pages of a file, and less than {WORDS_BYTES:,} bytes for the words", wrong)
     trial.run(["version"])
     rest = trial.most - LAYOUT_BYTES
-    check("one layout, and less than 130,000 bytes at one time for the words", "" if 0 < rest < WORDS_HELD else f"{rest} bytes beside it")
+    check(f"one layout, and less than {WORDS_HELD:,} bytes at one time for the words", "" if 0 < rest < WORDS_HELD else f"{rest} bytes beside it")
 
 
 def main():
