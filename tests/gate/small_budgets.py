@@ -1,8 +1,8 @@
 #!/usr/bin/env python3
 """Runs `check --members` and `list --members` within each budget from 0 to 200 bytes and without one, over files of each
-length from 0 to 200 that begin as an ELF file, as an archive, as a thin archive or as neither, and `check`, `list` and
-`traits` with the same up to 80 bytes. Compares each answer with that of a second implementation of the rules: which bytes
-are read in which order, and what the file is by them. Options: --program PROGRAM.
+length from 0 to 200 that begin as an ELF file, as an archive, as a thin archive or as neither, `check` and `list` with
+the same up to 80 bytes, and `traits` up to 144. Compares each answer with that of a second implementation of the rules:
+which bytes are read in which order, and what the file is by them. Options: --program PROGRAM.
 """
 
 import bisect
@@ -20,6 +20,7 @@ from reported import MAGIC, Wish, report
 from testing import option_reader, program_of
 
 MOST = 200
+RELOCATABLE = 1  # ET_REL, at 16
 HEADER = MAGIC + b"\2\1\1" + bytes(9) + b"\1\0\x3e\0\1\0\0\0" + bytes(40)
 ARCHIVE, THIN = b"!<arch>\n", b"!<thin>\n"
 TEXT = (b"hello world\n" * 17)[:MOST]
@@ -154,6 +155,8 @@ def hardening(path, file, members):
         if len(file) < 64 and decided(file, False) == "other":
             return "", 0
         lines_of_elf(file)
+        if file.content[16] == RELOCATABLE:
+            file.read(0, 64)  # once more, for its section headers
     except Refused as refusal:
         if refusal.args[1] == "not-elf":
             return "", 0
@@ -163,7 +166,7 @@ def hardening(path, file, members):
 
 # Each command with its second implementation, whether members are read, and the largest budget and file.
 COMMANDS = [(["check"], checked, False, 80), (["check", "--members"], checked, True, MOST), (["list"], listed, False, 80),
-            (["list", "--members"], listed, True, MOST), (["traits"], hardening, False, 80)]
+            (["list", "--members"], listed, True, MOST), (["traits"], hardening, False, 144)]
 
 
 def answers_of(answer, path, content, members):
