@@ -12,7 +12,7 @@ PAGE = os.path.join(TOP, "docs", "FORMAT.md")
 NAME = rb"(?:[ -\[\]-~]|\\\\|\\x(?:[01][0-9a-f]|7f|[89a-f][0-9a-f]))*(?:\\\+)?"
 FORMS = [
     (r"text: a name, or (\w+) hexadecimal digits", lambda of: rb"(?:[A-Z_0-9]+|[0-9a-f]{%d}) *" % of),
-    (r"(\d+) hexadecimal digits", lambda of: rb"[0-9a-f]{%d}" % of),
+    (r"hexadecimal", lambda of: rb"[0-9a-f]{%d}" % of),
     (r"decimal(?:, grows)?", lambda of: rb" *(?:0|[1-9][0-9]*)"),
     (r"text: letters, which may be none", lambda of: rb"W?A?X?M?S?I?L?O?G?T?C?R?D?l?E?\?? *"),
     (r"`R` or `-`, `W` or `-`, `X` or `-`", lambda of: rb"[R-][W-][X-]"),
@@ -21,23 +21,22 @@ FORMS = [
     (r"text: a name", lambda of: rb"[A-Z]+ *"),
     (r"`H` or `-`", lambda of: rb"[H-]"),
     (r"`\+` or `-`, and 16 hexadecimal digits", lambda of: rb"[+-][0-9a-f]{16}"),
-    (r"name, to the line's end", lambda of: NAME),
+    (r"name", lambda of: NAME),
     (r"name; space; hexadecimal digits, two a byte, then `\\\+` where there are more",
      lambda of: NAME + rb" (?:(?:[0-9a-f]{2}){0,32}|[0-9a-f]{64}\\\+)"),
-    (r"text, to the line's end", lambda of: rb"[a-z-]+"),
-    (r"text: a word", lambda of: rb"[a-z^+-]+ *"),
+    (r"word", lambda of: rb"[a-z^+-]+ *"),
     (r"text", lambda of: rb"[a-z]+ *"),
 ]
 NUMBERS = {"four": 4, "eight": 8}
 
 
-def form_of(text):
-    """The pattern of a form that the page names."""
+def form_of(text, width):
+    """The pattern of a form that the page names, in columns of this width."""
     for form, pattern in FORMS:
         found = re.fullmatch(form, text)
         if found:
-            of = found[1] if found.groups() else "0"
-            return pattern(NUMBERS.get(of) or int(of))
+            of = found[1] if found.groups() else width
+            return pattern(int(NUMBERS.get(of, of) or 0))
     sys.exit(f"tests/machine/format.py: the page has a form that is not known here: {text}")
 
 
@@ -48,10 +47,10 @@ def tables_of(page):
         letter = re.match(r"(\S): ", part)
         if letter:
             drawing = re.search(r"```text\n(.*?)\n```", part, re.S)[1].split("\n")
-            rows = re.findall(r"^\| (\d+) \| (\d+)(-?)(\d*) \| (.*?) \| .*? \| (.*) \|$", part, re.M)
-            rows = [(number, first, dash, last if dash else first, name, form)
-                    for number, first, dash, last, name, form in rows]
-            kinds[letter[1]] = drawing, rows
+            rows = re.findall(r"^\| (\d+)(-?)(\d*) \| (.*?) \|(?: .*? \|)? (.*) \|$", part, re.M)
+            rows = [(str(number), first, dash, last if dash else first, name, form)
+                    for number, (first, dash, last, name, form) in enumerate(rows, 2)]
+            kinds[letter[1]] = drawing, [("1", "1", "", "1", "letter", "")] + rows
     return kinds
 
 
@@ -62,7 +61,7 @@ def pattern_of(letter, rows):
         assert int(first) == at + 2, (letter, first)
         width = int(last) - int(first) + 1 if last else None
         more = b"," if "grows" in form else b""
-        shape = form_of(form)
+        shape = form_of(form, width)
         if width is None:
             pattern += b" (" + shape + b")"
         elif more:

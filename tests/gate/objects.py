@@ -50,7 +50,7 @@ def whole(text):
 
 def value_of(form, text):
     """The value that a field of the page's form has in an object."""
-    if re.fullmatch(r"\d+ hexadecimal digits", form):
+    if form == "hexadecimal":
         return int(text, 16)
     if form.startswith("decimal"):
         return int(text)
@@ -84,7 +84,7 @@ def fields_of(kinds, patterns, line):
         while text is None:
             text = next(groups)
         text = text.decode()
-        if form == "name, to the line's end":
+        if form == "name":
             spelt, cut = whole(text)
             members += [(name, spelt)] + ([("cut", True)] if cut else [])
         elif name == "name and descriptor":

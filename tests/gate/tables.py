@@ -5,7 +5,7 @@
 
 Each file is listed twice: with --table, and as lines with the options that --table implies. Each line is taken apart
 by the tables of docs/FORMAT.md and written as a row of a table by that page's section on tables: without its letter,
-hexadecimal numbers without leading zeros in the widths given there, and before the first line of a letter an empty line
+hexadecimal numbers without leading zeros in the widths given below, and before the first line of a letter an empty line
 and the names of the columns. The words of flags and of notes are worked out here from the numbers and digits of the
 lines, and compared with those of readelf. So are the answers of lookups, the lines of check, traits, list, archive and needs, and
 refusals. S and P rows of /bin/ls have at most 80 columns up to the name. Without FILE these are some files of the
@@ -34,6 +34,11 @@ SPECIAL = {"C": ["state", "place", "cause", "path"], "L": ["index", "needed_by",
            "B": ["object", "symbol", "state", "definer", "definition", "name"]}
 RIGHT = {"index", "needed_by", "place", "object", "provider", "symbol", "definer", "definition"}
 WIDTHS = {"C": [12, 9, 14, 0], "L": [5, 5, 8, 9, 14, 0], "I": [8, 0], "U": [5, 5, 8, 0], "B": [5, 10, 8, 5, 10, 0]}
+# The widths of hexadecimal numbers and of the type of an R line, by their names, or by name and letter.
+HEXADECIMAL = {**dict.fromkeys(["entry", "address", "vaddr", "paddr", "value"], 12),
+               **dict.fromkeys(["phoff", "shoff", "offset", "size", "filesz", "memsz", "place", "addend"], 9),
+               "hash": 8, "namesz": 6, "descsz": 6, "info": 5, "align": 5, "link": 4, ("flags", "H"): 8, ("type", "N"): 8,
+               ("flags", "V"): 5, ("type", "R"): 22, ("symbol", "R"): 6}
 
 # The words of the flags of dynamic entries, from the lowest bit.
 FLAGS = {"FLAGS": "ORIGIN SYMBOLIC TEXTREL BIND_NOW STATIC_TLS".split(),
@@ -103,16 +108,6 @@ def described(text, kind):
     return f"{name} {digits if content is None else content}"
 
 
-def widths_of(text):
-    """The widths that the page gives hexadecimal numbers in a table, by their names, or by name and letter."""
-    widths = {}
-    rows = re.findall(r"^\| (all|[A-Z]) \| ([a-z, ]+) \| (\d+)(?:, at the left)? \|$", text[text.index("## Tables"):], re.M)
-    for letter, names, width in rows:
-        for name in names.split(", "):
-            widths[name if letter == "all" else (name, letter)] = int(width)
-    return widths
-
-
 def meanings_of():
     """What the causes mean, by their words, as the code has both."""
     with open(os.path.join(TOP, "crates", "elf_format", "src", "rows.rt"), encoding="utf-8") as file:
@@ -130,9 +125,9 @@ class Rows:
             text = file.read()
         self.kinds = page.tables_of(text)
         # A name that is cut may be followed by a version.
-        page.FORMS = [(form, (lambda of: rb".*") if form.startswith("name, to") else shape) for form, shape in page.FORMS]
+        page.FORMS = [(form, (lambda of: rb".*") if form == "name" else shape) for form, shape in page.FORMS]
         self.patterns = {letter: page.pattern_of(letter, rows) for letter, (_, rows) in self.kinds.items()}
-        self.widths, self.meanings = widths_of(text), meanings_of()
+        self.widths, self.meanings = HEXADECIMAL, meanings_of()
 
     def width(self, letter, name):
         """The width of a hexadecimal field."""
@@ -140,7 +135,7 @@ class Rows:
 
     def cell(self, letter, name, form, text, width):
         """A field in its column of the table, with whether it is at the right."""
-        if re.fullmatch(r"\d+ hexadecimal digits", form):
+        if form == "hexadecimal":
             return f"{int(text, 16):x}".rjust(self.width(letter, name))
         if form.startswith("`+` or `-`"):
             return f"{text[0]}{int(text[1:], 16):x}".rjust(self.width(letter, name))
@@ -153,7 +148,7 @@ class Rows:
         columns = []
         for _, first, _, last, name, form in self.kinds[letter][1][1:]:
             width = int(last) - int(first) + 1 if last else 0
-            if "hexadecimal digits" in form and not form.startswith(("text", "name")):
+            if "hexadecimal" in form and not form.startswith(("text", "name")):
                 columns.append((name, self.width(letter, name), form[0] != "n"))
             elif letter == "R" and name == "type":
                 columns.append((name, self.width(letter, name), False))
