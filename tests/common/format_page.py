@@ -41,16 +41,16 @@ def form_of(text, width):
 
 
 def tables_of(page):
-    """Of each letter the drawing, and the fields: columns, name and form."""
+    """Of each letter the drawing, and the fields below it: columns, name and form."""
     kinds = {}
     for part in re.split(r"^## ", page, flags=re.M)[1:]:
         letter = re.match(r"(\S): ", part)
         if letter:
-            drawing = re.search(r"```text\n(.*?)\n```", part, re.S)[1].split("\n")
-            rows = re.findall(r"^\| (\d+)(-?)(\d*) \| (.*?) \|(?: .*? \|)? (.*) \|$", part, re.M)
+            drawing, _, fields = re.search(r"```text\n(.*?)\n```", part, re.S)[1].partition("\n\n")
+            rows = re.findall(r"^(\d+)(-?)(\d*) {2,}(.*?) {2,}(.*?)(?: {2,}.*)?$", fields, re.M)
             rows = [(str(number), first, dash, last if dash else first, name, form)
                     for number, (first, dash, last, name, form) in enumerate(rows, 2)]
-            kinds[letter[1]] = drawing, [("1", "1", "", "1", "letter", "")] + rows
+            kinds[letter[1]] = drawing.split("\n"), [("1", "1", "", "1", "letter", "")] + rows
     return kinds
 
 

@@ -51,7 +51,7 @@ def columns_of_page():
     """Of each kind of line the columns of its fields, as docs/FORMAT.md has them, from 0."""
     page, columns = read(TOP, "docs/FORMAT.md"), {}
     for kind, section in re.findall(r"^## (\w): (.*?)(?=^## )", page, re.S | re.M):
-        found = re.findall(r"^\| (\d+)(-?)(\d*) \|", section, re.M)
+        found = re.findall(r"^(\d+)(-?)(\d*) {2,}\w", section, re.M)
         columns[kind] = [(0, 1)] + [(int(at) - 1, int(end or (10 ** 6 if dash else at))) for at, dash, end in found]
     return columns
 
