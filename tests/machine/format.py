@@ -3,13 +3,13 @@
 
     tests/machine/format.py [--program PROGRAM] [FOLDER..]
 
-From the page it takes the drawings and the tables of columns, and from examples/ the awk program and the
-Python module that it names. The drawings must have their fields at the columns of the tables. Then each
+From the page it takes the drawings and the columns below them, and from examples/ the awk program and the
+Python module that it names. The drawings must have their fields at those columns. Then each
 ELF64 little-endian file below the directories (/usr/lib if none is given) is listed, and for a file that
 is refused each part alone; before them a file that is made here, whose names have all bytes, spaces, backslashes, and as
 many bytes as are shown, one less and one more, and which has rows whose fields grow. So are the
 versions of each file, with --gnu. The kinds of
-lines must be in their order, and each line must have its fields at the columns of the tables, in
+lines must be in their order, and each line must have its fields at its columns, in
 the form given there; the Python module must read it, and give names as bytes that are in the
 file where its own headers say, which are read here by other code; the awk program must
 give the same bytes for the names of symbols. In the file that is made here the names are looked up,
