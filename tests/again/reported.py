@@ -32,7 +32,7 @@ def names_on_page():
         every, _, machine = gnu.partition("; on x86-64 ")
         if every.endswith(" on x86-64"):
             every, machine = "", every[:-len(" on x86-64")]
-        fields[field] = [{int(number): name for name, number in map(str.split, filter(None, text.split(", ")))}
+        fields[field] = [{int(number): name for name, number in (pair.split("=") for pair in filter(None, text.split(", ")))}
                          for text in (plain, every, machine)]
     return fields
 

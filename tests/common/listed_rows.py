@@ -14,8 +14,8 @@ def names_of_numbers():
     """Of each field that the page names: the number's names."""
     with open(os.path.join(TOP, "docs", "FORMAT.md"), encoding="utf-8") as file:
         part = file.read().split("## Names of numbers")[1].split("\n## ")[0]
-    rows = re.findall(r"^\| (?!Field)([^|]*?) \| ([^|]* \d+[^|]*?) \|[^|]*\|$", part, re.M)
-    return {field: {int(number): name for name, number in map(str.split, names.split(", "))}
+    rows = re.findall(r"^\| (?!Field)([^|]*?) \| ([^|]*=\d+[^|]*?) \|[^|]*\|$", part, re.M)
+    return {field: {int(number): name for name, number in (pair.split("=") for pair in names.split(", "))}
             for field, names in rows}
 
 

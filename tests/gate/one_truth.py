@@ -480,7 +480,7 @@ def check_format(counts, truth, page):
     for column, table in enumerate((truth.names, truth.gnu_names)):
         for row, names in table.items():
             cells = one(rf"^\| {row} \| (.*?) \|$", page, f"{row} of docs/FORMAT.md").split(" |")
-            pairs = re.findall(r"(\w+) (\d+)(?=$|[,;]| on )", cells[column])
+            pairs = re.findall(r"(\w+)=(\d+)(?=$|[,;]| on )", cells[column])
             got = {name: int(value) for name, value in pairs}
             counts.same(f"name ({row})", "docs/FORMAT.md", names, got)
 

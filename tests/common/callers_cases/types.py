@@ -43,11 +43,11 @@ def check_constants(counts, elfsee):
     counts.same("constants in Rust", ours, theirs)
     counts.same("each constant in Rust is read", text.count("pub const "), len(theirs))
     with open(os.path.join(TOP, "docs", "FORMAT.md"), encoding="utf-8") as file:
-        rows = dict(re.findall(r"^\| ([\w ]+) \| (\w+ \d+(?:, \w+ \d+)*) \|", file.read(), re.M))
+        rows = dict(re.findall(r"^\| ([\w ]+) \| (\w+=\d+(?:, \w+=\d+)*) \|", file.read(), re.M))
     for row, kind in NAMED.items():
         front = "R_X86_64_" if kind == "RelocationType" else PREFIXES[kind]
         listed = {front + SHORTER.get(name, name): int(number)
-                  for name, number in re.findall(r"(\w+) (\d+)", rows[row])}
+                  for name, number in re.findall(r"(\w+)=(\d+)", rows[row])}
         counts.same("names of %s" % row, {}, {name: at for name, at in listed.items() if ours.get(name) != at})
     check_numbers_of_c(counts, ours)
 

@@ -23,14 +23,14 @@ FLAGS_SHOWN = [(1, "W"), (2, "A"), (4, "X"), (16, "M"), (32, "S"), (64, "I"), (1
 def names_of_numbers():
     """The tables of docs/FORMAT.md: of each row the name of a number."""
     page = read(TOP, "docs/FORMAT.md")
-    rows = re.findall(r"^\| ([\w ]+) \| (\w+ \d+(?:, \w+ \d+)*) \|[^|\n]*\|$", page, re.M)
-    return {row: {int(number): name for name, number in re.findall(r"(\w+) (\d+)", names)} for row, names in rows}
+    rows = re.findall(r"^\| ([\w ]+) \| (\w+=\d+(?:, \w+=\d+)*) \|[^|\n]*\|$", page, re.M)
+    return {row: {int(number): name for name, number in re.findall(r"(\w+)=(\d+)", names)} for row, names in rows}
 
 
 def names_of_relocations():
     """The names of the types of relocations in docs/FORMAT.md, those defined by GNU too, by their numbers."""
     row = re.search(r"^\| type of an R line \| (.*) \|$", read(TOP, "docs/FORMAT.md"), re.M)[1]
-    return {int(number): name for name, number in re.findall(r"(\w+) (\d+)", row)}
+    return {int(number): name for name, number in re.findall(r"(\w+)=(\d+)", row)}
 
 
 def number_of(field, text, tables):
