@@ -8,8 +8,8 @@ use crate::page_cache::PageCache;
 use crate::source::Source;
 use std::marker::Model;
 
-/// A source over another of which the last 64 pages read are cached, 4,096 bytes each. Its file,
-/// its length and its failures are the other's.
+/// A source over another of which the last pages read are cached, 4,096 bytes each. Its file, its
+/// length and its failures are the other's.
 #[derive(Drop)]
 pub struct CachedSource<S: Source> {
     source: S,
@@ -34,6 +34,14 @@ impl<S: Source> CachedSource<S> {
     {
         pages.clear();
         CachedSource { source, pages }
+    }
+}
+
+impl<S: Source + Drop> CachedSource<S> {
+    /// Returns the pages, for another file.
+    pub fn into_pages(self) -> PageCache {
+        let CachedSource { source: _, pages } = self;
+        pages
     }
 }
 

@@ -7,6 +7,7 @@ use crate::page::{PAGE_BYTES, Page};
 use crate::source::Source;
 use std::alloc::{AllocError, Global};
 use std::marker::Model;
+use std::mem;
 
 /// How many pages are cached.
 const PAGES: usize = 64;
@@ -51,6 +52,12 @@ impl PageCache {
         ensures { IfOk result (λ cache. cache ≡ []) }
     {
         Ok(PageCache::over(Vec::with_capacity(alloc, PAGES)?, true))
+    }
+
+    /// Returns the cache, and leaves one that stays empty.
+    pub fn take(&mut self) -> PageCache {
+        let empty = PageCache::new(*self.pages.allocator(), false);
+        mem::replace(self, empty)
     }
 
     /// Drops all pages and keeps their memory.

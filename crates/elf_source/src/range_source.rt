@@ -54,6 +54,14 @@ impl<S: Source> RangeSource<S> {
         }
     }
 
+    /// Returns the source of which it is a range.
+    pub fn into_inner(self) -> S
+        ensures { S.seen result ≡ self.below }
+    {
+        let RangeSource { source, .. } = self;
+        source
+    }
+
     /// Returns the length of the parent source in bytes.
     fn whole(&self) -> u64
         ensures value { result ≡ self.now.below.size }

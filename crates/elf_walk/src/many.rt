@@ -8,7 +8,7 @@ use crate::each_file::FileVisitor;
 use crate::statuses::status;
 use elf_format::{show_check, show_unnamed};
 use elf_model::{FileStatus, Format};
-use elf_source::{Counted, DeferredSink, Out, OutFault, RangeSource, Sink, Source};
+use elf_source::{Counted, DeferredSink, Out, OutFault, PageCache, RangeSource, Sink, Source};
 use std::io::Write;
 use std::marker::Model;
 
@@ -25,6 +25,7 @@ pub struct FileRun<W: Sink, E: Write + Drop, A: FileVisitor> {
     unnamed: u64,
     files: u64,
     terminal: Option<E>,
+    pages: PageCache,
 }
 
 impl<W: Sink, E: Write + Drop, A: FileVisitor> Model for FileRun<W, E, A> {
@@ -42,9 +43,15 @@ impl<W: Sink, E: Write + Drop, A: FileVisitor> Model for FileRun<W, E, A> {
 }
 
 impl<W: Sink, E: Write + Drop, A: FileVisitor + Drop> FileRun<W, E, A> {
-    /// Creates a visit of many files, before the first one. Progress is shown on a terminal, if
-    /// there is one.
-    pub fn new(out: Out<DeferredSink<W>>, each: A, format: Format, terminal: Option<E>) -> Self
+    /// Creates a visit of many files, before the first one. What is read of each is cached in
+    /// `pages`. Progress is shown on a terminal, if there is one.
+    pub fn new(
+        out: Out<DeferredSink<W>>,
+        each: A,
+        format: Format,
+        terminal: Option<E>,
+        pages: PageCache,
+    ) -> Self
         ensures out { result.out ≡ out }
         ensures format { result.format ≡ format }
         ensures rule { result.rule ≡ A.rule each }
@@ -58,6 +65,7 @@ impl<W: Sink, E: Write + Drop, A: FileVisitor + Drop> FileRun<W, E, A> {
             unnamed: 0,
             files: 0,
             terminal,
+            pages,
         }
     }
 
@@ -103,6 +111,20 @@ impl<W: Sink, E: Write + Drop, A: FileVisitor + Drop> FileRun<W, E, A> {
         self.status = self.status.max(found);
         self.files = self.files.saturating_add(1);
         self.report_progress();
+    }
+
+    /// Takes the pages that are cached, until [`put_pages`](Self::put_pages) is called.
+    pub(crate) fn take_pages(&mut self) -> PageCache
+        ensures { self.new ≡ self.old }
+    {
+        self.pages.take()
+    }
+
+    /// Puts back the pages that are cached.
+    pub(crate) fn put_pages(&mut self, pages: PageCache)
+        ensures { self.new ≡ self.old }
+    {
+        self.pages = pages;
     }
 
     /// Counts paths that cannot be represented.

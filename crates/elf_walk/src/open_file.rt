@@ -8,7 +8,8 @@ use crate::many::FileRun;
 use crate::open_failure::unopened;
 use elf_model::FileStatus;
 use elf_source::{
-    Counted, FileReader, OutFault, RangeSource, Sink, Source, StreamSource, opened_path,
+    CachedSource, Counted, FileReader, OutFault, RangeSource, Sink, Source, StreamSource,
+    opened_path,
 };
 use std::fs;
 use std::io::Write;
@@ -28,10 +29,14 @@ where
     R::File: FileExt,
     ensures { ReturnsFile (A.tells many.old.rule) path.now result many.old many.new }
 {
-    match open(rt, path) {
-        Ok(source) => many.report_source(&mut whole(source), path.as_bytes()),
-        Err(state) => many.report_state(state, path.as_bytes()),
-    }
+    let opened = match open(rt, path) {
+        Ok(opened) => opened,
+        Err(state) => return many.report_state(state, path.as_bytes()),
+    };
+    let mut source = whole(CachedSource::new(opened, many.take_pages()));
+    let reported = many.report_source(&mut source, path.as_bytes());
+    many.put_pages(source.into_inner().into_inner().into_pages());
+    reported
 }
 
 /// Opens a file that is read at offsets; for `-`, standard input.

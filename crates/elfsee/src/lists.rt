@@ -97,6 +97,7 @@ where
     let files = VisitedPaths {
         paths: &files.paths,
         list: files.list,
+        budget: rule.caps.limits.budget,
     };
     let ended = visit_files(rt, files, lists, held, rule.caps.style.format, terminal);
     ending_line(ended)

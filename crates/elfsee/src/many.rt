@@ -4,7 +4,7 @@ ghost use Rattle.elfsee.specs.Ends.{EndsFiles, EndsWithoutMemory, StopsFiles, en
 
 use elf_cli::{
     CANNOT_OPEN, CommandArgs, ExitLine, LineSink, OUT_OF_MEMORY, OUTPUT_BYTES, PIPE_BYTES,
-    READ_FAULT, RunEnd, WRITE_FAULT, end_lines,
+    READ_FAULT, RunEnd, WRITE_FAULT, allocate_pages, end_lines,
 };
 use elf_format::TableWriter;
 use elf_model::Format;
@@ -47,6 +47,7 @@ where
     let files = VisitedPaths {
         paths: &asked.paths,
         list: asked.list,
+        budget: asked.caps.limits.budget,
     };
     ending_line(visit_files(rt, files, checks, held, format, terminal))
 }
@@ -74,6 +75,7 @@ where
     let files = VisitedPaths {
         paths: &asked.args.paths,
         list: asked.args.list,
+        budget: asked.args.caps.limits.budget,
     };
     let ended = visit_files(rt, files, lines, held, format, terminal);
     ending_line(ended)
@@ -131,6 +133,8 @@ pub struct VisitedPaths<'p> {
     pub paths: &'p [&'p str],
     /// The path of a file with more paths, each ended by NUL; `-` is standard input.
     pub list: Option<&'p str>,
+    /// How many bytes may be read of each file; without a limit it is read by pages.
+    pub budget: Option<u64>,
 }
 
 /// Allocates the buffers, except those for headers, and visits all requested files. `held` is where
@@ -155,6 +159,9 @@ where
     let Ok(kept) = vec![in rt.alloc(); 0u8; kept_bytes(rt)] else {
         return FilesEnd::NoMemory;
     };
+    let Ok(pages) = allocate_pages(rt.alloc(), files.budget) else {
+        return FilesEnd::NoMemory;
+    };
     let lines = TableWriter::new(io::writer(rt), format);
     let output = LineSink::new(WriteSink::new(lines), kept);
     let mut many = FileRun::new(
@@ -162,6 +169,7 @@ where
         each,
         format,
         terminal,
+        pages,
     );
     let ended = visit_all(rt, files, &mut many, &mut walk, &mut entries);
     let (ended, _output) = end_many(ended, many);

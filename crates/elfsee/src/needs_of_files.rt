@@ -53,6 +53,7 @@ where
     let files = VisitedPaths {
         paths: &asked.paths,
         list: asked.list,
+        budget: asked.caps.limits.budget,
     };
     let ended = visit_files(rt, files, report, held, format, terminal);
     ending_line(ended)

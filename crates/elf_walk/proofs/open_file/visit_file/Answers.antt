@@ -2,5 +2,5 @@
 use Rattle.std.proofs.Common.{inr}
 use Rattle.elf_walk.proofs.open_file.visit_file.Goals as goal
 
-pub returns-in-Ok : goal.returns-in-Ok
-returns-in-Ok g c = inr (record { before = c.whole.result; after = c.report_source.new.src; unasked = c.whole.ensures.unasked; source = rw c.as_bytes.ensures.value at c.report_source.ensures })
+pub returns : goal.returns
+returns g c = inr (record { before = c.whole-source.result; after = c.report_source-reported.new.src; unasked = c.whole-source.ensures.unasked; source = rw c.put_pages.ensures (rw c.take_pages.ensures at (rw c.as_bytes-2.ensures.value at c.report_source-reported.ensures)) })
