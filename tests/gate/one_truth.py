@@ -407,7 +407,7 @@ def check_man(counts, truth, page):
 
 def check_types(counts, truth, causes):
     """The types that the cause `unsupported` says are supported: without an item, and with one of each type."""
-    said = one(r"^\.It Li unsupported\n.*?^These are (.*?)^\(psABI ", causes, "the types of `unsupported`")
+    said = one(r"^\.It Li unsupported\n.*?^Supported are (.*?)^\(psABI ", causes, "the types of `unsupported`")
     told = {item: set() for item in truth.types}
     for part in said.split(";"):
         item = re.search(r"^\.Li (\w+:)", part, re.M)

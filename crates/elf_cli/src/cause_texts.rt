@@ -100,11 +100,12 @@ static CAUSES: [Explanation; 37] = [
         text: "    A section index names no section, or none of the type that is needed. At
     3e: e_shstrndx. At a section header: its sh_link. At a relocation entry:
     it names a symbol, and the sh_link of its section names no symbol table.
-    For apply, at 3c, where e_shnum is: SECTION is 0, or there is no such
-    section. (gABI 4, Sections)
+    For apply and bytes, at 3c, where e_shnum is: SECTION is 0, or there is no
+    such section. For bytes --segment, at 38, where e_phnum is: there is no
+    such program header. (gABI 4, Sections)
     What to do: sections were removed or moved by another tool: strip or
-    objcopy the original again. For apply, take an index that elfsee show
-    --only sections prints.
+    objcopy the original again. For apply and bytes, take an index that elfsee
+    show --only sections prints.
 ",
     },
     Explanation {
@@ -264,9 +265,9 @@ static CAUSES: [Explanation; 37] = [
     },
     Explanation {
         word: "unsupported",
-        text: "    The type of the entry, the lower half of r_info, is not supported. These
-    are NONE, 64, PC32, PLT32, 32, 32S, 16, 8 and PC64; if an item got: has
-    the name of the entry's symbol, also GOTPCREL, GOTPCRELX and
+        text: "    The type of the entry, the lower half of r_info, is not supported.
+    Supported are NONE, 64, PC32, PLT32, 32, 32S, 16, 8 and PC64; if an item
+    got: has the name of the entry's symbol, also GOTPCREL, GOTPCRELX and
     REX_GOTPCRELX; and if an item tpgot: has it, GOTTPOFF. (psABI 4,
     Relocation Types) Or the entry takes the address of a symbol that the file
     defines, and whose type, the lower half of st_info, is from 10 to 15: no
