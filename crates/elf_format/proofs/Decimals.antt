@@ -8,6 +8,10 @@ use Rattle.elf_model.specs.Text.{right_in, spaces}
 pub five_digits : (n : ℕ) → n < 65536 → length (decimal n) ≤ 5
 five_digits n small = length-decimal-le 5 n (omega arith) (omega (arith, small)) (omega (arith, small))
 
+-- one of 32 bits ten
+pub ten_digits : (n : ℕ) → n < 2 ^ 32 → length (decimal n) ≤ 10
+ten_digits n small = length-decimal-le 10 n (omega arith) (omega (arith, small)) (omega (arith, small))
+
 -- and one of 64 bits twenty
 pub twenty_digits : (n : ℕ) → n < 2 ^ 64 → length (decimal n) ≤ 20
 twenty_digits n small = length-decimal-le 20 n (omega arith) (omega (arith, small)) small

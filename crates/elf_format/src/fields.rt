@@ -2,7 +2,7 @@
 ghost use Rattle.std.specs.Prelude.{◌≡◌, ◌+◌, ◌≤◌, ◌++◌, ◌∷◌, [], length, max, IfSome};
 ghost use Rattle.std.specs.Prelude.{option_copied};
 ghost use Rattle.arrayvec.specs.ArrayVec.{array_vec_len};
-ghost use Rattle.elf_model.specs.Prelude.{ArgSpec, Decimal, Hexadecimal, NameOrDecimal, NameOrHexadecimal, NameOrNumber, begun, closing, space, with_field};
+ghost use Rattle.elf_model.specs.Prelude.{ArgSpec, Decimal, Hexadecimal, IndexField, NameOrDecimal, NameOrHexadecimal, NameOrNumber, begun, closing, space, with_field};
 ghost use Rattle.elf_model.specs.Fields.Field.{Signed};
 ghost use Rattle.elf_format.specs.Addends.{addend_shown};
 ghost use Rattle.elf_format.specs.Rooms.{half_room, number_room, text_room};
@@ -131,6 +131,27 @@ pub fn put_hex_field<R: Render>(
         }
         Format::Table => put_short_hex(line, width, b"", number, end),
         Format::Object => put_number(line, key, number),
+    }
+}
+
+/// Appends an index in eight hexadecimal digits, in a table in decimal and right-aligned in a column
+/// of the width, and a space.
+#[tactic(auto, unfolding(elf_model::specs::Fields::with_field, elf_model::specs::Text::right_decimal))]
+#[inline(always)]
+pub fn put_index<R: Render>(line: &mut LineBuf, key: &[u8], width: usize, index: u32)
+    requires room { array_vec_len line.old + number_room (length key.now) ≤ 256 }
+    requires width { width ≤ 16 }
+    ensures items { line.new.items
+        ≡ with_field R.FORMAT line.old.items (IndexField key.now 8 width index) space }
+    ensures len { array_vec_len line.new ≤ array_vec_len line.old + number_room (length key.now) }
+{
+    match R::FORMAT {
+        Format::Columns => {
+            write_hex(line, 8, u64::from(index));
+            line.push(b' ');
+        }
+        Format::Table => put_right(line, width, u64::from(index), b' '),
+        Format::Object => put_number(line, key, index),
     }
 }
 

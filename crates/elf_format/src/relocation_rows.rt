@@ -6,7 +6,7 @@ ghost use Rattle.elf_format.specs.Fronts.{front_of};
 
 use crate::constant_names::ConstantNames;
 use crate::fields::{
-    LinePrefix, begin_named, put_addend, put_half, put_hex_field, put_name_or_sign,
+    LinePrefix, begin_named, put_addend, put_half, put_hex_field, put_index, put_name_or_sign,
 };
 use crate::name_tables::name_in_either_table;
 use crate::relocation_names::psabi_name;
@@ -55,7 +55,7 @@ pub fn relocation_prefix<R: Render>(
         name_of_type::<R>(kind, naming),
         kind,
     );
-    put_hex_field::<R>(line, b"symbol", 8, 6, u64::from(entry.symbol()), b' ');
+    put_index::<R>(line, b"symbol", 6, entry.symbol());
     put_addend::<R>(line, addend);
 }
 
@@ -72,7 +72,7 @@ pub fn relr_prefix<R: Render>(front: &mut LinePrefix, section: u16, address: u64
     put_half::<R>(line, b"table", section, b' ');
     put_hex_field::<R>(line, b"offset", 16, 9, address, b' ');
     put_name_or_sign::<R>(line, b"type", type_width::<R>(), Some("RELR"), 0);
-    put_hex_field::<R>(line, b"symbol", 8, 6, 0, b' ');
+    put_index::<R>(line, b"symbol", 6, 0);
     put_addend::<R>(line, None);
 }
 

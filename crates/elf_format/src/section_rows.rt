@@ -8,7 +8,9 @@ ghost use Rattle.elf_format.specs.Fronts.{front_of};
 
 use crate::columns::{LineBuf, put_where};
 use crate::constant_names::ConstantNames;
-use crate::fields::{LinePrefix, begin_named, put_half, put_hex_field, put_name_or_hex, put_text};
+use crate::fields::{
+    LinePrefix, begin_named, put_half, put_hex_field, put_index, put_name_or_hex, put_text,
+};
 use crate::name_tables::name_in_either_table;
 use crate::render::Render;
 use elf_record::gnu_numbers::{
@@ -45,8 +47,8 @@ pub fn section_prefix<R: Render>(
     put_hex_field::<R>(line, b"address", 16, 12, header.sh_addr, b' ');
     put_hex_field::<R>(line, b"offset", 16, 9, header.sh_offset, b' ');
     put_hex_field::<R>(line, b"size", 16, 9, header.sh_size, b' ');
-    put_hex_field::<R>(line, b"link", 8, 4, u64::from(header.sh_link), b' ');
-    put_hex_field::<R>(line, b"info", 8, 5, u64::from(header.sh_info), b' ');
+    put_index::<R>(line, b"link", 4, header.sh_link);
+    put_index::<R>(line, b"info", 5, header.sh_info);
 }
 
 /// The largest number of letters of flags that are shown.

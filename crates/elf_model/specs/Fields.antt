@@ -9,13 +9,16 @@ use Rattle.elf_model.specs.declared.formats.Format.{Format}
 use Rattle.elf_model.specs.declared.formats.Format.TheVariants.{Columns, Object, Table}
 
 -- a field, by its key: a decimal number at the right of a column; a number in this many hexadecimal
--- digits, and in a table at the right of a column of this width; a number with its sign; a text at the left of a column; a name at the left of a column,
+-- digits, and in a table at the right of a column of this width; an index in this many hexadecimal
+-- digits, and in a table in decimal at the right of a column of this width; a number with its sign;
+-- a text at the left of a column; a name at the left of a column,
 -- or if the number has none the number itself, in decimal at the right, in hexadecimal digits at
 -- the left, or in decimal after a sign of one at the left; a hyphen in place of fields that a line
 -- does not have; and one in place of an addend that an entry does not have
 pub data Field : Type 0 where
   Decimal : (key : List ℕ) (width n : ℕ) → Field
   Hexadecimal : (key : List ℕ) (digits width n : ℕ) → Field
+  IndexField : (key : List ℕ) (digits width n : ℕ) → Field
   Signed : (key : List ℕ) (n : ℤ) → Field
   ArgSpec : (key : List ℕ) (width : ℕ) (text : List ℕ) → Field
   NameOrDecimal : (key : List ℕ) (width : ℕ) (name : Option (List ℕ)) (n : ℕ) → Field
@@ -32,6 +35,7 @@ pub record Fields : Type 0 where
 abbrev key_of : Field → List ℕ
 key_of (Decimal key width n) = key
 key_of (Hexadecimal key digits width n) = key
+key_of (IndexField key digits width n) = key
 key_of (Signed key n) = key
 key_of (ArgSpec key width text) = key
 key_of (NameOrDecimal key width name n) = key
@@ -51,6 +55,7 @@ signed_text n = sign_of n ++ hex 16 (nat_abs n)
 abbrev pub column : Field → List ℕ
 column (Decimal key width n) = right_decimal width n
 column (Hexadecimal key digits width n) = hex digits n
+column (IndexField key digits width n) = hex digits n
 column (Signed key n) = signed_text n
 column (ArgSpec key width text) = left_in width text
 column (NameOrDecimal key width name n) = name_or_decimal width name n
@@ -67,10 +72,11 @@ abbrev pub CAUSE_WIDTH : ℕ
 CAUSE_WIDTH = 14
 
 -- a field in its column of a table: a hexadecimal number and a number with its sign are at the
--- right, without leading zeros; a hyphen is in each of the columns of the place and the cause; all
+-- right, without leading zeros, and an index is in decimal; a hyphen is in each of the columns of the place and the cause; all
 -- else is as in columns
 abbrev pub cell : Field → List ℕ
 cell (Hexadecimal key digits width n) = right_in width (short_hex n)
+cell (IndexField key digits width n) = right_decimal width n
 cell (Signed key n) = right_in ADDEND_WIDTH (sign_of n ++ short_hex (nat_abs n))
 cell Hyphen = right_in 9 (codes "-") ++ space ++ left_in CAUSE_WIDTH (codes "-")
 cell NoAddend = right_in ADDEND_WIDTH (codes "-")
@@ -106,6 +112,7 @@ name_or_value None n = decimal n
 abbrev member_value : Field → List ℕ
 member_value (Decimal key width n) = decimal n
 member_value (Hexadecimal key digits width n) = decimal n
+member_value (IndexField key digits width n) = decimal n
 member_value (Signed key n) = signed_decimal n
 member_value (ArgSpec key width text) = quoted text
 member_value (NameOrDecimal key width name n) = name_or_value name n

@@ -2,7 +2,7 @@
 -- bytes. Whether GNU numbers have names, and on which machine, is given first.
 use Rattle.std.specs.Prelude.{ℕ, Bool, true, false, List, [], ◌∷◌, Some, codes}
 use Rattle.elf_model.specs.Fields.{Field, Fields, LinePrefix, front}
-use Rattle.elf_model.specs.Fields.Field.{Decimal, Hexadecimal, Signed, ArgSpec, NameOrDecimal, NameOrHexadecimal, NameOrNumber, NoAddend}
+use Rattle.elf_model.specs.Fields.Field.{Decimal, Hexadecimal, IndexField, Signed, ArgSpec, NameOrDecimal, NameOrHexadecimal, NameOrNumber, NoAddend}
 use Rattle.elf_model.specs.Text.{name_of}
 use Rattle.elf_model.specs.Records.{sh_type, sh_flags, sh_addr, sh_offset, sh_size, sh_link, sh_info, st_value, st_size, st_type, st_bind, st_visibility, st_shndx, r_offset, r_type, r_sym, r_addend, twos_complement, d_tag, d_un}
 use Rattle.elf_model.specs.NameTables.{section_types, section_flags_text, symbol_types, bindings, visibilities, places, relocation_names, dynamic_tags}
@@ -21,8 +21,8 @@ section_fields gnu machine bytes at index = record {
       ∷ Hexadecimal (codes "address") 16 12 (sh_addr bytes at)
       ∷ Hexadecimal (codes "offset") 16 9 (sh_offset bytes at)
       ∷ Hexadecimal (codes "size") 16 9 (sh_size bytes at)
-      ∷ Hexadecimal (codes "link") 8 4 (sh_link bytes at)
-      ∷ Hexadecimal (codes "info") 8 5 (sh_info bytes at)
+      ∷ IndexField (codes "link") 8 4 (sh_link bytes at)
+      ∷ IndexField (codes "info") 8 5 (sh_info bytes at)
       ∷ [];
 }
 
@@ -77,7 +77,7 @@ relocation_fields addends format gnu machine bytes at section = record {
       Decimal (codes "table") 5 section
       ∷ Hexadecimal (codes "offset") 16 9 (r_offset bytes at)
       ∷ NameOrNumber (codes "type") (type_width format) (name_of (names_of_types format gnu machine) (r_type bytes at)) (r_type bytes at)
-      ∷ Hexadecimal (codes "symbol") 8 6 (r_sym bytes at)
+      ∷ IndexField (codes "symbol") 8 6 (r_sym bytes at)
       ∷ addend_field addends bytes at
       ∷ [];
 }
@@ -95,7 +95,7 @@ relr_fields format address section = record {
       Decimal (codes "table") 5 section
       ∷ Hexadecimal (codes "offset") 16 9 address
       ∷ NameOrNumber (codes "type") (type_width format) (Some (codes "RELR")) 0
-      ∷ Hexadecimal (codes "symbol") 8 6 0
+      ∷ IndexField (codes "symbol") 8 6 0
       ∷ NoAddend
       ∷ [];
 }

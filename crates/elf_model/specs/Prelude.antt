@@ -43,7 +43,7 @@ unfoldable pub use Rattle.elf_model.specs.Explain.{explained, has_entry, lack_of
 pub use Rattle.elf_model.specs.FaultRows.{entry_number, fault_row, is_in_section, is_in_segment, listed_range, row_index, section_entry_size, segment_entry_size, table_segments}
 unfoldable pub use Rattle.elf_model.specs.FaultRows.{row_among, row_in_segments, row_in_tables}
 pub use Rattle.elf_model.specs.Fields.{ADDEND_WIDTH, CAUSE_WIDTH, Field, Fields, LinePrefix, cell, closed_line, front, name_or_value, sign_of, with_fields}
-pub use Rattle.elf_model.specs.Fields.Field.{ArgSpec, Decimal, Hexadecimal, NameOrDecimal, NameOrHexadecimal, NameOrNumber, NoAddend}
+pub use Rattle.elf_model.specs.Fields.Field.{ArgSpec, Decimal, Hexadecimal, IndexField, NameOrDecimal, NameOrHexadecimal, NameOrNumber, NoAddend}
 unfoldable pub use Rattle.elf_model.specs.Fields.{begun, closing, member_key, quoted, signed_text, string_byte, string_text, with_field}
 pub use Rattle.elf_model.specs.FileLists.{front_size, headed, list_status, may_read_bytes, member_fault, members_alone, path_line, placed_after}
 unfoldable pub use Rattle.elf_model.specs.FileLists.{archive_fault, file_magic, first_fault, path_front}
