@@ -187,7 +187,8 @@ struct elfsee_found {
     uint32_t none_behind; /* 0 */
 };
 
-/* Looks up a name in the file's own hash table. The name has `name_len` bytes, at most 4,096, no NUL
+/* Looks up a name in the file's SysV hash table. Most files have only a GNU one, and are refused with
+ * NO_HASH: elfsee_look_up uses either. The name has `name_len` bytes, at most 4,096, no NUL
  * in it and needs none after it.
  *  OK: the definition's symbol, its place, and the number of steps. ABSENT: there is none;
  *    `found->steps` names were compared. REFUSED: for `end->cause` at `end->at`.
@@ -394,7 +395,8 @@ uint32_t elfsee_header(const uint8_t *file, size_t file_len, struct elfsee_heade
                        struct elfsee_end *end);
 
 /* Reads a section header or a program header, by its index. OK; ABSENT if there is none of that index;
- * REFUSED if the checks of the file header, or of the range of the headers, fail. */
+ * REFUSED if the checks of the file header, or of the range of the headers, fail: for segments too, those of
+ * the section headers. In a private mapping, zeros at 40 to 47 and at 60 to 63 of the file leave these out. */
 uint32_t elfsee_section(const uint8_t *file, size_t file_len, uint16_t index,
                         struct elfsee_section *section, struct elfsee_end *end);
 uint32_t elfsee_segment(const uint8_t *file, size_t file_len, uint16_t index,
