@@ -34,6 +34,7 @@ pub mod TableKinds
 pub mod SuffixLaws
 pub mod Report
 pub mod TableTexts
+pub mod Located
 pub mod ListingLaws
 pub mod SymbolFilterLaws
 pub mod StyleLaws
