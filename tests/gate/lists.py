@@ -4,9 +4,9 @@
     tests/gate/lists.py [--program PROGRAM] [--quick] [--name NAME] [FOLDER OR FILE..]
 
 After the line `@ PATH` of an ELF file must come what `show` of it prints, after that of an archive, with --members,
-what `archive` prints; other files have nothing, and those that cannot be read a line `C`. With names the line of a
-member comes only before a line of its own, the line of a path before the first line that is shown, and a file of which
-none is shown has none.
+what `archive` prints, each object with its path and member; other files have nothing, and those that cannot be read a
+line `C`. With names the line of a member comes only before a line of its own, the line of a path before the first line
+that is shown, and a file of which none is shown has none.
 
 First come generated files: refused and short ones, archives, budgets, objects of JSON, statuses, files that vanish, odd
 names, and eight processes that write to one pipe. --quick runs only these, as ./check does. Without it follow a
@@ -16,6 +16,7 @@ magic number or the magic string of an archive, and the rows of --name (`deflate
 Debian's binutils for the last. The last line is `N passed, N failed`."""
 
 import collections
+import json
 import os
 import re
 import subprocess
@@ -78,6 +79,22 @@ def before_lines(program, path, out):
                     if not is_member[number] or number + 1 < own and not is_member[number + 1])
 
 
+def located(program, path, out, members):
+    """The same objects with the path of their file and, of the rows of an archive's member, the name of its line."""
+    lines, member = out.splitlines(True), b""
+    of_members = run(program, "archive", "--only", "members", "--", path)[0].splitlines() if members else []
+    own = len(lines) - 1 if of_members and of_members[-1].startswith(b"!") else len(lines)
+    placed = b',"path":"%s"' % spelt(path).replace(b"\\", b"\\\\").replace(b'"', b'\\"')
+    for number, line in enumerate(lines):
+        row = json.loads(line)
+        if row["line"] == "A":
+            member = b""
+        lines[number] = line[:11] + placed + (b"" if number == own else member) + line[11:]
+        if row["line"] == "A":
+            member = b',"member":' + json.dumps(row["name"]).encode() + (b',"member_cut":true' if row.get("cut") else b"")
+    return b"".join(lines)
+
+
 def told(program, path, words, members):
     """What `list` is to write of a file, and its status, by `show` or `archive` of it alone."""
     sort = sort_of(path)
@@ -88,6 +105,8 @@ def told(program, path, words, members):
         out = before_lines(program, path, out)
     if b"--name" in words and not out:
         return b"", status
+    if b"--json" in words:
+        out = located(program, path, out, sort == "archive")
     line = b'{"line":"@","path":"%s"}\n' % spelt(path).replace(b"\\", b"\\\\").replace(b'"', b'\\"')
     return (line if b"--json" in words else b"@ " + spelt(path) + b"\n") + out, status
 
@@ -120,16 +139,18 @@ def made(program, top):
                b"g.a": archive((b"a.o", header()), (b"bad.o", MAGIC + b"\1" + header()[5:]), (b"c.o", header())),
                b"h.a": library + b"x", b"i.a": library[:-1], b"j.a": ARCHIVE, b"k.a": ARCHIVE[:7], b"l.a": b"!<thin>\n",
                b"m \\ \x7f": header(), b"n\"": header(), b"o": MAGIC + b"\1" + header()[5:], b"p/q": whole[:4096],
-               b"p/r": whole, b"z": header()})
+               b"p/r": whole, b"z": header(),
+               b"n \"\\.a": archive((b"q\"\\ \x01.o", whole), (b"bad.o", MAGIC + b"\1" + header()[5:])) + b"x"})
     return sorted(path for path in in_order(top))
 
 
 def check_made(counts, program, top):
     paths = made(program, top)
-    for words in ((), (b"--json",), (b"--only", b"header"), (b"--only", b"symbols", b"--gnu"), (b"--by-segments",)):
+    for words in ((), (b"--json",), (b"--json", b"--names", b"3"), (b"--only", b"header"), (b"--only", b"symbols", b"--gnu"),
+                  (b"--by-segments",)):
         for members in (False, True):
             check_files(counts, program, f"made files, {words} {members}", paths, words, members)
-            if b"--json" in words or not words:
+            if words in ((), (b"--json",)):
                 named = (*words, b"--name", b"main", b"--name", b"no such name")
                 check_files(counts, program, f"made files by names, {named} {members}", paths, named, members)
     for path in paths:
@@ -194,6 +215,9 @@ def check_members(counts, program, top):
     for words in (longest, (b"--json", *longest)):
         out, status, errors = run(program, "list", *words, "--members", "--files0-from", "-", given=path, cwd=top)
         alone, _, _ = run(program, "list", *words, "--members", b"long.a", cwd=top)
+        if b"--json" in words:
+            counts.check("the longest path is in each row", True, all(line.count(b'"path":"') == 1 for line in out.splitlines()))
+            out, alone = (re.sub(rb'(?m)^({"line":"[^@]"),"path":"[^"]*"', rb"\1", text) for text in (out, alone))
         counts.check("the longest lines that are held", (alone.splitlines()[1:], 0, b""), (out.splitlines()[1:], status, errors))
         counts.check("the longest lines that are deferred are printed", 2 + len(row.splitlines()), len(out.splitlines()))
 

@@ -6,9 +6,11 @@ ghost use Rattle.elf_archive.specs.Listed.{AnswersAfter, HoldsOrBreaks};
 ghost use Rattle.elf_archive.specs.Members.{member_of};
 
 use crate::member::{FileRange, Member};
-use elf_format::{Columns, Json, LinePrefix, Tabular, member_prefix, show_named};
+use elf_format::{
+    Columns, Json, LinePrefix, Tabular, member_prefix, show_member_location, show_named,
+};
 use elf_model::Format;
-use elf_source::{DeferredLine, DeferredSink, Out, OutFault, Sink, SliceSink};
+use elf_source::{DeferredLine, DeferredSink, LocatedSink, Out, OutFault, Sink, SliceSink};
 use elf_table::{NameBuf, RunFault};
 
 /// The maximum number of bytes of a deferred line: a name of 4,096 bytes, each escaped in at most
@@ -48,7 +50,7 @@ pub(crate) fn defer_member_line<W: Sink>(
     member: &Member,
     name: &NameBuf,
     format: Format,
-    out: &mut Out<DeferredSink<W>>,
+    out: &mut Out<DeferredSink<LocatedSink<W>>>,
 ) -> Result<DeferredLine, OutFault>
     ensures holds { HoldsOrBreaks out.old out.new result
         (member_line format (member_of member.now name.now)) }
@@ -63,6 +65,27 @@ pub(crate) fn defer_member_line<W: Sink>(
     }
 }
 
+/// Sets the location of a member's rows, if objects have one: its name.
+#[inline(never)]
+pub(crate) fn locate_member<W: Sink>(
+    member: &Member,
+    name: &NameBuf,
+    out: &mut Out<DeferredSink<LocatedSink<W>>>,
+)
+    ensures { out.new ≡ out.old }
+{
+    if !out.adds_location() {
+        return;
+    }
+    let mut buffer = [0; DEFERRED_LINE_BYTES];
+    let mut text = Out::new(SliceSink::new(&mut buffer));
+    let shown = show_member_location(name.bytes(), member.is_cut, &mut text);
+    let sink = text.into_inner();
+    if shown.is_ok() {
+        out.locate_member(sink.written());
+    }
+}
+
 /// Ends a line that was deferred before a listing, and returns how that ended: the line is kept if
 /// something was written after it, otherwise it is discarded.
 ///
@@ -71,7 +94,7 @@ pub(crate) fn defer_member_line<W: Sink>(
 pub fn end_listed<W: Sink>(
     line: DeferredLine,
     listed: Result<bool, RunFault>,
-    out: &mut Out<DeferredSink<W>>,
+    out: &mut Out<DeferredSink<LocatedSink<W>>>,
 ) -> Result<bool, RunFault>
     requires { out.old.written ≡ line.start → line.start - line.before ≤ out.old.held }
     ensures line { EndsLine line out.old out.new }

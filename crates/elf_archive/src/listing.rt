@@ -10,14 +10,14 @@ ghost use Rattle.elf_archive.specs.Listed.{ListsArchive, ListsMembers, ReportsAr
 ghost use Rattle.elf_archive.specs.Members.{IsMemberWalkInBounds, extent_of, member_of};
 
 use crate::cursor::MemberCursor;
-use crate::lines::{defer_member_line, end_listed, show_member};
+use crate::lines::{defer_member_line, end_listed, locate_member, show_member};
 use crate::magic_strings::magic;
 use crate::member::{FileRange, Member};
 use crate::parts::list_member;
 use elf_format::show_refusal;
 use elf_listing::show_stop;
 use elf_record::Parts;
-use elf_source::{Counted, DeferredSink, Limited, Out, RangeSource, Sink, Source};
+use elf_source::{Counted, DeferredSink, Limited, LocatedSink, Out, RangeSource, Sink, Source};
 use elf_table::{Caps, HeaderStore, ListingStyle, NameBuf, RunFault};
 
 /// What is listed of members: how rows are shown, which parts of a listing, and whether their lines
@@ -54,7 +54,7 @@ pub fn show_archive<S: Source, W: Sink>(
     caps: Caps,
     parts: Parts,
     alone: bool,
-    out: &mut Out<DeferredSink<W>>,
+    out: &mut Out<DeferredSink<LocatedSink<W>>>,
 ) -> Result<bool, RunFault>
     requires small { (store.old.slots ≡ caps.limits.headers) × (src.old.asked ≤ 2 ^ 127) }
     requires whole { IsAll src.old }
@@ -104,7 +104,7 @@ fn list_archive<S: Source, W: Sink>(
     src: &mut Counted<RangeSource<S>>,
     store: &mut HeaderStore,
     choice: MemberOptions,
-    out: &mut Out<DeferredSink<W>>,
+    out: &mut Out<DeferredSink<LocatedSink<W>>>,
 ) -> Result<bool, RunFault>
     requires { IsAll src.old }
     ensures lists { ListsArchive choice.entry.alone store.old.slots store.new.slots
@@ -127,7 +127,7 @@ fn list_members<S: Source, W: Sink>(
     src: &mut Counted<RangeSource<S>>,
     store: &mut HeaderStore,
     choice: MemberOptions,
-    out: &mut Out<DeferredSink<W>>,
+    out: &mut Out<DeferredSink<LocatedSink<W>>>,
 ) -> Result<bool, RunFault>
     requires whole { IsAll src.old }
     requires size { (8 ≤ src.old.seen.size) × (src.old.seen.size < 2 ^ 63) }
@@ -167,7 +167,7 @@ fn list_next<S: Source, W: Sink>(
     choice: MemberOptions,
     cursor: &mut MemberCursor,
     name: &mut NameBuf,
-    out: &mut Out<DeferredSink<W>>,
+    out: &mut Out<DeferredSink<LocatedSink<W>>>,
 ) -> Result<Option<bool>, RunFault>
     requires whole { IsAll src.old }
     requires size { src.old.seen.size < 2 ^ 63 }
@@ -187,14 +187,14 @@ fn list_next<S: Source, W: Sink>(
 /// deferred until a line follows. Returns whether the listing was refused.
 ///
 /// # Errors
-/// As for [`list_reported`] and [`defer_member_line`].
+/// As for [`list_located`] and [`defer_member_line`].
 fn list_with_line<S: Source, W: Sink>(
     src: &mut Counted<RangeSource<S>>,
     store: &mut HeaderStore,
     choice: MemberOptions,
     member: &Member,
     name: &NameBuf,
-    out: &mut Out<DeferredSink<W>>,
+    out: &mut Out<DeferredSink<LocatedSink<W>>>,
 ) -> Result<bool, RunFault>
     requires { HoldsPart src.old (extent_of member.now.extent) }
     ensures { GoesThroughMember (extent_of member.now.extent) store.old.slots store.new.slots
@@ -205,11 +205,35 @@ fn list_with_line<S: Source, W: Sink>(
 {
     if choice.alone {
         show_member(member, name, choice.style.format, out)?;
-        return list_reported(src, store, choice, member.extent, out);
+        return list_located(src, store, choice, member, name, out);
     }
     let line = defer_member_line(member, name, choice.style.format, out)?;
-    let listed = list_reported(src, store, choice, member.extent, out);
+    let listed = list_located(src, store, choice, member, name, out);
     end_listed(line, listed, out)
+}
+
+/// Lists a member as [`list_reported`] does, its objects with its name if they have a location.
+///
+/// # Errors
+/// As for [`list_reported`].
+fn list_located<S: Source, W: Sink>(
+    src: &mut Counted<RangeSource<S>>,
+    store: &mut HeaderStore,
+    choice: MemberOptions,
+    member: &Member,
+    name: &NameBuf,
+    out: &mut Out<DeferredSink<LocatedSink<W>>>,
+) -> Result<bool, RunFault>
+    requires { HoldsPart src.old (extent_of member.now.extent) }
+    ensures { GoesThroughMember (extent_of member.now.extent) store.old.slots store.new.slots
+        (style_of choice.entry.style) choice.entry.parts.0 src.old src.new out.old out.new result
+        (λ style items.
+        ListsMembers out.old out.new result (told style.format items) (is_some (fault_of items))) }
+{
+    locate_member(member, name, out);
+    let listed = list_reported(src, store, choice, member.extent, out);
+    out.locate_member(b"");
+    listed
 }
 
 /// Lists a member as [`list_member`] does, and returns whether its listing was refused: the line of

@@ -64,4 +64,5 @@ pub mod WalkLaws
 pub mod SysvWalkLaws
 pub mod TableBounds
 pub mod TableLaws
+pub mod LocatedLaws
 pub mod Walks

@@ -36,6 +36,7 @@ pub mod SuffixLaws
 pub mod FaultRows
 pub mod Report
 pub mod TableTexts
+pub mod Located
 pub mod ListingLaws
 pub mod SymbolFilterLaws
 pub mod StyleLaws

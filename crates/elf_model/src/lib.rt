@@ -18,6 +18,7 @@ mod gnu_hash_laws;
 mod hash_laws;
 mod listing_laws;
 mod loader_laws;
+mod located_laws;
 mod missing;
 mod names;
 mod notes;

@@ -7,6 +7,7 @@ pub mod ReadsLaws
 mod PageLaws
 pub mod PutsLaws
 pub mod LineLaws
+mod LocatedLaws
 pub mod OnwardLaws
 mod TurnLaws
 pub mod RangeLaws

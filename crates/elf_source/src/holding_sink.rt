@@ -14,7 +14,7 @@ use std::marker::Model;
 /// taken. Lines that are still held may be taken back.
 #[derive(Drop)]
 pub struct DeferredSink<W: Sink> {
-    sink: W,
+    pub(crate) sink: W,
     room: Vec<u8>,
     // The position of the held bytes in the buffer.
     from: usize,

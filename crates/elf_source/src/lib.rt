@@ -3,8 +3,8 @@
 //! A [`Source`] is read through a [`Counted`], which counts bytes and may limit them, and by
 //! [`Limited::charge`] takes them off a budget; a [`Sink`] is written through an [`Out`]. Sources
 //! are [`MemorySource`], [`StreamSource`] over a [`ReadAt`], [`RangeSource`] and [`CachedSource`],
-//! which keeps the pages that were read last; sinks are [`SliceSink`], [`WriteSink`], [`NullSink`]
-//! and [`DeferredSink`]. [`FailSource`] and [`TurnSource`] show what a caller does at faults and
+//! which keeps the pages that were read last; sinks are [`SliceSink`], [`WriteSink`], [`NullSink`],
+//! [`DeferredSink`] and [`LocatedSink`]. [`FailSource`] and [`TurnSource`] show what a caller does at faults and
 //! changes of a file.
 #![tactic(auto)]
 
@@ -14,6 +14,8 @@ mod fail_source;
 mod faults;
 mod holding_sink;
 mod limited;
+mod located_sink;
+mod location_buffer;
 mod memory_source;
 mod null_sink;
 mod offset_reader;
@@ -38,6 +40,7 @@ pub use fail_source::FailSource;
 pub use faults::{AskFault, OutFault, ReadAtFault, SinkFault, SourceFault};
 pub use holding_sink::{DeferredLine, DeferredSink};
 pub use limited::Limited;
+pub use located_sink::LocatedSink;
 pub use memory_source::MemorySource;
 pub use null_sink::NullSink;
 pub use offset_reader::FileReader;

@@ -11,7 +11,7 @@ use crate::statuses::status;
 use elf_format::show_check;
 use elf_model::FileStatus;
 use elf_record::Parts;
-use elf_source::{Counted, DeferredSink, Out, OutFault, RangeSource, Sink, Source};
+use elf_source::{Counted, DeferredSink, LocatedSink, Out, OutFault, RangeSource, Sink, Source};
 use elf_table::{Caps, HeaderStore};
 use std::marker::Model;
 
@@ -69,7 +69,7 @@ impl<'a> FileVisitor for CheckFiles<'a> {
         &mut self,
         src: &mut Counted<RangeSource<S>>,
         path: &[u8],
-        out: &mut Out<DeferredSink<W>>,
+        out: &mut Out<DeferredSink<LocatedSink<W>>>,
     ) -> Result<u8, OutFault> {
         let state = find_state(src, &mut self.store, &self.rule);
         show_check(state, path, self.rule.caps.style.format, out)?;

@@ -4,7 +4,7 @@ ghost use Rattle.elf_walk.specs.Telling.{StandsWhole};
 ghost use Rattle.elf_source.specs.Prelude.{CountedState, OutState};
 ghost use Rattle.elf_source.specs.declared.faults.OutFault.{OutFault};
 
-use elf_source::{Counted, DeferredSink, Out, OutFault, RangeSource, Sink, Source};
+use elf_source::{Counted, DeferredSink, LocatedSink, Out, OutFault, RangeSource, Sink, Source};
 
 /// A visitor of files, one after another, by the same rule: earlier files do not matter.
 pub trait FileVisitor {
@@ -30,7 +30,7 @@ pub trait FileVisitor {
         &mut self,
         src: &mut Counted<RangeSource<S>>,
         path: &[u8],
-        out: &mut Out<DeferredSink<W>>,
+        out: &mut Out<DeferredSink<LocatedSink<W>>>,
     ) -> Result<u8, OutFault>
         requires { StandsWhole src.old }
         ensures tells { tells (rule self.old) path.now src.old src.new out.old out.new result }

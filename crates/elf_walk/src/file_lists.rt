@@ -6,10 +6,11 @@ use crate::each_file::FileVisitor;
 use crate::headed::list_with_path_line;
 use crate::line_prefixes::find_file_type;
 use crate::options::ListOptions;
+use crate::path_lines::locate_file;
 use crate::statuses::status;
 use elf_format::show_check;
 use elf_model::{FileMagic, FileStatus, Format};
-use elf_source::{Counted, DeferredSink, Out, OutFault, RangeSource, Sink, Source};
+use elf_source::{Counted, DeferredSink, LocatedSink, Out, OutFault, RangeSource, Sink, Source};
 use elf_table::{Caps, HeaderStore, RunFault};
 use std::marker::Model;
 
@@ -56,7 +57,7 @@ impl<'a> FileVisitor for ListFiles<'a> {
         &mut self,
         src: &mut Counted<RangeSource<S>>,
         path: &[u8],
-        out: &mut Out<DeferredSink<W>>,
+        out: &mut Out<DeferredSink<LocatedSink<W>>>,
     ) -> Result<u8, OutFault> {
         let rule = self.rule;
         let format = rule.caps.style.format;
@@ -76,6 +77,7 @@ impl<'a> FileVisitor for ListFiles<'a> {
             parts: rule.parts,
             members: rule.members,
         };
+        locate_file(path, out);
         let listed = list_with_path_line(src, &mut self.store, &rule, sort, path, out);
         end_list(listed, path, format, out)
     }

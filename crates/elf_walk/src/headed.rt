@@ -13,7 +13,7 @@ use crate::sorts::list_by_type;
 use elf_archive::end_listed;
 use elf_format::show_path;
 use elf_model::FileMagic;
-use elf_source::{Counted, DeferredSink, Out, RangeSource, Sink, Source};
+use elf_source::{Counted, DeferredSink, LocatedSink, Out, RangeSource, Sink, Source};
 use elf_table::{HeaderStore, RunFault};
 
 /// Writes the line of a path, and after it the listing of the file there as [`list_by_type`] does;
@@ -30,7 +30,7 @@ pub fn list_with_path_line<S: Source, W: Sink>(
     rule: &ListOptions,
     sort: FileMagic,
     path: &[u8],
-    out: &mut Out<DeferredSink<W>>,
+    out: &mut Out<DeferredSink<LocatedSink<W>>>,
 ) -> Result<bool, RunFault>
     requires small { (store.old.slots ≡ rule.now.caps.limits.headers) × (src.old.asked ≤ 2 ^ 127) }
     requires whole { IsAll src.old }

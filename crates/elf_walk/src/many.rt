@@ -8,7 +8,9 @@ use crate::each_file::FileVisitor;
 use crate::statuses::status;
 use elf_format::{show_check, show_unnamed};
 use elf_model::{FileStatus, Format};
-use elf_source::{Counted, DeferredSink, Out, OutFault, PageCache, RangeSource, Sink, Source};
+use elf_source::{
+    Counted, DeferredSink, LocatedSink, Out, OutFault, PageCache, RangeSource, Sink, Source,
+};
 use std::io::Write;
 use std::marker::Model;
 
@@ -19,7 +21,7 @@ const TELL_EVERY: u64 = 512;
 #[derive(Drop)]
 pub struct FileRun<W: Sink, E: Write + Drop, A: FileVisitor> {
     each: A,
-    out: Out<DeferredSink<W>>,
+    out: Out<DeferredSink<LocatedSink<W>>>,
     format: Format,
     status: u8,
     unnamed: u64,
@@ -46,7 +48,7 @@ impl<W: Sink, E: Write + Drop, A: FileVisitor + Drop> FileRun<W, E, A> {
     /// Creates a visit of many files, before the first one. What is read of each is cached in
     /// `pages`. Progress is shown on a terminal, if there is one.
     pub fn new(
-        out: Out<DeferredSink<W>>,
+        out: Out<DeferredSink<LocatedSink<W>>>,
         each: A,
         format: Format,
         terminal: Option<E>,
@@ -183,7 +185,7 @@ impl<W: Sink, E: Write + Drop, A: FileVisitor + Drop> FileRun<W, E, A> {
     }
 
     /// Returns the output.
-    pub fn into_out(self) -> Out<DeferredSink<W>>
+    pub fn into_out(self) -> Out<DeferredSink<LocatedSink<W>>>
         ensures { result ≡ self.out }
     {
         let FileRun { out, .. } = self;

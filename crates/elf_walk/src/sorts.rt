@@ -14,7 +14,7 @@ use elf_archive::show_archive;
 use elf_listing::{show, show_stop};
 use elf_model::{FileMagic, Format};
 use elf_record::Parts;
-use elf_source::{Counted, DeferredSink, Out, RangeSource, Sink, Source};
+use elf_source::{Counted, DeferredSink, LocatedSink, Out, RangeSource, Sink, Source};
 use elf_table::{Caps, HeaderStore, ListingStyle, RunFault};
 
 /// Writes the listing of a file of a type: for an ELF file its own, for an archive that of its
@@ -33,7 +33,7 @@ pub fn list_by_type<S: Source, W: Sink>(
     caps: Caps,
     parts: Parts,
     sort: FileMagic,
-    out: &mut Out<DeferredSink<W>>,
+    out: &mut Out<DeferredSink<LocatedSink<W>>>,
 ) -> Result<bool, RunFault>
     requires small { (store.old.slots ≡ caps.limits.headers) × (src.old.asked ≤ 2 ^ 127) }
     requires whole { IsAll src.old }

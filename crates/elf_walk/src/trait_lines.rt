@@ -11,7 +11,7 @@ use crate::statuses::status;
 use elf_format::{show_check, show_missing_trait, show_traits};
 use elf_model::{FileStatus, Format, Hardening};
 use elf_options::RequiredTrait;
-use elf_source::{Counted, DeferredSink, Out, OutFault, RangeSource, Sink, Source};
+use elf_source::{Counted, DeferredSink, LocatedSink, Out, OutFault, RangeSource, Sink, Source};
 use elf_table::{HeaderStore, Limits};
 use std::marker::Model;
 
@@ -68,7 +68,7 @@ impl<'a> FileVisitor for TraitReport<'a> {
         &mut self,
         src: &mut Counted<RangeSource<S>>,
         path: &[u8],
-        out: &mut Out<DeferredSink<W>>,
+        out: &mut Out<DeferredSink<LocatedSink<W>>>,
     ) -> Result<u8, OutFault> {
         match traits_within(src, &mut self.store, self.rule.limits) {
             Ok(traits) => show_lines(traits, &self.rule, path, out),

@@ -4,11 +4,13 @@ ghost use Rattle.elf_options.specs.Prelude.{NeverDescend, named_style, style_of,
 ghost use Rattle.elfsee.specs.Ends.{EndsWithoutMemory};
 ghost use Rattle.elfsee.specs.Naming.{EndsWithoutNames};
 
-use crate::many::{VisitedPaths, ending_line, visit_files};
+use crate::many::{LineBuffers, VisitedPaths, ending_line, visit_files};
 use crate::names::{caps_by_names, read_list, sorted_names};
 use elf_cli::{CommandArgs, ExitLine, OUT_OF_MEMORY};
+use elf_model::Format;
 use elf_table::HeaderBuffer;
 use elf_walk::{HELD_BYTES, ListFiles, ListOptions};
+use std::alloc::{AllocError, Global};
 use std::io::{Input, Stderr};
 use std::os::unix::fs::FileExt;
 use std::rt::Files;
@@ -93,12 +95,27 @@ where
     let Ok(held) = vec![in rt.alloc(); 0u8; HELD_BYTES] else {
         return Err(OUT_OF_MEMORY);
     };
+    let Ok(location) = location_room(rt.alloc(), rule.caps.style.format) else {
+        return Err(OUT_OF_MEMORY);
+    };
+    let buffers = LineBuffers { held, location };
     let lists = ListFiles::new(room.store(), *rule);
     let files = VisitedPaths {
         paths: &files.paths,
         list: files.list,
         budget: rule.caps.limits.budget,
     };
-    let ended = visit_files(rt, files, lists, held, rule.caps.style.format, terminal);
+    let ended = visit_files(rt, files, lists, buffers, rule.caps.style.format, terminal);
     ending_line(ended)
+}
+
+/// Allocates the buffer for the location of a row, if lines are objects: then each has it.
+///
+/// # Errors
+/// Out of memory.
+fn location_room(alloc: Global, format: Format) -> Result<Option<Vec<u8>>, AllocError> {
+    match format {
+        Format::Object => Ok(Some(vec![in alloc; 0u8; HELD_BYTES]?)),
+        Format::Columns | Format::Table => Ok(None),
+    }
 }

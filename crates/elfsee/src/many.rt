@@ -9,7 +9,7 @@ use elf_cli::{
 use elf_format::TableWriter;
 use elf_model::Format;
 use elf_requests::TraitsRequest;
-use elf_source::{DeferredSink, Out, OutFault, Sink, WriteSink};
+use elf_source::{DeferredSink, LocatedSink, Out, OutFault, Sink, WriteSink};
 use elf_table::{HeaderBuffer, HeaderStore};
 use elf_walk::{
     CheckFiles, CheckOptions, DirWalk, FileRun, FileVisitor, ListFault, TraitOptions, TraitReport,
@@ -42,14 +42,17 @@ where
         return Err(OUT_OF_MEMORY);
     };
     let checks = new_checks(asked, room.store());
-    let held = Vec::new(rt.alloc());
+    let buffers = LineBuffers {
+        held: Vec::new(rt.alloc()),
+        location: None,
+    };
     let format = asked.caps.style.format;
     let files = VisitedPaths {
         paths: &asked.paths,
         list: asked.list,
         budget: asked.caps.limits.budget,
     };
-    ending_line(visit_files(rt, files, checks, held, format, terminal))
+    ending_line(visit_files(rt, files, checks, buffers, format, terminal))
 }
 
 /// Prints how all requested files are hardened. Progress is shown on a terminal, if there is one.
@@ -70,14 +73,17 @@ where
         return Err(OUT_OF_MEMORY);
     };
     let lines = new_trait_lines(asked, room.store());
-    let held = Vec::new(rt.alloc());
+    let buffers = LineBuffers {
+        held: Vec::new(rt.alloc()),
+        location: None,
+    };
     let format = asked.args.caps.style.format;
     let files = VisitedPaths {
         paths: &asked.args.paths,
         list: asked.args.list,
         budget: asked.args.caps.limits.budget,
     };
-    let ended = visit_files(rt, files, lines, held, format, terminal);
+    let ended = visit_files(rt, files, lines, buffers, format, terminal);
     ending_line(ended)
 }
 
@@ -137,13 +143,21 @@ pub struct VisitedPaths<'p> {
     pub budget: Option<u64>,
 }
 
-/// Allocates the buffers, except those for headers, and visits all requested files. `held` is where
-/// bytes of the output may be deferred.
+/// The buffers of lines.
+#[derive(Drop)]
+pub struct LineBuffers {
+    /// Where bytes of the output may be deferred.
+    pub held: Vec<u8>,
+    /// Where the location of a row is, if each object has it.
+    pub location: Option<Vec<u8>>,
+}
+
+/// Allocates the other buffers, except those for headers, and visits all requested files.
 pub fn visit_files<R: Files + Print + Input + AllocGlobal, A: FileVisitor + Drop>(
     rt: &R,
     files: VisitedPaths<'_>,
     each: A,
-    held: Vec<u8>,
+    buffers: LineBuffers,
     format: Format,
     terminal: Option<Stderr>,
 ) -> FilesEnd
@@ -164,8 +178,12 @@ where
     };
     let lines = TableWriter::new(io::writer(rt), format);
     let output = LineSink::new(WriteSink::new(lines), kept);
+    let output = match buffers.location {
+        Some(room) => LocatedSink::new(output, room),
+        None => LocatedSink::plain(output),
+    };
     let mut many = FileRun::new(
-        Out::new(DeferredSink::new(output, held)),
+        Out::new(DeferredSink::new(output, buffers.held)),
         each,
         format,
         terminal,
@@ -214,7 +232,8 @@ fn end_many<W: Sink + Drop, A: FileVisitor + Drop>(
     ensures { result.0 ≡ end_after (W.failed result.1) (visit_end ended) }
 {
     let ended = visit_end(ended);
-    let output = many.into_out().into_inner().into_inner();
+    let located = many.into_out().into_inner().into_inner();
+    let output = located.into_inner();
     let (_, sink) = end_lines(run_end(ended), output);
     (end_after(ended, sink.failed()), sink)
 }

@@ -1,7 +1,7 @@
 //! What each of many programs needs.
 ghost use Rattle.std.specs.Prelude.{◌≡◌};
 
-use crate::many::{VisitedPaths, ending_line, visit_files};
+use crate::many::{LineBuffers, VisitedPaths, ending_line, visit_files};
 use crate::needs::{last_dirs, loader_cache, settings};
 use crate::needs_report::{NeedsReport, NeedsRule};
 use elf_cli::{CommandArgs, ExitLine, OUT_OF_MEMORY};
@@ -48,14 +48,17 @@ where
         headers,
         (room, opened),
     );
-    let held = Vec::new(rt.alloc());
+    let buffers = LineBuffers {
+        held: Vec::new(rt.alloc()),
+        location: None,
+    };
     let format = asked.caps.style.format;
     let files = VisitedPaths {
         paths: &asked.paths,
         list: asked.list,
         budget: asked.caps.limits.budget,
     };
-    let ended = visit_files(rt, files, report, held, format, terminal);
+    let ended = visit_files(rt, files, report, buffers, format, terminal);
     ending_line(ended)
 }
 

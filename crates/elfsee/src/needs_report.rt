@@ -10,8 +10,8 @@ use elf_library::{NeedsFault, SystemFiles, is_linked};
 use elf_model::{Cause, FileStatus};
 use elf_needs::{DependencyWalk, NeedsBuffers, NeedsOptions, OpenFiles};
 use elf_source::{
-    Counted, DeferredSink, FileReader, Limited, Out, OutFault, RangeSource, Sink, Source,
-    StreamSource, opened_path,
+    Counted, DeferredSink, FileReader, Limited, LocatedSink, Out, OutFault, RangeSource, Sink,
+    Source, StreamSource, opened_path,
 };
 use elf_table::{Fault, HeaderBuffer, HeaderStore, Limits};
 use elf_walk::{FileVisitor, HeadedSink, read_short_file_status, status};
@@ -151,7 +151,7 @@ where
         &mut self,
         src: &mut Counted<RangeSource<S>>,
         path: &[u8],
-        out: &mut Out<DeferredSink<W>>,
+        out: &mut Out<DeferredSink<LocatedSink<W>>>,
     ) -> Result<u8, OutFault> {
         let before = src.asked();
         let limits = self.rule.limits;

@@ -27,7 +27,7 @@ returns-in_err-show_member g c =
 pub returns-then-choice : goal.returns-then-choice
 returns-then-choice g c =
     let m : Member = member_of c.args.member.now c.args.name.now in
-    let did = c.list_reported.ensures in
+    let did = c.list_located.ensures in
     record {
       slots = did.slots;
       grows = grows_then (record { bytes = _; takes = c.in_ok-show_member.ensures.puts.0 }) did.grows;
@@ -35,7 +35,7 @@ returns-then-choice g c =
       cost = did.cost;
       shows = λ file held.
           let shown = did.shows file held in
-          rw c.if-choice.true (line_writes _ _ _ (member_line c.args.choice.style.format m) _ c.list_reported.result c.in_ok-show_member.ensures.puts.0 shown.0, shown.1);
+          rw c.if-choice.true (line_writes _ _ _ (member_line c.args.choice.style.format m) _ c.list_located.result c.in_ok-show_member.ensures.puts.0 shown.0, shown.1);
     }
 
 pub returns-in_err-line : goal.returns-in_err-line
@@ -56,14 +56,14 @@ returns-in_err-line g c =
 pub returns : goal.returns
 returns g c =
     let m : Member = member_of c.args.member.now c.args.name.now in
-    let did = c.list_reported-listed.ensures in
+    let did = c.list_located-listed.ensures in
     let line = member_line c.args.choice.style.format m in
     let began = c.args.out.now in
     let mid = c.defer_member_line.new.out in
-    let old = c.list_reported-listed.new.out in
+    let old = c.list_located-listed.new.out in
     let new = c.end_listed.new.out in
-    let takes : (n : ℕ) → ReadsAtMostIn c.args.src.now c.list_reported-listed.new.src old c.list_reported-listed.result n → ReadsAtMostIn c.args.src.now c.list_reported-listed.new.src new c.end_listed.result n =
-    λ n. held_consumes began mid old new line c.in_ok-line.line c.in_ok-line.ensures.holds c.end_listed.ensures.line _ _ n c.list_reported-listed.result c.end_listed.result did.grows c.end_listed.ensures.listed in
+    let takes : (n : ℕ) → ReadsAtMostIn c.args.src.now c.list_located-listed.new.src old c.list_located-listed.result n → ReadsAtMostIn c.args.src.now c.list_located-listed.new.src new c.end_listed.result n =
+    λ n. held_consumes began mid old new line c.in_ok-line.line c.in_ok-line.ensures.holds c.end_listed.ensures.line _ _ n c.list_located-listed.result c.end_listed.result did.grows c.end_listed.ensures.listed in
     record {
       slots = did.slots;
       grows = held_grows began mid old new line c.in_ok-line.line c.in_ok-line.ensures.holds c.end_listed.ensures.line did.grows;
@@ -75,7 +75,7 @@ returns g c =
           let items = told c.args.choice.style.format inside in
           rw c.if-choice.false (
             held_writes began mid old new line c.in_ok-line.line c.in_ok-line.ensures.holds c.end_listed.ensures.line
-                c.list_reported-listed.result c.end_listed.result items (told_clean c.args.choice.style.format inside) c.end_listed.ensures.listed shown.0,
-            held_refused c.list_reported-listed.result c.end_listed.result new (is_refused file c.args.store.now.slots (style_of c.args.choice.style) c.args.choice.parts.0 m) c.end_listed.ensures.listed shown.1,
+                c.list_located-listed.result c.end_listed.result items (told_clean c.args.choice.style.format inside) c.end_listed.ensures.listed shown.0,
+            held_refused c.list_located-listed.result c.end_listed.result new (is_refused file c.args.store.now.slots (style_of c.args.choice.style) c.args.choice.parts.0 m) c.end_listed.ensures.listed shown.1,
           );
     }
