@@ -5,11 +5,11 @@ import struct
 import made_archives
 from applied import Refused, load, refuse_where, symbols_of
 from listed_files import sort_of
-from reported import (DYNAMIC, DYNSYM, MAGIC, NOTE, P_DYNAMIC, P_NOTE, RELA, SYMTAB, VERDEF, VERNEED, VERSYM, Listing,
-                      check_header, without_section_headers)
+from reported import (DYNAMIC, DYNSYM, MAGIC, NOTE, P_DYNAMIC, P_NOTE, REL, RELA, RELR, SYMTAB, VERDEF, VERNEED, VERSYM,
+                      Listing, check_header, without_section_headers)
 
-# Of each type of section with rows the bytes of a row, and what a row reads besides its name.
-ROWS = {SYMTAB: (24, 24), DYNSYM: (24, 24), RELA: (24, 48), DYNAMIC: (16, 16)}
+# Of each type of section with rows the bytes of a row, and what a row reads besides its name; the words of RELR have none.
+ROWS = {SYMTAB: (24, 24), DYNSYM: (24, 24), RELA: (24, 48), REL: (16, 40), RELR: (8, 8), DYNAMIC: (16, 16)}
 
 
 def passes(check):
@@ -57,12 +57,14 @@ def cost(content, wish):
 
 
 def section_cost(content, wish, headers, index, header, name, walks):
-    kinds = {"symbols": (SYMTAB, DYNSYM), "relocs": (RELA,), "dynamic": (DYNAMIC,)}
+    kinds = {"symbols": (SYMTAB, DYNSYM), "relocs": (RELA, REL, RELR) if wish.gnu else (RELA,), "dynamic": (DYNAMIC,)}
     if header.type in ROWS and any(header.type in types for part, types in kinds.items() if part in wish.parts) and header.size:
         size, of_row = ROWS[header.type]
         if not passes(lambda: header.check_rows(size)):
             return 0
         count = header.size // size
+        if header.type == RELR:
+            return count * of_row
         asked = count * (of_row + name)
         table = index if header.type in (SYMTAB, DYNSYM) else header.link
         has_versions = any(other.type == VERSYM and other.link == table for other in headers)

@@ -11,7 +11,9 @@ from applied import Refused, load, refuse_where, strings_of, symbols_of
 from looked_up import check_overlaps
 from testing import TOP
 
-SYMTAB, RELA, DYNAMIC, NOTE, DYNSYM = 2, 4, 6, 7, 11
+SYMTAB, RELA, DYNAMIC, NOTE, REL, DYNSYM, RELR = 2, 4, 6, 7, 9, 11, 19
+# Of each type of section with relocation entries the bytes of one.
+RELOCATIONS = {RELA: 24, REL: 16, RELR: 8}
 VERDEF, VERNEED, VERSYM = 0x6ffffffd, 0x6ffffffe, 0x6fffffff
 P_LOAD, P_DYNAMIC, P_NOTE = 1, 2, 4
 T_STRTAB, T_STRSZ, WITH_STRINGS = 5, 10, (1, 14, 15, 29)
@@ -226,25 +228,45 @@ class Listing:
 
     def rows_of_relocs(self):
         for index, header in enumerate(self.headers):
-            if header.type != RELA or not header.size:
+            if header.size and (header.type == RELA or self.wish.gnu and header.type in RELOCATIONS):
+                header.check_rows(RELOCATIONS[header.type])
+                yield from (self.rows_of_relr if header.type == RELR else self.rows_of_entries)(index, header)
+
+    def rows_of_entries(self, index, header):
+        linked = symbols_of(self.headers, header)
+        versions = self.versions_of(header.link) if linked and linked[0].size else None
+        for at in range(header.offset, header.offset + header.size, RELOCATIONS[header.type]):
+            offset, kind, symbol = struct.unpack_from("<Q2I", self.content, at)
+            kind = self.named("type of an R line", kind, "#%d") if self.machine == X86_64 else "#%d" % kind
+            addend = struct.unpack_from("<q", self.content, at + 16)[0] if header.type == RELA else None
+            row = self.relocation(index, offset, kind, symbol, addend)
+            if symbol == 0:
+                yield Row(row, (b"", True))
                 continue
-            header.check_rows()
-            linked = symbols_of(self.headers, header)
-            versions = self.versions_of(header.link) if linked and linked[0].size else None
-            for at in range(header.offset, header.offset + header.size, 24):
-                offset, kind, symbol, addend = struct.unpack_from("<QIIq", self.content, at)
-                kind = self.named("type of an R line", kind, "#%d") if self.machine == X86_64 else "#%d" % kind
-                sign = "-" if addend < 0 else "+"
-                front = "R %5d %016x %-10s %08x %s%016x " % (index, offset, kind, symbol, sign, abs(addend))
-                if symbol == 0:
-                    yield Row(front, (b"", True))
-                    continue
-                refuse_where(linked is None, at, "bad-link")
-                refuse_where(symbol >= linked[0].size // 24, at, "symbol-index")
-                place = linked[0].offset + 24 * symbol
-                name, _, _, where = struct.unpack_from("<I2BH", self.content, place)
-                row = Row(front, name_at(self.content, linked[1], name, place, self.cap))
-                yield versions.put(row, symbol, where) if versions else row
+            refuse_where(linked is None, at, "bad-link")
+            refuse_where(symbol >= linked[0].size // 24, at, "symbol-index")
+            place = linked[0].offset + 24 * symbol
+            name, _, _, where = struct.unpack_from("<I2BH", self.content, place)
+            row = Row(row, name_at(self.content, linked[1], name, place, self.cap))
+            yield versions.put(row, symbol, where) if versions else row
+
+    def rows_of_relr(self, index, header):
+        """An even word is an address; each bit of an odd one, but the lowest, is one of the 63 words after those before."""
+        behind = None
+        for at in range(header.offset, header.offset + header.size, 8):
+            word, = struct.unpack_from("<Q", self.content, at)
+            refuse_where(word % 2 and behind is None, at, "relr")
+            bits = [bit for bit in range(63) if word >> 1 + bit & 1]
+            for address in [behind + 8 * bit for bit in bits] if word % 2 else [word]:
+                refuse_where(address > (1 << 64) - 8, at, "relr")
+                yield Row(self.relocation(index, address, "RELR", 0, None), (b"", True))
+            behind = behind + 504 if word % 2 else word + 8
+
+    @staticmethod
+    def relocation(index, offset, kind, symbol, addend):
+        """An R line up to its name."""
+        addend = "-" if addend is None else "%s%016x" % ("-" if addend < 0 else "+", abs(addend))
+        return "R %5d %016x %-10s %08x %-17s " % (index, offset, kind, symbol, addend)
 
     def rows_of_notes(self):
         if self.headers:

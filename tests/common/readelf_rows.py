@@ -5,7 +5,7 @@ import re
 
 from readelf_names import is_copied
 from readelf_words import (STRING_WORDS, VERSION_FLAGS, NotUnderstood, dynamic_value, letters_as_elfsee,
-                           note_type_number, tag_number)
+                           note_type_number, relocation_tables, tag_number)
 
 HEX16 = "([0-9a-f]{16})"
 HEX8 = "([0-9a-f]{8})"
@@ -18,7 +18,7 @@ ELFSEE_SYMBOL = re.compile(
 
 # The type's field grows only for a number of ten digits.
 ELFSEE_RELOCATION = re.compile(
-    r"R +(\d+) %s (.{10}|#\d{10}) %s ([+-])%s (.*)" % (HEX16, HEX8, HEX16))
+    r"R +(\d+) %s (.{10}|#\d{10}) %s (?:([+-])%s|- {16}) (.*)" % (HEX16, HEX8, HEX16))
 
 ELFSEE_NOTE = re.compile(
     r"N +(\d+) %s %s %s (.*) ((?:[0-9a-f]{2}){0,32})((?:\\\+)?)" % (HEX8, HEX8, HEX8))
@@ -41,14 +41,19 @@ READELF_SYMBOL = re.compile(
 READELF_RELOCATION_TABLE = re.compile(
     r"Relocation section .* at offset (0x[0-9a-f]+|0) contains (\d+) entr(?:y|ies):")
 # The info holds the symbol's number and the type's.  What follows depends on the symbol:
-# for symbol 0 the addend alone, otherwise the symbol's value, its name and the addend.  For an
+# for symbol 0 the addend alone, otherwise the symbol's value, its name and the addend, if there is one.  For an
 # indirect function its name and a pair of brackets replace the value.
 READELF_RELOCATION = re.compile(
-    r"([0-9a-f]{16})  ([0-9a-f]{8})([0-9a-f]{8}) (unrecognized: [0-9a-f]+|\S+) +(.*)")
+    r"([0-9a-f]{16})  ([0-9a-f]{8})([0-9a-f]{8}) (unrecognized: [0-9a-f]+|\S+) *(.*)")
 READELF_ADDEND_ALONE = re.compile(r"(-?)([0-9a-f]+)")
 READELF_SYMBOL_AND_ADDEND = re.compile(
     r"(?:[0-9a-f]{16}|\?\?\(\) *|(?P<again>.+)\(\) *(?=(?P=again) [+-] [0-9a-f]+$)) ?"
     r"(?P<name>.*) (?P<sign>[+-]) (?P<addend>[0-9a-f]+)")
+READELF_SYMBOL_ALONE = re.compile(
+    r"(?:[0-9a-f]{16}|\?\?\(\) *|(?P<again>.+)\(\) *(?=(?P=again)$)) ?(?P<name>.*)")
+# Of compact entries readelf prints how many addresses they give, and then these.
+READELF_ADDRESSES = re.compile(r"  (\d+) offsets?")
+READELF_ADDRESS = re.compile("([0-9a-f]{16})")
 
 READELF_NOTES_OF_SECTION = re.compile(r"Displaying notes found in: (.*)")
 READELF_NOTES_OF_SEGMENT = re.compile(
@@ -125,8 +130,8 @@ def elfsee_relocation(line):
     if sign == "-" and int(addend, 16) == 0:
         raise NotUnderstood(line)
     return {
-        "table": int(table), "offset": int(offset, 16), "type": kind.rstrip(),
-        "symbol": int(symbol, 16), "addend": signed(sign, addend), "name": name,
+        "table": int(table), "offset": int(offset, 16), "type": kind.rstrip(), "symbol": int(symbol, 16),
+        "addend": signed(sign, addend) if sign else NO_ADDEND, "name": name,
     }
 
 
@@ -162,6 +167,10 @@ def elfsee_version(line):
         "table": int(section), "kind": "symbol", "symbol": int(symbol), "number": int(number),
         "hidden": hidden == "H", "name": name, "after the symbol": None,
     }
+
+
+# The addend of an entry that has none.
+NO_ADDEND = "none"
 
 
 def signed(sign, digits):
@@ -232,10 +241,10 @@ def readelf_symbols(text, sections):
 
 
 def unlisted_tables(sections):
-    """The RELA sections of which readelf prints the title alone: those linked with a
-    section that holds no symbols (without any link they are listed)."""
+    """The tables of relocation entries of which readelf prints the title alone: those linked
+    with a section that holds no symbols (without any link they are listed)."""
     types = {row["index"]: row["type"] for row in sections}
-    return {row["index"] for row in sections if row["type"] == "RELA" and row["link"] != 0
+    return {row["index"] for row in sections if row["type"] in relocation_tables() and row["link"] != 0
             and types.get(row["link"], "SYMTAB") not in ("SYMTAB", "DYNSYM")}
 
 
@@ -250,17 +259,57 @@ def nameless_text(symbol, section_names):
     return {"ABS": "ABS", "COM": "COMMON"}.get(place)
 
 
+def readelf_relocation(table, machine, symbols, section_names, line):
+    """The row of an entry with or without an addend; None for a line that is none."""
+    has_addend = table["type"] == "RELA"
+    match = READELF_RELOCATION.fullmatch(line)
+    if match is None:
+        return None
+    offset, symbol, number, word, rest = match.groups()
+    row = {
+        "table": table["index"], "offset": int(offset, 16), "type": word,
+        "number": int(number, 16), "machine": machine, "symbol": int(symbol, 16), "addend": NO_ADDEND,
+        "name": "", "nameless": None, "dynamic": False, "copied": False,
+    }
+    if row["symbol"] == 0:
+        if has_addend:
+            row["addend"] = signed(*matched(READELF_ADDEND_ALONE, rest))
+        elif rest:
+            raise NotUnderstood(line)
+        return row
+    match = (READELF_SYMBOL_AND_ADDEND if has_addend else READELF_SYMBOL_ALONE).fullmatch(rest)
+    if match is None:
+        raise NotUnderstood(line)
+    if has_addend:
+        row["addend"] = signed(match.group("sign"), match.group("addend"))
+    row["name"] = match.group("name")
+    own = symbols.get((table["link"], row["symbol"]))
+    if own is not None:
+        row["dynamic"] = own["dynamic"]
+        row["copied"] = is_copied(own)
+        row["nameless"] = nameless_text(own, section_names)
+    return row
+
+
+def readelf_address(table, line):
+    """The row of an address of a table of compact entries; None for a line that is none."""
+    match = READELF_ADDRESS.fullmatch(line)
+    return None if match is None else {
+        "table": table["index"], "offset": int(match.group(1), 16), "type": "RELR", "number": None, "machine": None,
+        "symbol": 0, "addend": NO_ADDEND, "name": "", "nameless": None, "dynamic": False, "copied": False}
+
+
 def readelf_relocations(text, sections, symbols, machine):
-    """The rows of all RELA tables, distinguished as symbol tables are, but by their offsets:
+    """The rows of all tables of relocation entries, distinguished as symbol tables are, but by their offsets:
     in these titles readelf cuts long names.  It lists the tables of REL and RELR entries
-    too, which elfsee does not."""
+    too, which elfsee does with --gnu alone."""
     tables = iter([row for row in sections if row["type"] in ("RELA", "REL", "RELR")
                    and row["size"]])
     symbols = {(row["table"], row["index"]): row for row in symbols}
     section_names = {row["index"]: row["name"] for row in sections}
     unlisted = unlisted_tables(sections)
     rows = []
-    table = None
+    table, is_listed = None, False
     left = 0
     for line in text.split("\n"):
         title = READELF_RELOCATION_TABLE.fullmatch(line) if left == 0 else None
@@ -269,33 +318,17 @@ def readelf_relocations(text, sections, symbols, machine):
             offset, entries = title.groups()
             if table is None or table["offset"] != int(offset, 16):
                 raise NotUnderstood(line)
-            if table["type"] == "RELA" and table["index"] not in unlisted:
-                left = int(entries)
+            is_listed = table["type"] in relocation_tables() and table["index"] not in unlisted
+            left = int(entries) if is_listed and table["type"] != "RELR" else 0
             continue
-        match = READELF_RELOCATION.fullmatch(line) if left else None
-        if match is None:
-            continue
-        left -= 1
-        offset, symbol, number, word, rest = match.groups()
-        row = {
-            "table": table["index"], "offset": int(offset, 16), "type": word,
-            "number": int(number, 16), "machine": machine, "symbol": int(symbol, 16),
-            "name": "", "nameless": None, "dynamic": False, "copied": False,
-        }
-        if row["symbol"] == 0:
-            row["addend"] = signed(*matched(READELF_ADDEND_ALONE, rest))
-        else:
-            match = READELF_SYMBOL_AND_ADDEND.fullmatch(rest)
-            if match is None:
-                raise NotUnderstood(line)
-            row["addend"] = signed(match.group("sign"), match.group("addend"))
-            row["name"] = match.group("name")
-            own = symbols.get((table["link"], row["symbol"]))
-            if own is not None:
-                row["dynamic"] = own["dynamic"]
-                row["copied"] = is_copied(own)
-                row["nameless"] = nameless_text(own, section_names)
-        rows.append(row)
+        addresses = READELF_ADDRESSES.fullmatch(line) if left == 0 and is_listed else None
+        if addresses is not None:
+            left = int(addresses.group(1))
+        elif left:
+            row = (readelf_address(table, line) if table["type"] == "RELR"
+                   else readelf_relocation(table, machine, symbols, section_names, line))
+            rows += [row] if row is not None else []
+            left -= row is not None
     return rows
 
 

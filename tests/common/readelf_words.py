@@ -191,6 +191,11 @@ def show_versions():
     SHOW_WORDS.append("--versions")
 
 
+def relocation_tables():
+    """The types of the tables whose relocation entries are compared."""
+    return ("RELA", "REL", "RELR") if "--gnu" in SHOW_WORDS else ("RELA",)
+
+
 def are_versions_shown():
     """Whether the versions after the names of symbols are compared."""
     return "--versions" in SHOW_WORDS
@@ -267,6 +272,8 @@ def place_words(text):
 def same_relocation_type(ours, word, number, machine):
     """Whether a relocation type of elfsee is readelf's number and, if elfsee has a
     word for it, readelf's word."""
+    if number is None:
+        return ours == word
     if machine == X86_64 and number in RELOCATION_TYPES.values():
         full = "R_X86_64_" + RELOCATION_TYPE_AS_READELF.get(ours, ours)
         # readelf cuts a word after 22 letters.
