@@ -5,8 +5,8 @@ the columns; tests/machine/format.py runs this module."""
 
 import re
 
-# Fields by their kinds and widths: d decimal, x hexadecimal, a addend, t text, n name,
-# c descriptor. A comma after a width: the field grows.
+# Fields by their kinds and widths: d decimal, x hexadecimal, a addend (None if there is none), t text,
+# n name, c descriptor. A comma after a width: the field grows.
 FORMS = {"H": "t4 d5 x16 x16 x16 x8 d5 d5 d5",
          "S": "d5 t13 t12 x16 x16 x16 x8 x8 n",
          "P": "d5 t8 t3 x16 x16 x16 x16 x16 x16",
@@ -19,7 +19,7 @@ FORMS = {"H": "t4 d5 x16 x16 x16 x8 d5 d5 d5",
          "A": "d5, x16 x16 n",
          "F": "t6 d10",
          "!": "x16 t1,"}
-BYTES = {"d": "[ 0-9]{%s}", "x": "[0-9a-f]{%s}", "a": "[+-][0-9a-f]{16}", "t": "[ -~]{%s}",
+BYTES = {"d": "[ 0-9]{%s}", "x": "[0-9a-f]{%s}", "a": "[+-][0-9a-f]{16}|- {16}", "t": "[ -~]{%s}",
          "n": r"(?:[^\\]|\\\\|\\x[0-9a-f]{2})*(?:\\\+)?", "c": r"(?:[0-9a-f]{2})*(?:\\\+)?"}
 
 
@@ -52,7 +52,7 @@ def field_of(form, text):
     if form[0] == "d":
         return int(text)
     if form[0] in "xa":
-        return int(text, 16)
+        return None if text[:2] == b"- " else int(text, 16)
     if form[0] == "n":
         return name_of(text)
     if form[0] == "c":

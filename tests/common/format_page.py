@@ -20,7 +20,7 @@ FORMS = [
     (r"text: a name, or `#` and decimal; grows", lambda of: rb"(?:[A-Z_0-9]+|#[0-9]+) *"),
     (r"text: a name", lambda of: rb"[A-Z]+ *"),
     (r"`H` or `-`", lambda of: rb"[H-]"),
-    (r"`\+` or `-`, and 16 hexadecimal digits", lambda of: rb"[+-][0-9a-f]{16}"),
+    (r"`\+` or `-`, and 16 hexadecimal digits; or `-`", lambda of: rb"(?:[+-][0-9a-f]{16}|- {16})"),
     (r"name", lambda of: NAME),
     (r"name; space; hexadecimal digits, two a byte, then `\\\+` where there are more",
      lambda of: NAME + rb" (?:(?:[0-9a-f]{2}){0,32}|[0-9a-f]{64}\\\+)"),

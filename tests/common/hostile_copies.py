@@ -16,12 +16,12 @@ HEADER = ((16, 2), (18, 2), (32, 8), (40, 8), (54, 2), (56, 2), (58, 2), (60, 2)
 # Fields of headers, each its offset and its width, some more often than others.
 SECTION = ((0, 4), (4, 4), (8, 8), (24, 8), (24, 8), (32, 8), (32, 8), (40, 4), (40, 4), (44, 4), (48, 8), (56, 8))
 SEGMENT = ((0, 4), (0, 4), (4, 4), (8, 8), (16, 8), (32, 8), (32, 8), (40, 8), (48, 8))
-SECTION_TYPES = (1, 2, 3, 4, 5, 6, 7, 8, 11, 0x6ffffff6, 0x6ffffffd, 0x6ffffffe, 0x6fffffff)
+SECTION_TYPES = (1, 2, 3, 4, 5, 6, 7, 8, 9, 11, 19, 0x6ffffff6, 0x6ffffffd, 0x6ffffffe, 0x6fffffff)
 SEGMENT_TYPES = (0, 1, 2, 3, 4, 6, 0x6474e551, 0x6474e552, 0x6474e553)
 TAGS = (0, 1, 4, 5, 6, 10, 14, 15, 22, 24, 29, 30, 0x6ffffef5, 0x6ffffff0, 0x6ffffffb, 0x6ffffffc, 0x6ffffffe)
 # Of the types of sections the widths of what is in such a table, and of tags of dynamic entries the type and some size.
-TABLES = {2: (4, 1, 1, 2, 8, 8), 11: (4, 1, 1, 2, 8, 8), 4: (8, 4, 4, 8), 5: (4,), 6: (8, 8), 7: (4,), 3: (1,),
-          0x6ffffff6: (4,), 0x6fffffff: (2,), 0x6ffffffd: (2, 2, 2, 2, 4, 4, 4), 0x6ffffffe: (2, 2, 4, 4, 4)}
+TABLES = {2: (4, 1, 1, 2, 8, 8), 11: (4, 1, 1, 2, 8, 8), 4: (8, 4, 4, 8), 9: (8, 4, 4), 19: (8,), 5: (4,), 6: (8, 8),
+          7: (4,), 3: (1,), 0x6ffffff6: (4,), 0x6fffffff: (2,), 0x6ffffffd: (2, 2, 2, 2, 4, 4, 4), 0x6ffffffe: (2, 2, 4, 4, 4)}
 ADDRESSED = {4: (5, 200), 5: (3, 300), 6: (11, 360), 0x6ffffef5: (0x6ffffff6, 200), 0x6ffffff0: (0x6fffffff, 60),
              0x6ffffffc: (0x6ffffffd, 120), 0x6ffffffe: (0x6ffffffe, 80)}
 
@@ -164,13 +164,15 @@ int one(void) { return 1; } int two(void) { return 2; } int three(void) { return
 __asm__(".symver one, name@FIRST"); __asm__(".symver two, name@SECOND"); __asm__(".symver three, name@@THIRD");
 extern int __stack_chk_fail(void), __sprintf_chk(void), wanted(void), weak(void) __attribute__((weak));
 int data[4]; __thread int local; int (*places[])(void) = { one, __stack_chk_fail, __sprintf_chk, wanted, weak };
-int calls(int x) { return one() + wanted() + data[x & 3] + local + (weak ? weak() : 0); }
+static int *own[200] = { [0 ... 66] = data, [130] = data };
+int calls(int x) { return one() + wanted() + data[x & 3] + local + (weak ? weak() : 0) + *own[x]; }
 """
 VERSIONS = "FIRST { global: name; one; }; SECOND { global: two; data; } FIRST; THIRD { global: three; calls; } SECOND;\n"
 NEEDED = "int wanted(void) { return 1; } int weak(void) { return 2; } int other = 3;\n"
 # Words of gcc for each file.
 WAYS = {
     "plain.so": "-shared -fPIC -Wl,--hash-style=gnu",
+    "packed.so": "-shared -fPIC -Wl,-Bsymbolic -Wl,-z,pack-relative-relocs",
     "sysv.so": "-shared -fPIC -Wl,--hash-style=sysv -Wl,-z,now -Wl,-soname,sysv.so",
     "both.so": "-shared -fPIC -Wl,--hash-style=both -fcf-protection -Wl,-z,ibt,-z,shstk -Wl,-rpath,/none,--disable-new-dtags",
     "program": "-pie -fPIC -Wl,--hash-style=gnu -Wl,-z,relro,-z,now -Wl,-rpath,/none,-e,calls -Wl,-dynamic-linker,/none",

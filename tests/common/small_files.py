@@ -13,12 +13,13 @@ STRINGS = b"\0".join(NAMES)
 STARTS = [STRINGS.index(b"\0" + name + b"\0") + 1 for name in NAMES[1:-3]] + [0, 0, 2, len(STRINGS) - 11, len(STRINGS) - 5]
 # Bytes of a name that ends a table of strings, and how many rows long tables have: near what is read at once.
 LENGTHS = (0, 3, 3, 3, 62, 63, 64, 65, 127, 128, 129, 255, 256, 257, 1000, 4095, 4096, 4097, 4160, 5000)
-LONG = {"symbols": (169, 170, 171, 340, 341, 680), "entries": (169, 170, 171, 341), "words": (170, 341, 680, 2048, 2049),
-        "dynamic": (250, 256, 300), "buckets": (1000, 1023, 1024, 1025), "chain": (60, 300, 1024)}
+LONG = {"symbols": (169, 170, 171, 340, 341, 680), "entries": (169, 170, 171, 256, 257, 341), "relr": (511, 512, 513, 1025),
+        "words": (170, 341, 680, 2048, 2049), "dynamic": (250, 256, 300), "buckets": (1000, 1023, 1024, 1025),
+        "chain": (60, 300, 1024)}
 # Numbers of types of sections, the bytes of a row if a table has rows, and to what the section links.
-TYPES = {"symbols": (2, 11), "entries": (4,), "words": (0x6fffffff,), "definitions": (0x6ffffffd,), "needs": (0x6ffffffe,),
+TYPES = {"symbols": (2, 11), "entries": (4,), "rel": (9,), "relr": (19,), "words": (0x6fffffff,), "definitions": (0x6ffffffd,), "needs": (0x6ffffffe,),
          "strings": (3,), "notes": (7,), "dynamic": (6,), "sysv": (5,), "gnu": (0x6ffffff6,)}
-ROWS = {"symbols": 24, "entries": 24, "words": 2, "dynamic": 16}
+ROWS = {"symbols": 24, "entries": 24, "rel": 16, "relr": 8, "words": 2, "dynamic": 16}
 OF_STRINGS = ("symbols", "definitions", "needs", "dynamic")
 TAGS = {"sysv": 4, "strings": 5, "symbols": 6, "gnu": 0x6ffffef5, "words": 0x6ffffff0, "definitions": 0x6ffffffc,
         "needs": 0x6ffffffe}
@@ -62,6 +63,18 @@ class SmallFile:
         for _ in range(self.count("entries", self.below(5))):
             symbol = self.mostly(self.one((0, 1, 1, 2, 2)), 3, 4, 7, 1 << 31)
             text += struct.pack("<QIIq", self.below(64), self.one((0, 1, 2, 8, 42, 43)), symbol, self.one((0, 1, -1, -1 << 63)))
+        return text
+
+    def rel(self):
+        entries = self.entries()
+        return b"".join(entries[at:at + 16] for at in range(0, len(entries), 24))
+
+    def relr(self):
+        text = b""
+        for _ in range(self.count("relr", self.below(6))):
+            address = self.mostly(self.one((0, 64, 64, 4096, 1 << 63)), *((1 << 64) - less for less in (2, 6, 8, 16, 512, 520)))
+            bits = self.one((1, 3, 1 << 63 | 1, self.below(1 << 64) | 1, (1 << 64) - 1))
+            text += struct.pack("<Q", self.one((address, bits, bits)) if text else self.mostly(address, bits))
         return text
 
     def words(self):
@@ -205,7 +218,7 @@ class SmallFile:
             row = ROWS.get(kind, 4)
             size = self.mostly(size, 0, max(0, size - row), size + row, size + 1)
             size = min(size, self.one((size,) * 8 + (0, row, 2 * row))) if kind in ("words", "symbols") else size
-            entry = self.mostly(ROWS.get(kind, 0), 0, 1, 2, 16, 24)
+            entry = self.mostly(ROWS.get(kind, 0), 0, 1, 2, 8, 16, 24)
             if size == 0 and self.chance.random() < 0.3:
                 # Nothing of a table of no bytes is read.
                 place, entry = self.one((place, 1 << 63, (1 << 64) - 1)), self.one((entry, 1))

@@ -1,5 +1,5 @@
 #!/usr/bin/env python3
-"""Compares the program of the listings alone with the whole program.
+"""Compares the program of the listings alone with the whole program, and listings with a second implementation.
 
     tests/gate/listings.py [--program PROGRAM] [--listings PROGRAM] [FILE..]
 
@@ -7,7 +7,9 @@ Both must write the same bytes to both streams and end with the same status: for
 tests/gate/command_lines.md that begins with `show`, `sample` or `version` or asks for help, except those of rows by name;
 and for listings of each FILE, or of files of the machine and of copies of them that are cut or changed, with several
 options. Arguments for anything else the program of the listings must refuse with status 2, and list nothing for
-them. ./build makes the programs that are not given. It needs bash and Python 3. The last line is `N passed, N failed`."""
+them. Files with relocation entries without addends and with relative ones, well-formed and malformed, must be listed as
+tests/again/reported.py does; within each read budget below what tests/again/listing_cost.py allows either so, or as a prefix
+of that with the line of the budget after. ./build makes the programs that are not given. It needs bash and Python 3. The last line is `N passed, N failed`."""
 
 import os
 import re
@@ -16,7 +18,10 @@ import sys
 import tempfile
 
 sys.dont_write_bytecode = True
-sys.path.insert(0, os.path.join(os.path.dirname(os.path.realpath(__file__)), "..", "common"))
+sys.path[:0] = [os.path.join(os.path.dirname(os.path.realpath(__file__)), "..", name) for name in ("common", "again")]
+import listing_cost
+import relocated_files
+from reported import PARTS, Wish, report
 from testing import TOP, built, option_reader, program_of
 
 OPTIONS = [[], ["--gnu"], ["--by-segments", "--names", "5"], ["--headers", "20", "--max-read", "9000"]]
@@ -27,6 +32,9 @@ FOLDERS = ["/usr/bin", "/usr/lib/x86_64-linux-gnu"]
 OTHERS = [["find", "f", "name"], ["find", "--gnu", "f", "name"], ["apply", "f", "1"], ["apply", "--explain", "f", "1", "at:1=0x1000"],
           ["check", "f"], ["check", "--only", "header", "f", "f"], ["check", "--files0-from", "list"], ["check", "."],
           ["archive", "f"], ["archive", "--only", "members", "f"], ["show", "--name", "f", "f"], ["show", "--name-list", "names", "f"]]
+# With what options files with relocation entries are listed; by the first within budgets.
+WISHES = [Wish(("relocs",), gnu=True, cap=2), Wish(PARTS, gnu=True), Wish(PARTS, gnu=True, versions=True), Wish(("relocs",)),
+          Wish(PARTS, gnu=True, by_segments=True), Wish(("relocs",), gnu=True, texts=[b"f", b"longer_name"])]
 BEGINNING = re.compile(r"elfsee(?=$| (?:show|sample|version|help|--help|-h)(?: |$))(?!.*--name(?:[ =]|-list|$))")
 
 
@@ -79,21 +87,48 @@ class Pair:
                                cwd=self.room, env={**os.environ, "program": program}, stdin=subprocess.DEVNULL,
                                capture_output=True, check=False) for program in self.programs]
         told = [(run.returncode, run.stdout, run.stderr) for run in runs]
-        if told[0] == told[1] and told[0][0] in (0, 1, 2, 3):
+        self.count(told[0] == told[1] and told[0][0] in (0, 1, 2, 3), f"{line} {' '.join(words)}: {told[0][0]} and {told[1][0]}")
+
+    def list(self, path, content, wish, cost=0, budgets=()):
+        """Both programs list a file as the second implementation does, and the whole one within budgets below the cost so or
+        as a prefix with the budget's line."""
+        lines, refusal = report(content, wish)
+        names = [word for text in wish.given or () for word in ("--name", text)]
+        limits = [(program, []) for program in self.programs[:1 if names else 2]]
+        for program, limit in limits + [(self.programs[0], ["--max-read", str(budget)]) for budget in budgets]:
+            words = ["show", *wish.words(), *names, *limit, path]
+            run = subprocess.run([program, *words], stdin=subprocess.DEVNULL, capture_output=True, check=False)
+            got = run.stdout.decode("ascii").splitlines()
+            is_right = (got, run.returncode) == (lines, 1 if refusal else 0)
+            if limit and int(limit[1]) < cost and got and re.fullmatch("! [0-9a-f]{16} budget", got[-1]):
+                is_right = got[:-1] == lines[:len(got) - 1] and run.returncode == 1
+            self.count(is_right and not run.stderr, f"{words}: {run.returncode}, {got[-2:]}, wanted {lines[-2:]}")
+
+    def count(self, is_right, wrong):
+        if is_right:
             self.passed += 1
         else:
             self.failed += 1
-            print(f"FAILED {line} {' '.join(words)}: {told[0][0]} and {told[1][0]}")
+            print(f"FAILED {wrong}")
 
     def refuse(self, words):
         """The program of the listings refuses words of the other commands, which the whole one takes."""
         runs = [subprocess.run([program, *words], cwd=self.room, stdin=subprocess.DEVNULL, capture_output=True, check=False)
                 for program in self.programs]
-        if runs[0].returncode in (0, 1) and (runs[1].returncode, runs[1].stdout) == (2, b"") and runs[1].stderr:
-            self.passed += 1
-        else:
-            self.failed += 1
-            print(f"FAILED {' '.join(words)}: {runs[0].returncode} and {runs[1].returncode}, {runs[1].stdout + runs[1].stderr!r:.200}")
+        is_right = runs[0].returncode in (0, 1) and (runs[1].returncode, runs[1].stdout) == (2, b"") and runs[1].stderr
+        self.count(is_right, f"{' '.join(words)}: {runs[0].returncode} and {runs[1].returncode}, {runs[1].stdout + runs[1].stderr!r:.200}")
+
+
+def compare_relocations(pair, room):
+    """Files with relocation entries, with some hundred budgets for each."""
+    files = {**relocated_files.made_files(), **relocated_files.linked_files(room)}
+    for name, content in files.items():
+        path, cost = os.path.join(room, name), listing_cost.cost(content, WISHES[0])
+        with open(path, "wb") as file:
+            file.write(content)
+        pair.list(path, content, WISHES[0], cost, {*range(0, cost, cost // 100), cost - 1, cost})
+        for wish in WISHES[1:]:
+            pair.list(path, content, wish)
 
 
 def main():
@@ -116,6 +151,7 @@ def main():
             pair.refuse(words)
         for line in command_lines():
             pair.compare(line)
+        compare_relocations(pair, room)
         for path in given.files or elf_files():
             for copy in copies(path, room):
                 for options in OPTIONS:

@@ -8,7 +8,8 @@ a budget; archives too, and all files are checked. Each line of text is taken ap
 and its object, as Python's JSON reader returns it, must have the same fields, in that order. So are the answers of
 lookups of a few names, in each of the ways of `find`, and what some files need. Of the lines of one kind of a listing the first 1,000 are so
 compared, and each fiftieth after them; with --all each. Without FILE these are some of the system, and files
-that are made here: names of all bytes, notes, a table of symbol versions, files that are refused, and an archive; and
+that are made here: names of all bytes, relocation entries without addends, notes, a table of symbol versions, files that are
+refused, and an archive; and
 then each ELF file and archive of the machine once, in one of two ways, within a budget of 20,000 bytes: each object is read,
 and of each kind the first ten and each hundredth are compared with their lines. With --all the machine's files are
 listed whole; --quick takes one in ten, as ./check does. The examples of the page must be JSON; if there is a jq, it must read all except those of the machine.
@@ -27,6 +28,7 @@ import tempfile
 sys.dont_write_bytecode = True
 sys.path.insert(0, os.path.join(os.path.dirname(os.path.realpath(__file__)), "..", "common"))
 import format_page as page
+import relocated_files
 from testing import Claims, option_reader, program_of
 
 WAYS = [[], ["--gnu"], ["--names", "3"], ["--gnu", "--by-segments"], ["--max-read", "3000"], ["--headers", "2"]]
@@ -84,6 +86,8 @@ def fields_of(kinds, patterns, line):
         while text is None:
             text = next(groups)
         text = text.decode()
+        if form.startswith("`+` or `-`") and text.rstrip(" ") == "-":
+            continue
         if form == "name":
             spelt, cut = whole(text)
             members += [(name, spelt)] + ([("cut", True)] if cut else [])
@@ -248,13 +252,15 @@ def main():
 
 def made(folder):
     """Files that are made here: odd names, a cut file, and names of files that are odd themselves."""
-    path = os.path.join(folder, "odd")
+    path, relocated = os.path.join(folder, "odd"), os.path.join(folder, "relocated")
     page.write_odd_file(path)
+    with open(relocated, "wb") as file:
+        file.write(relocated_files.made_files()["versions"])
     with open(os.path.join(folder, "a \"b\\"), "wb") as file:
         file.write(b"\x7fELF\x01")
     with open(os.path.join(folder.encode(), b"\xff"), "wb") as file:
         file.write(b"\x7fELF")
-    return [path]
+    return [path, relocated]
 
 
 if __name__ == "__main__":

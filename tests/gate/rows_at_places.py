@@ -79,10 +79,24 @@ class Places:
         return (at, 24), NONE, (value, size or 1) if has else NONE
 
     def of_R(self, row):
-        index = self.entries.get(row["table"], 0)
-        self.entries[row["table"]] = index + 1
-        at = self.start(row["table"]) + 24 * index
-        return (at, 24), NONE, (self.number(at, 8), 8) if self.type in (2, 3) else NONE
+        if row["table"] not in self.entries:
+            self.entries[row["table"]] = self.relocations(row["table"])
+        at, size, address = next(self.entries[row["table"]])
+        return (at, size), NONE, (address, 8) if self.type in (2, 3) else NONE
+
+    def relocations(self, index):
+        """The records of a section with relocation entries, each with its size and address; a word of RELR with each of its addresses."""
+        at, kind, behind = self.start(index), self.number(self.section(index) + 4, 4), 0
+        size = {9: 16, 19: 8}.get(kind, 24)
+        while True:
+            number = self.number(at, 8)
+            if kind == 19 and number % 2:
+                yield from ((at, size, behind + 8 * bit) for bit in range(63) if number >> 1 + bit & 1)
+                behind += 504
+            else:
+                yield at, size, number
+                behind = number + 8
+            at += size
 
     def of_N(self, row):
         at = self.section(row["index"]) if self.shnum else self.phoff + 56 * row["index"]

@@ -35,12 +35,12 @@ from testing import Counts, option_reader, program_of
 HEX8, HEX16 = rb"[0-9a-f]{8} ", rb"[0-9a-f]{16} "
 FRONTS = {
     b"Y": re.compile(rb"Y .{5} .{10} " + HEX16 * 2 + rb".{7} .{6} .{9} .{5} "),
-    b"R": re.compile(rb"R .{5} " + HEX16 + rb"\S+ +" + HEX8 + rb"[+-]" + HEX16),
+    b"R": re.compile(rb"R .{5} " + HEX16 + rb"\S+ +" + HEX8 + rb"(?:[+-]" + HEX16 + rb"|- {17})"),
     b"V": re.compile(rb"V .{5} .{4} .{5} .{4} .{8} "),
     b"X": re.compile(rb"X .{5} .{10} .{5} . "),
 }
 PLAIN = re.compile(rb"[!-\[\]-~]{1,4096}")
-PARTS = (("symbols",), ("relocs",), ("versions", "--gnu"))
+PARTS = (("symbols",), ("relocs",), ("relocs", "--gnu"), ("versions", "--gnu"))
 counts = Counts()
 check = counts.quiet_case
 

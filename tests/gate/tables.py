@@ -138,7 +138,10 @@ class Rows:
         if form == "hexadecimal":
             return f"{int(text, 16):x}".rjust(self.width(letter, name))
         if form.startswith("`+` or `-`"):
-            return f"{text[0]}{int(text[1:], 16):x}".rjust(self.width(letter, name))
+            digits = text[1:].rstrip(" ")
+            return f"{text[0]}{int(digits, 16):x}".rjust(self.width(letter, name)) if digits else "-".rjust(self.width(letter, name))
+        if letter == "R" and name == "type" and text.rstrip(" ") == "RELR":
+            return "RELR".ljust(self.width(letter, name))
         return text
 
     def columns(self, letter):

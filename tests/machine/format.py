@@ -8,7 +8,7 @@ Python module that it names. The drawings must have their fields at those column
 ELF64 little-endian file below the directories (/usr/lib if none is given) is listed, and for a file that
 is refused each part alone; before them a file that is made here, whose names have all bytes, spaces, backslashes, and as
 many bytes as are shown, one less and one more, and which has rows whose fields grow. So are the
-versions of each file, with --gnu. The kinds of
+relocation entries and the versions of each file, with --gnu. The kinds of
 lines must be in their order, and each line must have its fields at its columns, in
 the form given there; the Python module must read it, and give names as bytes that are in the
 file where its own headers say, which are read here by other code; the awk program must
@@ -148,7 +148,7 @@ def elf_files(folders):
 
 
 def listed(program, path, part):
-    words = [*(["--gnu"] if part == "versions" else []), *(["--only", part] if part else [])]
+    words = [*(["--gnu"] if part in ("versions", "relocs") else []), *(["--only", part] if part else [])]
     done = subprocess.run([program, "show", *words, path],
                           stdout=subprocess.PIPE, stdin=subprocess.DEVNULL, check=False)
     return done.returncode, done.stdout
@@ -191,7 +191,7 @@ def awk_names(awk, text, *options):
 def check_file(counts, program, path, patterns, module, awk):
     """A file's listing, and of a file that is refused the listing of each part; gives how many
     lines they have."""
-    file, lines, parts = File(path), 0, [None, "versions"]
+    file, lines, parts = File(path), 0, [None, "relocs", "versions"]
     for part in parts:
         name = f"{part or 'listing'} of {path}"
         status, text = listed(program, path, part)

@@ -26,7 +26,7 @@ HEX8, HEX16 = rb"[0-9a-f]{8} ", rb"[0-9a-f]{16} "
 FRONTS = {
     b"S": re.compile(rb"S .{5} \S+ +(?:\S+ +)?" + HEX16 * 3 + HEX8 * 2),
     b"Y": re.compile(rb"Y .{5} .{10} " + HEX16 * 2 + rb".{7} .{6} .{9} .{5} "),
-    b"R": re.compile(rb"R .{5} " + HEX16 + rb"\S+ +" + HEX8 + rb"[+-]" + HEX16),
+    b"R": re.compile(rb"R .{5} " + HEX16 + rb"\S+ +" + HEX8 + rb"(?:[+-]" + HEX16 + rb"|- {17})"),
     b"D": re.compile(rb"D .{5} \S+ +" + HEX16),
     b"N": re.compile(rb"N .{5} " + HEX8 * 3),
 }
