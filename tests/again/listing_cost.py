@@ -122,10 +122,11 @@ def archive_cost(content, wish):
 
 def asked_by(command, content, wish, has_members):
     """The most that a command reads from a file; `list` and `check` first the bytes that say what it is, which `check` does
-    not read again of an archive."""
+    not read again of an archive; without members `check` reads a file header."""
     if command in ("show", "archive"):
         return cost(content, wish) if command == "show" else archive_cost(content, wish)
     sort = sort_of(content, has_members)
     if sort == "archive" and command == "check":
         return archive_cost(content, wish)
-    return 8 + (archive_cost(content, wish) if sort == "archive" else cost(content, wish) if sort == "elf" else 0)
+    first = 64 if command == "check" and not has_members else 8
+    return first + (archive_cost(content, wish) if sort == "archive" else cost(content, wish) if sort == "elf" else 0)

@@ -7,7 +7,7 @@ Each copy is an ELF file with bytes, fields, headers, tables or its length chang
 a seed: the same seed and the same files give the same copies. The files are those of the
 machine, members of its static libraries, and objects and libraries that gcc makes here; half of the
 copies are of files with a hash table or with relocation entries. Each is listed whole within a read
-budget, a name of the file is looked up, and a section with relocation entries written. A run must
+budget, some with --gnu, a name of the file is looked up, and a section with relocation entries written. A run must
 end by itself with status 0 or 1 and nothing on standard error, and its answer must have the right form: a
 refusal's line is its last, and for a section the bytes or the line are those that
 applied.py computes. No run takes longer than a second for each 10 MB that it may read;
@@ -38,6 +38,8 @@ FOLDERS = ("/usr/bin", "/usr/lib", "/lib", "/usr/sbin")
 # Larger files only take longer to copy.
 MOST_BYTES = 400000
 BUDGET = 10000000
+# With --gnu a word of 8 bytes may make 63 lines.
+GNU_BUDGET = 300000
 SECONDS = 1.0
 # The start of a process on a busy machine is no part of what is measured.
 START_SECONDS = 1.0
@@ -174,12 +176,13 @@ class Tries:
         return status, text, wrong_run(status, text, said, seconds, most)
 
     def show(self, path, is_cut):
-        words = ["show", "--headers", "65279", "--max-read", str(BUDGET), path]
+        gnu, budget = self.rng.choice((([], BUDGET), (["--gnu"], GNU_BUDGET)))
+        words = ["show", "--headers", "65279", "--max-read", str(budget), *gnu, path]
         status, text, wrong = self.run(words, BUDGET)
         if not wrong and status == 1 and not REFUSED.fullmatch(text[text.rfind(b"\n", 0, -1) + 1:]):
             wrong = "no line of a refusal"
         if not wrong and is_cut:
-            words[4] = str(self.rng.choice((0, 63, 64, 1000, 5000, 20000, self.rng.randrange(BUDGET))))
+            words[4] = str(self.rng.choice((0, 63, 64, 1000, 5000, 20000, self.rng.randrange(budget))))
             cut_status, cut, wrong = self.run(words, BUDGET)
             wrong = wrong or wrong_front(cut, cut_status, text)
         return wrong and "show: " + wrong
