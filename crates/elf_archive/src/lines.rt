@@ -10,7 +10,7 @@ use elf_format::{
     Columns, Json, LinePrefix, Tabular, member_prefix, show_member_location, show_named,
 };
 use elf_model::Format;
-use elf_source::{DeferredLine, DeferredSink, LocatedSink, Out, OutFault, Sink, SliceSink};
+use elf_source::{DeferredLine, DeferredSink, Out, OutFault, RowSink, Sink, SliceSink};
 use elf_table::{NameBuf, RunFault};
 
 /// The maximum number of bytes of a deferred line: a name of 4,096 bytes, each escaped in at most
@@ -50,7 +50,7 @@ pub(crate) fn defer_member_line<W: Sink>(
     member: &Member,
     name: &NameBuf,
     format: Format,
-    out: &mut Out<DeferredSink<LocatedSink<W>>>,
+    out: &mut Out<DeferredSink<W>>,
 ) -> Result<DeferredLine, OutFault>
     ensures holds { HoldsOrBreaks out.old out.new result
         (member_line format (member_of member.now name.now)) }
@@ -67,10 +67,10 @@ pub(crate) fn defer_member_line<W: Sink>(
 
 /// Sets the location of a member's rows, if objects have one: its name.
 #[inline(never)]
-pub(crate) fn locate_member<W: Sink>(
+pub(crate) fn locate_member<W: RowSink>(
     member: &Member,
     name: &NameBuf,
-    out: &mut Out<DeferredSink<LocatedSink<W>>>,
+    out: &mut Out<DeferredSink<W>>,
 )
     ensures { out.new ≡ out.old }
 {
@@ -94,7 +94,7 @@ pub(crate) fn locate_member<W: Sink>(
 pub fn end_listed<W: Sink>(
     line: DeferredLine,
     listed: Result<bool, RunFault>,
-    out: &mut Out<DeferredSink<LocatedSink<W>>>,
+    out: &mut Out<DeferredSink<W>>,
 ) -> Result<bool, RunFault>
     requires { out.old.written ≡ line.start → line.start - line.before ≤ out.old.held }
     ensures line { EndsLine line out.old out.new }

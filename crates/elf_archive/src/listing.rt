@@ -17,7 +17,7 @@ use crate::parts::list_member;
 use elf_format::show_refusal;
 use elf_listing::show_stop;
 use elf_record::Parts;
-use elf_source::{Counted, DeferredSink, Limited, LocatedSink, Out, RangeSource, Sink, Source};
+use elf_source::{Counted, DeferredSink, Limited, Out, RangeSource, RowSink, Sink, Source};
 use elf_table::{Caps, HeaderStore, ListingStyle, NameBuf, RunFault};
 
 /// What is listed of members: how rows are shown, which parts of a listing, and whether their lines
@@ -48,13 +48,13 @@ struct MemberOptions<'n> {
 /// A refusal of the archive, or for lack of budget: its line was written, as the last one. A fault
 /// of the source, with the offset in the archive that was requested, or of the output, with the
 /// number of bytes it took: a prefix of the listing was written. The store may be loaded again.
-pub fn show_archive<S: Source, W: Sink>(
+pub fn show_archive<S: Source, W: RowSink>(
     src: &mut Counted<RangeSource<S>>,
     store: &mut HeaderStore,
     caps: Caps,
     parts: Parts,
     alone: bool,
-    out: &mut Out<DeferredSink<LocatedSink<W>>>,
+    out: &mut Out<DeferredSink<W>>,
 ) -> Result<bool, RunFault>
     requires small { (store.old.slots ≡ caps.limits.headers) × (src.old.asked ≤ 2 ^ 127) }
     requires whole { IsAll src.old }
@@ -100,11 +100,11 @@ pub fn show_archive<S: Source, W: Sink>(
 /// # Errors
 /// A refusal of the archive, or for lack of budget: the lines before it were written. A fault of
 /// the source or of the output.
-fn list_archive<S: Source, W: Sink>(
+fn list_archive<S: Source, W: RowSink>(
     src: &mut Counted<RangeSource<S>>,
     store: &mut HeaderStore,
     choice: MemberOptions,
-    out: &mut Out<DeferredSink<LocatedSink<W>>>,
+    out: &mut Out<DeferredSink<W>>,
 ) -> Result<bool, RunFault>
     requires { IsAll src.old }
     ensures lists { ListsArchive choice.entry.alone store.old.slots store.new.slots
@@ -123,11 +123,11 @@ fn list_archive<S: Source, W: Sink>(
 ///
 /// # Errors
 /// As for [`list_archive`].
-fn list_members<S: Source, W: Sink>(
+fn list_members<S: Source, W: RowSink>(
     src: &mut Counted<RangeSource<S>>,
     store: &mut HeaderStore,
     choice: MemberOptions,
-    out: &mut Out<DeferredSink<LocatedSink<W>>>,
+    out: &mut Out<DeferredSink<W>>,
 ) -> Result<bool, RunFault>
     requires whole { IsAll src.old }
     requires size { (8 ≤ src.old.seen.size) × (src.old.seen.size < 2 ^ 63) }
@@ -161,13 +161,13 @@ fn list_members<S: Source, W: Sink>(
 /// # Errors
 /// A refusal of an offset without a valid member, or for lack of budget: the lines before it were
 /// written. A fault of the source or of the output.
-fn list_next<S: Source, W: Sink>(
+fn list_next<S: Source, W: RowSink>(
     src: &mut Counted<RangeSource<S>>,
     store: &mut HeaderStore,
     choice: MemberOptions,
     cursor: &mut MemberCursor,
     name: &mut NameBuf,
-    out: &mut Out<DeferredSink<LocatedSink<W>>>,
+    out: &mut Out<DeferredSink<W>>,
 ) -> Result<Option<bool>, RunFault>
     requires whole { IsAll src.old }
     requires size { src.old.seen.size < 2 ^ 63 }
@@ -188,13 +188,13 @@ fn list_next<S: Source, W: Sink>(
 ///
 /// # Errors
 /// As for [`list_located`] and [`defer_member_line`].
-fn list_with_line<S: Source, W: Sink>(
+fn list_with_line<S: Source, W: RowSink>(
     src: &mut Counted<RangeSource<S>>,
     store: &mut HeaderStore,
     choice: MemberOptions,
     member: &Member,
     name: &NameBuf,
-    out: &mut Out<DeferredSink<LocatedSink<W>>>,
+    out: &mut Out<DeferredSink<W>>,
 ) -> Result<bool, RunFault>
     requires { HoldsPart src.old (extent_of member.now.extent) }
     ensures { GoesThroughMember (extent_of member.now.extent) store.old.slots store.new.slots
@@ -216,13 +216,13 @@ fn list_with_line<S: Source, W: Sink>(
 ///
 /// # Errors
 /// As for [`list_reported`].
-fn list_located<S: Source, W: Sink>(
+fn list_located<S: Source, W: RowSink>(
     src: &mut Counted<RangeSource<S>>,
     store: &mut HeaderStore,
     choice: MemberOptions,
     member: &Member,
     name: &NameBuf,
-    out: &mut Out<DeferredSink<LocatedSink<W>>>,
+    out: &mut Out<DeferredSink<W>>,
 ) -> Result<bool, RunFault>
     requires { HoldsPart src.old (extent_of member.now.extent) }
     ensures { GoesThroughMember (extent_of member.now.extent) store.old.slots store.new.slots

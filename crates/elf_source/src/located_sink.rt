@@ -9,6 +9,7 @@ use crate::faults::SinkFault;
 use crate::holding_sink::DeferredSink;
 use crate::location_buffer::LocationText;
 use crate::output::{Out, give};
+use crate::row_sink::RowSink;
 use crate::sink::Sink;
 use memchr::memchr;
 use std::marker::Model;
@@ -239,7 +240,7 @@ impl<W: Sink> LocatedSink<W> {
     }
 
     /// Sets the location of the rows of a member of that file, if objects have one.
-    fn locate_member(&mut self, text: &[u8])
+    fn set_member(&mut self, text: &[u8])
         ensures { LocatesNext self.old self.new
             (λ buffer. row_location buffer.room buffer.location.file text.now) }
     {
@@ -275,6 +276,16 @@ impl<W: Sink> Sink for LocatedSink<W> {
     }
 }
 
+impl<W: Sink> RowSink for LocatedSink<W> {
+    fn adds_location(&self) -> bool {
+        self.buffer.is_some()
+    }
+
+    fn locate_member(&mut self, text: &[u8]) {
+        self.set_member(text);
+    }
+}
+
 impl<W: Sink> DeferredSink<LocatedSink<W>> {
     /// Sets the location of the rows of a file, if objects have one.
     fn locate_file(&mut self, text: &[u8])
@@ -282,36 +293,15 @@ impl<W: Sink> DeferredSink<LocatedSink<W>> {
     {
         self.sink.locate_file(text);
     }
-
-    /// Sets the location of the rows of a member of that file, if objects have one.
-    fn locate_member(&mut self, text: &[u8])
-        ensures { self.new ≡ self.old }
-    {
-        self.sink.locate_member(text);
-    }
 }
 
 impl<W: Sink> Out<DeferredSink<LocatedSink<W>>> {
-    /// Returns `true` if objects have a location.
-    pub fn adds_location(&self) -> bool {
-        self.sink.sink.buffer.is_some()
-    }
-
     /// Sets the location of the rows of a file that are written from now on, if objects have one:
     /// text that is inserted in each, except in those of the letters `@` and `C`.
     pub fn locate_file(&mut self, text: &[u8])
         ensures { self.new ≡ self.old }
     {
         self.sink.locate_file(text);
-    }
-
-    /// Sets the location of the rows of a member of that file, if objects have one: text that is
-    /// inserted after that of the file, except in the line of a member. Without text there is no
-    /// member.
-    pub fn locate_member(&mut self, text: &[u8])
-        ensures { self.new ≡ self.old }
-    {
-        self.sink.locate_member(text);
     }
 }
 

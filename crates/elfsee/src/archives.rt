@@ -12,7 +12,7 @@ use elf_cli::{
 use elf_format::TableWriter;
 use elf_record::Parts;
 use elf_requests::archive_status;
-use elf_source::{Counted, DeferredSink, LocatedSink, Out, RangeSource, Source, WriteSink};
+use elf_source::{Counted, DeferredSink, Out, RangeSource, Source, WriteSink};
 use elf_table::{Caps, HeaderStore};
 use std::io::{self, BufWriter, Write};
 use std::os::unix::fs::FileExt;
@@ -100,8 +100,8 @@ fn write_archive<S: Source + Drop, W: Write + Drop>(
         (S.seen source) output result.0.0 result.0.1.now result.1 }
 {
     let mut src = Counted::new(RangeSource::new(source));
-    let mut out = Out::new(DeferredSink::new(LocatedSink::plain(WriteSink::new(output)), held));
+    let mut out = Out::new(DeferredSink::new(WriteSink::new(output), held));
     let listed = show_archive(&mut src, &mut store, caps, parts, true, &mut out);
-    let sink = out.into_inner().into_inner().into_inner();
+    let sink = out.into_inner().into_inner();
     end_answer(&archive_status(listed), sink.into_inner())
 }
