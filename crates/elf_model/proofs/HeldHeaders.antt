@@ -32,7 +32,7 @@ unfolding table_cost
 kind-equal kind some all i size cap has own asks = rw (has, own, asks) refl
 
 -- a search among tests that agree
-first_that-equal : (test other : ℕ → Bool) (first count : ℕ) → ((i : ℕ) → first ≤ i → i < first + count → test i ≡ other i)
+pub first_that-equal : (test other : ℕ → Bool) (first count : ℕ) → ((i : ℕ) → first ≤ i → i < first + count → test i ≡ other i)
     → first_that test first count ≡ first_that other first count
 unfolding first_that
 first_that-equal test other first zero h = refl
@@ -159,7 +159,7 @@ module _ (all : HeaderTable) (row : ℕ → List ℕ) (fields : AreHeld 56 row a
   pub p_type_held : (i : ℕ) → i < all.count → p_type (row i) 0 ≡ header_field all p_type i
   p_type_held i below = fields i 0 4 below (omega arith) ∙ ap (λ at. field (all.bytes i) at 4) (add-zero (all.at i))
 
-  p_offset_held : (i : ℕ) → i < all.count → p_offset (row i) 0 ≡ header_field all p_offset i
+  pub p_offset_held : (i : ℕ) → i < all.count → p_offset (row i) 0 ≡ header_field all p_offset i
   p_offset_held i below = fields i 8 8 below (omega arith)
 
   pub p_filesz_held : (i : ℕ) → i < all.count → p_filesz (row i) 0 ≡ header_field all p_filesz i

@@ -3,6 +3,8 @@ pub mod AllowanceLaws
 pub mod ApplySteps
 pub mod ArchiveCosts
 pub mod BudgetLaws
+pub mod FaultRowLemmas
+pub mod FaultRowsHeld
 pub mod ChangeLaws
 pub mod ChangeSteps
 pub mod CheckSteps

@@ -1,8 +1,9 @@
 -- How listings are concatenated.
 use Rattle.std.proofs.lemmas.Nat.{and_assoc}
 use Rattle.std.specs.Int.RustNames.{bit_and}
-use Rattle.elf_model.specs.Prelude.{Check, FILE_HEADER_SIZE, Fault, HEADER, HeaderAloneIsListed, HeaderFaultIsListedAlone, LastRowIsLast, Line, ListingItem, ListingStyle, ListingsAppend, LoadFaultIsListedSecond, NothingAfterTheFault, OtherBitsMeanNothing, RowsSplit, after_header, all_parts, each, fault_of, file_header_items, first_refusal, guarded, has, has_tables, header_checks, header_line, place_of_header, header_row, known_parts, lines_of, listing, listing_cost, load_checks, load_items, loaded_items, refusal_line, report_of, shows_place, viewed, where_asked}
+use Rattle.elf_model.specs.Prelude.{Check, FILE_HEADER_SIZE, Fault, HEADER, HeaderAloneIsListed, HeaderFaultIsListedAlone, LastRowIsLast, Line, ListingItem, ListingStyle, ListingsAppend, LoadFaultIsListedSecond, NothingAfterTheFault, OtherBitsMeanNothing, RowsSplit, after_header, all_parts, each, fault_of, file_header_items, first_refusal, guarded, has, has_tables, header_checks, header_line, place_of_header, header_row, known_parts, lines_of, listing, listing_cost, load_checks, load_items, loaded_items, listing_fault_row, listing_refusal_line, refusal_line_in, report_by, shows_place, viewed, where_asked}
 use Rattle.elf_model.specs.declared.causes.Refusal.{Refusal}
+use Rattle.elf_model.specs.declared.fault_rows.FaultRow.TheVariants.{NoRow}
 use Rattle.std.proofs.Common.{◌≡◌, ℕ, suc, zero, ◌+◌, ◌==◌, Bool, true, false, List, [], ◌∷◌, ◌++◌, Some, None, if◌then◌else◌, arith, refl, ap, sym, ◌∙◌, append-nil, append_assoc, add-zero, zero-add}
 
 -- rows are concatenated
@@ -58,22 +59,28 @@ header_alone file headers style parts h =
     let line : List ListingItem = where_asked parts HEADER (header_row style file) in
     ap (guarded (header_checks file)) (ap (λ more. line ++ more) (load_none (viewed style file) headers style (known_parts style parts) h) ∙ append-nil line)
 
+-- a file whose header is refused has no row at fault
+no_fault_row : (file : List ℕ) (style : ListingStyle) (parts at : ℕ) (refusal : Refusal) → first_refusal (header_checks file) ≡ Some refusal
+    → listing_fault_row file style parts at ≡ NoRow
+unfolding listing_fault_row
+no_fault_row file style parts at refusal h = rw h refl
+
 pub header_fault : HeaderFaultIsListedAlone
 unfolding listing
 header_fault file headers style parts refusal h =
     let e : listing file headers style parts ≡ Fault refusal ∷ [] =
     guarded-fault (header_checks file) (where_asked parts HEADER (header_row style file) ++ load_items (viewed style file) headers style (known_parts style parts)) refusal h in
-    (ap (report_of style.format) e, ap fault_of e)
+    (ap (report_by (listing_refusal_line file style parts)) e ∙ ap (λ row. refusal_line_in style.format row refusal) (no_fault_row file style parts refusal.at refusal h), ap fault_of e)
 
 -- a fault after the file header's row
-pub row_then_fault : (style : ListingStyle) (file : List ℕ) (refusal : Refusal)
-    → report_of style.format (header_row style file ++ Fault refusal ∷ []) ≡ lines_of (header_row style file) ++ refusal_line style.format refusal
-row_then_fault style file refusal = by (shows_place style.place place_of_header) (header_line style.format file)
+pub row_then_fault : (line : Refusal → List ℕ) (style : ListingStyle) (file : List ℕ) (refusal : Refusal)
+    → report_by line (header_row style file ++ Fault refusal ∷ []) ≡ lines_of (header_row style file) ++ line refusal
+row_then_fault line style file refusal = by (shows_place style.place place_of_header) (header_line style.format file)
   where
-    by : (shown : Bool) (line : List ℕ)
-        → report_of style.format ((if shown then Line line ∷ [] else []) ++ Fault refusal ∷ []) ≡ lines_of (if shown then Line line ∷ [] else []) ++ refusal_line style.format refusal
-    by true line = refl
-    by false line = refl
+    by : (shown : Bool) (text : List ℕ)
+        → report_by line ((if shown then Line text ∷ [] else []) ++ Fault refusal ∷ []) ≡ lines_of (if shown then Line text ∷ [] else []) ++ line refusal
+    by true text = refl
+    by false text = refl
 
 pub load_fault : LoadFaultIsListedSecond
 unfolding listing
@@ -87,7 +94,7 @@ load_fault file headers style parts refusal h l p t =
     load_some view headers style known t ∙ guarded-fault (load_checks view headers) (loaded_items view style known) refusal l in
     let e : listing file headers style parts ≡ header_row style file ++ Fault refusal ∷ [] =
     passes ∙ ap (λ more. line ++ more) fault ∙ ap (λ first. first ++ Fault refusal ∷ []) (asked-true parts HEADER (header_row style file) p) in
-    ap (report_of style.format) e ∙ row_then_fault style file refusal
+    ap (report_by (listing_refusal_line file style parts)) e ∙ row_then_fault (listing_refusal_line file style parts) style file refusal
 
 pub nothing_after : NothingAfterTheFault
 nothing_after [] back refusal h = cc

@@ -3,7 +3,7 @@ use Rattle.std.proofs.Common.{◌≡◌, ℕ, suc, zero, ◌+◌, ◌/◌, ◌�
 use Rattle.std.proofs.Math.Nat.{div-mul-le_self}
 use Rattle.std.proofs.lemmas.Bool.{ltb-false}
 use Rattle.std.proofs.lemmas.Nat.{le-div}
-use Rattle.elf_model.specs.Prelude.{Check, Fault, HEADER, Line, ListingItem, ListingStyle, NoPageIsShared, OverlapIsListedElsewhere, OverlapIsListedSecond, e_phnum, first_page, first_refusal, header_checks, header_row, known_parts, listing, load_checks, load_items, loaded_items, loads_from, needs_segments, overlap_checks, overlaps_from, p_memsz, p_vaddr, page_behind, pass, refusal_line, report_of, segment_at, table_items, takes_memory, view_checks, viewed, where_asked}
+use Rattle.elf_model.specs.Prelude.{Check, Fault, HEADER, Line, ListingItem, ListingStyle, NoPageIsShared, OverlapIsListedElsewhere, OverlapIsListedSecond, e_phnum, first_page, first_refusal, header_checks, header_row, known_parts, listing, load_checks, load_items, loaded_items, loads_from, needs_segments, overlap_checks, overlaps_from, p_memsz, p_vaddr, page_behind, pass, listing_refusal_line, report_by, segment_at, table_items, takes_memory, view_checks, viewed, where_asked}
 use Rattle.elf_model.specs.declared.causes.Cause.TheVariants.{LoadOverlap}
 use Rattle.elf_model.proofs.ListingLemmas.{guarded-fault, guarded-passes, asked-true, load_some, row_then_fault}
 
@@ -142,4 +142,4 @@ overlap_second file headers style parts refusal h l b n o p t =
     load_some view headers style known t ∙ guarded-passes (load_checks view headers) (loaded_items view style known) l ∙ loaded in
     let e : listing file headers style parts ≡ header_row style file ++ Fault refusal ∷ [] =
     passes ∙ ap (λ more. line ++ more) fault ∙ ap (λ first. first ++ Fault refusal ∷ []) (asked-true parts HEADER (header_row style file) p) in
-    ap (report_of style.format) e ∙ row_then_fault style file refusal
+    ap (report_by (listing_refusal_line file style parts)) e ∙ row_then_fault (listing_refusal_line file style parts) style file refusal

@@ -2,8 +2,8 @@
 -- contains.
 use Rattle.std.specs.Prelude.{ℕ, ◌≡◌, List, Option, None, Some}
 use Rattle.elf_model.specs.Budget.{IsBudgeted}
-use Rattle.elf_model.specs.Listing.{report_of, fault_of}
-use Rattle.elf_model.specs.Report.{listing}
+use Rattle.elf_model.specs.Listing.{fault_of}
+use Rattle.elf_model.specs.Report.{listing, listing_report}
 use Rattle.elf_model.specs.Style.{ListingStyle, standard}
 use Rattle.elf_model.specs.declared.causes.Refusal.{Refusal}
 
@@ -20,8 +20,7 @@ status_of (Some refusal) = 1
 -- `show`: the listing of a file in a style
 abbrev pub show_answer_by : List ℕ → ℕ → ListingStyle → ℕ → Answer
 show_answer_by file headers style parts =
-    let all = listing file headers style parts in
-    record { text = report_of style.format all; status = status_of (fault_of all) }
+    record { text = listing_report file headers style parts; status = status_of (fault_of (listing file headers style parts)) }
 
 -- with this limit on bytes of a name, in the standards' names, by the section headers if there are
 -- any

@@ -5,6 +5,7 @@ use Rattle.elf_model.specs.Archive.{Member, Ends, Broken, OneMember, MemberWalkS
 use Rattle.elf_model.specs.Budget.{IsCut, IsReport}
 use Rattle.elf_model.specs.Checks.{pass}
 use Rattle.elf_model.specs.Cost.{cost_where, listing_cost, style_ceiling, suffixes_most}
+use Rattle.elf_model.specs.Lines.{refusal_line}
 use Rattle.elf_model.specs.Names.{name_bytes, pad64}
 use Rattle.elf_model.specs.Records.{ELF_MAGIC_SIZE}
 use Rattle.elf_model.specs.Style.{ListingStyle}
@@ -73,9 +74,9 @@ archive_ceiling size headers style =
 -- or a prefix of whole lines if it costs more than the budget
 abbrev pub IsArchiveBudgeted : (alone : Bool) → Option ℕ → List ℕ → ℕ → ListingStyle → ℕ → List ℕ → Option Refusal → Type 0
 IsArchiveBudgeted alone None file headers style parts text fault =
-    IsReport style.format (archive_items alone file headers style parts) text fault
+    IsReport (refusal_line style.format) (archive_items alone file headers style parts) text fault
 IsArchiveBudgeted alone (Some budget) file headers style parts text fault =
-    IsReport style.format (archive_items alone file headers style parts) text fault
+    IsReport (refusal_line style.format) (archive_items alone file headers style parts) text fault
     ⊎ ((budget < archive_cost file headers style parts)
     × IsCut style.format (length file) (archive_items alone file headers style parts) text fault)
 

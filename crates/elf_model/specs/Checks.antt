@@ -84,7 +84,7 @@ early_checks_of e size headers =
     ∷ []
 
 -- the counts in a file's header
-abbrev counts_in : List ℕ → HeaderCounts
+abbrev pub counts_in : List ℕ → HeaderCounts
 counts_in file = record {
   phoff = e_phoff file;
   shoff = e_shoff file;

@@ -32,6 +32,7 @@ pub mod VersionRows
 pub mod Suffixes
 pub mod TableKinds
 pub mod SuffixLaws
+pub mod FaultRows
 pub mod Report
 pub mod TableTexts
 pub mod ListingLaws

@@ -1,5 +1,5 @@
 -- The lines of a listing. Each is its letter and its fields, and for most lines a name.
-use Rattle.std.specs.Prelude.{ℕ, ◌==◌, ◌&&◌, nat_le, if◌then◌else◌, Bool, List, [], ◌∷◌, ◌++◌, codes}
+use Rattle.std.specs.Prelude.{ℕ, ◌==◌, ◌&&◌, nat_le, if◌then◌else◌, Bool, List, [], ◌∷◌, ◌++◌, codes, decimal, Option, None, Some}
 use Rattle.elf_model.specs.Fields.{Fields, LinePrefix, member_key, quoted, closed_line, closing}
 use Rattle.elf_model.specs.Fields.Field.{Decimal, Hexadecimal, ArgSpec, NameOrHexadecimal}
 use Rattle.elf_model.specs.Text.{hex, short_hex, newline, name_of}
@@ -9,6 +9,8 @@ use Rattle.elf_model.specs.Names.{DisplayedName}
 use Rattle.elf_model.specs.Names.DisplayedName.{Whole, Cut}
 use Rattle.elf_model.specs.Causes.{cause_meaning, cause_word}
 use Rattle.elf_model.specs.declared.causes.Refusal.{Refusal}
+use Rattle.elf_model.specs.declared.fault_rows.FaultRow.{FaultRow}
+use Rattle.elf_model.specs.declared.fault_rows.FaultRow.TheVariants.{FileHeader, NoRow, ProgramHeader, Section, SectionHeader, Segment}
 use Rattle.elf_model.specs.declared.formats.Format.{Format}
 use Rattle.elf_model.specs.declared.formats.Format.TheVariants.{Object, Table}
 
@@ -71,11 +73,29 @@ fault_line format at cause =
 unfoldable pub told_line : (at : ℕ) → (meaning : List ℕ) → List ℕ
 told_line at meaning = codes "! 0x" ++ short_hex at ++ codes ": " ++ meaning ++ newline
 
+-- the entry in which a fault is, if its number is known
+unfoldable pub entry_words : Option ℕ → List ℕ
+entry_words None = []
+entry_words (Some number) = codes ", entry " ++ decimal number
+
+-- the row in which a fault is, in words
+unfoldable pub fault_row_text : FaultRow → List ℕ
+fault_row_text NoRow = []
+fault_row_text FileHeader = codes "file header: "
+fault_row_text (SectionHeader index) = codes "section header " ++ decimal index ++ codes ": "
+fault_row_text (ProgramHeader index) = codes "program header " ++ decimal index ++ codes ": "
+fault_row_text (Section index entry) = codes "section " ++ decimal index ++ entry_words entry ++ codes ": "
+fault_row_text (Segment index entry) = codes "segment " ++ decimal index ++ entry_words entry ++ codes ": "
+
 -- the line of a refusal: the file offset that it points to, and the word of its cause, or in a
--- table what it means
-unfoldable pub refusal_line : Format → Refusal → List ℕ
-refusal_line Table r = told_line r.at (cause_meaning r.cause)
-refusal_line format r = fault_line format r.at (cause_word r.cause)
+-- table the row that it is in and what the cause means
+unfoldable pub refusal_line_in : Format → FaultRow → Refusal → List ℕ
+refusal_line_in Table row r = told_line r.at (fault_row_text row ++ cause_meaning r.cause)
+refusal_line_in format row r = fault_line format r.at (cause_word r.cause)
+
+-- the same if the row is not known
+abbrev pub refusal_line : Format → Refusal → List ℕ
+refusal_line format r = refusal_line_in format NoRow r
 
 -- a byte of a name: a backslash is doubled, any other printing ASCII character is unchanged, any
 -- other byte is escaped in two digits

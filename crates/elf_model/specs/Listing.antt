@@ -28,13 +28,20 @@ fault_of (Line text ∷ items) = fault_of items
 fault_of (Fault refusal ∷ items) = Some refusal
 
 -- the line of a fault, if there is one
-abbrev pub end_text : Format → Option Refusal → List ℕ
-end_text format None = []
-end_text format (Some refusal) = refusal_line format refusal
+abbrev pub end_by : (Refusal → List ℕ) → Option Refusal → List ℕ
+end_by line None = []
+end_by line (Some refusal) = line refusal
 
 -- the text of a listing: the lines before the first fault, and the fault's line
+abbrev pub report_by : (Refusal → List ℕ) → List ListingItem → List ℕ
+report_by line items = lines_of items ++ end_by line (fault_of items)
+
+-- the same if no row is known that a fault is in
+abbrev pub end_text : Format → Option Refusal → List ℕ
+end_text format fault = end_by (refusal_line format) fault
+
 abbrev pub report_of : Format → List ListingItem → List ℕ
-report_of format items = lines_of items ++ end_text format (fault_of items)
+report_of format items = report_by (refusal_line format) items
 
 -- the first check that fails is a fault in place of the items, which then mean nothing
 abbrev pub guarded : List Check → List ListingItem → List ListingItem

@@ -3,9 +3,9 @@ use Rattle.std.specs.Prelude.{◌≡◌, ℕ, ◌+◌, ◌≤◌, true, false, L
 use Rattle.elf_model.specs.Budget.{IsReport, IsBudgeted}
 use Rattle.elf_model.specs.Checks.{first_refusal, header_checks, load_checks}
 use Rattle.elf_model.specs.Lines.{refusal_line}
-use Rattle.elf_model.specs.Listing.{ListingItem, each, lines_of, fault_of, has, header_row, report_of, has_tables, file_header_items, known_parts, HEADER}
+use Rattle.elf_model.specs.Listing.{ListingItem, each, lines_of, fault_of, has, header_row, has_tables, file_header_items, known_parts, HEADER}
 use Rattle.elf_model.specs.Cost.{listing_cost}
-use Rattle.elf_model.specs.Report.{listing}
+use Rattle.elf_model.specs.Report.{listing, listing_refusal_line, listing_report}
 use Rattle.elf_model.specs.Style.{ListingStyle, viewed}
 use Rattle.elf_model.specs.declared.causes.Refusal.{Refusal}
 
@@ -32,7 +32,7 @@ abbrev pub HeaderFaultIsListedAlone : Type 0
 HeaderFaultIsListedAlone =
     (file : List ℕ) → (headers : ℕ) → (style : ListingStyle) → (parts : ℕ) → (refusal : Refusal)
     → first_refusal (header_checks file) ≡ Some refusal
-    → (report_of style.format (listing file headers style parts) ≡ refusal_line style.format refusal)
+    → (listing_report file headers style parts ≡ refusal_line style.format refusal)
     × (fault_of (listing file headers style parts) ≡ Some refusal)
 
 -- if a load check of the file that the style lists fails, the listing is the file header's row and
@@ -42,7 +42,7 @@ LoadFaultIsListedSecond =
     (file : List ℕ) → (headers : ℕ) → (style : ListingStyle) → (parts : ℕ) → (refusal : Refusal)
     → first_refusal (header_checks file) ≡ None → first_refusal (load_checks (viewed style file) headers) ≡ Some refusal
     → has parts HEADER ≡ true → has_tables (known_parts style parts) ≡ true
-    → report_of style.format (listing file headers style parts) ≡ lines_of (header_row style file) ++ refusal_line style.format refusal
+    → listing_report file headers style parts ≡ lines_of (header_row style file) ++ listing_refusal_line file style parts refusal
 
 -- what follows the first fault of a listing is not shown
 abbrev pub NothingAfterTheFault : Type 0
@@ -68,4 +68,4 @@ abbrev pub AmpleBudgetIsReport : Type 0
 AmpleBudgetIsReport =
     (budget : ℕ) → (file : List ℕ) → (headers : ℕ) → (style : ListingStyle) → (parts : ℕ) → (text : List ℕ) → (fault : Option Refusal)
     → listing_cost file headers style parts ≤ budget → IsBudgeted (Some budget) file headers style parts text fault
-    → IsReport style.format (listing file headers style parts) text fault
+    → IsReport (listing_refusal_line file style parts) (listing file headers style parts) text fault

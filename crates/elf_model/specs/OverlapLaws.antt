@@ -2,11 +2,10 @@
 use Rattle.std.specs.Prelude.{◌≡◌, ℕ, ◌<◌, ◌≤◌, true, false, List, ◌++◌, None, Some}
 use Rattle.elf_model.specs.Checks.{pass, first_refusal, header_checks, load_checks}
 use Rattle.elf_model.specs.Cost.{needs_segments}
-use Rattle.elf_model.specs.Lines.{refusal_line}
-use Rattle.elf_model.specs.Listing.{has, has_tables, header_row, known_parts, lines_of, report_of, HEADER}
+use Rattle.elf_model.specs.Listing.{has, has_tables, header_row, known_parts, lines_of, HEADER}
 use Rattle.elf_model.specs.Overlaps.{overlap_checks, takes_memory, first_page, page_behind}
 use Rattle.elf_model.specs.Records.{e_phnum, segment_at}
-use Rattle.elf_model.specs.Report.{listing, loaded_items, table_items}
+use Rattle.elf_model.specs.Report.{listing, listing_refusal_line, listing_report, loaded_items, table_items}
 use Rattle.elf_model.specs.Style.{ListingStyle, viewed}
 use Rattle.elf_model.specs.declared.causes.Refusal.{Refusal}
 
@@ -29,7 +28,7 @@ OverlapIsListedSecond =
     → style.by_segments ≡ true → needs_segments (viewed style file) (known_parts style parts) ≡ true
     → first_refusal (overlap_checks (viewed style file)) ≡ Some refusal
     → has parts HEADER ≡ true → has_tables (known_parts style parts) ≡ true
-    → report_of style.format (listing file headers style parts) ≡ lines_of (header_row style file) ++ refusal_line style.format refusal
+    → listing_report file headers style parts ≡ lines_of (header_row style file) ++ listing_refusal_line file style parts refusal
 
 -- any other style lists such a file as it lists others
 abbrev pub OverlapIsListedElsewhere : Type 0

@@ -26,7 +26,7 @@ unfoldable pub use Rattle.elf_model.specs.Causes.{cause_meaning, cause_word}
 pub use Rattle.elf_model.specs.Chains.{Answers, ChainResult, HashTable, Last, NotThere, Untried, WalkEnd, end_of_match, nothing_tried, refused_walk}
 pub use Rattle.elf_model.specs.Checking.{IsStateOf, cause_width, check_line, fault_fields, is_not_elf, state_of}
 unfoldable pub use Rattle.elf_model.specs.Checking.{check_front, file_status_name, unnamed_line}
-pub use Rattle.elf_model.specs.Checks.{Check, HeaderCounts, before_headers, early_checks, early_checks_of, first_refusal, has_section_names, header_checks, ident_checks, is_outside, is_section_outside, is_symbol_table, length_checks, load_checks, pass, range_checks, range_checks_of, refuse, section_name_checks, strings_checks, table_checks, table_checks_of, unless_empty, whole_checks_of}
+pub use Rattle.elf_model.specs.Checks.{Check, HeaderCounts, before_headers, counts_in, early_checks, early_checks_of, first_refusal, has_section_names, header_checks, ident_checks, is_outside, is_section_outside, is_symbol_table, length_checks, load_checks, pass, range_checks, range_checks_of, refuse, section_name_checks, strings_checks, table_checks, table_checks_of, unless_empty, whole_checks_of}
 pub use Rattle.elf_model.specs.Choice.{EveryRow, NoSuffix, RowFilter, RowsOf, Suffix, Suffixed, chooses, is_named, is_whole, suits, wanted_text}
 pub use Rattle.elf_model.specs.ChoiceLaws.{CutNamesAreNone, NamesAloneAreChosen, NamesAreChosen, NamesFitEveryVersion, OrderChoosesNothing, VersionsAreChosen, has_sign, has_sign_first, has_version}
 unfoldable pub use Rattle.elf_model.specs.Choice.{most_bytes}
@@ -40,6 +40,8 @@ pub use Rattle.elf_model.specs.Explain.{ITEM_NAME_SIZE, MissingEntry, lack_with}
 pub use Rattle.elf_model.specs.ExplainLine.{explanation, item_text, where_named}
 unfoldable pub use Rattle.elf_model.specs.ExplainLine.{entry_item_text, entry_text, help_text, items_text, missing_line, place_text, type_prefix}
 unfoldable pub use Rattle.elf_model.specs.Explain.{explained, has_entry, lack_of, missing, missing_for_type, missing_ifunc_entry, missing_of, missing_place, name_wanted, refused_in, relocates_at, resolved_symbol_name, symbol_place, wanted}
+pub use Rattle.elf_model.specs.FaultRows.{entry_number, fault_row, is_in_section, is_in_segment, listed_range, row_index, section_entry_size, segment_entry_size, table_segments}
+unfoldable pub use Rattle.elf_model.specs.FaultRows.{row_among, row_in_segments, row_in_tables}
 pub use Rattle.elf_model.specs.Fields.{ADDEND_WIDTH, CAUSE_WIDTH, Field, Fields, LinePrefix, cell, closed_line, front, name_or_value, sign_of, with_fields}
 pub use Rattle.elf_model.specs.Fields.Field.{ArgSpec, Decimal, Hexadecimal, NameOrDecimal, NameOrHexadecimal, NameOrNumber}
 unfoldable pub use Rattle.elf_model.specs.Fields.{begun, closing, member_key, quoted, signed_text, string_byte, string_text, with_field}
@@ -71,16 +73,16 @@ pub use Rattle.elf_model.specs.FlagWords.{separator, value_text}
 unfoldable pub use Rattle.elf_model.specs.FlagWords.{dynamic_flags, dynamic_flags_1, flag_words, flags_text, words_from}
 pub use Rattle.elf_model.specs.NoteLines.{GNU_PROPERTY_X86_ISA_1_NEEDED, NT_GNU_ABI_TAG, NT_GNU_GOLD_VERSION, SHOWN_DESCRIPTOR, abi_version, descriptor_mark, descriptor_text, is_note_name, note_line, property_words}
 unfoldable pub use Rattle.elf_model.specs.NoteLines.{abi_systems, abi_tag, core_types, descriptor_cell, descriptor_digits, gnu_content, line_described, linux_core_types, note_content, properties_text, property_text, with_properties, x86_features, x86_levels}
-pub use Rattle.elf_model.specs.Lines.{cut_mark, name_member, named_line}
+pub use Rattle.elf_model.specs.Lines.{cut_mark, name_member, named_line, refusal_line}
 pub use Rattle.elf_model.specs.LineFronts.{names_of_types, type_width}
 unfoldable pub use Rattle.elf_model.specs.RelocationNames.{aarch64_relocation_types, psabi_relocation_types, riscv_relocation_types, x86_64_relocation_types}
 pub use Rattle.elf_model.specs.TableTexts.{TableIsInPieces, before_line, names_line, place_after, table_start, table_text}
 unfoldable pub use Rattle.elf_model.specs.TableTexts.{byte_in_table, headings, state_after, state_at_end, table_from}
-unfoldable pub use Rattle.elf_model.specs.Lines.{told_line}
-unfoldable pub use Rattle.elf_model.specs.Lines.{escaped, header_line, hex_bytes, line_named, name_byte_text, name_text, refusal_line, segment_line, steps_line}
+unfoldable pub use Rattle.elf_model.specs.Lines.{entry_words, fault_row_text, told_line}
+unfoldable pub use Rattle.elf_model.specs.Lines.{escaped, header_line, hex_bytes, line_named, name_byte_text, name_text, refusal_line_in, segment_line, steps_line}
 pub use Rattle.elf_model.specs.Links.{LINK_TEXT_BYTES, LinkState, NeededName, TextRoom, first_text, has_room, is_link, no_link_info, room_after}
 unfoldable pub use Rattle.elf_model.specs.Links.{link_text, linked_by, linked_from, linked_in, linked_with, links_by_segments, links_ceiling, links_of, loaded_links, lookup_refusal, machine_in}
-pub use Rattle.elf_model.specs.Listing.{ALL, DYNAMIC, Fault, GNU_ALL, HEADER, Line, ListingItem, NOTES, RELOCS, SECTIONS, SEGMENTS, SYMBOLS, VERSIONS, all_parts, end_text, fault_of, guarded, has, has_tables, header_row, known_parts, lines_of, placed_line, report_of, where_asked}
+pub use Rattle.elf_model.specs.Listing.{ALL, DYNAMIC, Fault, GNU_ALL, HEADER, Line, ListingItem, NOTES, RELOCS, SECTIONS, SEGMENTS, SYMBOLS, VERSIONS, all_parts, end_by, end_text, fault_of, guarded, has, has_tables, header_row, known_parts, lines_of, placed_line, report_by, report_of, where_asked}
 pub use Rattle.elf_model.specs.ListingLaws.{HeaderAloneIsListed, HeaderFaultIsListedAlone, LastRowIsLast, ListingsAppend, LoadFaultIsListedSecond, NothingAfterTheFault, OtherBitsMeanNothing, RowsSplit}
 unfoldable pub use Rattle.elf_model.specs.Listing.{each, file_header_items}
 pub use Rattle.elf_model.specs.Loader.{AT_SIGN, CompareResult, DefaultVersion, DynamicSymbols, Meets, Misses, NoVersion, NumberNameSource, Refuses, SymbolQuery, Version, VersionQuery, VersionRecordRead, VersionRecordTable, VersymTable, asked_after, asked_name, compared_until, end_reading, has_record, is_among, is_hidden, one_later, one_more, symbol_offset, versym_at, with_number}
@@ -123,8 +125,8 @@ pub use Rattle.elf_model.specs.Properties.{GNU_PROPERTY_X86_FEATURE_1_AND, NT_GN
 unfoldable pub use Rattle.elf_model.specs.Properties.{features_in, first_listing, first_property, listed_from, listed_in, next_property, properties_from, properties_in, property_list}
 pub use Rattle.elf_model.specs.RecordLaws.{FieldsOfSlices, LinesOfSlices}
 pub use Rattle.elf_model.specs.Records.{ELF_MAGIC_SIZE, FILE_HEADER_SIZE, PROGRAM_HEADER_SIZE, SECTION_HEADER_SIZE, d_tag, d_un, e_entry, e_flags, e_machine, e_phentsize, e_phnum, e_phoff, e_shentsize, e_shnum, e_shoff, e_shstrndx, e_type, has_elf_magic, n_descsz, n_namesz, n_type, p_align, p_filesz, p_flags, p_memsz, p_offset, p_paddr, p_type, p_vaddr, r_addend, r_info, r_offset, r_sym, r_type, section_at, segment_at, sh_addr, sh_addralign, sh_entsize, sh_flags, sh_info, sh_link, sh_name, sh_offset, sh_size, sh_type, st_info, st_name, st_other, st_shndx, st_size, st_type, st_value, twos_complement, vd_aux, versym, vn_aux, vn_file, vn_next, vna_name}
-pub use Rattle.elf_model.specs.Report.{items, report, report_fault}
-unfoldable pub use Rattle.elf_model.specs.Report.{kinds_rows, listing, load_items, loaded_items, table_items, table_rows, view_checks}
+pub use Rattle.elf_model.specs.Report.{items, listing_refusal_line, listing_report, report, report_fault}
+unfoldable pub use Rattle.elf_model.specs.Report.{kinds_rows, listing, listing_fault_row, load_items, loaded_items, table_items, table_rows, view_checks}
 pub use Rattle.elf_model.specs.RowPlaces.{is_address, is_in_memory_type, place_of_dynamic, place_of_header, place_of_record, place_of_relocation, place_of_section, place_of_segment, place_of_symbol}
 pub use Rattle.elf_model.specs.Rows.{chosen_row, is_string_tag, named_row, no_name, placed_choice, refused_row, relocation_choice, symbol_choice, value_name}
 unfoldable pub use Rattle.elf_model.specs.Rows.{dynamic_row, note_row, notes_rows, relocation_row, section_name, section_row, segment_row, symbol_named, symbol_row, walk_rows}

@@ -1,17 +1,20 @@
 -- The listing of a file and its text, for this many headers allowed, a style, and some parts.
 use Rattle.std.specs.Prelude.{ℕ, ◌&&◌, true, false, List, [], ◌∷◌, ◌++◌, Option, if◌then◌else◌}
 use Rattle.elf_model.specs.Records.{e_shnum, e_phnum}
-use Rattle.elf_model.specs.Checks.{Check, header_checks, load_checks}
+use Rattle.elf_model.specs.Checks.{Check, header_checks, load_checks, pass}
 use Rattle.elf_model.specs.Cost.{needs_segments}
+use Rattle.elf_model.specs.FaultRows.{fault_row}
 use Rattle.elf_model.specs.HeaderTables.{HeaderTable, TableKind}
-use Rattle.elf_model.specs.Listing.{ListingItem, guarded, header_row, each, where_asked, has_tables, known_parts, report_of, fault_of, HEADER, SECTIONS, SEGMENTS}
+use Rattle.elf_model.specs.Lines.{refusal_line_in}
+use Rattle.elf_model.specs.Listing.{ListingItem, guarded, header_row, each, where_asked, has_tables, known_parts, report_by, fault_of, HEADER, SECTIONS, SEGMENTS}
 use Rattle.elf_model.specs.Overlaps.{overlap_checks}
 use Rattle.elf_model.specs.Rows.{section_row, segment_row}
 use Rattle.elf_model.specs.Style.{ListingStyle, standard, viewed}
 use Rattle.elf_model.specs.Tables.{all_checks}
 use Rattle.elf_model.specs.TableKinds.{table_headers}
 use Rattle.elf_model.specs.declared.causes.Refusal.{Refusal}
-use Rattle.elf_model.specs.declared.formats.Format.TheVariants.{Columns}
+use Rattle.elf_model.specs.declared.fault_rows.FaultRow.{FaultRow}
+use Rattle.elf_model.specs.declared.fault_rows.FaultRow.TheVariants.{NoRow}
 
 -- the rows of the table of a kind whose header has an index and is at an offset, after its checks;
 -- none if the header describes no such table
@@ -58,6 +61,21 @@ listing file headers style parts =
     guarded (header_checks file)
     (where_asked parts HEADER (header_row style file) ++ load_items (viewed style file) headers style (known_parts style parts))
 
+-- the row at an offset of a file that a listing in a style refuses; none if a check of the file
+-- header fails
+unfoldable pub listing_fault_row : List ℕ → ListingStyle → ℕ → ℕ → FaultRow
+listing_fault_row file style parts at =
+    if pass (header_checks file) then fault_row (viewed style file) (known_parts style parts) at else NoRow
+
+-- the line of a refusal that ends the listing of a file: in a table it says which row of the file
+-- that the style lists is at fault, if the checks of the file header pass
+abbrev pub listing_refusal_line : List ℕ → ListingStyle → ℕ → Refusal → List ℕ
+listing_refusal_line file style parts refusal = refusal_line_in style.format (listing_fault_row file style parts refusal.at) refusal
+
+-- THE TEXT OF THE LISTING OF A FILE
+abbrev pub listing_report : List ℕ → ℕ → ListingStyle → ℕ → List ℕ
+listing_report file headers style parts = report_by (listing_refusal_line file style parts) (listing file headers style parts)
+
 -- the listing with this limit on bytes of a name, in the standards' names, by the section headers
 -- if there are any, in columns
 abbrev pub items : List ℕ → ℕ → ℕ → ℕ → List ListingItem
@@ -65,7 +83,7 @@ items file headers cap parts = listing file headers (standard cap) parts
 
 -- its text
 abbrev pub report : List ℕ → ℕ → ℕ → ℕ → List ℕ
-report file headers cap parts = report_of Columns (items file headers cap parts)
+report file headers cap parts = listing_report file headers (standard cap) parts
 
 -- its first fault
 abbrev pub report_fault : List ℕ → ℕ → ℕ → ℕ → Option Refusal

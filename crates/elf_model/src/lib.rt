@@ -12,6 +12,7 @@ mod causes;
 mod choice_laws;
 mod cost_laws;
 mod dynamic;
+mod fault_rows;
 mod formats;
 mod gnu_hash_laws;
 mod hash_laws;
@@ -37,6 +38,7 @@ mod version_laws;
 mod versions;
 
 pub use causes::{Cause, Refusal};
+pub use fault_rows::FaultRow;
 pub use formats::{Format, LinePlace, TableState};
 pub use missing::{LayoutAddress, MissingAddress, OverflowedValue};
 pub use place_filters::{PlaceFilter, PlaceRange, RowPlace};
