@@ -64,7 +64,7 @@ pub use overflow_rows::show_overflow;
 pub use path_rows::show_path;
 pub use relocation_rows::relocation_prefix;
 pub use render::{Columns, Json, Render, Tabular};
-pub use rows::{cause_word, header_row, show_refusal};
+pub use rows::{cause_word, header_row, show_refusal, show_refusal_in};
 pub use section_rows::section_prefix;
 pub use segment_rows::segment_row;
 pub use symbol_rows::{show_symbol, symbol_front_in, symbol_prefix};

@@ -13,7 +13,7 @@ use crate::named::show_named;
 use crate::needed_objects::{FoundBy, ObjectRow, ObjectState};
 use crate::render::{Columns, Json, Render, Tabular};
 use crate::rows::{fault_row, meaning_row};
-use elf_model::{FileStatus, Format};
+use elf_model::{FaultRow, FileStatus, Format};
 use elf_source::{Out, OutFault, Sink};
 
 /// Writes the `L` line of an object up to its path.
@@ -152,7 +152,7 @@ pub fn show_too_many_paths<W: Sink>(
 ///
 /// # Errors
 /// A fault of the output, with a prefix of the line written.
-#[tactic(auto, unfolding(crate::specs::NeededObjects::objects_end_line))]
+#[tactic(auto, unfolding(crate::specs::NeededObjects::objects_end_line, elf_model::specs::Lines::fault_row_text))]
 fn show_end<W: Sink>(
     place: u64,
     cause: &'static str,
@@ -168,6 +168,6 @@ fn show_end<W: Sink>(
     match format {
         Format::Columns => out.put(&fault_row::<Columns>(place, cause)),
         Format::Object => out.put(&fault_row::<Json>(place, cause)),
-        Format::Table => out.put(&meaning_row(place, meaning)),
+        Format::Table => out.put(&meaning_row(place, FaultRow::NoRow, meaning)),
     }
 }

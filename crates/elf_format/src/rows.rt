@@ -1,6 +1,7 @@
 //! The lines of a file header and of a refusal.
-ghost use Rattle.std.specs.Prelude.{◌≡◌, ℕ, ◌≤◌, List, length, IfSome, option_copied};
-ghost use Rattle.elf_model.specs.Prelude.{cause_meaning, cause_word, file_types, header_line, name_of, refusal_line, told_line};
+ghost use Rattle.std.specs.Prelude.{◌≡◌, ℕ, ◌+◌, ◌≤◌, ◌++◌, List, length, IfSome, codes, decimal, option_copied};
+ghost use Rattle.arrayvec.specs.ArrayVec.{array_vec_len};
+ghost use Rattle.elf_model.specs.Prelude.{cause_meaning, cause_word, entry_words, fault_row_text, file_types, header_line, name_of, refusal_line, refusal_line_in, told_line};
 ghost use Rattle.elf_model.specs.Lines.{fault_line};
 ghost use Rattle.elf_record.specs.Ehdr.{IsEhdr};
 ghost use Rattle.elf_source.specs.Output.{OutPuts};
@@ -10,10 +11,11 @@ use crate::fields::{begin, put_closing, put_half, put_hex_field, put_name_or_hex
 use crate::name_tables::name_of;
 use crate::render::{Columns, Json, Render};
 use crate::short_hexadecimal::put_short_hex;
-use elf_model::Format;
+use elf_model::{FaultRow, Format};
 use elf_record::numbers::{ET_CORE, ET_DYN, ET_EXEC, ET_NONE, ET_REL};
 use elf_record::{Cause, Ehdr, Refusal};
 use elf_source::{Out, OutFault, Sink};
+use itoa::Buffer;
 
 /// Returns the `H` line of a file header: type, machine, entry point, the offsets of the program
 /// headers and the section headers, flags, their numbers, and the section of the section names
@@ -52,27 +54,74 @@ pub(crate) fn fault_row<R: Render>(at: u64, cause: &str) -> LineBuf
     line
 }
 
-/// Returns the `!` line of a fault in a table: the file offset that it points to, and what its
-/// cause means.
+/// Returns the `!` line of a fault in a table: the file offset that it points to, the row that it
+/// is in, and what its cause means.
 #[tactic(auto, unfolding(elf_model::specs::Lines::told_line, elf_model::specs::Text::right_in))]
-pub(crate) fn meaning_row(at: u64, meaning: &str) -> LineBuf
+pub(crate) fn meaning_row(at: u64, row: FaultRow, meaning: &str) -> LineBuf
     requires { length meaning.now ≤ 80 }
-    ensures { result.items ≡ told_line at meaning.now }
+    ensures { result.items ≡ told_line at (fault_row_text row ++ meaning.now) }
 {
     let mut line = line_of(b"! 0x");
     put_short_hex(&mut line, 0, b"", at, b':');
     put(&mut line, b" ");
+    put_fault_row(&mut line, row);
     put(&mut line, meaning.as_bytes());
     put(&mut line, b"\n");
     line
 }
 
-/// Writes the line of a refusal: `!`, the file offset that it points to in 16 hexadecimal digits,
-/// and the word for its cause; or these as an object; or in a table what the cause means.
+/// Appends the row that a fault is in, in words; nothing if it is not known.
+#[tactic(auto, unfolding(elf_model::specs::Lines::fault_row_text))]
+fn put_fault_row(line: &mut LineBuf, row: FaultRow)
+    requires { array_vec_len line.old + 64 ≤ 256 }
+    ensures items { line.new.items ≡ line.old.items ++ fault_row_text row }
+    ensures len { array_vec_len line.new ≤ array_vec_len line.old + 64 }
+{
+    match row {
+        FaultRow::NoRow => {}
+        FaultRow::FileHeader => put(line, b"file header: "),
+        FaultRow::SectionHeader(index) => put_header(line, b"section header ", index),
+        FaultRow::ProgramHeader(index) => put_header(line, b"program header ", index),
+        FaultRow::Section(index, entry) => put_entry(line, b"section ", index, entry),
+        FaultRow::Segment(index, entry) => put_entry(line, b"segment ", index, entry),
+    }
+}
+
+/// Appends the kind of a header and its index.
+fn put_header(line: &mut LineBuf, kind: &[u8], index: u16)
+    requires room { array_vec_len line.old + 64 ≤ 256 }
+    requires short { length kind.now ≤ 15 }
+    ensures items { line.new.items
+        ≡ line.old.items ++ (kind.now ++ decimal index ++ codes ": ") }
+    ensures len { array_vec_len line.new ≤ array_vec_len line.old + 64 }
+{
+    put(line, kind);
+    put(line, Buffer::new().format(index).as_bytes());
+    put(line, b": ");
+}
+
+/// Appends what a table is in, its index, and the number of an entry if one is given.
+#[tactic(auto, unfolding(elf_model::specs::Lines::entry_words))]
+fn put_entry(line: &mut LineBuf, kind: &[u8], index: u16, entry: Option<u64>)
+    requires room { array_vec_len line.old + 64 ≤ 256 }
+    requires short { length kind.now ≤ 15 }
+    ensures items { line.new.items
+        ≡ line.old.items ++ (kind.now ++ decimal index ++ entry_words entry ++ codes ": ") }
+    ensures len { array_vec_len line.new ≤ array_vec_len line.old + 64 }
+{
+    put(line, kind);
+    put(line, Buffer::new().format(index).as_bytes());
+    if let Some(number) = entry {
+        put(line, b", entry ");
+        put(line, Buffer::new().format(number).as_bytes());
+    }
+    put(line, b": ");
+}
+
+/// Writes the line of a refusal whose row is not known, as [`show_refusal_in`] does.
 ///
 /// # Errors
 /// Returns a fault of the output; a prefix of the line was written.
-#[tactic(auto, unfolding(elf_model::specs::Lines::refusal_line))]
 pub fn show_refusal<W: Sink>(
     refusal: Refusal,
     format: Format,
@@ -80,10 +129,28 @@ pub fn show_refusal<W: Sink>(
 ) -> Result<(), OutFault>
     ensures puts { OutPuts out.old out.new result (refusal_line format refusal) }
 {
+    show_refusal_in(refusal, FaultRow::NoRow, format, out)
+}
+
+/// Writes the line of a refusal: `!`, the file offset that it points to in 16 hexadecimal digits,
+/// and the word for its cause; or these as an object; or in a table the row that it is in and what
+/// the cause means.
+///
+/// # Errors
+/// Returns a fault of the output; a prefix of the line was written.
+#[tactic(auto, unfolding(elf_model::specs::Lines::refusal_line_in))]
+pub fn show_refusal_in<W: Sink>(
+    refusal: Refusal,
+    row: FaultRow,
+    format: Format,
+    out: &mut Out<W>,
+) -> Result<(), OutFault>
+    ensures puts { OutPuts out.old out.new result (refusal_line_in format row refusal) }
+{
     match format {
         Format::Columns => out.put(&fault_row::<Columns>(refusal.at, cause_word(refusal.cause))),
         Format::Object => out.put(&fault_row::<Json>(refusal.at, cause_word(refusal.cause))),
-        Format::Table => out.put(&meaning_row(refusal.at, cause_meaning(refusal.cause))),
+        Format::Table => out.put(&meaning_row(refusal.at, row, cause_meaning(refusal.cause))),
     }
 }
 

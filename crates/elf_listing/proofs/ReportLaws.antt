@@ -2,9 +2,11 @@
 use Rattle.elf_options.specs.Prelude.{style_of}
 use Rattle.elf_options.specs.declared.caps.Caps.{Caps}
 use Rattle.std.proofs.Common.{◌≡◌, ℕ, ◌^◌, ◌≤◌, List, ◌∷◌, ◌++◌, length, None, Some, Ok, Err, Option, option_map, refl, sym, ap, ◌∙◌, inl, inr, ◌⊎◌, append-nil, arith}
-use Rattle.elf_model.specs.Prelude.{Fault as FaultItem, IsBudgetRefusal, IsBudgeted, IsReport, ListingItem, ListingStyle, end_text, fault_of, lines_of, listing, listing_cost, refusal_line, report_of}
+use Rattle.elf_model.specs.Prelude.{Fault as FaultItem, IsBudgetRefusal, IsBudgeted, IsReport, ListingItem, ListingStyle, end_by, fault_of, lines_of, listing, listing_cost, listing_fault_row, listing_refusal_line, listing_report, refusal_line_in, report_by}
 use Rattle.elf_model.specs.declared.causes.Cause.TheVariants.{Budget}
 use Rattle.elf_model.specs.declared.causes.Refusal.{Refusal}
+use Rattle.elf_model.specs.declared.fault_rows.FaultRow.{FaultRow}
+use Rattle.elf_model.specs.declared.fault_rows.FaultRow.TheVariants.{NoRow}
 use Rattle.elf_model.proofs.BudgetLaws.{is_budget_fault}
 use Rattle.elf_model.proofs.ListingLemmas.{listings_append}
 use Rattle.elf_source.specs.Prelude.{CountedState, OutState, SetsLimit, SinkTakesPrefix, counted}
@@ -14,11 +16,11 @@ use Rattle.elf_table.specs.Prelude.{IsReadRefusal}
 use Rattle.elf_table.specs.declared.run_fault.RunFault.TheVariants.{Out}
 use Rattle.elf_table.specs.declared.run_fault.RunFault.{RunFault}
 use Rattle.elf_table.specs.declared.run_fault.RunFault.TheVariants.{Refused, Source}
-use Rattle.elf_listing.specs.Prelude.{IsNext, ReturnsStop, StopSays, WroteItems, WrotePrefix, WroteRefusal, WroteReport, WroteText, WroteUntilRefusal, WroteUntilStop}
+use Rattle.elf_listing.specs.Prelude.{FindsFaultRow, IsFaultRow, IsNext, ReturnsStopIn, StopSays, WroteItems, WrotePrefix, WroteRefusalIn, WroteReport, WroteText, WroteUntilRefusal, WroteUntilStop}
 use Rattle.elf_listing.proofs.EachLaws.{lines_front}
 
 -- a report is what is listed, within every budget
-report_listed : (budget : Option ℕ) (file : List ℕ) (headers : ℕ) (style : ListingStyle) (parts : ℕ) (text : List ℕ) (fault : Option Refusal) → IsReport style.format (listing file headers style parts) text fault
+report_listed : (budget : Option ℕ) (file : List ℕ) (headers : ℕ) (style : ListingStyle) (parts : ℕ) (text : List ℕ) (fault : Option Refusal) → IsReport (listing_refusal_line file style parts) (listing file headers style parts) text fault
     → IsBudgeted budget file headers style parts text fault
 report_listed None file headers style parts text fault is = is
 report_listed (Some budget) file headers style parts text fault is = inl is
@@ -27,7 +29,8 @@ report_listed (Some budget) file headers style parts text fault is = inl is
 pub whole_report : {a b : OutState} (file : List ℕ) (caps : Caps) (parts : ℕ) → WroteItems a b (listing file caps.limits.headers (style_of caps.style) parts) → WroteReport {X = Unit {0}} file caps parts a b (Ok tt)
 whole_report file caps parts whole =
     let all : List ListingItem = listing file caps.limits.headers (style_of caps.style) parts in
-    let text : lines_of all ≡ report_of caps.style.format all = sym (ap (λ end. lines_of all ++ end_text caps.style.format end) whole.no_fault ∙ append-nil (lines_of all)) in
+    let line : Refusal → List ℕ = listing_refusal_line file (style_of caps.style) parts in
+    let text : lines_of all ≡ report_by line all = sym (ap (λ end. lines_of all ++ end_by line end) whole.no_fault ∙ append-nil (lines_of all)) in
     record {
       text = lines_of all;
       fault = None;
@@ -51,11 +54,12 @@ front_report : {a b : OutState} (file : List ℕ) (caps : Caps) (parts : ℕ) (s
     → WroteReport {X = Unit {0}} file caps parts a b (Err stop)
 front_report file caps parts stop is front =
     let all : List ListingItem = listing file caps.limits.headers (style_of caps.style) parts in
+    let whole : List ℕ = listing_report file caps.limits.headers (style_of caps.style) parts in
     record {
-      text = report_of caps.style.format all;
+      text = whole;
       fault = fault_of all;
-      listed = report_listed caps.limits.budget file caps.limits.headers (style_of caps.style) parts (report_of caps.style.format all) (fault_of all) (record { text_is = refl; fault_is = refl });
-      wrote = wrote_front stop (report_of caps.style.format all) (fault_of all) is (SinkTakesPrefix-more (lines_of all) (end_text caps.style.format (fault_of all)) front);
+      listed = report_listed caps.limits.budget file caps.limits.headers (style_of caps.style) parts whole (fault_of all) (record { text_is = refl; fault_is = refl });
+      wrote = wrote_front stop whole (fault_of all) is (SinkTakesPrefix-more (lines_of all) (end_by (listing_refusal_line file (style_of caps.style) parts) (fault_of all)) front);
     }
 
 -- whole lines of a listing are a prefix of its lines
@@ -75,13 +79,19 @@ ended refusal all ends next =
     (ap lines_of whole ∙ both.0 ∙ append-nil (lines_of front), ap fault_of whole ∙ both.1)
 
 -- the text of a listing that ended in a refusal
-ended_listed : {a b : OutState} (file : List ℕ) (caps : Caps) (parts : ℕ) (refusal : Refusal) (before limited after : CountedState) → before.asked ≤ 2 ^ 127
+ended_listed : {a b : OutState} (file : List ℕ) (caps : Caps) (parts : ℕ) (refusal : Refusal) (row : FaultRow) (before limited after : CountedState) → before.asked ≤ 2 ^ 127
     → SetsLimit before limited caps.limits.budget → before.seen.size ≡ length file → IsReadRefusal limited after (listing_cost file caps.limits.headers (style_of caps.style) parts) refusal
     → (ends : WroteUntilRefusal a b refusal (listing file caps.limits.headers (style_of caps.style) parts))
-    → IsBudgeted caps.limits.budget file caps.limits.headers (style_of caps.style) parts (lines_of ends.front.front ++ refusal_line caps.style.format refusal) (Some refusal)
-ended_listed file caps parts refusal before limited after small limits sized says ends = by_cause (is_budget_fault refusal.cause)
+    → IsFaultRow file (style_of caps.style) parts refusal.at (IsBudgetRefusal refusal) row
+    → IsBudgeted caps.limits.budget file caps.limits.headers (style_of caps.style) parts (lines_of ends.front.front ++ refusal_line_in caps.style.format row refusal) (Some refusal)
+ended_listed file caps parts refusal row before limited after small limits sized says ends found = by_cause (is_budget_fault refusal.cause)
   where
-    cut : (budget : Option ℕ) → caps.limits.budget ≡ budget → IsBudgetRefusal refusal → IsBudgeted budget file caps.limits.headers (style_of caps.style) parts (lines_of ends.front.front ++ refusal_line caps.style.format refusal) (Some refusal)
+    lines_in : (row same : FaultRow) → row ≡ same
+        → lines_of ends.front.front ++ refusal_line_in caps.style.format row refusal ≡ lines_of ends.front.front ++ refusal_line_in caps.style.format same refusal
+    lines_in row same is = ap (λ (row : FaultRow). lines_of ends.front.front ++ refusal_line_in caps.style.format row refusal) is
+
+    cut : (budget : Option ℕ) → caps.limits.budget ≡ budget → IsBudgetRefusal refusal
+        → IsBudgeted budget file caps.limits.headers (style_of caps.style) parts (lines_of ends.front.front ++ refusal_line_in caps.style.format row refusal) (Some refusal)
     cut None none for_budget =
         let over = (says for_budget).1 in
         let most = limits.most ∙ ap (option_map (counted before.asked)) none in
@@ -105,43 +115,49 @@ ended_listed file caps parts refusal before limited after small limits sized say
             refusal = refusal;
             for_budget = for_budget;
             inside = omega (arith, said.0, size, sized);
-            text_is = refl;
+            text_is = lines_in row NoRow (found.unknown for_budget);
             fault_is = refl;
           },
         )
 
     by_cause : (refusal.cause ≡ Budget) ⊎ (refusal.cause ≡ Budget → ⊥)
-        → IsBudgeted caps.limits.budget file caps.limits.headers (style_of caps.style) parts (lines_of ends.front.front ++ refusal_line caps.style.format refusal) (Some refusal)
+        → IsBudgeted caps.limits.budget file caps.limits.headers (style_of caps.style) parts (lines_of ends.front.front ++ refusal_line_in caps.style.format row refusal) (Some refusal)
     by_cause (inl for_budget) = cut caps.limits.budget refl for_budget
     by_cause (inr other) =
         let all : List ListingItem = listing file caps.limits.headers (style_of caps.style) parts in
+        let line : Refusal → List ℕ = listing_refusal_line file (style_of caps.style) parts in
         let is = ended refusal all ends (ends.next other) in
+        let whole : report_by line all ≡ lines_of ends.front.front ++ line refusal =
+        ap (λ lines. lines ++ end_by line (fault_of all)) is.0 ∙ ap (λ end. lines_of ends.front.front ++ end_by line end) is.1 in
         report_listed caps.limits.budget file caps.limits.headers (style_of caps.style) parts _ _
-        (record { text_is = sym (ap (λ lines. lines ++ end_text caps.style.format (fault_of all)) is.0 ∙ ap (λ end. lines_of ends.front.front ++ end_text caps.style.format end) is.1); fault_is = sym is.1 })
+        (record { text_is = lines_in row (listing_fault_row file (style_of caps.style) parts refusal.at) (found.known other) ∙ sym whole; fault_is = sym is.1 })
 
 -- a listing that ended in a refusal, whose line was written
-ended_report : {a b c : OutState} (file : List ℕ) (caps : Caps) (parts : ℕ) (refusal : Refusal) (told : RunFault) (before limited after : CountedState) → before.asked ≤ 2 ^ 127
+ended_report : {a b c : OutState} (file : List ℕ) (caps : Caps) (parts : ℕ) (refusal : Refusal) (told : RunFault) (row : FaultRow) (before limited after : CountedState) → before.asked ≤ 2 ^ 127
     → SetsLimit before limited caps.limits.budget → before.seen.size ≡ length file → IsReadRefusal limited after (listing_cost file caps.limits.headers (style_of caps.style) parts) refusal
-    → WroteUntilRefusal a b refusal (listing file caps.limits.headers (style_of caps.style) parts) → WroteRefusal caps.style.format b c refusal told → WroteReport {X = Unit {0}} file caps parts a c (Err told)
-ended_report {a} {b} {c} file caps parts refusal told before limited after small limits sized says ends line = record {
-  text = lines_of ends.front.front ++ refusal_line caps.style.format refusal;
+    → WroteUntilRefusal a b refusal (listing file caps.limits.headers (style_of caps.style) parts) → IsFaultRow file (style_of caps.style) parts refusal.at (IsBudgetRefusal refusal) row
+    → WroteRefusalIn row caps.style.format b c refusal told → WroteReport {X = Unit {0}} file caps parts a c (Err told)
+ended_report {a} {b} {c} file caps parts refusal told row before limited after small limits sized says ends found line = record {
+  text = lines_of ends.front.front ++ refusal_line_in caps.style.format row refusal;
   fault = Some refusal;
-  listed = ended_listed file caps parts refusal before limited after small limits sized says ends;
+  listed = ended_listed file caps parts refusal row before limited after small limits sized says ends found;
   wrote = wrote told line;
 }
   where
-    wrote : (told : RunFault) → WroteRefusal caps.style.format b c refusal told → WroteText {X = Unit {0}} a c (Err told) (lines_of ends.front.front ++ refusal_line caps.style.format refusal) (Some refusal)
-    wrote (Refused same) line = (SinkTakes-then (lines_of ends.front.front) (refusal_line caps.style.format refusal) ends.front.takes line.1, ap Some line.0)
+    wrote : (told : RunFault) → WroteRefusalIn row caps.style.format b c refusal told
+        → WroteText {X = Unit {0}} a c (Err told) (lines_of ends.front.front ++ refusal_line_in caps.style.format row refusal) (Some refusal)
+    wrote (Refused same) line = (SinkTakes-then (lines_of ends.front.front) (refusal_line_in caps.style.format row refusal) ends.front.takes line.1, ap Some line.0)
     wrote (Source cause at) line = absurd line
-    wrote (Out cause) line = SinkTakesPrefix-then (lines_of ends.front.front) (refusal_line caps.style.format refusal) ends.front.takes line.1
+    wrote (Out cause) line = SinkTakesPrefix-then (lines_of ends.front.front) (refusal_line_in caps.style.format row refusal) ends.front.takes line.1
 
 -- a listing that stopped, and what was reported of that
-pub stopped_report : {a c : OutState} (b : OutState) (file : List ℕ) (caps : Caps) (parts : ℕ) (stop told : RunFault) (before limited after : CountedState) (out : OutState) → before.asked ≤ 2 ^ 127
+pub stopped_report : {a c : OutState} (b : OutState) (file : List ℕ) (caps : Caps) (parts : ℕ) (stop told : RunFault) (row : FaultRow) (before limited after : CountedState) (out : OutState) → before.asked ≤ 2 ^ 127
     → SetsLimit before limited caps.limits.budget → before.seen.size ≡ length file → StopSays limited after out (listing_cost file caps.limits.headers (style_of caps.style) parts) stop
-    → WroteUntilStop a b stop (listing file caps.limits.headers (style_of caps.style) parts) → ReturnsStop caps.style.format b c stop told → WroteReport {X = Unit {0}} file caps parts a c (Err told)
-stopped_report b file caps parts (Refused refusal) told before limited after out small limits sized says ends tells =
-    ended_report file caps parts refusal told before limited after small limits sized says ends tells
-stopped_report b file caps parts (Source cause at) told before limited after out small limits sized says ends tells =
+    → WroteUntilStop a b stop (listing file caps.limits.headers (style_of caps.style) parts) → FindsFaultRow {X = Unit {0}} file (style_of caps.style) parts (Err stop) row
+    → ReturnsStopIn row caps.style.format b c stop told → WroteReport {X = Unit {0}} file caps parts a c (Err told)
+stopped_report b file caps parts (Refused refusal) told row before limited after out small limits sized says ends found tells =
+    ended_report file caps parts refusal told row before limited after small limits sized says ends found tells
+stopped_report b file caps parts (Source cause at) told row before limited after out small limits sized says ends found tells =
     rw (tells.0, tells.1) (front_report file caps parts (Source cause at) tt (front_lines _ ends))
-stopped_report b file caps parts (Out cause) told before limited after out small limits sized says ends tells =
+stopped_report b file caps parts (Out cause) told row before limited after out small limits sized says ends found tells =
     rw (tells.0, tells.1) (front_report file caps parts (Out cause) tt ends)

@@ -1,6 +1,8 @@
 -- The effect of the call that writes a listing.
 use Rattle.std.specs.Prelude.{ℕ, ◌≡◌, ◌<◌, ◌+◌, ◌≤◌, false, List, Option, None, Some, Result, Ok, Err, IfSome}
-use Rattle.elf_model.specs.Prelude.{IsBudgetRefusal, IsBudgeted, first_refusal, has_tables, known_parts, length_checks, refusal_line, style_ceiling}
+use Rattle.elf_model.specs.Prelude.{IsBudgetRefusal, IsBudgeted, first_refusal, has_tables, known_parts, length_checks, refusal_line_in, style_ceiling}
+use Rattle.elf_model.specs.declared.fault_rows.FaultRow.{FaultRow}
+use Rattle.elf_model.specs.declared.fault_rows.FaultRow.TheVariants.{NoRow}
 use Rattle.elf_model.specs.declared.formats.Format.{Format}
 use Rattle.elf_model.specs.declared.causes.Refusal.{Refusal}
 use Rattle.elf_source.specs.Prelude.{CountedState, IsOutFault, IsSourceFault, KeepsSource, OutState, SinkTakes, SinkTakesPrefix}
@@ -51,16 +53,23 @@ pub record KeepsSourceUnlimited (old new : CountedState) : Type 0 where
   pub keeps : KeepsSource old.seen new.seen
   pub free : new.most ≡ None
 
--- the line of a refusal was written, and this is the result: the refusal, or the output's fault, in
--- which case a prefix of it was written
-abbrev pub WroteRefusal : Format → OutState → OutState → Refusal → RunFault → Type 0
-WroteRefusal format old new refusal (Refused same) = (same ≡ refusal) × SinkTakes old new (refusal_line format refusal)
-WroteRefusal format old new refusal (Source fault at) = ⊥
-WroteRefusal format old new refusal (Out fault) = IsOutFault new fault × SinkTakesPrefix old new (refusal_line format refusal)
+-- the line of a refusal that is in a row was written, and this is the result: the refusal, or the
+-- output's fault, in which case a prefix of it was written
+abbrev pub WroteRefusalIn : FaultRow → Format → OutState → OutState → Refusal → RunFault → Type 0
+WroteRefusalIn row format old new refusal (Refused same) = (same ≡ refusal) × SinkTakes old new (refusal_line_in format row refusal)
+WroteRefusalIn row format old new refusal (Source fault at) = ⊥
+WroteRefusalIn row format old new refusal (Out fault) = IsOutFault new fault × SinkTakesPrefix old new (refusal_line_in format row refusal)
 
 -- what stopped a call was reported, and this is the result: for a refusal its line was written, for
 -- any other fault nothing
+abbrev pub ReturnsStopIn : FaultRow → Format → OutState → OutState → RunFault → RunFault → Type 0
+ReturnsStopIn row format old new (Refused refusal) told = WroteRefusalIn row format old new refusal told
+ReturnsStopIn row format old new (Source fault at) told = (new ≡ old) × (told ≡ Source fault at)
+ReturnsStopIn row format old new (Out fault) told = (new ≡ old) × (told ≡ Out fault)
+
+-- the same if the row is not known
+abbrev pub WroteRefusal : Format → OutState → OutState → Refusal → RunFault → Type 0
+WroteRefusal format old new refusal told = WroteRefusalIn NoRow format old new refusal told
+
 abbrev pub ReturnsStop : Format → OutState → OutState → RunFault → RunFault → Type 0
-ReturnsStop format old new (Refused refusal) told = WroteRefusal format old new refusal told
-ReturnsStop format old new (Source fault at) told = (new ≡ old) × (told ≡ Source fault at)
-ReturnsStop format old new (Out fault) told = (new ≡ old) × (told ≡ Out fault)
+ReturnsStop format old new stop told = ReturnsStopIn NoRow format old new stop told

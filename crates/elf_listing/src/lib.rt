@@ -5,6 +5,7 @@ mod buffers;
 mod dynamic;
 mod dynamic_string_table;
 mod fault_line;
+mod fault_rows;
 mod kind_list;
 mod listed_kind;
 mod listing;

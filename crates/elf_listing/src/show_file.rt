@@ -5,6 +5,7 @@ ghost use Rattle.std.specs.Prelude.{Some, None, Ok, IfErr};
 ghost use Rattle.elf_model.specs.Prelude.{HEADER, after_header, e_shnum, first_refusal, has, has_tables, header_row, known_parts, length_checks, listing as listed_items, listing_cost, load_items, style_ceiling, table_items, viewed as view_of, where_asked};
 ghost use Rattle.elf_model.specs.declared.causes.Refusal.{Refusal as Refuses};
 ghost use Rattle.elf_record.specs.Ehdr.{IsEhdr};
+ghost use Rattle.elf_listing.specs.FaultRows.{FindsFaultRow, HoldsFaultRow};
 ghost use Rattle.elf_listing.specs.Parts.{tables_listed};
 ghost use Rattle.elf_listing.specs.Viewed.{IsReady};
 ghost use Rattle.elf_table.specs.Faults.{HeaderRead};
@@ -12,13 +13,14 @@ ghost use Rattle.elf_options.specs.Permitted.{style_of};
 ghost use Rattle.elf_listing.specs.Reports.{WroteReport, FaultSays, AsksWithin, KeepsSourceUnlimited};
 ghost use Rattle.elf_listing.specs.Shows.{ListingCosts, IsOfOutput, WroteSome};
 
-use crate::fault_line::show_stop;
+use crate::fault_line::show_stop_in;
+use crate::fault_rows::row_of_stop;
 use crate::listing::Listing;
 use crate::row_places::place_of_header;
 use crate::table_view::load_view;
 use bitflags::Flags;
 use elf_format::{Columns, Json, Tabular, header_row};
-use elf_model::Format;
+use elf_model::{FaultRow, Format};
 use elf_note::ReadAhead;
 use elf_record::{Ehdr, Parts};
 use elf_source::{Counted, Limited, Out, Sink, Source};
@@ -68,13 +70,14 @@ pub fn show<S: Source, W: Sink>(
     // For any source.
     ensures asks { AsksWithin caps.entry parts.0 src.old src.new result }
 {
+    let mut row = FaultRow::NoRow;
     let listed = src.within(
         caps.limits.budget,
-        &mut |src| list(src, store, caps.style, parts, out),
+        &mut |src| list_with_row(src, store, caps.style, parts, out, &mut row),
     );
     match listed {
         Ok(()) => Ok(()),
-        Err(stop) => Err(show_stop(stop, caps.style.format, out)),
+        Err(stop) => Err(show_stop_in(stop, row, caps.style.format, out)),
     }
 }
 
@@ -108,9 +111,58 @@ pub fn list<S: Source, W: Sink>(
         WroteSome out.old out.new result
         (listed_items file store.old.slots (style_of style.entry) parts.0) }
 {
+    let mut row = FaultRow::NoRow;
+    list_with_row(src, store, style, parts, out, &mut row)
+}
+
+/// Writes the lines of a listing as [`list`] does, and stores the row that a refusal is in into
+/// `row`: by the file header and the headers in the store, so none for lack of budget.
+///
+/// # Errors
+/// Those of [`list`].
+fn list_with_row<S: Source, W: Sink>(
+    src: &mut Counted<S>,
+    store: &mut HeaderStore,
+    style: ListingStyle,
+    parts: Parts,
+    out: &mut Out<W>,
+    row: &mut FaultRow,
+) -> Result<(), RunFault>
+    ensures slots { store.new.slots ≡ store.old.slots }
+    ensures grows { OutGrows out.old out.new }
+    ensures ceiling { ListingCosts src.old src.new out.new result
+        (style_ceiling src.old.seen.size store.old.slots (style_of style.entry)) }
+    ensures unread { (refusal : Refuses) →
+        first_refusal (length_checks src.old.seen.size) ≡ Some refusal → src.new ≡ src.old }
+    ensures alone { has_tables (known_parts (style_of style.entry) parts.0) ≡ false →
+        src.new.asked ≤ src.old.asked + 64 }
+    ensures cost { (file : List ℕ) → src.old.seen.file ≡ Some file →
+        ListingCosts src.old src.new out.new result
+        (listing_cost file store.old.slots (style_of style.entry) parts.0) }
+    ensures text { (file : List ℕ) → src.old.seen.file ≡ Some file →
+        WroteSome out.old out.new result
+        (listed_items file store.old.slots (style_of style.entry) parts.0) }
+    ensures row { (file : List ℕ) → src.old.seen.file ≡ Some file →
+        FindsFaultRow file (style_of style.entry) parts.0 result row.new }
+{
+    *row = FaultRow::NoRow;
     let header = header(src)?;
     list_header(&header, style, parts, out)?;
-    list_by_segments(src, store, &header, style, parts.known(style.gnu), out)
+    let listed = list_by_segments(src, store, &header, style, parts.known(style.gnu), out);
+    *row = row_of_stop(&listed, &viewed_header(&header, style), store);
+    listed
+}
+
+/// Returns the file header that the style uses: without section headers if tables are found by the
+/// program headers.
+fn viewed_header(header: &Ehdr, style: ListingStyle) -> Ehdr
+    ensures { (file : List ℕ) → IsEhdr file 0 header.now →
+        IsEhdr (view_of (style_of style.entry) file) 0 result }
+{
+    if style.by_segments {
+        return header.without_sections();
+    }
+    *header
 }
 
 /// Lists the file header, if `parts` has it and its row is shown: its `H` line (gABI 4, ELF
@@ -164,6 +216,8 @@ fn list_by_segments<S: Source, W: Sink>(
         WroteSome out.old out.new result
         (load_items (view_of (style_of style.entry) file)
         store.old.slots (style_of style.entry) parts.0) }
+    ensures row { (file : List ℕ) → src.old.seen.file ≡ Some file →
+        HoldsFaultRow (view_of (style_of style.entry) file) parts.0 store.new result }
 {
     if !style.by_segments {
         return list_by_sections(src, store, header, style, parts, out);
@@ -200,6 +254,8 @@ fn list_by_sections<S: Source, W: Sink>(
     ensures text { (file : List ℕ) → src.old.seen.file ≡ Some file →
         WroteSome out.old out.new result
         (load_items file store.old.slots (style_of style.entry) parts.0) }
+    ensures row { (file : List ℕ) → src.old.seen.file ≡ Some file →
+        HoldsFaultRow file parts.0 store.new result }
 {
     if !parts.intersects(TABLES) {
         return Ok(());

@@ -8,6 +8,7 @@ use Rattle.elf_model.proofs.ListingLemmas.{load_none}
 use Rattle.elf_record.specs.declared.ehdr.Ehdr.{Ehdr}
 use Rattle.elf_source.proofs.ReadsLaws.{ReadsUpTo-then}
 use Rattle.elf_listing.specs.Viewed.{view_cost}
+use Rattle.elf_listing.proofs.FaultRowLaws.{load_row_held, tables_row_held, view_row_held}
 use Rattle.elf_listing.proofs.FileShown.{load_alone, load_passed, view_alone}
 use Rattle.elf_listing.proofs.RowLaws.{WroteUntilStop-first, WroteSome-as}
 use Rattle.elf_listing.proofs.SectionCosts.{load_below, load_pays, load_within, loaded_within, loaded_below, rest_pays, view_pays, view_within, view_below, few_headers, viewed_all}
@@ -171,3 +172,22 @@ returns-in_err-load_view-clause-alone g c = λ none. absurd (false≢true (sym n
 
 pub returns-clause-alone : goal.returns-clause-alone
 returns-clause-alone g c = λ none. absurd (false≢true (sym none ∙ (sym (c.intersects.ensures tt) ∙ c.if-not-intersects.false)))
+
+pub returns-in_err-loaded-clause-row : goal.returns-in_err-loaded-clause-row
+returns-in_err-loaded-clause-row g c = λ file held.
+    let p = err_from_is_err_and c.from_residual.result c.from_residual.ensures.1 in
+    rw (p.1, p.2) (load_row_held file c.args.parts.0 _ _ (c.in_err-loaded.ensures.held file held (c.requires.header file held).1))
+
+pub returns-in_err-load_view-clause-row : goal.returns-in_err-load_view-clause-row
+returns-in_err-load_view-clause-row g c = λ file held.
+    let p = err_from_is_err_and c.from_residual-in_err-load_view.result c.from_residual-in_err-load_view.ensures.1 in
+    let belongs = c.in_ok-loaded.ensures.held file held (c.requires.header file held).1 in
+    let loaded = c.load.ensures.reads.keeps.same_file ∙ held in
+    let checked = c.in_err-load_view.ensures.checked file loaded belongs (c.requires.hidden file held) in
+    rw (p.1, p.2) (view_row_held file (style_of c.args.style) c.args.parts.0 _ _ checked)
+
+pub returns-clause-row : goal.returns-clause-row
+returns-clause-row g c = λ file held.
+    let loaded = c.load.ensures.reads.keeps.same_file ∙ held in
+    let both = c.in_ok-load_view.ensures.held file loaded (c.in_ok-loaded.ensures.held file held (c.requires.header file held).1) in
+    tables_row_held file c.args.parts.0 c.in_ok-loaded.loaded _ _ both.0 c.in_ok-load_view.ensures.segments both.1

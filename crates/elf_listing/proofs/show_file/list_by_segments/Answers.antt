@@ -51,3 +51,12 @@ returns-then-not-style-clause-grows g c = c.list_by_sections.ensures.grows
 
 pub returns-clause-grows : goal.returns-clause-grows
 returns-clause-grows g c = c.list_by_sections-listed.ensures.grows
+
+pub returns-then-not-style-clause-row : goal.returns-then-not-style-clause-row
+returns-then-not-style-clause-row g c = λ file held.
+    rw (viewed_all (style_of c.args.style) file c.if-not-style.true) (c.list_by_sections.ensures.row file held)
+
+pub returns-clause-row : goal.returns-clause-row
+returns-clause-row g c = λ file held.
+    rw (viewed_hidden (style_of c.args.style) file c.if-not-style.false)
+    (c.list_by_sections-listed.ensures.row (without_sections file) (c.mask_section_headers.ensures.shows refl file held))

@@ -11,19 +11,19 @@ returns-in-Ok-clause-text g c =
 pub returns-in-Err-clause-text : goal.returns-in-Err-clause-text
 returns-in-Err-clause-text g c =
     let reads = c.within-listed.ensures in
-    stopped_within c.args.caps c.args.parts.0 c.args.store.now.slots reads.sets reads.frees c.requires _ _ _ _ _ c.in-Err.is c.show_stop.ensures.tells (search of_calls) (search of_calls)
+    stopped_within c.args.caps c.args.parts.0 c.args.store.now.slots reads.sets reads.frees c.requires _ _ _ _ _ _ c.in-Err.is c.show_stop_in.ensures.tells (search of_calls) (search of_calls) (search of_calls)
 
 pub returns-in-Err-clause-asks : goal.returns-in-Err-clause-asks
 returns-in-Err-clause-asks g c =
     let reads = c.within-listed.ensures in
-    asked_within c.args.caps c.args.parts.0 c.args.store.now.slots reads.sets reads.frees c.requires _ _ _ _ _ c.in-Err.is c.show_stop.ensures.tells (search of_calls) (search of_calls) (search of_calls)
+    asked_within c.args.caps c.args.parts.0 c.args.store.now.slots reads.sets reads.frees c.requires _ _ _ _ _ _ c.in-Err.is c.show_stop_in.ensures.tells (search of_calls) (search of_calls) (search of_calls)
 
 pub returns-in-Err-clause-says : goal.returns-in-Err-clause-says
 returns-in-Err-clause-says g c =
     let reads = c.within-listed.ensures in
-    says_within c.args.caps c.args.parts.0 c.args.store.now.slots reads.sets reads.frees c.requires _ _ _ _ _ c.in-Err.is c.show_stop.ensures.tells (search of_calls)
+    says_within c.args.caps c.args.parts.0 c.args.store.now.slots reads.sets reads.frees c.requires _ _ _ _ _ _ c.in-Err.is c.show_stop_in.ensures.tells (search of_calls)
 
 pub returns-in-Err-clause-grows : goal.returns-in-Err-clause-grows
 returns-in-Err-clause-grows g c =
     let reads = c.within-listed.ensures in
-    grows_within c.args.caps c.args.parts.0 c.args.store.now.slots reads.sets reads.frees c.requires _ _ _ _ _ c.in-Err.is c.show_stop.ensures.tells c.show_stop.ensures.grows (search of_calls)
+    grows_within c.args.caps c.args.parts.0 c.args.store.now.slots reads.sets reads.frees c.requires _ _ _ _ _ _ c.in-Err.is c.show_stop_in.ensures.tells c.show_stop_in.ensures.grows (search of_calls)

@@ -3,13 +3,14 @@ use Rattle.elf_options.specs.Permitted.{style_of}
 use Rattle.elf_model.specs.Prelude.{known_parts, load_items, style_ceiling, viewed as view_of}
 use Rattle.std.proofs.Common.{◌≡◌, ℕ, Ok, Err, sym, ap, arith, ◌∙◌}
 use Rattle.std.proofs.lemmas.Result.{err_from_is_err_and}
+use Rattle.elf_listing.proofs.FaultRowLaws.{header_finds, listed_finds, output_finds}
 use Rattle.elf_listing.proofs.FileShown.{header_part, items_are, header_alone}
 use Rattle.elf_listing.proofs.RowLaws.{WroteUntilStop-first, WroteSome-as}
 use Rattle.elf_listing.proofs.SectionCosts.{slots_below, cost_is}
 use Rattle.elf_listing.proofs.ShowLaws.{WroteSome-then, WroteUntilStop-more, ListingCosts-then, ListingCosts-fault, ListingCosts-out}
 use Rattle.elf_source.proofs.GrowthLaws.{grows_not, grows_then}
 use Rattle.elf_table.proofs.LoadLaws.{header_most}
-use Rattle.elf_listing.proofs.show_file.list.Goals as goal
+use Rattle.elf_listing.proofs.show_file.list_with_row.Goals as goal
 
 -- what is returned is no fault
 no_fault : {X E : Type 0} {x : X} {fault : E} → Ok x ≡ Err fault → ⊥
@@ -116,3 +117,19 @@ returns-in_err-list_header-clause-grows g c = c.in_err-list_header.ensures.grows
 
 pub returns-clause-slots : goal.returns-clause-slots
 returns-clause-slots g c = c.list_by_segments.ensures.slots
+
+pub returns-in_err-header-clause-row : goal.returns-in_err-header-clause-row
+returns-in_err-header-clause-row g c = λ file held.
+    let p = err_from_is_err_and c.from_residual.result c.from_residual.ensures.1 in
+    rw (p.1, p.2) (header_finds file (style_of c.args.style) c.args.parts.0 _ (c.in_err-header.ensures.read file held))
+
+pub returns-in_err-list_header-clause-row : goal.returns-in_err-list_header-clause-row
+returns-in_err-list_header-clause-row g c = λ file held.
+    let p = err_from_is_err_and c.from_residual-in_err-list_header.result c.from_residual-in_err-list_header.ensures.1 in
+    rw (p.1, p.2) (output_finds file (style_of c.args.style) c.args.parts.0 _ _ c.in_err-list_header.ensures.fails)
+
+pub returns-clause-row : goal.returns-clause-row
+returns-clause-row g c = λ file held.
+    let read = c.in_ok-header.ensures.read file held in
+    let holds = rw c.known.ensures at (c.list_by_segments.ensures.row file (c.header.ensures.reads.keeps.same_file ∙ held)) in
+    listed_finds file (style_of c.args.style) c.args.parts.0 _ _ _ _ read.0 (c.viewed_header.ensures file read.1) holds c.row_of_stop.ensures.budget c.row_of_stop.ensures.row
