@@ -107,21 +107,21 @@ header_finds file style parts (FaultRefused refusal) read =
 header_finds file style parts (FaultSource cause at) read = tt
 
 -- the output failed
-pub output_finds : {out : OutState} (file : List ℕ) (style : ListingStyle) (parts : ℕ) (stop : RunFault) (row : FaultRow) → IsOfOutput out stop → FindsFaultRow {X = Unit {0}} file style parts (Err stop) row
-output_finds file style parts (Refused refusal) row is = absurd is
-output_finds file style parts (Source cause at) row is = absurd is
-output_finds file style parts (Out cause) row is = tt
+pub output_finds : (out : OutState) (file : List ℕ) (style : ListingStyle) (parts : ℕ) (stop : RunFault) (said : FaultRow) → IsOfOutput out stop → FindsFaultRow {X = Unit {0}} file style parts (Err stop) said
+output_finds out file style parts (Refused refusal) said is = absurd is
+output_finds out file style parts (Source cause at) said is = absurd is
+output_finds out file style parts (Out cause) said is = tt
 
 -- what follows the file header was listed
-pub listed_finds : (file : List ℕ) (style : ListingStyle) (parts : ℕ) (viewed : Ehdr) (store : StoreState) (result : Result (Unit {0}) RunFault) (row : FaultRow)
+pub listed_finds : (file : List ℕ) (style : ListingStyle) (parts : ℕ) (viewed : Ehdr) (store : StoreState) (result : Result (Unit {0}) RunFault) (said : FaultRow)
     → first_refusal (header_checks file) ≡ None → IsEhdr (view_of style file) 0 viewed → HoldsFaultRow (view_of style file) (known_parts style parts) store result
-    → ((refusal : Refusal) → result ≡ Err (Refused refusal) → IsBudgetRefusal refusal → row ≡ NoRow)
-    → ((refusal : Refusal) → result ≡ Err (Refused refusal) → (IsBudgetRefusal refusal → ⊥) → row ≡ row_among (counts_of viewed) (store_sections store) (store_segments store) refusal.at)
-    → FindsFaultRow file style parts result row
-listed_finds file style parts viewed store (Ok x) row passed is holds none some = tt
-listed_finds file style parts viewed store (Err (Source cause at)) row passed is holds none some = tt
-listed_finds file style parts viewed store (Err (Out cause)) row passed is holds none some = tt
-listed_finds file style parts viewed store (Err (Refused refusal)) row passed is holds none some = record {
+    → ((refusal : Refusal) → result ≡ Err (Refused refusal) → IsBudgetRefusal refusal → said ≡ NoRow)
+    → ((refusal : Refusal) → result ≡ Err (Refused refusal) → (IsBudgetRefusal refusal → ⊥) → said ≡ row_among (counts_of viewed) (store_sections store) (store_segments store) refusal.at)
+    → FindsFaultRow file style parts result said
+listed_finds file style parts viewed store (Ok x) said passed is holds none some = tt
+listed_finds file style parts viewed store (Err (Source cause at)) said passed is holds none some = tt
+listed_finds file style parts viewed store (Err (Out cause)) said passed is holds none some = tt
+listed_finds file style parts viewed store (Err (Refused refusal)) said passed is holds none some = record {
   unknown = none refusal refl;
   known = λ other.
       some refusal refl other

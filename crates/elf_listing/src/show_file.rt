@@ -23,7 +23,7 @@ use elf_format::{Columns, Json, Tabular, header_row};
 use elf_model::{FaultRow, Format};
 use elf_note::ReadAhead;
 use elf_record::{Ehdr, Parts};
-use elf_source::{Counted, Limited, Out, Sink, Source};
+use elf_source::{Counted, Out, Sink, Source};
 use elf_table::{
     Caps, HeaderStore, ListingStyle, Loaded, NameBuf, RunFault, SectionView, header, load,
 };
@@ -71,10 +71,9 @@ pub fn show<S: Source, W: Sink>(
     ensures asks { AsksWithin caps.entry parts.0 src.old src.new result }
 {
     let mut row = FaultRow::NoRow;
-    let listed = src.within(
-        caps.limits.budget,
-        &mut |src| list_with_row(src, store, caps.style, parts, out, &mut row),
-    );
+    src.limit(caps.limits.budget);
+    let listed = list_with_row(src, store, caps.style, parts, out, &mut row);
+    src.limit(None);
     match listed {
         Ok(()) => Ok(()),
         Err(stop) => Err(show_stop_in(stop, row, caps.style.format, out)),

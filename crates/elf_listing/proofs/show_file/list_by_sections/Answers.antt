@@ -176,7 +176,7 @@ returns-clause-alone g c = λ none. absurd (false≢true (sym none ∙ (sym (c.i
 pub returns-in_err-loaded-clause-row : goal.returns-in_err-loaded-clause-row
 returns-in_err-loaded-clause-row g c = λ file held.
     let p = err_from_is_err_and c.from_residual.result c.from_residual.ensures.1 in
-    rw (p.1, p.2) (load_row_held file c.args.parts.0 _ _ (c.in_err-loaded.ensures.held file held (c.requires.header file held).1))
+    rw (p.1, p.2) (load_row_held file c.args.parts.0 c.load.new.store _ (c.in_err-loaded.ensures.held file held (c.requires.header file held).1))
 
 pub returns-in_err-load_view-clause-row : goal.returns-in_err-load_view-clause-row
 returns-in_err-load_view-clause-row g c = λ file held.
@@ -184,10 +184,10 @@ returns-in_err-load_view-clause-row g c = λ file held.
     let belongs = c.in_ok-loaded.ensures.held file held (c.requires.header file held).1 in
     let loaded = c.load.ensures.reads.keeps.same_file ∙ held in
     let checked = c.in_err-load_view.ensures.checked file loaded belongs (c.requires.hidden file held) in
-    rw (p.1, p.2) (view_row_held file (style_of c.args.style) c.args.parts.0 _ _ checked)
+    rw (p.1, p.2) (view_row_held file (style_of c.args.style) c.args.parts.0 c.load_view.new.store _ checked)
 
 pub returns-clause-row : goal.returns-clause-row
 returns-clause-row g c = λ file held.
     let loaded = c.load.ensures.reads.keeps.same_file ∙ held in
     let both = c.in_ok-load_view.ensures.held file loaded (c.in_ok-loaded.ensures.held file held (c.requires.header file held).1) in
-    tables_row_held file c.args.parts.0 c.in_ok-loaded.loaded _ _ both.0 c.in_ok-load_view.ensures.segments both.1
+    tables_row_held file c.args.parts.0 c.in_ok-loaded.loaded c.load_view.new.store _ both.0 c.in_ok-load_view.ensures.segments both.1

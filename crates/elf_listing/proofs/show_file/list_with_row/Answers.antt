@@ -62,14 +62,14 @@ returns-clause-ceiling g c =
     let most = header_most c.args.src.now.seen.size in
     let reads = c.header.ensures.reads in
     let same = ap (λ (size : ℕ). style_ceiling size c.args.store.now.slots (style_of c.args.style)) reads.keeps.same_size in
-    ListingCosts-then _ _ _ _ _ _ _ _ (omega (arith, below, most, same, reads.at_most)) reads c.list_by_segments.ensures.below
+    ListingCosts-then _ _ _ _ _ _ _ _ (omega (arith, below, most, same, reads.at_most)) reads c.list_by_segments-listed.ensures.below
 
 pub returns-clause-cost : goal.returns-clause-cost
 returns-clause-cost g c = λ file held.
     let most = header_most c.args.src.now.seen.size in
     let reads = c.header.ensures.reads in
     let cost = cost_is file c.args.store.now.slots (style_of c.args.style) c.args.parts.0 in
-    ListingCosts-then _ _ _ _ _ _ _ _ (omega (arith, most, cost, reads.at_most)) reads (rw c.known.ensures at (c.list_by_segments.ensures.cost file (reads.keeps.same_file ∙ held)))
+    ListingCosts-then _ _ _ _ _ _ _ _ (omega (arith, most, cost, reads.at_most)) reads (rw c.known.ensures at (c.list_by_segments-listed.ensures.cost file (reads.keeps.same_file ∙ held)))
 
 pub returns-clause-text : goal.returns-clause-text
 returns-clause-text g c = λ file held.
@@ -77,10 +77,10 @@ returns-clause-text g c = λ file held.
     let first = c.in_ok-list_header.ensures.text file read.1 in
     WroteSome-as _ _ _ (items_are file c.args.store.now.slots (style_of c.args.style) c.args.parts.0 read.0)
     (WroteSome-then _ _ _ _ (header_part (style_of c.args.style) file c.args.parts.0) (load_items (view_of (style_of c.args.style) file) c.args.store.now.slots (style_of c.args.style) (known_parts (style_of c.args.style) c.args.parts.0)) first
-    (rw c.known.ensures at (c.list_by_segments.ensures.text file (c.header.ensures.reads.keeps.same_file ∙ held))))
+    (rw c.known.ensures at (c.list_by_segments-listed.ensures.text file (c.header.ensures.reads.keeps.same_file ∙ held))))
 
 pub returns-clause-grows : goal.returns-clause-grows
-returns-clause-grows g c = grows_then c.in_ok-list_header.ensures.grows c.list_by_segments.ensures.grows
+returns-clause-grows g c = grows_then c.in_ok-list_header.ensures.grows c.list_by_segments-listed.ensures.grows
 
 pub returns-in_err-header-clause-unread : goal.returns-in_err-header-clause-unread
 returns-in_err-header-clause-unread g c = λ refusal refused. (c.header.ensures.unread refusal refused).1
@@ -103,11 +103,11 @@ returns-clause-unread g c = λ refusal refused.
 pub returns-clause-alone : goal.returns-clause-alone
 returns-clause-alone g c = λ none.
     let most = header_most c.args.src.now.seen.size in
-    let same = c.list_by_segments.ensures.alone (rw c.known.ensures none) in
+    let same = c.list_by_segments-listed.ensures.alone (rw c.known.ensures none) in
     omega (arith, most, same, c.header.ensures.reads.at_most)
 
-pub list_by_segments-requires : goal.list_by_segments-requires
-list_by_segments-requires g c = record { header = λ file held. c.in_ok-header.ensures.read file (sym c.header.ensures.reads.keeps.same_file ∙ held) }
+pub list_by_segments-listed-requires : goal.list_by_segments-listed-requires
+list_by_segments-listed-requires g c = record { header = λ file held. c.in_ok-header.ensures.read file (sym c.header.ensures.reads.keeps.same_file ∙ held) }
 
 pub returns-in_err-header-clause-grows : goal.returns-in_err-header-clause-grows
 returns-in_err-header-clause-grows g c = grows_not _
@@ -116,7 +116,7 @@ pub returns-in_err-list_header-clause-grows : goal.returns-in_err-list_header-cl
 returns-in_err-list_header-clause-grows g c = c.in_err-list_header.ensures.grows
 
 pub returns-clause-slots : goal.returns-clause-slots
-returns-clause-slots g c = c.list_by_segments.ensures.slots
+returns-clause-slots g c = c.list_by_segments-listed.ensures.slots
 
 pub returns-in_err-header-clause-row : goal.returns-in_err-header-clause-row
 returns-in_err-header-clause-row g c = λ file held.
@@ -126,10 +126,10 @@ returns-in_err-header-clause-row g c = λ file held.
 pub returns-in_err-list_header-clause-row : goal.returns-in_err-list_header-clause-row
 returns-in_err-list_header-clause-row g c = λ file held.
     let p = err_from_is_err_and c.from_residual-in_err-list_header.result c.from_residual-in_err-list_header.ensures.1 in
-    rw (p.1, p.2) (output_finds file (style_of c.args.style) c.args.parts.0 _ _ c.in_err-list_header.ensures.fails)
+    rw (p.1, p.2) (output_finds _ file (style_of c.args.style) c.args.parts.0 _ _ c.in_err-list_header.ensures.fails)
 
 pub returns-clause-row : goal.returns-clause-row
 returns-clause-row g c = λ file held.
     let read = c.in_ok-header.ensures.read file held in
-    let holds = rw c.known.ensures at (c.list_by_segments.ensures.row file (c.header.ensures.reads.keeps.same_file ∙ held)) in
-    listed_finds file (style_of c.args.style) c.args.parts.0 _ _ _ _ read.0 (c.viewed_header.ensures file read.1) holds c.row_of_stop.ensures.budget c.row_of_stop.ensures.row
+    let holds = rw c.known.ensures at (c.list_by_segments-listed.ensures.row file (c.header.ensures.reads.keeps.same_file ∙ held)) in
+    listed_finds file (style_of c.args.style) c.args.parts.0 _ c.list_by_segments-listed.new.store _ _ read.0 (c.viewed_header.ensures file read.1) holds c.row_of_stop.ensures.budget c.row_of_stop.ensures.row
