@@ -7,7 +7,8 @@ Each file is listed twice: with --table, and as lines with the options that --ta
 by the tables of docs/FORMAT.md and written as a row of a table by that page's section on tables: without its letter,
 hexadecimal numbers without leading zeros in the widths given below, and before the first line of a letter an empty line
 and the names of the columns. The words of flags and of notes are worked out here from the numbers and digits of the
-lines, and compared with those of readelf. So are the answers of lookups, the lines of check, traits, list, archive and needs, and
+lines, and compared with those of readelf. The row that a refusal is in is worked out from the file's headers, over changed
+copies too, where --at must show it. So are the answers of lookups, the lines of check, traits, list, archive and needs, and
 refusals. S and P rows of /bin/ls have at most 80 columns up to the name. Without FILE these are some files of the
 system and some that are made here; with --all each ELF file and archive of the machine too.
 
@@ -15,6 +16,7 @@ It needs Python 3.9 or newer. The last line is `N passed, N failed`.
 """
 
 import os
+import random
 import re
 import shutil
 import struct
@@ -25,6 +27,7 @@ import tempfile
 sys.dont_write_bytecode = True
 sys.path.insert(0, os.path.join(os.path.dirname(os.path.realpath(__file__)), "..", "common"))
 import format_page as page
+import hostile_copies
 import objects
 from testing import TOP, Claims, option_reader, program_of
 
@@ -117,6 +120,32 @@ def meanings_of():
     return dict(zip(words, meanings))
 
 
+# The sizes of the entries of sections and segments of a type whose rows are listed, 0 if they have several.
+SECTION_ENTRIES = {2: 24, 11: 24, 4: 24, 6: 16, 7: 0, 0x6fffffff: 2, 0x6ffffffd: 0, 0x6ffffffe: 0}
+SEGMENT_ENTRIES = {2: 16, 4: 0}
+
+
+def fault_row(content, place, by_segments):
+    """The row in which a file offset is, in words, by the headers of a file; nothing if its header is refused."""
+    if len(content) < 64 or content[:7] != b"\x7fELF\2\1\1":
+        return ""
+    phoff, shoff = struct.unpack_from("<2Q", content, 32)
+    phnum, _, shnum = struct.unpack_from("<3H", content, 56)
+    shoff, shnum = (0, 0) if by_segments else (shoff, shnum)
+    if place < 64:
+        return "file header: "
+    for name, start, size, count in (("section", shoff, 64, shnum), ("program", phoff, 56, phnum)):
+        if start <= place < start + size * count:
+            return f"{name} header {(place - start) // size}: "
+    sections = [struct.unpack_from("<4xI16xQQ", content, shoff + 64 * index) for index in range(shnum)]
+    segments = [struct.unpack_from("<I4xQ16xQ", content, phoff + 56 * index) for index in range(phnum if not shnum else 0)]
+    for name, headers, sizes in (("section", sections, SECTION_ENTRIES), ("segment", segments, SEGMENT_ENTRIES)):
+        for index, (kind, start, size) in enumerate(headers):
+            if kind in sizes and start <= place < start + size:
+                return f"{name} {index}{f', entry {(place - start) // sizes[kind]}' if sizes[kind] else ''}: "
+    return ""
+
+
 class Rows:
     """How a line becomes a row, by the page."""
 
@@ -167,12 +196,14 @@ class Rows:
             text, start = text.ljust(at) + name, start + width + 1
         return text
 
-    def row(self, line):
-        """The row of a line."""
+    def row(self, line, content, by_segments):
+        """The row of a line, of the listing of a file if its content is given."""
         letter = line[0]
         if letter == "!" and "=" not in line:
             place, cause = line[2:].split(" ")
-            return f"0x{int(place, 16):x}: {self.meanings.get(cause, cause)}"
+            place = int(place, 16)
+            said = "" if content is None or cause == "budget" else fault_row(content, place, by_segments)
+            return f"0x{place:x}: {said}{self.meanings.get(cause, cause)}"
         if letter in "CL" and not line.startswith("C unnamed"):
             return self.checked(line[2:], 13 if letter == "C" else 21)
         if letter not in self.kinds or letter in "!CLIUB":
@@ -198,15 +229,15 @@ class Rows:
         place, cause, path = rest.split(" ", 2)
         return front + f"{int(place, 16):x}".rjust(9) + " " + cause.ljust(14) + " " + path
 
-    def table(self, lines):
-        """The table of some lines."""
+    def table(self, lines, content=None, by_segments=False):
+        """The table of some lines, of the listing of a file if its content is given."""
         rows, before = [], None
         for line in lines:
             if line[0] != before:
                 rows += [""] if before is not None else []
                 rows += [self.heading(line[0])] if line[0] not in "!@" else []
                 before = line[0]
-            rows.append(self.row(line))
+            rows.append(self.row(line, content, by_segments))
         return rows
 
 
@@ -222,7 +253,11 @@ def compare(counts, rows, program, words, implied):
     lines, table = (run.stdout.decode("ascii").split("\n") for run in runs)
     counts.check(" ".join(words), runs[0].returncode == runs[1].returncode and runs[0].stderr == runs[1].stderr,
                  f"{runs[0].returncode} and {runs[1].returncode}: {runs[1].stderr}")
-    wanted = rows.table(lines[:-1]) + [""]
+    content = None
+    if words[0] == "show":
+        with open(words[-1], "rb") as file:
+            content = file.read()
+    wanted = rows.table(lines[:-1], content, "--by-segments" in words) + [""]
     counts.check(" ".join(words), len(wanted) == len(table), f"{len(wanted)} rows, {len(table)} in the table")
     letters = [""]
     for has, row in zip(table, wanted):
@@ -356,6 +391,29 @@ def check_widths(counts, program):
             counts.check(f"{part} of /bin/ls", len(re.sub(r" [^ ]*$", "", row) if part == "sections" else row) <= most, row)
 
 
+def check_fault_rows(counts, rows, program, folder):
+    """Changed copies: the row of a refusal is that of the headers, and one that --at shows."""
+    files, chance = hostile_copies.made_files(folder), random.Random(1)
+    path, found = os.path.join(folder, "changed"), 0
+    for _ in range(150):
+        with open(path, "wb") as file:
+            file.write(hostile_copies.changed(files[chance.choice(sorted(files))], chance))
+        for way in [], ["--by-segments"]:
+            compare(counts, rows, program, ["show", *way, path], ["--gnu", "--versions"])
+            run = lambda *words: subprocess.run([program, "show", *words, *way, path], capture_output=True, check=False, text=True)
+            last = run("--table").stdout.split("\n")[-2:][0]
+            said = re.match(r"0x([0-9a-f]+): (section|program|segment)( header)? (\d+)[,:]", last)
+            if said is None:
+                continue
+            place, kind, _, index = said.groups()
+            shown = run("--only", "sections" if kind == "section" else "segments", "--at", f"0x{place}").stdout.splitlines()
+            if shown and shown[-1][0] == "!":
+                continue
+            found += 1
+            counts.check(f"--at 0x{place}", int(index) in [int(line[2:7]) for line in shown], f"{last}: {shown}")
+    counts.check("changed copies", found > 20, f"{found} refusals in a row")
+
+
 def check_refused(counts, program):
     """A table and JSON objects exclude each other."""
     run = subprocess.run([program, "show", "--json", "--table", "/bin/ls"], capture_output=True, check=False, text=True)
@@ -394,6 +452,8 @@ def main():
         for file in [name for name in files if not name.startswith(folder) and shutil.which("readelf")]:
             check_readelf(counts, program, file)
         compare(counts, rows, program, ["traits", "--require", "relro=full,stack=nx,cet=ibt", *files, folder], [])
+        if not words:
+            check_fault_rows(counts, rows, program, folder)
     if given.all:
         for command, path in objects.machine_files():
             compare(counts, rows, program, [command, path], full)

@@ -20,7 +20,7 @@ use Rattle.elf_listing.proofs.EachLaws.{lines_front}
 use Rattle.elf_archive.specs.Listed.{ArchiveSays, AsksInArchive, BudgetSays, StopTells, ReportsArchive}
 
 -- a report is what is listed, within every budget
-report_listed : (alone : Bool) (budget : Option ℕ) (file : List ℕ) (headers : ℕ) (style : ListingStyle) (parts : ℕ) (text : List ℕ) (fault : Option Refusal) → IsReport style.format (archive_items alone file headers style parts) text fault
+report_listed : (alone : Bool) (budget : Option ℕ) (file : List ℕ) (headers : ℕ) (style : ListingStyle) (parts : ℕ) (text : List ℕ) (fault : Option Refusal) → IsReport (refusal_line style.format) (archive_items alone file headers style parts) text fault
     → IsArchiveBudgeted alone budget file headers style parts text fault
 report_listed alone None file headers style parts text fault is = is
 report_listed alone (Some budget) file headers style parts text fault is = inl is

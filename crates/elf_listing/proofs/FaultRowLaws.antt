@@ -1,6 +1,6 @@
 -- The row at fault by the headers in the store, and by the file.
-use Rattle.std.proofs.Common.{◌≡◌, ℕ, ◌==◌, ◌&&◌, ◌||◌, ◌<◌, nat_lt, if◌then◌else◌, Bool, true, false, List, [], Option, None, Some, Result, Ok, Err, refl, sym, ap, subst, ◌∙◌}
-use Rattle.elf_model.specs.Prelude.{HeaderCounts, HeaderTable, IsBudgetRefusal, ListingStyle, counts_in, e_phnum, e_shnum, fault_row, file_sections, first_refusal, has, header_checks, known_parts, listing_fault_row, needs_segments, overlap_checks, row_among, row_in_tables, row_index, section_at, segment_at, slice, table_segments, view_checks, viewed as view_of}
+use Rattle.std.proofs.Common.{◌≡◌, ℕ, ◌==◌, ◌&&◌, ◌||◌, nat_lt, if◌then◌else◌, Bool, true, false, List, [], Option, None, Some, Result, Ok, Err, refl, sym, ap, ◌∙◌}
+use Rattle.elf_model.specs.Prelude.{HeaderCounts, HeaderTable, IsBudgetRefusal, ListingStyle, counts_in, e_phnum, e_shnum, fault_row, file_sections, first_refusal, has, header_checks, known_parts, listing_fault_row, needs_segments, overlap_checks, row_among, row_in_tables, row_index, table_segments, view_checks, viewed as view_of}
 use Rattle.elf_model.specs.declared.causes.Refusal.{Refusal}
 use Rattle.elf_model.specs.declared.fault_rows.FaultRow.{FaultRow}
 use Rattle.elf_model.specs.declared.fault_rows.FaultRow.TheVariants.{FileHeader, NoRow, ProgramHeader, SectionHeader}

@@ -82,7 +82,7 @@ ended refusal all ends next =
 ended_listed : {a b : OutState} (file : List ℕ) (caps : Caps) (parts : ℕ) (refusal : Refusal) (row : FaultRow) (before limited after : CountedState) → before.asked ≤ 2 ^ 127
     → SetsLimit before limited caps.limits.budget → before.seen.size ≡ length file → IsReadRefusal limited after (listing_cost file caps.limits.headers (style_of caps.style) parts) refusal
     → (ends : WroteUntilRefusal a b refusal (listing file caps.limits.headers (style_of caps.style) parts))
-    → IsFaultRow file (style_of caps.style) parts refusal.at (IsBudgetRefusal refusal) row
+    → IsFaultRow file (style_of caps.style) parts refusal row
     → IsBudgeted caps.limits.budget file caps.limits.headers (style_of caps.style) parts (lines_of ends.front.front ++ refusal_line_in caps.style.format row refusal) (Some refusal)
 ended_listed file caps parts refusal row before limited after small limits sized says ends found = by_cause (is_budget_fault refusal.cause)
   where
@@ -135,7 +135,7 @@ ended_listed file caps parts refusal row before limited after small limits sized
 -- a listing that ended in a refusal, whose line was written
 ended_report : {a b c : OutState} (file : List ℕ) (caps : Caps) (parts : ℕ) (refusal : Refusal) (told : RunFault) (row : FaultRow) (before limited after : CountedState) → before.asked ≤ 2 ^ 127
     → SetsLimit before limited caps.limits.budget → before.seen.size ≡ length file → IsReadRefusal limited after (listing_cost file caps.limits.headers (style_of caps.style) parts) refusal
-    → WroteUntilRefusal a b refusal (listing file caps.limits.headers (style_of caps.style) parts) → IsFaultRow file (style_of caps.style) parts refusal.at (IsBudgetRefusal refusal) row
+    → WroteUntilRefusal a b refusal (listing file caps.limits.headers (style_of caps.style) parts) → IsFaultRow file (style_of caps.style) parts refusal row
     → WroteRefusalIn row caps.style.format b c refusal told → WroteReport {X = Unit {0}} file caps parts a c (Err told)
 ended_report {a} {b} {c} file caps parts refusal told row before limited after small limits sized says ends found line = record {
   text = lines_of ends.front.front ++ refusal_line_in caps.style.format row refusal;

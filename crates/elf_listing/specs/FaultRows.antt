@@ -1,6 +1,7 @@
 -- The row at fault that a listing says, and the headers by which it is found.
 use Rattle.std.specs.Prelude.{ℕ, ◌≡◌, List, Result, Ok, Err}
 use Rattle.elf_model.specs.Prelude.{IsBudgetRefusal, ListingStyle, counts_in, fault_row, listing_fault_row, row_among}
+use Rattle.elf_model.specs.declared.causes.Refusal.{Refusal}
 use Rattle.elf_model.specs.declared.fault_rows.FaultRow.{FaultRow}
 use Rattle.elf_model.specs.declared.fault_rows.FaultRow.TheVariants.{NoRow}
 use Rattle.elf_table.specs.Store.{StoreState}
@@ -18,13 +19,13 @@ HoldsFaultRow file parts store (Err (Source fault at)) = Unit {0}
 HoldsFaultRow file parts store (Err (Out fault)) = Unit {0}
 
 -- the row of a refusal: that of the listing; none for lack of budget
-pub record IsFaultRow (file : List ℕ) (style : ListingStyle) (parts at : ℕ) (is_budget : Type 0) (row : FaultRow) : Type 0 where
-  pub unknown : is_budget → row ≡ NoRow
-  pub known : (is_budget → ⊥) → row ≡ listing_fault_row file style parts at
+pub record IsFaultRow (file : List ℕ) (style : ListingStyle) (parts : ℕ) (refusal : Refusal) (row : FaultRow) : Type 0 where
+  pub unknown : IsBudgetRefusal refusal → row ≡ NoRow
+  pub known : (IsBudgetRefusal refusal → ⊥) → row ≡ listing_fault_row file style parts refusal.at
 
 -- the row of what stopped a listing
 abbrev pub FindsFaultRow : {X : Type 0} → List ℕ → ListingStyle → (parts : ℕ) → Result X RunFault → FaultRow → Type 0
 FindsFaultRow file style parts (Ok x) row = Unit {0}
-FindsFaultRow file style parts (Err (Refused refusal)) row = IsFaultRow file style parts refusal.at (IsBudgetRefusal refusal) row
+FindsFaultRow file style parts (Err (Refused refusal)) row = IsFaultRow file style parts refusal row
 FindsFaultRow file style parts (Err (Source fault at)) row = Unit {0}
 FindsFaultRow file style parts (Err (Out fault)) row = Unit {0}

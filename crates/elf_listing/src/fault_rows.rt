@@ -1,10 +1,8 @@
 //! The row of a listing that a refusal is in, by the headers in the store.
-ghost use Rattle.std.specs.Prelude.{◌≡◌, ◌==◌, ◌<◌, ◌≤◌, ℕ, List, Err};
+ghost use Rattle.std.specs.Prelude.{◌≡◌, ◌<◌, ◌≤◌, Err};
 ghost use Rattle.elf_model.specs.Prelude.{IsBudgetRefusal, entry_number, listed_range, range_has, row_among, row_in_segments, row_in_tables, row_index, section_entry_size, segment_entry_size};
 ghost use Rattle.elf_model.specs.declared.causes.Refusal.{Refusal as Refuses};
 ghost use Rattle.elf_model.specs.declared.fault_rows.FaultRow.TheVariants.{NoRow};
-ghost use Rattle.elf_record.specs.Ehdr.{IsEhdr};
-ghost use Rattle.elf_options.specs.Permitted.{style_of};
 ghost use Rattle.elf_table.specs.Load.{counts_of};
 ghost use Rattle.elf_table.specs.declared.run_fault.RunFault.TheVariants.{Refused};
 ghost use Rattle.elf_listing.specs.Parts.{store_sections, store_segments};

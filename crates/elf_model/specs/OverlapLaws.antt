@@ -5,7 +5,7 @@ use Rattle.elf_model.specs.Cost.{needs_segments}
 use Rattle.elf_model.specs.Listing.{has, has_tables, header_row, known_parts, lines_of, HEADER}
 use Rattle.elf_model.specs.Overlaps.{overlap_checks, takes_memory, first_page, page_behind}
 use Rattle.elf_model.specs.Records.{e_phnum, segment_at}
-use Rattle.elf_model.specs.Report.{listing, listing_refusal_line, listing_report, loaded_items, table_items}
+use Rattle.elf_model.specs.Report.{listing_refusal_line, listing_report, loaded_items, table_items}
 use Rattle.elf_model.specs.Style.{ListingStyle, viewed}
 use Rattle.elf_model.specs.declared.causes.Refusal.{Refusal}
 

@@ -1,8 +1,8 @@
 -- What a listing's report is as the answer of a run.
 use Rattle.std.proofs.Common.{◌≡◌, ℕ, ◌+◌, ◌≤◌, List, ◌++◌, Option, None, Some, Result, Ok, Err, ap, sym, ◌∙◌, inl, inr, refl}
 use Rattle.std.specs.Prelude.{IfErr}
-use Rattle.elf_model.specs.Prelude.{Answer, IsBudgetRefusal, IsBudgeted, IsReport, ListingItem, ListingStyle, end_text, lines_of, listing, listing_cost, report_of, show_answer_by, status_of}
-use Rattle.elf_model.specs.declared.formats.Format.{Format}
+use Rattle.elf_model.specs.Prelude.{Answer, IsBudgetRefusal, IsBudgeted, IsReport, ListingItem, ListingStyle, end_by, lines_of, listing, listing_cost, listing_fault_row, listing_refusal_line, listing_report, show_answer_by, status_of}
+use Rattle.elf_model.specs.declared.fault_rows.FaultRow.TheVariants.{NoRow}
 use Rattle.elf_model.specs.declared.causes.Refusal.{Refusal}
 use Rattle.elf_options.specs.Prelude.{style_of}
 use Rattle.elf_options.specs.declared.caps.Caps.{Caps}
@@ -16,10 +16,10 @@ use Rattle.elf_requests.specs.Prelude.{EndsInRefusal, RunsShow, WholeOrUsedUp, W
 abbrev answer_of : List ℕ → Option Refusal → Answer
 answer_of text fault = record { text = text; status = status_of fault }
 
-report_shown : (file : List ℕ) (headers : ℕ) (style : ListingStyle) (parts : ℕ) (text : List ℕ) (fault : Option Refusal) → IsReport style.format (listing file headers style parts) text fault
+report_shown : (file : List ℕ) (headers : ℕ) (style : ListingStyle) (parts : ℕ) (text : List ℕ) (fault : Option Refusal) → IsReport (listing_refusal_line file style parts) (listing file headers style parts) text fault
     → answer_of text fault ≡ show_answer_by file headers style parts
 report_shown file headers style parts text fault is =
-    ap (λ t. answer_of t fault) is.text_is ∙ ap (λ f. answer_of (report_of style.format (listing file headers style parts)) f) is.fault_is
+    ap (λ t. answer_of t fault) is.text_is ∙ ap (λ f. answer_of (listing_report file headers style parts) f) is.fault_is
 
 -- a report whose fault is not for lack of budget is the whole answer
 whole_report : (budget : Option ℕ) (file : List ℕ) (headers : ℕ) (style : ListingStyle) (parts : ℕ) (text : List ℕ) (fault : Option Refusal) → IsBudgeted budget file headers style parts text fault
@@ -29,16 +29,22 @@ whole_report (Some budget) file headers style parts text fault (inl is) other = 
 whole_report (Some budget) file headers style parts text fault (inr is) other = absurd (other is.1.refusal is.1.fault_is is.1.for_budget)
 
 -- the line of its fault ends a report
-report_ends : (format : Format) (all : List ListingItem) (text : List ℕ) (fault : Option Refusal) (refusal : Refusal) → Some refusal ≡ fault → IsReport format all text fault → EndsInRefusal refusal text
-report_ends format all text fault refusal some is =
-    (format, lines_of all, is.text_is ∙ ap (λ end. lines_of all ++ end_text format end) (sym (some ∙ is.fault_is)))
+report_ends : (file : List ℕ) (headers : ℕ) (style : ListingStyle) (parts : ℕ) (text : List ℕ) (fault : Option Refusal) (refusal : Refusal) → Some refusal ≡ fault
+    → IsReport (listing_refusal_line file style parts) (listing file headers style parts) text fault → EndsInRefusal refusal text
+report_ends file headers style parts text fault refusal some is =
+    let all : List ListingItem = listing file headers style parts in (
+      style.format,
+      listing_fault_row file style parts refusal.at,
+      lines_of all,
+      is.text_is ∙ ap (λ end. lines_of all ++ end_by (listing_refusal_line file style parts) end) (sym (some ∙ is.fault_is)),
+    )
 
 ends_in : (budget : Option ℕ) (file : List ℕ) (headers : ℕ) (style : ListingStyle) (parts : ℕ) (text : List ℕ) (fault : Option Refusal) (refusal : Refusal) → Some refusal ≡ fault
     → IsBudgeted budget file headers style parts text fault → EndsInRefusal refusal text
-ends_in None file headers style parts text fault refusal some is = report_ends style.format (listing file headers style parts) text fault refusal some is
-ends_in (Some budget) file headers style parts text fault refusal some (inl is) = report_ends style.format (listing file headers style parts) text fault refusal some is
+ends_in None file headers style parts text fault refusal some is = report_ends file headers style parts text fault refusal some is
+ends_in (Some budget) file headers style parts text fault refusal some (inl is) = report_ends file headers style parts text fault refusal some is
 ends_in (Some budget) file headers style parts text fault refusal some (inr is) =
-    let same : is.1.refusal ≡ refusal = let two = some ∙ is.1.fault_is in cc in (style.format, lines_of is.1.front, rw same at is.1.text_is)
+    let same : is.1.refusal ≡ refusal = let two = some ∙ is.1.fault_is in cc in (style.format, NoRow, lines_of is.1.front, rw same at is.1.text_is)
 
 -- the result of a task that lists
 abbrev pub listed_status : Result (Unit {0}) RunFault → Result ℕ RunFault

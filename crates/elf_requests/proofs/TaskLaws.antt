@@ -7,6 +7,7 @@ use Rattle.elf_model.specs.declared.causes.Cause.TheVariants.{Budget}
 use Rattle.elf_model.specs.declared.formats.Format.TheVariants.{Columns}
 use Rattle.elf_model.specs.declared.formats.Format.{Format}
 use Rattle.elf_model.specs.declared.causes.Refusal.{Refusal}
+use Rattle.elf_model.specs.declared.fault_rows.FaultRow.TheVariants.{NoRow}
 use Rattle.elf_model.proofs.BudgetLaws.{is_budget_fault}
 use Rattle.elf_source.specs.Prelude.{CountedState, KeepsSource, OutGrows, OutState, SetsLimit, SinkTakes, SinkTakesPrefix, counted}
 use Rattle.elf_source.proofs.LimitLaws.{budget_below, late_budget}
@@ -78,7 +79,7 @@ over_answered format (Some bytes) size cost whole refusal s0 s1 small set sized 
 -- what was reported of a refusal is its line, or a prefix of it
 told_refusal : (format : Format) (a b : OutState) (refusal : Refusal) (told : RunFault) → ReturnsStop format a b (Refused refusal) told
     → WroteAnswer a b (Err told) (refused_answer format refusal)
-told_refusal format a b refusal (Refused same) tells = rw (tells.0) (tells.1, refl, (format, [], refl))
+told_refusal format a b refusal (Refused same) tells = rw (tells.0) (tells.1, refl, (format, NoRow, [], refl))
 told_refusal format a b refusal (Source fault at) tells = absurd tells
 told_refusal format a b refusal (Out fault) tells = tells.1
 

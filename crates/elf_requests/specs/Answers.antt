@@ -1,6 +1,7 @@
 -- The results of a run.
 use Rattle.std.specs.Prelude.{ℕ, ◌≡◌, ◌<◌, ◌+◌, ⊤, List, ◌++◌, Option, Some, Result, Ok, Err}
-use Rattle.elf_model.specs.Prelude.{Answer, IsBudgetRefusal, refusal_line}
+use Rattle.elf_model.specs.Prelude.{Answer, IsBudgetRefusal, refusal_line_in}
+use Rattle.elf_model.specs.declared.fault_rows.FaultRow.{FaultRow}
 use Rattle.elf_model.specs.declared.formats.Format.{Format}
 use Rattle.elf_model.specs.declared.causes.Refusal.{Refusal}
 use Rattle.elf_source.specs.Prelude.{CountedState, OutState, SinkTakes, SinkTakesPrefix}
@@ -8,9 +9,9 @@ use Rattle.elf_table.specs.declared.run_fault.RunFault.TheVariants.{Out}
 use Rattle.elf_table.specs.declared.run_fault.RunFault.{RunFault}
 use Rattle.elf_table.specs.declared.run_fault.RunFault.TheVariants.{Refused, Source}
 
--- a text ends in the line of a refusal
+-- a text ends in the line of a refusal, in a table with a row that it may be in
 abbrev pub EndsInRefusal : Refusal → List ℕ → Type 0
-EndsInRefusal refusal text = (format : Format) × (lines : List ℕ) × (text ≡ lines ++ refusal_line format refusal)
+EndsInRefusal refusal text = (format : Format) × (row : FaultRow) × (lines : List ℕ) × (text ≡ lines ++ refusal_line_in format row refusal)
 
 -- an answer was written and its status returned, which is 1 if its last line is a refusal; or a
 -- prefix of its text was written

@@ -1,5 +1,5 @@
 -- The state of a file, by what is known of its listing.
-use Rattle.elf_model.specs.Prelude.{IsBudgeted, IsStateOf, ListingStyle, first_refusal, header_checks, is_not_elf, listing, listing_cost, report_of, state_of, style_ceiling}
+use Rattle.elf_model.specs.Prelude.{IsBudgeted, IsStateOf, ListingStyle, first_refusal, header_checks, is_not_elf, listing_cost, listing_report, state_of, style_ceiling}
 use Rattle.elf_model.specs.declared.states.FileStatus.{FileStatus}
 use Rattle.elf_model.specs.declared.causes.Refusal.{Refusal}
 use Rattle.elf_options.specs.Prelude.{style_of}
@@ -26,7 +26,7 @@ short_first file short =
     rw (below, few) refl
 
 reported : (budget : Option ℕ) (file : List ℕ) (headers : ℕ) (style : ListingStyle) (parts : ℕ) (refusal : Refusal) → first_refusal (header_checks file) ≡ Some refusal
-    → IsBudgeted budget file headers style parts (report_of style.format (listing file headers style parts)) (Some refusal)
+    → IsBudgeted budget file headers style parts (listing_report file headers style parts) (Some refusal)
 reported None file headers style parts refusal first = record { text_is = refl; fault_is = sym (header_fault file headers style parts refusal first).1 }
 reported (Some bytes) file headers style parts refusal first = inl record { text_is = refl; fault_is = sym (header_fault file headers style parts refusal first).1 }
 
@@ -34,7 +34,7 @@ reported (Some bytes) file headers style parts refusal first = inl record { text
 read_short_file_status : (budget : Option ℕ) (file : List ℕ) (headers : ℕ) (style : ListingStyle) (parts : ℕ) (found : FileStatus) → length file < 64
     → found ≡ state_of budget file (Some (short_refusal file)) → IsStateOf budget file headers style parts found
 read_short_file_status budget file headers style parts found short is = record {
-  text = report_of style.format (listing file headers style parts);
+  text = listing_report file headers style parts;
   fault = Some (short_refusal file);
   listed = reported budget file headers style parts (short_refusal file) (short_first file short);
   state_is = is;
@@ -103,7 +103,7 @@ asks_long caps old new long ceiling budget =
 -- the state of an ELF file that is too short
 pub short_elf : (caps : Caps) (parts : ℕ) (file : List ℕ) (at : ℕ) (found : FileStatus) → length file ≡ at → at < 64 → found ≡ short_file_status at sort.Elf → FindsElf caps parts file found
 short_elf caps parts file at found sized short is = rw is (record {
-  text = report_of (style_of caps.style).format (listing file caps.limits.headers (style_of caps.style) parts);
+  text = listing_report file caps.limits.headers (style_of caps.style) parts;
   fault = Some (short_refusal file);
   listed = reported caps.limits.budget file caps.limits.headers (style_of caps.style) parts (short_refusal file) (short_first file (omega (arith, sized, short)));
   state_is = ap (λ n. state.Refused (record { at = n; cause = Short })) (sym sized);

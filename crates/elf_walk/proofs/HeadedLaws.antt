@@ -1,7 +1,7 @@
 -- A listing after the line of a path, by what was written of both.
 use Rattle.std.proofs.Common.{◌≡◌, ℕ, Bool, false, List, [], ◌∷◌, Option, None, Some, Result, Ok, Err, refl, ap, ◌∙◌, ◌⊎◌, inl, inr}
 use Rattle.std.specs.Prelude.{IfErr}
-use Rattle.elf_model.specs.Prelude.{EveryRow, ListingStyle, RowFilter, RowsOf, SymbolQuery, archive_items, fault_of, headed, listing, members_alone, report_of}
+use Rattle.elf_model.specs.Prelude.{EveryRow, ListingStyle, RowFilter, RowsOf, SymbolQuery, archive_items, fault_of, headed, listing, listing_report, members_alone, report_of}
 use Rattle.elf_model.specs.FileLists.{undecided}
 use Rattle.elf_model.specs.Lines.{refusal_line}
 use Rattle.elf_model.specs.declared.formats.Format.{Format}
@@ -34,12 +34,12 @@ some_listed kind file limits style parts = by_kind kind limits.budget refl
   where
     by_kind : (kind : FileMagic) (budget : Option ℕ) → limits.budget ≡ budget → SomeListed kind file limits style parts
     by_kind sort.Elf None is = record {
-      text = report_of style.format (listing file limits.headers style parts);
+      text = listing_report file limits.headers style parts;
       fault = fault_of (listing file limits.headers style parts);
       listed = rw is (record { text_is = refl; fault_is = refl });
     }
     by_kind sort.Elf (Some bytes) is = record {
-      text = report_of style.format (listing file limits.headers style parts);
+      text = listing_report file limits.headers style parts;
       fault = fault_of (listing file limits.headers style parts);
       listed = rw is (inl record { text_is = refl; fault_is = refl });
     }

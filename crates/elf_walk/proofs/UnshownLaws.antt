@@ -1,7 +1,7 @@
 -- A check does not depend on which rows a listing shows.
 use Rattle.std.proofs.Common.{◌≡◌, ℕ, ◌<◌, List, [], ◌∷◌, Option, None, Some, inl, inr, refl, ap, ap₂, ◌∙◌, arith}
 use Rattle.std.specs.Prelude.{zero, suc, ◌+◌, ◌++◌, ◌&&◌, if◌then◌else◌, length, option_map, Bool, true, false}
-use Rattle.elf_model.specs.Prelude.{IsBudgeted, IsStateOf, ListingStyle, MemberWalkState, archive_ceiling, archive_cost, archive_fault, first_refusal, listing, listing_cost, refusal_line, report_of, style_ceiling}
+use Rattle.elf_model.specs.Prelude.{IsBudgeted, IsStateOf, ListingStyle, MemberWalkState, archive_ceiling, archive_cost, archive_fault, first_refusal, listing, listing_cost, listing_report, refusal_line, style_ceiling}
 use Rattle.elf_model.specs.Archive.{Broken, Ends, Member, NextMember, OneMember, archive_checks, before_members, behind, bytes_in, is_elf, lists_members, members_of, next_member}
 use Rattle.elf_model.specs.ArchiveCost.{header_cost, member_cost, members_cost}
 use Rattle.elf_model.specs.FileLists.{first_fault, member_fault, placed_after}
@@ -29,9 +29,9 @@ module _ (headers : ℕ) (style : ListingStyle) (parts : ℕ) where
   -- a listing within a budget has the same fault
   budgeted : (budget : Option ℕ) (file : List ℕ) (text : List ℕ) (fault : Option Refusal) → IsBudgeted budget file headers (unshown style) parts text fault
       → (all : List ℕ) × IsBudgeted budget file headers style parts all fault
-  budgeted None file text fault is = (report_of style.format (listing file headers style parts), record { text_is = refl; fault_is = is.fault_is ∙ same_fault file })
+  budgeted None file text fault is = (listing_report file headers style parts, record { text_is = refl; fault_is = is.fault_is ∙ same_fault file })
   budgeted (Some bytes) file text fault (inl is) =
-      (report_of style.format (listing file headers style parts), inl record { text_is = refl; fault_is = is.fault_is ∙ same_fault file })
+      (listing_report file headers style parts, inl record { text_is = refl; fault_is = is.fault_is ∙ same_fault file })
   budgeted (Some bytes) file text fault (inr is) =
       let same = same_cost file in
       let over : bytes < listing_cost file headers style parts = omega (arith, is.0, same) in (

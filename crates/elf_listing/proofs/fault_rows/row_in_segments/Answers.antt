@@ -1,9 +1,9 @@
 -- The first segment that has the offset is the one that is found.
-use Rattle.std.proofs.Common.{subst, sym, ◌∙◌, inl, inr, ◌≡◌, ◌<◌, ℕ, false, arith}
+use Rattle.std.proofs.Common.{subst, sym, ◌∙◌, inl, inr, ◌≡◌, ℕ, false, arith}
 use Rattle.std.proofs.lemmas.Bool.{cases_eq}
 use Rattle.elf_model.specs.Prelude.{is_in_segment}
 use Rattle.elf_listing.specs.Prelude.{store_segments}
-use Rattle.elf_listing.proofs.FaultRowSearch.{NoSegmentBefore, segment_here, segment_none, segment_tested}
+use Rattle.elf_listing.proofs.FaultRowSearch.{segment_here, segment_none, segment_tested}
 use Rattle.elf_listing.proofs.fault_rows.row_in_segments.Goals as goal
 
 pub loop-index-preserved : goal.loop-index-preserved

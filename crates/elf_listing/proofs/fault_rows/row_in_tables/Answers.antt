@@ -1,9 +1,9 @@
 -- The first section that has the offset is the one that is found.
-use Rattle.std.proofs.Common.{subst, sym, ◌∙◌, inl, inr, ◌≡◌, ◌<◌, ℕ, false, arith}
+use Rattle.std.proofs.Common.{subst, sym, ◌∙◌, inl, inr, ◌≡◌, ℕ, false, arith}
 use Rattle.std.proofs.lemmas.Bool.{cases_eq}
 use Rattle.elf_model.specs.Prelude.{is_in_section}
 use Rattle.elf_listing.specs.Prelude.{store_sections}
-use Rattle.elf_listing.proofs.FaultRowSearch.{NoSectionBefore, section_here, section_none, section_tested}
+use Rattle.elf_listing.proofs.FaultRowSearch.{section_here, section_none, section_tested}
 use Rattle.elf_listing.proofs.fault_rows.row_in_tables.Goals as goal
 
 pub loop-index-preserved : goal.loop-index-preserved
