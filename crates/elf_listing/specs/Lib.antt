@@ -5,6 +5,7 @@ pub mod Notes
 pub mod Numbered
 pub mod Parts
 pub mod FaultRows
+pub mod RelativeListed
 pub mod Reports
 pub mod RowCursors
 pub mod RowLayouts
