@@ -44,6 +44,9 @@ HEXADECIMAL = {**dict.fromkeys(["entry", "address", "vaddr", "paddr", "value"], 
                "hash": 8, "namesz": 6, "descsz": 6, "info": 5, "align": 5, "link": 4, ("flags", "H"): 8, ("type", "N"): 8,
                ("flags", "V"): 5, ("type", "R"): 22, ("symbol", "R"): 6}
 
+# The hexadecimal fields that a table has in decimal.
+INDICES = {"link", "info", "symbol"}
+
 # The words of the flags of dynamic entries, from the lowest bit.
 FLAGS = {"FLAGS": "ORIGIN SYMBOLIC TEXTREL BIND_NOW STATIC_TLS".split(),
          "FLAGS_1": "NOW GLOBAL GROUP NODELETE LOADFLTR INITFIRST NOOPEN ORIGIN DIRECT TRANS INTERPOSE NODEFLIB NODUMP CONFALT "
@@ -122,7 +125,7 @@ def meanings_of():
 
 
 # The sizes of the entries of sections and segments of a type whose rows are listed, 0 if they have several.
-SECTION_ENTRIES = {2: 24, 11: 24, 4: 24, 6: 16, 7: 0, 0x6fffffff: 2, 0x6ffffffd: 0, 0x6ffffffe: 0}
+SECTION_ENTRIES = {2: 24, 11: 24, 4: 24, 9: 16, 19: 8, 6: 16, 7: 0, 0x6fffffff: 2, 0x6ffffffd: 0, 0x6ffffffe: 0}
 SEGMENT_ENTRIES = {2: 16, 4: 0}
 
 
@@ -166,6 +169,8 @@ class Rows:
 
     def cell(self, letter, name, form, text, width):
         """A field in its column of the table, with whether it is at the right."""
+        if form == "hexadecimal" and name in INDICES:
+            return str(int(text, 16)).rjust(self.width(letter, name))
         if form == "hexadecimal":
             return f"{int(text, 16):x}".rjust(self.width(letter, name))
         if form.startswith("`+` or `-`"):
@@ -271,7 +276,7 @@ def tree_rows(objects):
 
 def without_type(row, letter):
     """An R row without its type, whose name is another one in a table."""
-    return row[:16] + row[16:].lstrip().partition(" ")[2].lstrip() if letter == "R" else row
+    return re.sub(r"^( *\d+ +[0-9a-f]+ )\S+ +", r"\1", row) if letter == "R" else row
 
 
 def compare(counts, rows, program, words, implied):

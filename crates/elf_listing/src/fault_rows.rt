@@ -8,13 +8,13 @@ ghost use Rattle.elf_table.specs.declared.run_fault.RunFault.TheVariants.{Refuse
 ghost use Rattle.elf_listing.specs.Parts.{store_sections, store_segments};
 
 use elf_model::{FaultRow, PlaceRange};
-use elf_record::gnu_numbers::{SHT_GNU_VERDEF, SHT_GNU_VERNEED, SHT_GNU_VERSYM};
+use elf_record::gnu_numbers::{SHT_GNU_VERDEF, SHT_GNU_VERNEED, SHT_GNU_VERSYM, SHT_RELR};
 use elf_record::numbers::{
-    PT_DYNAMIC, PT_NOTE, SHT_DYNAMIC, SHT_DYNSYM, SHT_NOTE, SHT_RELA, SHT_SYMTAB,
+    PT_DYNAMIC, PT_NOTE, SHT_DYNAMIC, SHT_DYNSYM, SHT_NOTE, SHT_REL, SHT_RELA, SHT_SYMTAB,
 };
 use elf_record::sizes::{
-    DYNAMIC_BYTES, PROGRAM_HEADER_BYTES, RELOCATION_BYTES, SECTION_HEADER_BYTES, SYMBOL_BYTES,
-    SYMBOL_VERSION_BYTES,
+    DYNAMIC_BYTES, PROGRAM_HEADER_BYTES, REL_BYTES, RELOCATION_BYTES, RELR_BYTES,
+    SECTION_HEADER_BYTES, SYMBOL_BYTES, SYMBOL_VERSION_BYTES,
 };
 use elf_record::{Cause, Ehdr};
 use elf_table::{HeaderStore, RunFault};
@@ -131,6 +131,8 @@ fn section_entry_size(sh_type: u32) -> Option<u64>
     match sh_type {
         SHT_SYMTAB | SHT_DYNSYM => Some(SYMBOL_BYTES),
         SHT_RELA => Some(RELOCATION_BYTES),
+        SHT_REL => Some(REL_BYTES),
+        SHT_RELR => Some(RELR_BYTES),
         SHT_DYNAMIC => Some(DYNAMIC_BYTES),
         SHT_GNU_VERSYM => Some(SYMBOL_VERSION_BYTES),
         SHT_NOTE | SHT_GNU_VERDEF | SHT_GNU_VERNEED => Some(0),

@@ -5,10 +5,10 @@ use Rattle.elf_model.specs.Checks.{HeaderCounts, counts_in}
 use Rattle.elf_model.specs.Cost.{needs_segments}
 use Rattle.elf_model.specs.Find.{first_that}
 use Rattle.elf_model.specs.HeaderTables.{HeaderTable, file_sections, header_field}
-use Rattle.elf_model.specs.Numbers.{PT_DYNAMIC, PT_NOTE, SHT_DYNAMIC, SHT_DYNSYM, SHT_GNU_VERDEF, SHT_GNU_VERNEED, SHT_GNU_VERSYM, SHT_NOTE, SHT_RELA, SHT_SYMTAB}
+use Rattle.elf_model.specs.Numbers.{PT_DYNAMIC, PT_NOTE, SHT_DYNAMIC, SHT_DYNSYM, SHT_GNU_VERDEF, SHT_GNU_VERNEED, SHT_GNU_VERSYM, SHT_NOTE, SHT_REL, SHT_RELA, SHT_RELR, SHT_SYMTAB}
 use Rattle.elf_model.specs.PlaceFilters.{range_has, range_if}
 use Rattle.elf_model.specs.Records.{FILE_HEADER_SIZE, PROGRAM_HEADER_SIZE, SECTION_HEADER_SIZE, e_phnum, e_shnum, p_filesz, p_offset, p_type, segment_at, sh_offset, sh_size, sh_type}
-use Rattle.elf_model.specs.Tables.{DYNAMIC_SIZE, RELA_SIZE, SYMBOL_SIZE}
+use Rattle.elf_model.specs.Tables.{DYNAMIC_SIZE, RELA_SIZE, RELR_SIZE, REL_SIZE, SYMBOL_SIZE}
 use Rattle.elf_model.specs.Versions.{VERSYM_SIZE}
 use Rattle.elf_model.specs.declared.fault_rows.FaultRow.{FaultRow}
 use Rattle.elf_model.specs.declared.fault_rows.FaultRow.TheVariants.{FileHeader, ProgramHeader, Section, SectionHeader, Segment, NoRow}
@@ -20,6 +20,8 @@ abbrev pub section_entry_size : ℕ → Option ℕ
 section_entry_size type =
     if type == SHT_SYMTAB || type == SHT_DYNSYM then Some SYMBOL_SIZE
     else if type == SHT_RELA then Some RELA_SIZE
+    else if type == SHT_REL then Some REL_SIZE
+    else if type == SHT_RELR then Some RELR_SIZE
     else if type == SHT_DYNAMIC then Some DYNAMIC_SIZE
     else if type == SHT_GNU_VERSYM then Some VERSYM_SIZE
     else if type == SHT_NOTE || (type == SHT_GNU_VERDEF || type == SHT_GNU_VERNEED) then Some 0
