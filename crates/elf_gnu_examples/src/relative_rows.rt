@@ -3,7 +3,7 @@
 ghost use Rattle.elf_gnu_examples.specs.ListedRelative.{AddressesEnd, BitmapsFollow, OthersAreGnu, TablesHaveHyphens, TypesAreInOrder, WordsHaveRows};
 
 /// Works out the rows of words of relative relocations, and the order of sections of each type.
-#[tactic(auto, unfolding(elf_model::proofs::OnLiterals::on_literals, crate::proofs::OnExamples::on_examples))]
+#[tactic(auto, unfolding(elf_model::proofs::OnLiterals::on_literals, crate::proofs::OnExamples::on_examples, elf_model::specs::Text::short_hex, elf_model::specs::Text::without_zeros))]
 pub fn relative_relocations()
     ensures words_have_rows { WordsHaveRows }
     ensures bitmaps_follow { BitmapsFollow }

@@ -1,5 +1,5 @@
 -- The table's checks come before its rows.
-use Rattle.std.proofs.Common.{◌≡◌, ◌+◌, ◌*◌, Unit, sym, ap, ◌∙◌, refl, arith}
+use Rattle.std.proofs.Common.{◌≡◌, ◌+◌, ◌*◌, sym, ap, ◌∙◌, refl, arith}
 use Rattle.std.proofs.lemmas.Bool.{eq-eqb, ne_eqb}
 use Rattle.std.proofs.lemmas.Result.{err_from_is_err_and}
 use Rattle.elf_options.specs.Permitted.{style_of}
@@ -30,7 +30,7 @@ returns-in_err-table g c =
 pub list_words-requires : goal.list_words-requires
 list_words-requires g c = record {
   entry = c.in_ok-table.ensures.lies.entry;
-  rows = c.in_ok-table.ensures.lies.within;
+  rows = rw c.args.listing.now.loaded.size at c.in_ok-table.ensures.lies.within;
   names = tt;
   fits = λ index below. tt;
 }

@@ -85,11 +85,11 @@ returns-in_err-word_rows g c =
       shows = λ file held of_kind.
           let now = known.spends.reads.keeps.same_file ∙ held in
           let style = c.args.listing.now.style in
-          let this = turn file style kind versions c.args.table old new c.row.result _ _ step c.row.ensures now (known.agrees file held) known.same_table c.requires.table.entry known.counted (known.listed file held) of_kind (known.text file held of_kind) in
+          let this = turn file style kind versions c.args.table old new c.row-row.result _ _ step c.row-row.ensures now (known.agrees file held) known.same_table c.requires.table.entry known.counted (known.listed file held) of_kind (known.text file held of_kind) in
           rw (p.1, p.2)
-          (turn_stopped file style c.words.listing.style kind versions c.args.table old new c.row.result _ _ _ _ known.keeps.same_style this (λ here is_row.
-          let given = given_word file c.args.table.at c.row.result.at c.row.result.index (reading old).index c.u64_at.result c.words.base c.row.result.bytes.now is_row.here is_row.bytes c.u64_at.ensures this.index (known.based file held of_kind) (style_of c.words.listing.style) c.args.section here in
-          subst (λ (items : List ListingItem). WroteUntilStop _ _ _ items) (sym given) (row.shows file (a.reads.keeps.same_file ∙ now))));
+          (turn_stopped file style c.words.listing.style kind versions c.args.table old new c.row-row.result _ _ _ _ known.keeps.same_style this (λ here is_row.
+          let given = given_word file c.args.table.at c.row-row.result.at c.row-row.result.index (reading old).index c.u64_at.result c.words.base c.row-row.result.bytes.now is_row.here is_row.bytes c.u64_at.ensures this.index (known.based file held of_kind) (style_of c.words.listing.style) c.args.section here in
+          subst (λ (items : List ListingItem). WroteUntilStop c.words.listing.out.now c.word_rows.new.listing.out.now c.in_err-word_rows.field-0.0 items) (sym given) (row.shows file (a.reads.keeps.same_file ∙ now))));
     }
 
 pub words-preserved : goal.words-preserved
@@ -109,7 +109,7 @@ words-preserved g c =
     let credit = c.words.listing.ahead.credit in
     let later = c.word_rows.new.listing.src.now.asked + c.word_rows.new.listing.ahead.credit in
     let bound = c.args.listing.now.src.now.asked + (c.args.listing.now.ahead.credit + rows_cost kind versions c.args.table c.args.listing.now.style.cap.bytes) in
-    let most = rw known.keeps.same_style at asks.account in
+    let most = asks.account in
     let account = with_credit (unread_bytes (reading old)) (unread_bytes (reading new)) c.words.listing.src.now.asked c.advance.new.src.asked credit a.account in
     let asked = account_step (reading old) (reading new) _ (c.advance.new.src.asked + credit) later own bound gives.one_less account (omega (arith, most)) known.asked in
     record {
@@ -132,20 +132,20 @@ words-preserved g c =
       text = λ file held of_kind.
           let now = known.spends.reads.keeps.same_file ∙ held in
           let style = c.args.listing.now.style in
-          let this = turn file style kind versions c.args.table old new c.row.result _ _ step c.row.ensures now (known.agrees file held) known.same_table c.requires.table.entry known.counted (known.listed file held) of_kind (known.text file held of_kind) in
-          turn_more file style c.words.listing.style kind versions c.args.table old new c.row.result _ _ _ known.keeps.same_style this (λ here is_row.
-          let given = given_word file c.args.table.at c.row.result.at c.row.result.index (reading old).index c.u64_at.result c.words.base c.row.result.bytes.now is_row.here is_row.bytes c.u64_at.ensures this.index (known.based file held of_kind) (style_of c.words.listing.style) c.args.section here in
-          subst (λ (items : List ListingItem). WroteItems _ _ items) (sym given) (row.shows file (a.reads.keeps.same_file ∙ now)));
+          let this = turn file style kind versions c.args.table old new c.row-row.result _ _ step c.row-row.ensures now (known.agrees file held) known.same_table c.requires.table.entry known.counted (known.listed file held) of_kind (known.text file held of_kind) in
+          turn_more file style c.words.listing.style kind versions c.args.table old new c.row-row.result _ _ _ known.keeps.same_style this (λ here is_row.
+          let given = given_word file c.args.table.at c.row-row.result.at c.row-row.result.index (reading old).index c.u64_at.result c.words.base c.row-row.result.bytes.now is_row.here is_row.bytes c.u64_at.ensures this.index (known.based file held of_kind) (style_of c.words.listing.style) c.args.section here in
+          subst (λ (items : List ListingItem). WroteItems c.words.listing.out.now c.word_rows.new.listing.out.now items) (sym given) (row.shows file (a.reads.keeps.same_file ∙ now)));
       based = λ file held of_kind.
           let now = known.spends.reads.keeps.same_file ∙ held in
           let style = c.args.listing.now.style in
-          let this = turn file style kind versions c.args.table old new c.row.result _ _ step c.row.ensures now (known.agrees file held) known.same_table c.requires.table.entry known.counted (known.listed file held) of_kind (known.text file held of_kind) in
+          let this = turn file style kind versions c.args.table old new c.row-row.result _ _ step c.row-row.ensures now (known.agrees file held) known.same_table c.requires.table.entry known.counted (known.listed file held) of_kind (known.text file held of_kind) in
           let is_row = this.is_row in
           c.base_after-next.ensures.value
-          ∙ next_base file c.args.table.at c.row.result.at c.row.result.index (reading old).index c.u64_at.result c.words.base c.row.result.bytes.now is_row.here is_row.bytes c.u64_at.ensures this.index (known.based file held of_kind) (reading new).index gives.next_index;
+          ∙ next_base file c.args.table.at c.row-row.result.at c.row-row.result.index (reading old).index c.u64_at.result c.words.base c.row-row.result.bytes.now is_row.here is_row.bytes c.u64_at.ensures this.index (known.based file held of_kind) (reading new).index gives.next_index;
       few =
-          let index = given_index gives c.row.ensures in
-          let next : c.row.result.index + 1 ≡ (reading new).index = omega (arith, index, gives.next_index) in
+          let index = given_index gives c.row-row.ensures in
+          let next : c.row-row.result.index + 1 ≡ (reading new).index = omega (arith, index, gives.next_index) in
           subst (λ (n : ℕ). IfSome c.base_after-next.result (λ address. address ≤ 2 ^ 64 + 504 * n)) next c.base_after-next.ensures.next;
     }
 
@@ -173,8 +173,8 @@ invariant_of-listing g c = record {
 pub advance-requires : goal.advance-requires
 advance-requires g c = let known = c.words.invariant in rw (known.same_table, known.spends.reads.keeps.same_size) c.requires.table.rows
 
-pub row-requires : goal.row-requires
-row-requires g c =
+pub row-row-requires : goal.row-row-requires
+row-row-requires g c =
     let step = step_gives {old = c.words.cursor} {new = c.advance.new.self} _ c.if-branch.true c.in_ok-advance.ensures.steps in
     let next = step.gives.next_index in omega (arith, next)
 
@@ -182,13 +182,13 @@ pub u64_at-requires : goal.u64_at-requires
 u64_at-requires g c =
     let known = c.words.invariant in
     let gives = (step_gives {old = c.words.cursor} {new = c.advance.new.self} _ c.if-branch.true c.in_ok-advance.ensures.steps).gives in
-    let whole : length c.row.result.bytes.now ≡ 8 = ap length c.row.ensures.its_bytes ∙ (gives.whole ∙ (ap (λ t. t.entry) known.same_table ∙ c.requires.table.entry)) in
+    let whole : length c.row-row.result.bytes.now ≡ 8 = ap length c.row-row.ensures.its_bytes ∙ (gives.whole ∙ (ap (λ t. t.entry) known.same_table ∙ c.requires.table.entry)) in
     omega (arith, whole)
 
-pub base_after-requires : goal.base_after-requires
-base_after-requires g c =
+pub base_after-next-requires : goal.base_after-next-requires
+base_after-next-requires g c =
     let gives = (step_gives {old = c.words.cursor} {new = c.advance.new.self} _ c.if-branch.true c.in_ok-advance.ensures.steps).gives in
-    subst (λ (n : ℕ). IfSome c.words.base (λ address. address ≤ 2 ^ 64 + 504 * n)) (sym (given_index gives c.row.ensures)) c.words.invariant.few
+    subst (λ (n : ℕ). IfSome c.words.base (λ address. address ≤ 2 ^ 64 + 504 * n)) (sym (given_index gives c.row-row.ensures)) c.words.invariant.few
 
 pub word_rows-requires-clause-format : goal.word_rows-requires-clause-format
 word_rows-requires-clause-format g c = rw c.words.invariant.keeps.same_style c.requires.format

@@ -1,7 +1,8 @@
 -- Entries with addends are listed, and in GNU listings those without and relative relocations.
-use Rattle.std.proofs.Common.{◌≡◌, Bool, refl, sym, ◌∙◌, subst}
+use Rattle.std.proofs.Common.{◌≡◌, Bool, true, Ok, refl, sym, ◌∙◌, subst}
 use Rattle.std.proofs.lemmas.Bool.{eq-eqb, ne_eqb}
-use Rattle.elf_model.specs.Prelude.{entries_kind}
+use Rattle.elf_options.specs.Permitted.{style_of}
+use Rattle.elf_model.specs.Prelude.{entries_kind, section_at}
 use Rattle.elf_model.proofs.RelativeKinds.{entries_have}
 use Rattle.elf_listing.specs.HeadersListed.{ListsHeader}
 use Rattle.elf_listing.specs.Prelude.{relocations_part}
@@ -26,10 +27,12 @@ returns-then-section-eq-SHT_RELA g c =
 pub returns-then-not-listing : goal.returns-then-not-listing
 returns-then-not-listing g c =
     let versions = c.args.listing.now.style.versions in
-    subst (λ (gnu : Bool). ListsHeader (relocations_part gnu versions) c.args.listing.now c.args.listing.now _ c.args.index) (sym c.if-not-listing.true)
+    subst (λ (gnu : Bool). ListsHeader {X = Unit {0}} (relocations_part gnu versions) c.args.listing.now c.args.listing.now (Ok tt) c.args.index) (sym c.if-not-listing.true)
     (ListingCalls-nothing _ _ _ _ (λ file held.
+    let at = section_at file c.args.index in
     let stands = c.section.ensures.stands file (c.args.listing.now.loaded.belongs file held) in
-    no_table (entries_kind true versions) file _ _ _ _ (entries_have true versions file _ ∙ ne_eqb _ _ (λ same. c.if-section-eq-SHT_RELA.false (stands.sh_type ∙ same)))))
+    no_table (entries_kind true versions) file (style_of c.args.listing.now.style) c.args.index at _
+    (entries_have true versions file at ∙ ne_eqb _ _ (λ same. c.if-section-eq-SHT_RELA.false (stands.sh_type ∙ same)))))
 
 pub returns : goal.returns
 returns g c =

@@ -18,7 +18,7 @@ returns-in_err-read-clause-lists g c =
     let p = err_from_is_err_and c.from_residual.result c.from_residual.ensures.1 in
     rw (p.1, p.2) (ListingCalls-unread _ _ _ _ _ _ (omega arith) c.in_err-read.ensures.fetches (λ file held at_of of_kind row.
     let at = section_at file c.args.self.now.section in
-    let decoded = c.decode_entry.ensures file row.bytes in
+    let decoded = c.decode_entry-addend.ensures file row.bytes in
     let here : c.args.row.now.at ≡ sh_offset file at + c.args.row.now.index * relocation_size c.args.self.now.has_addends = row.here ∙ ap (λ (from : ℕ). from + c.args.row.now.index * relocation_size c.args.self.now.has_addends) of_kind.1 in
     let symbol = c.symbol-symbol.ensures ∙ ap (λ n. n / 2 ^ 32) decoded.0.r_info in
     rw (relocation_row_is c.args.self.now.has_addends (g.V.NameVersions.lookup c.args.versions.now) file _ (style_of c.args.listing.now.style) c.args.self.now.section at c.args.row.now.at _ c.args.row.now.index here refl symbol, c.in_err-read.ensures.fetches.1)
@@ -33,7 +33,7 @@ returns-in_err-suffix-clause-lists g c =
     let both = ListingReads-then {X = NameEnd} _ _ _ c.in_ok-read.read (Err c.in_err-suffix.field-0.0) _ _ (24 + name_bytes cap + suffix_cost (g.V.NameVersions.lookup c.args.versions.now) cap) (rw same (omega arith)) first c.in_err-suffix.ensures.reads.fetches in
     rw (p.1, p.2) (ListingCalls-unread _ _ _ _ _ _ (omega arith) both (λ file held at_of of_kind row.
     let at = section_at file c.args.self.now.section in
-    let decoded = c.decode_entry.ensures file row.bytes in
+    let decoded = c.decode_entry-addend.ensures file row.bytes in
     let here : c.args.row.now.at ≡ sh_offset file at + c.args.row.now.index * relocation_size c.args.self.now.has_addends = row.here ∙ ap (λ (from : ℕ). from + c.args.row.now.index * relocation_size c.args.self.now.has_addends) of_kind.1 in
     let symbol = c.symbol-symbol.ensures ∙ ap (λ n. n / 2 ^ 32) decoded.0.r_info in
     let read = c.in_ok-read.ensures.read file at held of_kind.0 in
@@ -50,7 +50,7 @@ returns-then-not-is_row_shown-clause-lists g c =
     let both = ListingReads-then {X = NameEnd} _ _ _ c.in_ok-read.read (Ok Whole) _ _ (24 + name_bytes cap + suffix_cost (g.V.NameVersions.lookup c.args.versions.now) cap) (rw same (omega arith)) first c.in_ok-suffix.ensures.reads.fetches in
     ListingCalls-hidden _ _ _ _ _ _ (omega arith) both (λ file held at_of of_kind row.
     let at = section_at file c.args.self.now.section in
-    let decoded = c.decode_entry.ensures file row.bytes in
+    let decoded = c.decode_entry-addend.ensures file row.bytes in
     let here : c.args.row.now.at ≡ sh_offset file at + c.args.row.now.index * relocation_size c.args.self.now.has_addends = row.here ∙ ap (λ (from : ℕ). from + c.args.row.now.index * relocation_size c.args.self.now.has_addends) of_kind.1 in
     let symbol = c.symbol-symbol.ensures ∙ ap (λ n. n / 2 ^ 32) decoded.0.r_info in
     let read = c.in_ok-read.ensures.read file at held of_kind.0 in
@@ -72,7 +72,7 @@ returns-clause-lists g c =
     let both = ListingReads-then {X = NameEnd} _ _ _ c.in_ok-read.read (Ok Whole) _ _ (24 + name_bytes cap + suffix_cost (g.V.NameVersions.lookup c.args.versions.now) cap) (rw same (omega arith)) first c.in_ok-suffix.ensures.reads.fetches in
     ListingCalls-named _ _ _ _ _ _ _ _ (omega arith) both (rw c.bytes-2.ensures.value at c.suffixed_line.ensures) (λ file held at_of of_kind row.
     let at = section_at file c.args.self.now.section in
-    let decoded = c.decode_entry.ensures file row.bytes in
+    let decoded = c.decode_entry-addend.ensures file row.bytes in
     let here : c.args.row.now.at ≡ sh_offset file at + c.args.row.now.index * relocation_size c.args.self.now.has_addends = row.here ∙ ap (λ (from : ℕ). from + c.args.row.now.index * relocation_size c.args.self.now.has_addends) of_kind.1 in
     let symbol = c.symbol-symbol.ensures ∙ ap (λ n. n / 2 ^ 32) decoded.0.r_info in
     let read = c.in_ok-read.ensures.read file at held of_kind.0 in
