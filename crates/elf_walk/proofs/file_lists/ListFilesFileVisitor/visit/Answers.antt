@@ -52,7 +52,7 @@ returns-clause-tells g c =
         after = record { headers = refl; budget = left_front rule.members rule.caps.limits.budget _ _ _ _ (omega (arith, c.requires.few)) asks pays };
         result = c.list_with_path_line-listed.result;
         between = c.list_with_path_line-listed.new.out;
-        lists = λ file held. c.list_with_path_line-listed.ensures.lists file (keeps.same_file ∙ held);
+        lists = λ file held. rw c.locate_file.ensures at (c.list_with_path_line-listed.ensures.lists file (keeps.same_file ∙ held));
         ends = c.end_list.ensures;
       });
       read = λ is. fault_after c.args.src.now c.find_file_type.new.src c.list_with_path_line-listed.new.src keeps
