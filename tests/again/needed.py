@@ -284,6 +284,22 @@ class Program:
         self.add_line("L %5d %-5s %-8s %s %s" % (index, needer, state, refusal, path), state != "found", index=index,
                       needed_by=self.or_hyphen(known.needer), state=state, place=place, cause=cause, by=known.by, path=path)
 
+    def tree(self):
+        """The rows of the objects in a table: each below the one that first needed it, by the indices on the way to it."""
+        def way(index):
+            needer = self.objects[index].needer
+            return [index] if needer is None else [*way(needer), index]
+
+        rows = [b"index name [by] path"]
+        for known in sorted((row[2] for row in self.rows if row[2]["line"] == "L" and row[2]["state"] != "unused"),
+                            key=lambda known: way(known["index"])):
+            index, by, state, path = known["index"], known.get("by"), known["state"], known["path"]
+            name = spelt(self.objects[index].names[0], 4 * TEXT_BYTES) if index else path
+            notes = f" [{by}]" if by else ""
+            notes += f" [refused at 0x{known['place']:x}: {known['cause']}]" if state == "refused" else " [missing]" if state == "missing" else ""
+            rows.append(f"{index:5} {'  ' * (len(way(index)) - 1)}{name}{notes}{' ' + path if by else ''}".encode())
+        return rows
+
     def add_interpreter(self):
         path = self.objects[0].interpreter
         if path is None:

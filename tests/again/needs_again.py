@@ -42,12 +42,30 @@ class Comparison:
     def compare(self, path, default, what):
         return self.answers(what, [("default", default)] if default else [], path)
 
-    def answers(self, what, options, path, is_json=False):
-        """Compares an answer: options are pairs of their names and values."""
-        words = [word for name, value in options for word in ("--" + name, str(value))] + (["--json"] if is_json else [])
-        done = subprocess.run([self.program, "needs", "--symbols", *words, str(path)], capture_output=True, timeout=120, env=PLAIN)
+    def answered(self, options, path, more):
+        """What elfsee prints with more options, and what is wanted: options are pairs of their names and values."""
+        words = [word for name, value in options for word in ("--" + name, str(value))]
+        done = subprocess.run([self.program, "needs", "--symbols", *words, *more, str(path)], capture_output=True, timeout=120, env=PLAIN)
         keys = {"library-path": "library", "max-tries": "tries"}
-        program = needed.program(str(path), **{keys.get(name, name): value if name == "max-tries" else os.fsencode(value) for name, value in options})
+        return done, needed.program(str(path), **{keys.get(name, name): value if name == "max-tries" else os.fsencode(value)
+                                                  for name, value in options})
+
+    def tree(self, what, options, path):
+        """Compares the rows of objects in a table, up to the first empty line."""
+        done, program = self.answered(options, path, ["--table"])
+        got, want = done.stdout.partition(b"\n\n")[0].splitlines(), program.tree()
+        if got == want:
+            self.passed += 1
+            return
+        self.failed += 1
+        if self.failed <= 20:
+            first = next((pair for pair in zip(got, want) if pair[0] != pair[1]), (len(got), len(want)))
+            print(f"FAILED  {what}: {first[0]!r} in place of {first[1]!r} {done.stderr!r}")
+
+    def answers(self, what, options, path, is_json=False):
+        """Compares an answer."""
+        words = ["--json"] if is_json else []
+        done, program = self.answered(options, path, words)
         wanted = program.status, program.written(is_json)
         if (done.returncode, done.stdout) == wanted and not done.stderr:
             self.passed += 1
@@ -57,7 +75,7 @@ class Comparison:
             got = done.stdout.splitlines()
             want = wanted[1].splitlines()
             first = next((pair for pair in zip(got, want) if pair[0] != pair[1]), (len(got), len(want)))
-            print(f"FAILED  {what}: {words}: status {done.returncode} in place of {wanted[0]}, {first[0]!r} in place of {first[1]!r} {done.stderr!r}")
+            print(f"FAILED  {what}: {options} {words}: status {done.returncode} in place of {wanted[0]}, {first[0]!r} in place of {first[1]!r} {done.stderr!r}")
         return False
 
 
@@ -147,6 +165,7 @@ def compare_roots(comparison, count):
             root = f"{folder}/root"
             words, path = random_roots.make(pool, random.Random(number), root)
             comparison.answers(f"root {number}", words, path)
+            comparison.tree(f"tree of root {number}", words, path)
             if number % 10 == 0:
                 comparison.answers(f"root {number} as objects", words, path, is_json=True)
             shutil.rmtree(root)

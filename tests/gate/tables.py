@@ -14,6 +14,7 @@ system and some that are made here; with --all each ELF file and archive of the 
 It needs Python 3.9 or newer. The last line is `N passed, N failed`.
 """
 
+import json
 import os
 import re
 import shutil
@@ -29,11 +30,11 @@ import objects
 from testing import TOP, Claims, option_reader, program_of
 
 # Lines whose columns depend on what is in them: the names of their fields, in order.
-SPECIAL = {"C": ["state", "place", "cause", "path"], "L": ["index", "needed_by", "state", "place", "cause", "path"],
+SPECIAL = {"C": ["state", "place", "cause", "path"], "L": ["index", "name", "[by]", "path"],
            "I": ["state", "path"], "U": ["object", "provider", "state", "version"],
            "B": ["object", "symbol", "state", "definer", "definition", "name"]}
-RIGHT = {"index", "needed_by", "place", "object", "provider", "symbol", "definer", "definition"}
-WIDTHS = {"C": [12, 9, 14, 0], "L": [5, 5, 8, 9, 14, 0], "I": [8, 0], "U": [5, 5, 8, 0], "B": [5, 10, 8, 5, 10, 0]}
+RIGHT = {"index", "place", "object", "provider", "symbol", "definer", "definition"}
+WIDTHS = {"C": [12, 9, 14, 0], "L": [5, 4, 4, 0], "I": [8, 0], "U": [5, 5, 8, 0], "B": [5, 10, 8, 5, 10, 0]}
 # The widths of hexadecimal numbers and of the type of an R line, by their names, or by name and letter.
 HEXADECIMAL = {**dict.fromkeys(["entry", "address", "vaddr", "paddr", "value"], 12),
                **dict.fromkeys(["phoff", "shoff", "offset", "size", "filesz", "memsz", "place", "addend"], 9),
@@ -128,6 +129,7 @@ class Rows:
         page.FORMS = [(form, (lambda of: rb".*") if form == "name" else shape) for form, shape in page.FORMS]
         self.patterns = {letter: page.pattern_of(letter, rows) for letter, (_, rows) in self.kinds.items()}
         self.widths, self.meanings = HEXADECIMAL, meanings_of()
+        self.meanings["too-many-paths"] = "more paths would be tried than --max-tries allows"
 
     def width(self, letter, name):
         """The width of a hexadecimal field."""
@@ -173,8 +175,8 @@ class Rows:
         if letter == "!" and "=" not in line:
             place, cause = line[2:].split(" ")
             return f"0x{int(place, 16):x}: {self.meanings.get(cause, cause)}"
-        if letter in "CL" and not line.startswith("C unnamed"):
-            return self.checked(line[2:], 13 if letter == "C" else 21)
+        if letter == "C" and not line.startswith("C unnamed"):
+            return self.checked(line[2:], 13)
         if letter not in self.kinds or letter in "!CLIUB":
             return line[2:]
         found = self.patterns[letter].fullmatch(line.encode())
@@ -198,16 +200,39 @@ class Rows:
         place, cause, path = rest.split(" ", 2)
         return front + f"{int(place, 16):x}".rjust(9) + " " + cause.ljust(14) + " " + path
 
-    def table(self, lines):
-        """The table of some lines."""
+    def table(self, lines, objects=()):
+        """The table of some lines, those of objects by their JSON objects."""
         rows, before = [], None
+        trees = iter(tree_rows([known for known in objects if known["state"] != "unused"])
+                     + [object_row(known, 0) for known in objects if known["state"] == "unused"])
         for line in lines:
             if line[0] != before:
                 rows += [""] if before is not None else []
                 rows += [self.heading(line[0])] if line[0] not in "!@" else []
                 before = line[0]
-            rows.append(self.row(line))
+            rows.append(next(trees) if line[0] == "L" else self.row(line))
         return rows
+
+
+def object_row(known, level):
+    """The row of an object: two spaces for each level, its name, how it was found, its state, and its path if it has one."""
+    path, by, state = known["path"], known.get("by"), known["state"]
+    notes = f" [{by}]" if by else ""
+    if state == "refused":
+        notes += f" [refused at 0x{known['place']:x}: {known['cause']}]"
+    elif state != "found":
+        notes += f" [{state}]"
+    name = path if by in (None, "path") else path.rpartition("/")[2]
+    return f"{known['index']:5} {'  ' * level}{name}{notes}" + (f" {path}" if by else "")
+
+
+def tree_rows(objects):
+    """The rows of objects as a tree: by the indices on the way from the program to each."""
+    needers = {known["index"]: known["needed_by"] for known in objects}
+
+    def way(index):
+        return [index] if needers[index] == "-" else [*way(needers[index]), index]
+    return [object_row(known, len(way(known["index"])) - 1) for known in sorted(objects, key=lambda known: way(known["index"]))]
 
 
 def without_type(row, letter):
@@ -222,7 +247,11 @@ def compare(counts, rows, program, words, implied):
     lines, table = (run.stdout.decode("ascii").split("\n") for run in runs)
     counts.check(" ".join(words), runs[0].returncode == runs[1].returncode and runs[0].stderr == runs[1].stderr,
                  f"{runs[0].returncode} and {runs[1].returncode}: {runs[1].stderr}")
-    wanted = rows.table(lines[:-1]) + [""]
+    found = []
+    if words[0] == "needs":
+        run = subprocess.run([program, "needs", "--json", *words[1:]], capture_output=True, check=False, text=True)
+        found = [known for known in map(json.loads, run.stdout.splitlines()) if known["line"] == "L"]
+    wanted = rows.table(lines[:-1], found) + [""]
     counts.check(" ".join(words), len(wanted) == len(table), f"{len(wanted)} rows, {len(table)} in the table")
     letters = [""]
     for has, row in zip(table, wanted):
@@ -384,8 +413,12 @@ def main():
             compare(counts, rows, program, ["find", file, "strcmp"], ["--gnu"])
             if file.endswith(".a"):
                 compare(counts, rows, program, ["archive", file], full)
-        for file in ("/bin/ls", "/usr/lib/x86_64-linux-gnu/libc.so.6"):
-            for way in ([], ["--symbols"], ["--symbols", "--default", "/none"]):
+        with open(os.path.join(folder, "libc.so.6"), "w", encoding="ascii") as file:
+            file.write("no library\n" * 10)
+        nowhere = ["--no-cache", "--default", "/none"]
+        for file in filter(os.path.exists, ("/bin/ls", "/usr/lib/x86_64-linux-gnu/libc.so.6", "/usr/bin/gdb", "/usr/bin/git")):
+            for way in ([], ["--symbols"], ["--symbols", "--default", "/none"], nowhere, ["--unused"], ["--library-path", folder],
+                        ["--max-tries", "3"], ["--max-read", "20000"]):
                 compare(counts, rows, program, ["needs", *way, file], [])
         compare(counts, rows, program, ["sample"], full)
         compare(counts, rows, program, ["check", *files, os.path.join(folder, "missing")], ["--gnu"])

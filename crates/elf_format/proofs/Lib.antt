@@ -16,3 +16,4 @@ pub mod TagBits
 pub mod ShortDigits
 pub mod TableLaws
 pub mod RequestLaws
+pub mod TreeText

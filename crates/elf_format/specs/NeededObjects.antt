@@ -1,8 +1,9 @@
 -- The lines of the objects that a program needs.
-use Rattle.std.specs.Prelude.{ℕ, [], ◌∷◌, List, codes, Option, None, Some}
-use Rattle.elf_model.specs.Prelude.{ArgSpec, Decimal, Field, Fields, LinePrefix, NameOrDecimal, fault_fields, front, named_line, with_fields}
+use Rattle.std.specs.Prelude.{ℕ, suc, zero, [], ◌∷◌, ◌++◌, List, codes, Option, None, Some, unwrap_or}
+use Rattle.elf_model.specs.Prelude.{ArgSpec, Decimal, Field, Fields, LinePrefix, NameOrDecimal, cause_word, escaped, fault_fields, front, named_line, newline, right_decimal, short_hex, space, with_fields}
 use Rattle.elf_model.specs.declared.states.FileStatus.{FileStatus}
 use Rattle.elf_model.specs.declared.formats.Format.{Format}
+use Rattle.elf_model.specs.declared.causes.Refusal.{Refusal}
 use Rattle.elf_model.specs.declared.formats.Format.TheVariants.{Columns, Object, Table}
 use Rattle.elf_model.specs.Lines.{fault_line, told_line}
 use Rattle.elf_model.specs.Names.DisplayedName.{Whole}
@@ -64,9 +65,47 @@ object_front format row = record {
   text = with_fields format (front format (codes "path") (object_fields format row)).text (found_by_fields format row.found_by);
 }
 
--- THE LINE OF AN OBJECT, with its path, or the name of one that is missing
-abbrev pub object_line : Format → ObjectRow → List ℕ → List ℕ
-object_line format row path = named_line (object_front format row) (Whole path)
+-- in the tree of a table: two spaces for each level
+unfoldable pub indentation : ℕ → List ℕ
+indentation zero = []
+indentation (suc depth) = indentation depth ++ codes "  "
+
+-- how an object was found, and the state of one that is not found or not used, in brackets
+unfoldable pub found_by_note : Option FoundBy → List ℕ
+found_by_note None = []
+found_by_note (Some found_by) = codes " [" ++ found_by_name found_by ++ codes "]"
+
+unfoldable pub refusal_note : Refusal → List ℕ
+refusal_note refusal = codes " [refused at 0x" ++ short_hex refusal.at ++ codes ": " ++ cause_word refusal.cause ++ codes "]"
+
+unfoldable pub state_note : ObjectState → List ℕ
+state_note state.Found = []
+state_note state.Missing = codes " [missing]"
+state_note (state.Refused refusal) = refusal_note refusal
+state_note state.Unused = codes " [unused]"
+
+abbrev pub notes_text : ObjectRow → List ℕ
+notes_text row = found_by_note row.found_by ++ state_note row.state
+
+-- what follows these: the path of an object that has one, and the line's end
+unfoldable pub path_end : Option (List ℕ) → List ℕ
+path_end None = newline
+path_end (Some path) = space ++ (escaped path ++ newline)
+
+-- the letter and the index, before the tree
+unfoldable pub index_text : ℕ → List ℕ
+index_text index = codes "L " ++ right_decimal 5 index ++ space
+
+-- an object's line in a table
+abbrev pub object_tree_line : ObjectRow → (name : List ℕ) → (path : Option (List ℕ)) → List ℕ
+object_tree_line row name path = index_text row.index ++ (indentation row.depth ++ ((escaped name ++ notes_text row) ++ path_end path))
+
+-- THE LINE OF AN OBJECT, with its path, or its name if it has no path: that of a missing one, and
+-- the path of the program. In a table it is part of a tree, with its name and its path
+abbrev pub object_line : Format → ObjectRow → (name : List ℕ) → (path : Option (List ℕ)) → List ℕ
+object_line Columns row name path = named_line (object_front Columns row) (Whole (unwrap_or path name))
+object_line Object row name path = named_line (object_front Object row) (Whole (unwrap_or path name))
+object_line Table row name path = object_tree_line row name path
 
 -- the line that ends the objects: the offset of the dynamic entry that leads to it, and why, in a
 -- table in plain words

@@ -23,6 +23,7 @@ mod needed_objects;
 mod needed_version_rows;
 mod note_contents;
 mod note_rows;
+mod object_tree_rows;
 mod objects;
 mod overflow_rows;
 mod path_rows;

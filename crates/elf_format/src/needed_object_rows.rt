@@ -1,5 +1,5 @@
 //! The lines of the objects that a program needs.
-ghost use Rattle.std.specs.Prelude.{◌≡◌, ◌≤◌, length};
+ghost use Rattle.std.specs.Prelude.{◌≡◌, ◌≤◌, length, option_map};
 ghost use Rattle.arrayvec.specs.ArrayVec.{array_vec_len};
 ghost use Rattle.elf_model.specs.Prelude.{with_fields};
 ghost use Rattle.elf_source.specs.Output.{OutPuts};
@@ -11,7 +11,8 @@ use crate::columns::LineBuf;
 use crate::fields::{LinePrefix, begin_named, put_decimal, put_name_or_decimal, put_text};
 use crate::named::show_named;
 use crate::needed_objects::{FoundBy, ObjectRow, ObjectState};
-use crate::render::{Columns, Json, Render, Tabular};
+use crate::object_tree_rows::show_in_tree;
+use crate::render::{Columns, Json, Render};
 use crate::rows::{fault_row, meaning_row};
 use elf_model::{FileStatus, Format};
 use elf_source::{Out, OutFault, Sink};
@@ -24,7 +25,7 @@ fn object_row<R: Render>(front: &mut LinePrefix, row: ObjectRow)
 {
     begin_named::<R>(front, b"L", b"path");
     let line = &mut front.line;
-    put_decimal::<R>(line, b"index", 5, u64::from(row.index), b' ');
+    put_decimal::<R>(line, b"index", 5, row.index as u64, b' ');
     match row.needer {
         None => put_name_or_decimal::<R>(line, b"needed_by", 5, Some("-"), 0),
         Some(needer) => {
@@ -56,7 +57,7 @@ fn put_found_by<R: Render>(line: &mut LineBuf, found_by: Option<FoundBy>)
 
 /// Returns the word of how an object was found.
 #[tactic(auto, unfolding(crate::specs::NeededObjects::found_by_name))]
-fn found_by_name(found_by: FoundBy) -> &'static str
+pub(crate) fn found_by_name(found_by: FoundBy) -> &'static str
     ensures word { result.now ≡ found_by_name found_by }
     ensures short { length result.now ≤ 12 }
 {
@@ -99,25 +100,32 @@ fn object_state_name(state: ObjectState) -> &'static str
 ///
 /// Its fields are the object's index, the index of the object that first needed it, its state, the
 /// file offset and the cause of its refusal, in JSON how it was found, and its path, or its name if
-/// it is missing, escaped as names are.
+/// it has no path, escaped as names are. In a table these are a row of a tree: two spaces for each
+/// level before its name, and after that how it was found, its state and its path.
 ///
 /// # Errors
 /// A fault of the output, with a prefix of the line written.
 pub fn show_object<W: Sink>(
     row: ObjectRow,
-    path: &[u8],
+    name: &[u8],
+    path: Option<&[u8]>,
     format: Format,
     out: &mut Out<W>,
 ) -> Result<(), OutFault>
-    ensures puts { OutPuts out.old out.new result (object_line format row path.now) }
+    ensures puts { OutPuts out.old out.new result
+        (object_line format row name.now (option_map (λ p. p.now) path.entry)) }
 {
     let mut front = LinePrefix::new();
     match format {
         Format::Columns => object_row::<Columns>(&mut front, row),
         Format::Object => object_row::<Json>(&mut front, row),
-        Format::Table => object_row::<Tabular>(&mut front, row),
+        Format::Table => return show_in_tree(row, name, path, out),
     }
-    show_named(&mut front, path, false, out)
+    let shown = match path {
+        Some(path) => path,
+        None => name,
+    };
+    show_named(&mut front, shown, false, out)
 }
 
 /// Writes the line that ends the objects if one more is needed than are listed: the file offset of

@@ -37,11 +37,13 @@ pub enum FoundBy {
 #[derive(Clone, Copy)]
 pub struct ObjectRow {
     /// The index of the object.
-    pub index: u16,
+    pub index: usize,
     /// The index of the object that first needed it; `None` for the program.
     pub needer: Option<u16>,
     /// Its state.
     pub state: ObjectState,
     /// How it was found; `None` for the program, and for an object that is missing.
     pub found_by: Option<FoundBy>,
+    /// How many levels below the program it is in the tree of a table; 0 elsewhere.
+    pub depth: usize,
 }

@@ -239,10 +239,7 @@ const HEADINGS: [(u64, &str); 17] = [
         b'T' as u64,
         "kind   relro   stack pages text  cet       canary fortify rpath   path",
     ),
-    (
-        b'L' as u64,
-        "index needed_by state    place cause          path",
-    ),
+    (b'L' as u64, "index name [by] path"),
     (b'I' as u64, "state    path"),
     (b'U' as u64, "object provider state version"),
     (

@@ -21,7 +21,7 @@ headings =
     ∷ (65, codes "index    offset      size name")
     ∷ (67, codes "state            place cause          path")
     ∷ (84, codes "kind   relro   stack pages text  cet       canary fortify rpath   path")
-    ∷ (76, codes "index needed_by state    place cause          path")
+    ∷ (76, codes "index name [by] path")
     ∷ (73, codes "state    path")
     ∷ (85, codes "object provider state version")
     ∷ (66, codes "object    symbol state  definer definition name")

@@ -15,3 +15,5 @@ pub mod WriteLaws
 pub mod ProviderLaws
 pub mod VersionWriteLaws
 pub mod VersionItemLaws
+pub mod TreeLaws
+pub mod ObjectLineLaws

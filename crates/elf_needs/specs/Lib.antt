@@ -10,6 +10,8 @@ pub mod Called
 pub mod Replaced
 pub mod Walked
 pub mod ListedLines
+pub mod Trees
+pub mod ObjectLines
 pub mod Providers
 pub mod VersionLines
 pub mod Prelude

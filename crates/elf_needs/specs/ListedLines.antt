@@ -31,5 +31,5 @@ is_no_problem state.Missing = false
 is_no_problem (state.Refused refusal) = false
 
 -- the line of an object: where only problems are written, only if it is missing or refused
-abbrev pub listed_object : LineOptions → ObjectRow → List ℕ → List ℕ
-listed_object lines row path = if lines.problems && is_no_problem row.state then [] else object_line lines.format row path
+abbrev pub listed_object : LineOptions → ObjectRow → (name : List ℕ) → (path : Option (List ℕ)) → List ℕ
+listed_object lines row name path = if lines.problems && is_no_problem row.state then [] else object_line lines.format row name path

@@ -8,10 +8,9 @@ use crate::known_interpreter::Interpreter;
 use crate::known_object::MOST_OBJECTS;
 use crate::object_reports::{ObjectPlace, ObjectReport, found_identity, report_alone};
 use crate::paths::named_path;
-use crate::problem_rows::list_object;
 use crate::walk::{DependencyWalk, OpenFiles};
 use crate::walk_needs::ControlFlow;
-use elf_format::{ObjectRow, ObjectState, show_interpreter, show_refusal};
+use elf_format::{ObjectState, show_interpreter, show_refusal};
 use elf_library::{
     ClosedFiles, FileIdentity, FileSource, NeededLibrary, NeedsFault, ObjectFile, ObjectRole,
     SearchEnd, SystemFiles, is_budget_fault,
@@ -152,7 +151,7 @@ impl<W: Sink> DependencyWalk<'_, '_, W> {
             return self.add_name(by, need, known);
         }
         if self.objects.len() >= MOST_OBJECTS {
-            return self.end_objects(need.at);
+            return Ok(ControlFlow::TooManyObjects(need.at));
         }
         let report = self.keep_interpreter(system, &interpreter, opened)?;
         self.add_interpreter(by, need.name, &interpreter, &report)
@@ -186,7 +185,7 @@ impl<W: Sink> DependencyWalk<'_, '_, W> {
         }
     }
 
-    /// Adds the interpreter as an object, and writes its line.
+    /// Adds the interpreter as an object.
     fn add_interpreter(
         &mut self,
         by: Option<u16>,
@@ -206,17 +205,7 @@ impl<W: Sink> DependencyWalk<'_, '_, W> {
             object: Some(index),
             ..*interpreter
         });
-        let path = self.objects.path(interpreter.path);
-        let row = ObjectRow {
-            index,
-            needer: by,
-            state: report.state,
-            found_by: place.found_by,
-        };
-        match list_object(row, path, self.lines, &mut self.out) {
-            Ok(()) => Ok(ControlFlow::Yes),
-            Err(fault) => Err(NeedsFault::Out(fault)),
-        }
+        Ok(ControlFlow::Yes)
     }
 
     /// Writes the line of the interpreter, if the program names one; or that of the refusal that

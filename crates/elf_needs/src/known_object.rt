@@ -5,7 +5,7 @@ ghost use Rattle.elf_needs.specs.Called.{HoldsNothing, IsDirOfObject, alias_of, 
 
 use crate::known_interpreter::Interpreter;
 use crate::paths::dir_of_path;
-use elf_format::FoundBy;
+use elf_format::{FoundBy, ObjectState};
 use elf_library::{FileIdentity, LinkInfo, LinkInfoStore, NeededLibrary, StringArena, is_file};
 use std::alloc::{AllocError, Global};
 
@@ -34,8 +34,8 @@ pub(crate) struct KnownObject {
     pub path: Option<u32>,
     /// Which file it is, if it is found and that is known.
     pub file: Option<FileIdentity>,
-    /// Whether it was found, and is not refused.
-    pub found: bool,
+    /// Its state.
+    pub state: ObjectState,
     /// How it was found, if it was.
     pub found_by: Option<FoundBy>,
     /// What its dynamic entries give.
@@ -101,6 +101,13 @@ impl ObjectList {
         self.known.len()
     }
 
+    /// Returns the objects, in the order in which they were needed.
+    pub(crate) fn known(&self) -> &[KnownObject]
+        ensures { result.now ≡ self.now.known.items }
+    {
+        &self.known
+    }
+
     /// Returns the object at an index, if there is one.
     pub(crate) fn get(&self, index: usize) -> Option<KnownObject>
         ensures { result ≡ slice_get self.now.known.items index }
@@ -157,12 +164,13 @@ impl ObjectList {
         }
     }
 
-    /// Returns the path of an object, or its name if its path is not stored.
-    pub(crate) fn path_of(&self, known: &KnownObject) -> &[u8] {
-        match (known.path, known.name) {
-            (Some(path), _) => self.paths.get(path),
-            (None, Some(name)) => self.links.text(name),
-            (None, None) => b"",
+    /// Returns the path at an index, if one is given.
+    pub(crate) fn path_at(&self, index: Option<u32>) -> Option<&[u8]>
+        ensures { option_map (λ t. t.now) result ≡ text_told self.now.paths.texts index }
+    {
+        match index {
+            Some(index) => Some(self.paths.get(index)),
+            None => None,
         }
     }
 

@@ -136,7 +136,6 @@ impl<W: Sink> DependencyWalk<'_, '_, W> {
         ensures status { self.new.status ≡ status_with report.now.state self.old.status }
         ensures same { (self.new.lines ≡ self.old.lines) × (self.new.out ≡ self.old.out) }
     {
-        let found = matches!(report.state, ObjectState::Found);
         if matches!(report.state, ObjectState::Missing | ObjectState::Refused(_)) {
             self.status = 1;
         }
@@ -146,7 +145,7 @@ impl<W: Sink> DependencyWalk<'_, '_, W> {
             path: at.path,
             file: at.file,
             found_by: at.found_by,
-            found,
+            state: report.state,
             links: report.links,
             needs: report.needs,
             needs_end: report.needs_end,

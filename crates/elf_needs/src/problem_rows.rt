@@ -1,4 +1,5 @@
 //! The lines of objects and symbols, all or only those of problems.
+ghost use Rattle.std.specs.Prelude.{option_map};
 ghost use Rattle.elf_model.specs.Loader.{asked_name};
 ghost use Rattle.elf_needs.specs.ListedLines.{listed_binding, listed_object};
 ghost use Rattle.elf_options.specs.Wants.{query_of};
@@ -18,15 +19,17 @@ use elf_source::{Out, OutFault, Sink};
 /// A fault of the output, with a prefix of the line written.
 pub(crate) fn list_object<W: Sink>(
     row: ObjectRow,
-    path: &[u8],
+    name: &[u8],
+    path: Option<&[u8]>,
     lines: LineOptions,
     out: &mut Out<W>,
 ) -> Result<(), OutFault>
-    ensures puts { OutPuts out.old out.new result (listed_object lines row path.now) }
+    ensures puts { OutPuts out.old out.new result
+        (listed_object lines row name.now (option_map (λ p. p.now) path.entry)) }
 {
     match row.state {
         ObjectState::Found | ObjectState::Unused if lines.problems => out.put(b""),
-        _ => show_object(row, path, lines.format, out),
+        _ => show_object(row, name, path, lines.format, out),
     }
 }
 

@@ -3,12 +3,12 @@ ghost use Rattle.std.specs.Prelude.{◌<◌, ◌≡◌, length};
 ghost use Rattle.elf_needs.specs.Bound.{AsksAll};
 
 use crate::bound_states::{DefinitionAt, item_of};
-use crate::known_object::MOST_OBJECTS;
+use crate::known_object::{KnownObject, MOST_OBJECTS};
+use crate::object_lines::{ListedPlace, list_known};
 use crate::open_objects::OpenObjects;
-use crate::problem_rows::list_object;
 use crate::search_scope::{SearchScope, index_at};
 use crate::walk::DependencyWalk;
-use elf_format::{ObjectRow, ObjectState, show_refusal};
+use elf_format::{ObjectState, show_refusal};
 use elf_library::{
     LookupObject, NeedsFault, RELA_BYTES, ReferenceNames, filter_hash, is_reported_alone,
 };
@@ -113,17 +113,20 @@ impl<W: Sink> DependencyWalk<'_, '_, W> {
             let Some(known) = objects.get(usize::from(index)) else {
                 continue;
             };
-            if !known.found || used.has(index) {
+            if !matches!(known.state, ObjectState::Found) || used.has(index) {
                 continue;
             }
-            let path = objects.path_of(&known);
-            let row = ObjectRow {
-                index,
-                needer: known.needer,
+            let unused = KnownObject {
                 state: ObjectState::Unused,
-                found_by: known.found_by,
+                ..known
             };
-            list_object(row, path, self.lines, &mut self.out).map_err(NeedsFault::Out)?;
+            let place = ListedPlace {
+                index: usize::from(index),
+                depth: 0,
+            };
+            list_known(objects, &unused, place, b"", self.lines, &mut self.out).map_err(
+                NeedsFault::Out,
+            )?;
         }
         Ok(self.status)
     }

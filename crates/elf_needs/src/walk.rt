@@ -11,7 +11,7 @@ use crate::path_budget::PathBudget;
 use crate::paths::CandidatePath;
 use crate::search_dirs::{Search, SearchDirs};
 use crate::walk_needs::ControlFlow;
-use elf_format::FoundBy;
+use elf_format::{FoundBy, show_too_many, show_too_many_paths};
 use elf_library::{FileSource, NeedsFault, ObjectFile, SystemFiles};
 use elf_source::{CachedSource, Out, Sink};
 use elf_table::HeaderStore;
@@ -115,8 +115,8 @@ impl<W: Sink> DependencyWalk<'_, '_, W> {
     /// Lists the objects that a program needs, in a loader's order: the program, then for each
     /// object in order each library that it needs and that is not one of those before.
     ///
-    /// A line for each, or if only problems are written for each that is missing or refused, and
-    /// then one for the interpreter that the program names. Returns the exit status, 1 if one is missing or refused, or there are more
+    /// When all are found, a line for each, or if only problems are written for each that is missing
+    /// or refused, and then one for the interpreter that the program names. Returns the exit status, 1 if one is missing or refused, or there are more
     /// than 512, or more paths to try than may be tried, and whether all are listed. Requests at
     /// most the budget, if there is one, from all files together. `path` is the program's as it is
     /// shown, and the directory of `real` replaces `$ORIGIN`. The files of those that are found are
@@ -138,18 +138,66 @@ impl<W: Sink> DependencyWalk<'_, '_, W> {
             self.old.search.left self.new.search.left
             system.old.closed.asked system.new.closed.asked }
     {
-        self.program(file, path, real, opened, &mut system.closed)?;
+        let found = self.find(system, file, real, opened);
+        self.show_objects(path)?;
+        self.end_objects(found?)
+    }
+
+    /// Finds the objects that a program needs, in a loader's order, as [`DependencyWalk::list`]
+    /// lists them, and its interpreter. Returns whether all are found.
+    ///
+    /// # Errors
+    /// A read failed, or a path cannot be opened for a fault of the system.
+    fn find<R: Files>(
+        &mut self,
+        system: &mut SystemFiles<'_, R, FileSource<R::File>>,
+        file: ObjectFile<FileSource<R::File>>,
+        real: &[u8],
+        opened: &mut OpenFiles<R::File>,
+    ) -> Result<ControlFlow, NeedsFault>
+    where
+        R::File: FileExt,
+        ensures asks { AsksFiles file.asked opened.old.objects.items opened.new.objects.items
+            self.old.search.left self.new.search.left
+            system.old.closed.asked system.new.closed.asked }
+    {
+        self.program(file, real, opened, &mut system.closed)?;
         self.find_interpreter(system)?;
         for index in 0..MOST_OBJECTS {
             let Some(known) = self.objects.get(index) else {
                 break;
             };
-            if self.needs_of(system, index, &known, opened)? == ControlFlow::TooMany {
-                return Ok(self.listed(false));
+            let flow = self.needs_of(system, index, &known, opened)?;
+            if flow != ControlFlow::Yes {
+                return Ok(flow);
             }
         }
-        self.end_interpreter()?;
-        Ok(self.listed(true))
+        Ok(ControlFlow::Yes)
+    }
+
+    /// Writes what follows the lines of the objects: the line of the interpreter, or the one that
+    /// ends the objects if there are too many, or too many paths to try. Returns the result of
+    /// listing.
+    ///
+    /// # Errors
+    /// The output failed.
+    fn end_objects(&mut self, flow: ControlFlow) -> Result<Listed, NeedsFault>
+        ensures left { self.new.search.left ≡ self.old.search.left }
+    {
+        let format = self.lines.format;
+        let shown = match flow {
+            ControlFlow::Yes => {
+                self.end_interpreter()?;
+                return Ok(self.listed(true));
+            }
+            ControlFlow::TooManyObjects(at) => show_too_many(at, format, &mut self.out),
+            ControlFlow::TooManyPaths(at) => show_too_many_paths(at, format, &mut self.out),
+        };
+        self.status = 1;
+        match shown {
+            Ok(()) => Ok(self.listed(false)),
+            Err(fault) => Err(NeedsFault::Out(fault)),
+        }
     }
 
     /// Returns the result of listing so far, of all objects or not.

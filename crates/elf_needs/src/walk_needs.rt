@@ -5,9 +5,8 @@ ghost use Rattle.elf_needs.specs.Budget.{AsksFiles};
 use crate::known_object::{KnownObject, MOST_OBJECTS};
 use crate::object_reports::{NOWHERE, ObjectPlace, found_identity, report_alone};
 use crate::open_objects::OpenObjects;
-use crate::problem_rows::list_object;
 use crate::walk::{DependencyWalk, OpenFiles};
-use elf_format::{FoundBy, ObjectRow, ObjectState, show_too_many, show_too_many_paths};
+use elf_format::{FoundBy, ObjectState};
 use elf_library::{
     ClosedFiles, FileSource, NeededLibrary, NeedsFault, ObjectFile, ObjectRole, SearchEnd,
     SystemFiles,
@@ -23,8 +22,12 @@ use std::rt::Files;
 pub(crate) enum ControlFlow {
     /// It does.
     Yes,
-    /// There are more objects than are listed, or more paths to try than may be.
-    TooMany,
+    /// There are more objects than are listed: the file offset of the dynamic entry that needs one
+    /// more.
+    TooManyObjects(u64),
+    /// There are more paths to try than may be: the file offset of the dynamic entry whose library
+    /// is searched for.
+    TooManyPaths(u64),
 }
 
 impl<W: Sink> DependencyWalk<'_, '_, W> {
@@ -50,8 +53,9 @@ impl<W: Sink> DependencyWalk<'_, '_, W> {
             if objects.has_name(objects.links.text(need.name)) {
                 continue;
             }
-            if self.take(system, index, known, need, opened)? == ControlFlow::TooMany {
-                return Ok(ControlFlow::TooMany);
+            let flow = self.take(system, index, known, need, opened)?;
+            if flow != ControlFlow::Yes {
+                return Ok(flow);
             }
         }
         Ok(ControlFlow::Yes)
@@ -96,7 +100,7 @@ impl<W: Sink> DependencyWalk<'_, '_, W> {
         ensures left { self.new.search.left ≡ self.old.search.left }
     {
         if self.search.tries.is_over {
-            return self.end_tries(need.at);
+            return Ok(ControlFlow::TooManyPaths(need.at));
         }
         self.add_alone(by, need, ObjectState::Missing)
     }
@@ -128,33 +132,9 @@ impl<W: Sink> DependencyWalk<'_, '_, W> {
         }
         if self.objects.len() >= MOST_OBJECTS {
             file.close(&mut system.closed);
-            return self.end_objects(need.at);
+            return Ok(ControlFlow::TooManyObjects(need.at));
         }
         self.add_found(by, need.name, file, opened, &mut system.closed)
-    }
-
-    /// Writes the line that ends the objects if more paths would be tried than may be.
-    fn end_tries(&mut self, at: u64) -> Result<ControlFlow, NeedsFault>
-        ensures left { self.new.search.left ≡ self.old.search.left }
-        ensures status { self.new.status ≡ 1 }
-    {
-        self.status = 1;
-        match show_too_many_paths(at, self.lines.format, &mut self.out) {
-            Ok(()) => Ok(ControlFlow::TooMany),
-            Err(fault) => Err(NeedsFault::Out(fault)),
-        }
-    }
-
-    /// Writes the line that ends the objects if there is one more than are listed.
-    pub(crate) fn end_objects(&mut self, at: u64) -> Result<ControlFlow, NeedsFault>
-        ensures left { self.new.search.left ≡ self.old.search.left }
-        ensures status { self.new.status ≡ 1 }
-    {
-        self.status = 1;
-        match show_too_many(at, self.lines.format, &mut self.out) {
-            Ok(()) => Ok(ControlFlow::TooMany),
-            Err(fault) => Err(NeedsFault::Out(fault)),
-        }
     }
 
     /// Adds one more name of an object that is known. If there is no room for it, the name is an
@@ -177,8 +157,7 @@ impl<W: Sink> DependencyWalk<'_, '_, W> {
         self.add_alone(by, need, ObjectState::Refused(refusal))
     }
 
-    /// Adds an object of which nothing but its state is known, and writes its line, with its name;
-    /// or ends the objects.
+    /// Adds an object of which nothing but its state is known; or ends the objects.
     pub(crate) fn add_alone(
         &mut self,
         by: Option<u16>,
@@ -188,24 +167,14 @@ impl<W: Sink> DependencyWalk<'_, '_, W> {
         ensures left { self.new.search.left ≡ self.old.search.left }
     {
         if self.objects.len() >= MOST_OBJECTS {
-            return self.end_objects(need.at);
+            return Ok(ControlFlow::TooManyObjects(need.at));
         }
-        let index = self.add(by, Some(need.name), &NOWHERE, &report_alone(state));
-        let shown = self.objects.links.text(need.name);
-        let row = ObjectRow {
-            index,
-            needer: by,
-            state,
-            found_by: None,
-        };
-        match list_object(row, shown, self.lines, &mut self.out) {
-            Ok(()) => Ok(ControlFlow::Yes),
-            Err(fault) => Err(NeedsFault::Out(fault)),
-        }
+        self.add(by, Some(need.name), &NOWHERE, &report_alone(state));
+        Ok(ControlFlow::Yes)
     }
 
-    /// Adds a library whose file at the path of the search is refused before it is read, and writes
-    /// its line; or ends the objects.
+    /// Adds a library whose file at the path of the search is refused before it is read; or ends
+    /// the objects.
     fn add_refused(
         &mut self,
         by: Option<u16>,
@@ -215,7 +184,7 @@ impl<W: Sink> DependencyWalk<'_, '_, W> {
         ensures left { self.new.search.left ≡ self.old.search.left }
     {
         if self.objects.len() >= MOST_OBJECTS {
-            return self.end_objects(need.at);
+            return Ok(ControlFlow::TooManyObjects(need.at));
         }
         let report = report_alone(ObjectState::Refused(refusal));
         let place = ObjectPlace {
@@ -223,21 +192,11 @@ impl<W: Sink> DependencyWalk<'_, '_, W> {
             file: None,
             found_by: Some(self.search.found_by),
         };
-        let index = self.add(by, Some(need.name), &place, &report);
-        let path = &self.search.path;
-        let row = ObjectRow {
-            index,
-            needer: by,
-            state: report.state,
-            found_by: place.found_by,
-        };
-        match list_object(row, path, self.lines, &mut self.out) {
-            Ok(()) => Ok(ControlFlow::Yes),
-            Err(fault) => Err(NeedsFault::Out(fault)),
-        }
+        self.add(by, Some(need.name), &place, &report);
+        Ok(ControlFlow::Yes)
     }
 
-    /// Reads a library that is found at the path of the search, adds it, and writes its line.
+    /// Reads a library that is found at the path of the search, and adds it.
     fn add_found<S: Source + Drop>(
         &mut self,
         by: Option<u16>,
@@ -260,18 +219,8 @@ impl<W: Sink> DependencyWalk<'_, '_, W> {
             file: found_identity(report.state, identity),
             found_by: Some(self.search.found_by),
         };
-        let index = self.add(by, Some(name), &place, &report);
-        let path = &self.search.path;
-        let row = ObjectRow {
-            index,
-            needer: by,
-            state: report.state,
-            found_by: place.found_by,
-        };
-        match list_object(row, path, self.lines, &mut self.out) {
-            Ok(()) => Ok(ControlFlow::Yes),
-            Err(fault) => Err(NeedsFault::Out(fault)),
-        }
+        self.add(by, Some(name), &place, &report);
+        Ok(ControlFlow::Yes)
     }
 }
 

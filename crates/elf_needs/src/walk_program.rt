@@ -7,9 +7,8 @@ use crate::needed_names::within_root;
 use crate::object_reports::{ObjectPlace, ObjectReport, found_identity, report_alone};
 use crate::open_objects::OpenObjects;
 use crate::paths::named_path;
-use crate::problem_rows::list_object;
 use crate::walk::DependencyWalk;
-use elf_format::{ObjectRow, ObjectState};
+use elf_format::ObjectState;
 use elf_library::{ClosedFiles, NeedsFault, ObjectFile, ObjectRole};
 use elf_record::{Cause, Refusal};
 use elf_source::{CachedSource, Sink, Source};
@@ -19,11 +18,10 @@ use elf_table::{Fault, NameBuf};
 const PROGRAM_HEADERS_AT: u64 = 0x38;
 
 impl<W: Sink> DependencyWalk<'_, '_, W> {
-    /// Reads the program, and writes its line.
+    /// Reads the program, and adds it.
     pub(crate) fn program<S: Source + Drop>(
         &mut self,
         file: ObjectFile<S>,
-        path: &[u8],
         real: &[u8],
         opened: &mut OpenObjects<CachedSource<S>>,
         closed: &mut ClosedFiles,
@@ -46,13 +44,7 @@ impl<W: Sink> DependencyWalk<'_, '_, W> {
             found_by: None,
         };
         self.add(None, None, &place, &report);
-        let row = ObjectRow {
-            index: 0,
-            needer: None,
-            state: report.state,
-            found_by: None,
-        };
-        list_object(row, path, self.lines, &mut self.out).map_err(NeedsFault::Out)
+        Ok(())
     }
 
     /// Stores the path of the program, whose directory replaces `$ORIGIN`, and returns its index: one
