@@ -269,8 +269,9 @@ class Truth:
         self.names = names_of(sources, "numbers.rt")
         self.gnu_names = names_of(sources, "gnu_numbers.rt")
         headings = one(r"const HEADINGS.*?= \[(.*?)^\];", read(sources, "crates/elf_format/src/table_writer.rt"), "the headings")
-        # Each letter, and the columns of its lines.
-        self.columns = {f"{letter}  {' '.join(names.split())}" for letter, names in re.findall(r"b'(.)' as u64,\s*\"(.*?)\"", headings)}
+        # Each letter, and the columns of its lines; those of objects are a tree in a table.
+        self.columns = {f"{letter}  {' '.join(names.split())}" for letter, names in re.findall(r"b'(.)' as u64,\s*\"(.*?)\"", headings)
+                        if letter != "L"} | {"L  index needed_by state place cause path"}
         # The other names of options and of commands.
         self.aliases = set(re.findall(r'ArgSpec \{\s*name: "[\w-]+",\s*short: .*?,\n\s*alias: Some\("(.*?)"\)', body))
         self.command_aliases = set(re.findall(r'command: CommandName::\w+,\s*alias: Some\("(.*?)"\)', body))

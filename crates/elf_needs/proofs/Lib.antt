@@ -3,6 +3,7 @@ pub mod TokenLaws
 pub mod PathLaws
 pub mod RootLaws
 pub mod OnSearch
+pub mod OnTrees
 pub mod FolderLaws
 pub mod BindLaws
 pub mod UnusedLaws

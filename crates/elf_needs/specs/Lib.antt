@@ -2,6 +2,7 @@ pub mod Searching
 pub mod RootPaths
 pub mod Steps
 pub mod WorkedPaths
+pub mod WorkedTrees
 pub mod Binds
 pub mod ItemLines
 pub mod Bound

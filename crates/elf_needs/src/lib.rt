@@ -40,6 +40,7 @@ mod walk;
 mod walk_needs;
 mod walk_program;
 pub mod worked_paths;
+pub mod worked_trees;
 
 pub use bind_name::{BindFault, BindResult, bind};
 pub use binding_states::{is_unbound, unbound_state};

@@ -1,6 +1,6 @@
 //! The lines of the objects that are known.
 ghost use Rattle.std.specs.Prelude.{◌≡◌, IfOk};
-ghost use Rattle.elf_needs.specs.ObjectLines.{known_text, objects_text, place_text, places_from, places_text};
+ghost use Rattle.elf_needs.specs.ObjectLines.{known_text, objects_text, line_of_place, places_in_order, lines_of_places};
 ghost use Rattle.elf_needs.specs.Trees.{tree_places};
 ghost use Rattle.elf_source.specs.Output.{OutPuts, SinkTakes};
 
@@ -70,7 +70,7 @@ fn list_in_order<W: Sink>(
     out: &mut Out<W>,
 ) -> Result<(), OutFault>
     ensures puts { OutPuts out.old out.new result
-        (places_text lines objects.now program.now (places_from 0 objects.now.known.items)) }
+        (lines_of_places lines objects.now program.now (places_in_order 0 objects.now.known.items)) }
 {
     for index in 0..objects.len() {
         list_place(
@@ -95,7 +95,7 @@ fn list_tree<W: Sink>(
     out: &mut Out<W>,
 ) -> Result<(), OutFault>
     ensures puts { OutPuts out.old out.new result
-        (places_text lines objects.now program.now (tree_places objects.now.known.items)) }
+        (lines_of_places lines objects.now program.now (tree_places objects.now.known.items)) }
 {
     let mut walk = TreeWalk::new(objects.known());
     while let Some(place) = walk.next() {
@@ -116,7 +116,7 @@ fn list_place<W: Sink>(
     out: &mut Out<W>,
 ) -> Result<(), OutFault>
     ensures puts { OutPuts out.old out.new result
-        (place_text lines objects.now program.now place) }
+        (line_of_place lines objects.now program.now place) }
 {
     let Some(known) = objects.get(place.index) else {
         return out.put(b"");

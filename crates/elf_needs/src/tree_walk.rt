@@ -33,8 +33,8 @@ impl<'a> TreeWalk<'a> {
         }
     }
 
-    /// Returns where the next object is, after the last one `None`. The objects that are known are
-    /// looked at once for each of them.
+    /// Returns where the next object is, after the last one `None`. A whole walk compares each
+    /// object with each at most once.
     pub(crate) fn next(&mut self) -> Option<ListedPlace>
         requires walks { IsTreeWalk self.old }
         ensures walks { IsTreeWalk self.new }

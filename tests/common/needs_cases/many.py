@@ -127,6 +127,12 @@ def made_many(folder):
                 done = subprocess.run(call, capture_output=True, timeout=120, preexec_fn=lambda: resource.setrlimit(resource.RLIMIT_STACK, stack))
                 if done.returncode != 1 - first or done.stdout.decode() != wanted or done.stderr:
                     fail(f"512 objects from {first} on, {len(paths)} files {words}: {done.returncode} {done.stdout[-300:]!r} {done.stderr!r}")
+    # In a table each is one level below the one that needs it.
+    rows = [f"{i:5} {'  ' * i}libm{i:03}.so [rpath] {f}/libm{i:03}.so" for i in range(1, 512)]
+    rows = ["index name [by] path", f"    0 {f}/libm000.so", *rows, "", f"0x{entry_at(data, 1):x}: more objects are needed than are listed", ""]
+    tree = elfsee("--table", "--default", "", f"{f}/libm000.so")
+    if tree != (1, "\n".join(rows), ""):
+        fail(f"a tree of 512 levels: {tree[0]} {tree[1][-300:]!r} {tree[2]!r}")
     # The answer ends if there are too many, though the program asks for a symbol.
     compile_library(folder, "many/asks.so", f"-L{f}", "-l:libm001.so", "-Wl,-rpath,$ORIGIN", before="int asked(void);\n", answer="asked()")
     alone, ended = elfsee("--default", "", f"{f}/asks.so"), elfsee("--symbols", "--default", "", f"{f}/asks.so")

@@ -1,7 +1,7 @@
 -- What is left of the budget decreases by at least what was requested from the files of the objects
 -- before this one.
 use Rattle.elf_needs.specs.Budget.{AsksFiles}
-use Rattle.elf_needs.proofs.walk.DependencyWalk.list.Given as goal
+use Rattle.elf_needs.proofs.walk.DependencyWalk.find.Given as goal
 
 abbrev pub invariant-loop-index : goal.invariant-loop-index
 invariant-loop-index g l = record {
