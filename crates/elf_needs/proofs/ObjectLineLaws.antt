@@ -1,5 +1,5 @@
 -- The lines of objects, one place after another.
-use Rattle.std.proofs.Common.{◌≡◌, ℕ, zero, suc, ◌+◌, ◌<◌, ◌≤◌, List, [], ◌∷◌, ◌++◌, drop, length, Result, refl, sym, ap, ◌∙◌, append_assoc, append-nil, arith}
+use Rattle.std.proofs.Common.{◌≡◌, ℕ, zero, suc, ◌+◌, ◌<◌, ◌≤◌, List, [], ◌∷◌, ◌++◌, drop, length, Result, refl, sym, ap, ◌∙◌, append_assoc, arith}
 use Rattle.std.proofs.lemmas.List.{drop_all}
 use Rattle.elf_source.specs.Prelude.{OutPuts, OutState, SinkTakes, SinkTakesPrefix}
 use Rattle.elf_source.specs.declared.faults.OutFault.{OutFault}

@@ -1,5 +1,5 @@
 -- The order of the objects of a program in a tree.
-use Rattle.std.specs.Prelude.{ℕ, suc, zero, ◌≡◌, ◌+◌, ◌<◌, ◌≤◌, List, [], ◌∷◌, ◌++◌, drop, length, slice_get, Bool, true, false, if◌then◌else◌, ◌==◌, Option, None, Some}
+use Rattle.std.specs.Prelude.{ℕ, suc, zero, ◌≡◌, ◌<◌, ◌≤◌, List, [], ◌∷◌, ◌++◌, drop, length, slice_get, Bool, true, false, if◌then◌else◌, ◌==◌, Option, None, Some}
 use Rattle.elf_needs.specs.declared.known_object.KnownObject.{KnownObject}
 use Rattle.elf_needs.specs.declared.object_lines.ListedPlace.{ListedPlace}
 use Rattle.elf_needs.specs.declared.tree_walk.TreeWalk.{TreeWalk}

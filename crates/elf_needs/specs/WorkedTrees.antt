@@ -1,5 +1,5 @@
 -- Worked examples of the tree of a table.
-use Rattle.std.specs.Prelude.{ℕ, ◌≡◌, List, [], ◌∷◌, codes, Option, None, Some}
+use Rattle.std.specs.Prelude.{ℕ, ◌≡◌, [], ◌∷◌, codes, Option, None, Some}
 use Rattle.elf_format.specs.NeededObjects.{object_tree_line}
 use Rattle.elf_format.specs.declared.needed_objects.FoundBy.TheVariants as by
 use Rattle.elf_format.specs.declared.needed_objects.ObjectState.TheVariants as state

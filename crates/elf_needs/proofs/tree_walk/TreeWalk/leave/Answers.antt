@@ -1,5 +1,5 @@
 -- Nothing is left above the program; else the walk goes on under the object above.
-use Rattle.std.proofs.Common.{◌≡◌, ◌-◌, suc, sym, ◌∙◌, arith}
+use Rattle.std.proofs.Common.{sym, ◌∙◌, arith}
 use Rattle.elf_needs.proofs.TreeLaws.{chain_leaves, leaves, leaves_none, leaves_nothing, needer_there, object_there}
 use Rattle.elf_needs.proofs.tree_walk.TreeWalk.leave.Goals as goal
 
