@@ -4,13 +4,13 @@
     tests/gate/exports.py
     tests/gate/exports.py --write
 
-The table of docs/LIBRARY.md has a row for each export of elfsee_c: its name, the structs that it takes, the statuses
-with which it may end, and its promise, the words of its contract. It is made from the crate, the statuses from the
-definitions of these words; --write makes it anew, and the table of statuses in the man page, and does no more.
-With that table are compared: what the crate's own comment says a call returns; the declarations of library/elfsee.h
+Of each export of elfsee_c there are its name, the structs that it takes, the statuses with which it may end, from the
+definitions of the words of its contract, and these words. The tables of docs/LIBRARY.md and of the man page have the
+calls by their statuses; --write makes both anew, and does no more.
+With the exports are compared: what the crate's own comment says a call returns; the declarations of library/elfsee.h
 and the statuses that the comment of each call names there; the synopsis of the man page and the statuses that it names
-in the paragraph of each call; and the row of docs/PROMISES.md with the call, which names these words. Each text is
-then turned: a name, a struct, a status or a promise is changed, and that must be found.
+in the paragraph of each call; and the row of docs/PROMISES.md with the call, which names its contract's word. Each text
+is then turned: a name, a struct, a status or a promise is changed, and that must be found.
 
 It needs Python 3, and nothing that is built. The last line is `N passed, N failed`.
 """
@@ -129,23 +129,26 @@ def exports():
 # ---------------------------------------------------------------------------
 # What is made.
 
+def by_statuses(found):
+    """The names of the calls by the statuses with which they may end."""
+    names = {}
+    for export in found.values():
+        names.setdefault(export.statuses, []).append(export.name)
+    return sorted(names.items())
+
+
 def made_page(found):
-    rows = "".join("| `%s` | %s | %s | %s |\n" % (
-        export.name, ", ".join(f"`{word}`" for word in dict.fromkeys(export.structs)) or "none",
-        ", ".join(export.statuses) or "a number", " ".join(f"`{word}`" for word in export.words) or "its number")
-                   for export in found.values())
-    return f"| Call | Structs | Ends with | Promise |\n|---|---|---|---|\n{rows}"
+    rows = "".join("| %s | %s |\n" % (", ".join(statuses) or "a number", ", ".join(f"`{name}`" for name in names))
+                   for statuses, names in by_statuses(found))
+    return f"| Ends with | Calls |\n|---|---|\n{rows}"
 
 
 def made_man(found):
-    by_statuses = {}
-    for export in found.values():
-        if export.statuses:
-            by_statuses.setdefault(export.statuses, []).append(export.name)
     text = ".Bl -tag -width Ds\n"
-    for statuses, names in sorted(by_statuses.items()):
-        text += ".It " + " , ".join("Dv ELFSEE_" + word for word in statuses) + "\n"
-        text += " ,\n".join(".Fn " + name for name in names) + "\n"
+    for statuses, names in by_statuses(found):
+        if statuses:
+            text += ".It " + " , ".join("Dv ELFSEE_" + word for word in statuses) + "\n"
+            text += " ,\n".join(".Fn " + name for name in names) + "\n"
     return text + ".El\n"
 
 
@@ -255,8 +258,8 @@ TURNED = [
     (MAN, ".Dv ELFSEE_ABSENT\nif no program header holds them;", ".Dv ELFSEE_FULL\nif no program header holds them;",
      "elfsee_mapped: its paragraph"),
     (MAN, ".It Dv ELFSEE_OK , Dv ELFSEE_REFUSED\n", ".It Dv ELFSEE_OK\n", "the table of statuses"),
-    (PAGE, "| `elfsee_show` | `limits`, `end` |", "| `elfsee_show` | `end` |", "the table of calls"),
-    (PAGE, "`HasLookup`", "`HasListing`", "the table of calls"),
+    (PAGE, "| OK, REFUSED, BAD_CALL | `elfsee_hashed_symbols`", "| OK, REFUSED, BAD_CALL | `elfsee_hashed`", "the table of calls"),
+    (PAGE, "| OK, REFUSED | ", "| OK | ", "the table of calls"),
     (PROMISES, "`elfsee_find`: `HasLookup`", "`elfsee_find`: `HasListing`", "elfsee_find: its row names HasLookup"),
     (PROMISES, "`elfsee_mapped`, below it", "`elfsee_map`, below it", "elfsee_mapped: has a row"),
 ]

@@ -7,7 +7,7 @@
 From the program's sources it takes the commands, the options with their ranges and defaults, the parts,
 the items of a layout with their limits, the words of the causes, the exit statuses with their
 lines, the names of numbers, the types of relocations that are supported, and the limits. With those it compares
-the help that the program prints, the man page, the completions and docs/FORMAT.md. The tables of commands and options
+the help that the program prints, the man page, the completions and docs/FORMAT.md. The lists of commands and options
 in docs/COMMANDS.md are made from them: --write makes them anew, and does no more.
 One sentence says what `find` answers, the same in the help, the man page, README.md
 and those two pages; and if a page says that it is the symbol that a loader picks, it must name the exceptions.
@@ -119,20 +119,20 @@ def set_of(words, sets):
     return bits
 
 
-def tables_of(sources):
-    """The tables of docs/COMMANDS.md: the commands with their arguments, and the options with their commands."""
+def lists_of(sources):
+    """The lists of docs/COMMANDS.md: the commands with their arguments, and the options of the same commands together."""
     cli = os.path.join(sources, "crates/elf_cli/src")
     sets = dict(re.findall(r"const (\w+): u16 = ([^;]+);", read(cli, "command_sets.rt")))
     commands = re.findall(r'CommandSpec \{\s*name: "(\w+)",.*?alias: (.*?),\s*bit: (\w+),\s*about: "([^"]*)"',
                           read(cli, "commands.rt"), re.S)
     arguments = re.findall(r'ArgSpec \{\s*name: "([\w-]+)",\s*short: (.*?),\n\s*alias: (.*?),\n\s*kind: ArgKind::(\w+)(.*?),\n'
                            r'\s*help: "([^"]*)",\n\s*commands: ([A-Z_| ]+),', read(cli, "arguments.rt").replace("\\n\\", " \\"))
-    usage, options = {name: "" for name, *_ in commands}, ""
+    usage, options = {name: "" for name, *_ in commands}, {}
     for name, letter, alias, kind, more, told, words in arguments:
         told = re.sub(r"\\\n\s*", "", told)
         having = [command for command, _, bit, _ in commands if set_of(words, sets) & set_of(bit, sets)]
         others = [command for command in usage if command not in having]
-        of = ", ".join(having) if len(others) > 2 else f"all but {' and '.join(others)}"
+        of = ", ".join(having) if len(others) > 2 else f"all commands but {' and '.join(others)}"
         if kind in ("Needed", "Index", "Optional", "Any"):
             for command in having:
                 usage[command] += {"Any": f" [{name}]...", "Optional": f" [{name}]"}.get(kind, f" {name}")
@@ -146,10 +146,10 @@ def tables_of(sources):
             told += f" [default: {quoted[1]}]"
         letter = f"`-{letter[6]}`, " if letter != "None" else ""
         alias = f", `--{alias[6:-2]}{value}`" if alias != "None" else ""
-        options += f"| {letter}`--{name}{value}`{alias} | {of} | {told} |\n"
+        options.setdefault(of, []).append(f"- {letter}`--{name}{value}`{alias}: {told}\n")
     named = {name: f", `elfsee {alias[6:-2]}`" if alias != "None" else "" for name, alias, *_ in commands}
-    rows = "".join(f"| `elfsee {name}{usage[name]}`{named[name]} | {about} |\n" for name, _, _, about in commands)
-    return f"| Command | Does |\n|---|---|\n{rows}\n| Option | Of | Does |\n|---|---|---|\n{options}"
+    rows = "".join(f"- `elfsee {name}{usage[name]}`{named[name]}: {about}\n" for name, _, _, about in commands)
+    return rows + "".join(f"\nOptions of {of}:\n\n{''.join(lines)}" for of, lines in options.items())
 
 
 def causes_of(sources, commands):
@@ -488,10 +488,10 @@ def check_format(counts, truth, page):
 
 def check_commands(counts, sources, page):
     place = "docs/COMMANDS.md"
-    wanted, got = tables_of(sources), MADE.search(page)
+    wanted, got = lists_of(sources), MADE.search(page)
     counts.same("row", place, set(wanted.split("\n")), set(got[2].split("\n")) if got else set())
     if got and got[2] != wanted:
-        counts.fail(f"{place}: the tables are not as tests/gate/one_truth.py --write makes them")
+        counts.fail(f"{place}: the lists are not as tests/gate/one_truth.py --write makes them")
     statuses = one(r"^## How it ends\n(.*)", page, "the statuses of docs/COMMANDS.md")
     counts.same("status", place, set(endings_of(sources)), set(re.findall(r"^\| (\d) \| ", statuses, re.M)))
 
@@ -500,11 +500,11 @@ def write_commands(sources):
     path = os.path.join(TOP, "docs/COMMANDS.md")
     page = read(path)
     with open(path, "w", encoding="utf-8") as file:
-        file.write(MADE.sub(lambda found: found[1] + tables_of(sources) + found[3], page))
+        file.write(MADE.sub(lambda found: found[1] + lists_of(sources) + found[3], page))
 
 
 def check_found(counts, program):
-    """The sentence that says what `find` answers: each page has that of the help, and no other. Tables that are made
+    """The sentence that says what `find` answers: each page has that of the help, and no other. Lists that are made
     from the help are not read."""
     _, _, text = help_of(program, "help", "find")
     said = " ".join(one(r"^(The answer is the first .*?)\n\n", text, "what find answers in help").split())
