@@ -32,9 +32,9 @@ each_within part rest all each within =
 suffixes_within : (part rest all cap : ℕ) → part + rest ≤ all → suffixes_most part cap + suffixes_most rest cap ≤ suffixes_most all cap
 suffixes_within part rest all cap within =
     let each : ℕ = 2 + name_bytes cap in
-    let few : part / 24 + rest / 24 ≤ all / 24 = omega arith in
-    let product : (part / 24 + rest / 24) * each ≤ all / 24 * each = mul-le-mul_right each few in
-    let split : (part / 24 + rest / 24) * each ≡ part / 24 * each + rest / 24 * each = add-mul (part / 24) (rest / 24) each in
+    let few : part / 16 + rest / 16 ≤ all / 16 = omega arith in
+    let product : (part / 16 + rest / 16) * each ≤ all / 16 * each = mul-le-mul_right each few in
+    let split : (part / 16 + rest / 16) * each ≡ part / 16 * each + rest / 16 * each = add-mul (part / 16) (rest / 16) each in
     omega (arith, product, split)
 
 more_within : (versions : Bool) (part rest all cap : ℕ) → part + rest ≤ all

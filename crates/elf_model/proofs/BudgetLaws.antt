@@ -1,6 +1,6 @@
 -- Which refusals are budget refusals.
 use Rattle.std.proofs.Common.{◌≡◌, inl, inr, ◌⊎◌, refl}
-use Rattle.elf_model.specs.declared.causes.Cause.TheVariants.{BadClass, BadData, BadLink, BadVersion, Budget, EntrySize, ExtendedNumbering, HashCycle, HashIndex, HashShape, LoadOverlap, MemberCut, NameOutside, NameUnended, NoHash, NotArchive, NotElf, NotRel, NotStrings, NoteCut, Overflow, PlaceOutside, Short, SizeNotWhole, SymbolIndex, TableOutside, Thin, TooLong, TooManyHeaders, Undefined, Unmapped, Unplaced, Unsupported, VersionCut, VersionIndex}
+use Rattle.elf_model.specs.declared.causes.Cause.TheVariants.{BadClass, BadData, BadLink, BadVersion, Budget, EntrySize, ExtendedNumbering, HashCycle, HashIndex, HashShape, LoadOverlap, MemberCut, NameOutside, NameUnended, NoHash, NotArchive, NotElf, NotRel, NotStrings, NoteCut, Overflow, PlaceOutside, Relr, Short, SizeNotWhole, SymbolIndex, TableOutside, Thin, TooLong, TooManyHeaders, Undefined, Unmapped, Unplaced, Unsupported, VersionCut, VersionIndex}
 use Rattle.elf_model.specs.declared.causes.Cause.{Cause}
 
 -- whether a refusal is a budget refusal
@@ -40,3 +40,4 @@ is_budget_fault MemberCut = inr (λ e. cc)
 is_budget_fault VersionCut = inr (λ e. cc)
 is_budget_fault VersionIndex = inr (λ e. cc)
 is_budget_fault LoadOverlap = inr (λ e. cc)
+is_budget_fault Relr = inr (λ e. cc)

@@ -2,9 +2,11 @@
 use Rattle.std.proofs.Common.{◌≡◌, ℕ, if◌then◌else◌, ◌+◌, ◌*◌, ◌/◌, ◌≤◌, ◌==◌, ◌&&◌, ◌||◌, not, Bool, true, false, List, ◌++◌, length, refl, ap, ◌∙◌, arith}
 use Rattle.std.proofs.Math.Nat.{mul-le-mul_left, mul-le-mul_right, mul-add}
 use Rattle.std.proofs.lemmas.Bool.{ltb-false, eqb-true}
-use Rattle.elf_model.specs.Prelude.{CostIsWithinCeiling, HeaderTable, ListingStyle, SuffixesAreWithinMost, TableHeaders, after_header as asked_after, by_sections, by_segments, ceiling, cost_where, e_phnum, e_shnum, e_shstrndx, early_checks, file_sections, file_segments, has, has_tables, header_checks, header_field, is_loadable, is_symbol_table, kinds_cost, known_parts, listing_cost, name_bytes, needs_segments, pass, relocations, relocations_with_versions, section_kinds, sections_cost, segment_kinds, segments_cost, sh_link, sh_size, sh_type, style_ceiling, suffixed_symbols, suffixes_most, sum_over, symbols, table_checks_of, table_cost, table_headers, tables_cost, viewed}
+use Rattle.elf_model.specs.Prelude.{CostIsWithinCeiling, HeaderTable, ListingStyle, SuffixesAreWithinMost, TableHeaders, after_header as asked_after, by_sections, by_segments, ceiling, cost_where, e_phnum, e_shnum, e_shstrndx, early_checks, either_kind, entries_kind, file_sections, file_segments, gnu_relocations, has, has_tables, header_checks, header_field, is_loadable, is_symbol_table, kinds_cost, known_parts, listing_cost, name_bytes, needs_segments, pass, relative_relocations, relocation_type, relocations, relocations_with_versions, section_kinds, sections_cost, segment_kinds, segments_cost, sh_link, sh_size, sh_type, style_ceiling, suffixed_symbols, suffixes_most, sum_over, symbols, table_checks_of, table_cost, table_headers, tables_cost, viewed}
+use Rattle.elf_model.specs.TableKinds.{relocations_kind}
 use Rattle.elf_model.proofs.CheckSteps.{all_pass, pass-behind}
 use Rattle.elf_model.proofs.KindLists.{section_kinds-le, segment_kinds-le}
+use Rattle.elf_model.proofs.RelativeKinds.{either_costs, entries_have}
 use Rattle.elf_model.proofs.SymbolKinds.{suffixes_fit}
 use Rattle.elf_model.proofs.TableBounds.{most_bound, table_bound, table_fits}
 use Rattle.elf_model.proofs.StyleLemmas.{view_length}
@@ -21,6 +23,17 @@ where-more : (condition : Bool) (amount other most : ℕ) → other ≤ amount +
 where-more true amount other most h = h
 where-more false amount other most h = omega arith
 
+where_either : (one other : Bool) (most : ℕ) → cost_where one most ≤ cost_where (one || other) most
+where_either true other most = omega arith
+where_either false other most = omega arith
+
+-- one of two costs, each of which grows, or a third one
+either_more : (first second : Bool) (a b c d e most : ℕ) → a ≤ b + cost_where first most → c ≤ d + cost_where second most
+    → (if first then a else (if second then c else e)) ≤ (if first then b else (if second then d else e)) + cost_where (first || second) most
+either_more true second a b c d e most one other = omega (arith, one)
+either_more false true a b c d e most one other = omega (arith, other)
+either_more false false a b c d e most one other = omega arith
+
 -- The tables of one section header, with versions after the names of symbols.
 module _ (headers : HeaderTable) (i size cap : ℕ) where
   symbols_more : table_cost suffixed_symbols headers i size cap
@@ -32,23 +45,56 @@ module _ (headers : HeaderTable) (i size cap : ℕ) where
       let within = table_fits headers i size 24 h in
       omega (arith, suffixes_fit headers size cap i (header_field headers sh_size i / 24) (omega arith)))
 
-  relocations_more : table_cost relocations_with_versions headers i size cap
-      ≤ table_cost relocations headers i size cap + cost_where (header_field headers sh_type i == 4) (suffixes_most size cap)
+  entries_more : (addends : Bool)
+      → table_cost (relocations_with_versions addends) headers i size cap
+      ≤ table_cost (relocations addends) headers i size cap + cost_where (header_field headers sh_type i == relocation_type addends) (suffixes_most size cap)
   unfolding table_cost relocations_with_versions relocations
-  relocations_more =
+  entries_more true =
       cost_more (header_field headers sh_type i == 4) (pass (table_checks_of (headers.bytes i) (headers.at i) size (headers.at i) 24)) _ _
       (suffixes_most size cap) (λ h.
       let within = table_fits headers i size 24 h in
       omega (arith, suffixes_fit headers size cap (header_field headers sh_link i) (header_field headers sh_size i / 24) (omega arith)))
+  entries_more false =
+      cost_more (header_field headers sh_type i == 9) (pass (table_checks_of (headers.bytes i) (headers.at i) size (headers.at i) 16)) _ _
+      (suffixes_most size cap) (λ h.
+      let within = table_fits headers i size 16 h in
+      omega (arith, suffixes_fit headers size cap (header_field headers sh_link i) (header_field headers sh_size i / 16) (omega arith)))
+
+  -- whether GNU listings have further relocations or not
+  relocations_more : (gnu : Bool)
+      → table_cost (relocations_kind gnu true) headers i size cap
+      ≤ table_cost (relocations_kind gnu false) headers i size cap
+      + cost_where (header_field headers sh_type i == 4 || header_field headers sh_type i == 9) (suffixes_most size cap)
+  unfolding gnu_relocations
+  relocations_more true =
+      let type : ℕ = header_field headers sh_type i in
+      let first = λ (versions : Bool).
+      either_costs (entries_kind true versions) (either_kind (entries_kind false versions) relative_relocations) headers i size cap
+      ∙ ap (λ (has : Bool). if has then table_cost (entries_kind true versions) headers i size cap else table_cost (either_kind (entries_kind false versions) relative_relocations) headers i size cap)
+      (entries_have true versions (headers.bytes i) (headers.at i)) in
+      let second = λ (versions : Bool).
+      either_costs (entries_kind false versions) relative_relocations headers i size cap
+      ∙ ap (λ (has : Bool). if has then table_cost (entries_kind false versions) headers i size cap else table_cost relative_relocations headers i size cap)
+      (entries_have false versions (headers.bytes i) (headers.at i)) in
+      rw (first true, first false, second true, second false)
+      (either_more (type == 4) (type == 9) _ _ _ _ _ (suffixes_most size cap) (entries_more true) (entries_more false))
+  relocations_more false =
+      let more = entries_more true in
+      omega (arith, more, where_either (header_field headers sh_type i == 4) (header_field headers sh_type i == 9) (suffixes_most size cap))
 
   -- all of them with versions after names
-  pub suffixed_kinds-le : (parts : ℕ)
-      → kinds_cost (section_kinds true) headers i size cap parts ≤ kinds_cost (section_kinds false) headers i size cap parts + suffixes_most size cap
-  unfolding kinds_cost suffixed_symbols symbols relocations_with_versions relocations
-  suffixed_kinds-le parts =
+  pub suffixed_kinds-le : (gnu : Bool) (parts : ℕ)
+      → kinds_cost (section_kinds gnu true) headers i size cap parts ≤ kinds_cost (section_kinds gnu false) headers i size cap parts + suffixes_most size cap
+  unfolding kinds_cost suffixed_symbols symbols relocations_with_versions relocations gnu_relocations
+  suffixed_kinds-le true parts =
       let one = two_kinds (header_field headers sh_type i) (suffixes_most size cap) in
       let a = where-more (has parts 8) _ _ _ symbols_more in
-      let b = where-more (has parts 16) _ _ _ relocations_more in
+      let b = where-more (has parts 16) _ _ _ (relocations_more true) in
+      omega (arith, one, a, b)
+  suffixed_kinds-le false parts =
+      let one = two_kinds (header_field headers sh_type i) (suffixes_most size cap) in
+      let a = where-more (has parts 8) _ _ _ symbols_more in
+      let b = where-more (has parts 16) _ _ _ (relocations_more false) in
       omega (arith, one, a, b)
 
 -- the numbers of headers are allowed
@@ -62,13 +108,13 @@ loadable-within file headers h =
 abbrev pub tables_by : (file : List ℕ) (cap parts : ℕ) → TableHeaders → ℕ
 tables_by file cap parts tables = sum_over (λ i. kinds_cost tables.kinds tables.headers i (length file) cap parts) 0 tables.headers.count
 
-pub headers_none : (versions : Bool) (file : List ℕ) → (e_shnum file == 0) ≡ true → table_headers versions file ≡ by_segments file
+pub headers_none : (gnu versions : Bool) (file : List ℕ) → (e_shnum file == 0) ≡ true → table_headers gnu versions file ≡ by_segments file
 unfolding table_headers
-headers_none versions file h = rw (h, table_headers) refl
+headers_none gnu versions file h = rw (h, table_headers) refl
 
-pub headers_some : (versions : Bool) (file : List ℕ) → (e_shnum file == 0) ≡ false → table_headers versions file ≡ by_sections versions file
+pub headers_some : (gnu versions : Bool) (file : List ℕ) → (e_shnum file == 0) ≡ false → table_headers gnu versions file ≡ by_sections gnu versions file
 unfolding table_headers
-headers_some versions file h = rw (h, table_headers) refl
+headers_some gnu versions file h = rw (h, table_headers) refl
 
 -- if there are no sections, all tables are those of the program headers
 without_sections : (file : List ℕ) (style : ListingStyle) (parts headers : ℕ) → (e_shnum file == 0) ≡ true → e_phnum file ≤ headers
@@ -81,7 +127,7 @@ without_sections file style parts headers z p =
     let bound : ℕ = table_bound (length file) cap in
     let tables = sum_over-le (λ i. kinds_cost segment_kinds (file_segments file) i (length file) cap parts) bound 0 (e_phnum file)
     (λ i. segment_kinds-le (file_segments file) i (length file) cap parts) in
-    let same = ap (tables_by file cap parts) (headers_none style.versions file z) in
+    let same = ap (tables_by file cap parts) (headers_none style.gnu style.versions file z) in
     let a = cost_where-le (needs_segments file parts) (56 * e_phnum file) in
     let c = cost_where-le (has parts 2 && not (e_shstrndx file == 0)) (e_shnum file * name_bytes cap) in
     let d : e_shnum file * name_bytes cap ≡ 0 * name_bytes cap = ap (λ (k : ℕ). k * name_bytes cap) n in
@@ -99,9 +145,9 @@ with_sections file style parts headers z s p =
     let cap : ℕ = style.cap in
     let n : ℕ = name_bytes cap in
     let bound : ℕ = most_bound style.versions (length file) cap in
-    let tables = sum_over-le (λ i. kinds_cost (section_kinds style.versions) (file_sections file) i (length file) cap parts) bound 0 (e_shnum file)
-    (λ i. section_kinds-le (file_sections file) i (length file) cap style.versions parts) in
-    let same = ap (tables_by file cap parts) (headers_some style.versions file z) in
+    let tables = sum_over-le (λ i. kinds_cost (section_kinds style.gnu style.versions) (file_sections file) i (length file) cap parts) bound 0 (e_shnum file)
+    (λ i. section_kinds-le (file_sections file) i (length file) cap style.gnu style.versions parts) in
+    let same = ap (tables_by file cap parts) (headers_some style.gnu style.versions file z) in
     let a = cost_where-le (needs_segments file parts) (56 * e_phnum file) in
     let c = cost_where-le (has parts 2 && not (e_shstrndx file == 0)) (e_shnum file * n) in
     let m : e_shnum file * (64 + n + bound) ≤ headers * (64 + n + bound) = mul-le-mul_right (64 + n + bound) s in
@@ -153,7 +199,7 @@ after_within file headers style parts =
     omega (arith, within, style_ceiling-is (length file) headers style)
 
 pub suffixes_within_most : SuffixesAreWithinMost
-suffixes_within_most headers i size cap parts = suffixed_kinds-le headers i size cap parts
+suffixes_within_most gnu headers i size cap parts = suffixed_kinds-le headers i size cap gnu parts
 
 pub cost_within : CostIsWithinCeiling
 unfolding listing_cost

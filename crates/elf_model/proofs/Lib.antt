@@ -37,6 +37,7 @@ pub mod PieceLaws
 pub mod Pigeons
 pub mod PlaceLaws
 pub mod ReadingLaws
+pub mod RelativeKinds
 pub mod RecordLemmas
 pub mod RestLaws
 pub mod Searches

@@ -1,6 +1,6 @@
 -- Records at their own bytes.
-use Rattle.std.proofs.Common.{◌≡◌, ℕ, ◌+◌, ◌≤◌, Bool, List, ap, ◌∙◌, arith, add-zero}
-use Rattle.elf_model.specs.Prelude.{FieldsOfSlices, LinesOfSlices, dynamic_prefix, field, header_line, relocation_prefix, section_prefix, segment_line, slice, symbol_prefix}
+use Rattle.std.proofs.Common.{◌≡◌, ℕ, ◌+◌, ◌≤◌, Bool, true, false, List, ap, ◌∙◌, arith, add-zero}
+use Rattle.elf_model.specs.Prelude.{FieldsOfSlices, LinesOfSlices, dynamic_prefix, field, header_line, relocation_prefix, relocation_size, section_prefix, segment_line, slice, symbol_prefix}
 use Rattle.elf_model.specs.declared.formats.Format.{Format}
 use Rattle.elf_model.proofs.Slices.{field-slice}
 
@@ -34,12 +34,15 @@ symbol_front_of_slice format file gnu machine at section index =
     let f = field-slice file at 24 in
     rw (f 4 1 (omega arith), f 5 1 (omega arith), f 6 2 (omega arith), f 8 8 (omega arith), f 16 8 (omega arith))
 
-pub relocation_front_of_slice : (format : Format) (file : List ℕ) (gnu : Bool) (machine at section : ℕ)
-    → relocation_prefix format gnu machine (slice file at 24) 0 section ≡ relocation_prefix format gnu machine file at section
+pub relocation_front_of_slice : (addends : Bool) (format : Format) (file : List ℕ) (gnu : Bool) (machine at section : ℕ)
+    → relocation_prefix addends format gnu machine (slice file at (relocation_size addends)) 0 section ≡ relocation_prefix addends format gnu machine file at section
 unfolding relocation_prefix
-relocation_front_of_slice format file gnu machine at section =
+relocation_front_of_slice true format file gnu machine at section =
     let f = field-slice file at 24 in
     rw (f 0 8 (omega arith), f 8 8 (omega arith), f 16 8 (omega arith), add-zero at)
+relocation_front_of_slice false format file gnu machine at section =
+    let f = field-slice file at 16 in
+    rw (f 0 8 (omega arith), f 8 8 (omega arith), add-zero at)
 
 pub dynamic_front_of_slice : (format : Format) (file : List ℕ) (gnu : Bool) (at index : ℕ) → dynamic_prefix format gnu (slice file at 16) 0 index ≡ dynamic_prefix format gnu file at index
 unfolding dynamic_prefix
@@ -48,11 +51,11 @@ dynamic_front_of_slice format file gnu at index =
     rw (f 0 8 (omega arith), f 8 8 (omega arith), add-zero at)
 
 pub lines_of_slices : LinesOfSlices
-lines_of_slices format file gnu machine at index section = (
+lines_of_slices format file gnu addends machine at index section = (
   header_line_of_slice format file,
   section_front_of_slice format file gnu machine at index,
   segment_line_of_slice format file gnu at index,
   symbol_front_of_slice format file gnu machine at section index,
-  relocation_front_of_slice format file gnu machine at section,
+  relocation_front_of_slice addends format file gnu machine at section,
   dynamic_front_of_slice format file gnu at index,
 )

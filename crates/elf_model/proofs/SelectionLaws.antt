@@ -1,11 +1,11 @@
 -- The first fault of a listing, whatever rows are shown.
-use Rattle.std.proofs.Common.{◌≡◌, ℕ, zero, suc, ◌==◌, ◌/◌, ◌&&◌, ◌||◌, not, nat_lt, if◌then◌else◌, Bool, true, false, List, [], ◌∷◌, ◌++◌, Option, None, Some, Result, Ok, Err, refl, sym, ap, ap₂, ◌∙◌}
-use Rattle.elf_model.specs.Prelude.{Check, DisplayedName, EveryRow, Fault, HEADER, HeaderTable, Line, LinePrefix, ListingItem, ListingStyle, NoSuffix, NoteRow, RowFilter, SECTIONS, SEGMENTS, Suffix, TableKind, VERSYM_SIZE, VisitedRecord, after_refusal, all_checks, chooses, chosen_row, d_tag, d_un, dynamic_at, dynamic_count, dynamic_prefix, dynamic_row, e_machine, e_phnum, e_shnum, each, entry_at, entry_count, fault_of, first_refusal, guarded, has, has_symbols, has_tables, header_checks, header_row, is_string_tag, kinds_rows, known_parts, linked_at, listing, load_checks, load_items, loaded_items, mapped_strings, name_index, named_at, no_name, note_align, note_row, note_rows, notes_rows, number_in, numbered_row, or_refusal, p_align, p_filesz, p_offset, padded_size, place_of_dynamic, place_of_header, place_of_record, place_of_section, place_of_segment, place_of_version, placed_choice, r_sym, refused_row, relocation_choice, relocation_prefix, relocation_row, relocation_row_with_version, relocations, relocations_with_versions, section_at, section_dynamic, section_name, section_notes, section_prefix, section_row, section_versions, segment_at, segment_dynamic, segment_notes, segment_row, sh_addralign, sh_link, sh_offset, sh_size, shown as shown_name, shows_place, slice, st_name, strings_of, suffixed_relocation_rows, suffixed_row, suffixed_symbol_rows, suffixed_symbols, suffixes_refusal, symbol_choice, symbol_named, symbol_prefix, symbol_row, symbol_row_with_version, symbol_suffix, symbol_version_prefix, symbol_version_row, symbol_version_rows, symbol_versions, symbols, table_headers, table_items, table_rows, value_name, version_definitions, version_named, version_needs, version_prefix, version_row, version_strings, versioned_count, versioned_symbols, versions_rows, versym, view_checks, viewed, walk_rows, walked}
+use Rattle.std.proofs.Common.{◌≡◌, ℕ, zero, suc, ◌+◌, ◌*◌, ◌%◌, ◌^◌, ◌==◌, ◌/◌, ◌&&◌, ◌||◌, not, nat_lt, if◌then◌else◌, Bool, true, false, List, [], ◌∷◌, ◌++◌, Option, None, Some, Result, Ok, Err, refl, sym, ap, ap₂, ◌∙◌}
+use Rattle.elf_model.specs.Prelude.{Check, DisplayedName, EveryRow, Fault, HEADER, HeaderTable, LAST_ADDRESS, Line, LinePrefix, ListingItem, ListingStyle, NoSuffix, NoteRow, RELR_BITS, RowFilter, SECTIONS, SEGMENTS, Suffix, TableKind, VERSYM_SIZE, VisitedRecord, after_refusal, all_checks, bit_row, bitmap_base, chooses, chosen_row, d_tag, d_un, dynamic_at, dynamic_count, dynamic_prefix, dynamic_row, e_machine, e_phnum, e_shnum, each, either_kind, entry_at, entry_count, fault_of, first_refusal, guarded, has, has_symbols, has_tables, header_checks, header_row, is_bitmap, is_string_tag, kinds_rows, known_parts, linked_at, listing, load_checks, load_items, loaded_items, mapped_strings, name_index, named_at, no_name, note_align, note_row, note_rows, notes_rows, number_in, numbered_row, or_refusal, p_align, p_filesz, p_offset, padded_size, place_of_dynamic, place_of_header, place_of_record, place_of_relr, place_of_section, place_of_segment, place_of_version, placed_choice, r_sym, refused_row, relative_relocations, relocation_choice, relocation_prefix, relocation_row, relocation_row_with_version, relocation_size, relocations, relocations_with_versions, relr_prefix, relr_row, relr_rows, relr_word, section_at, section_dynamic, section_name, section_notes, section_prefix, section_row, section_versions, segment_at, segment_dynamic, segment_notes, segment_row, sh_addralign, sh_link, sh_offset, sh_size, shown as shown_name, shows_place, slice, st_name, strings_of, suffixed_relocation_rows, suffixed_row, suffixed_symbol_rows, suffixed_symbols, suffixes_refusal, symbol_choice, symbol_named, symbol_prefix, symbol_row, symbol_row_with_version, symbol_suffix, symbol_version_prefix, symbol_version_row, symbol_version_rows, symbol_versions, symbols, table_headers, table_items, table_rows, value_name, version_definitions, version_named, version_needs, version_prefix, version_row, version_strings, versioned_count, versioned_symbols, versions_rows, versym, view_checks, viewed, walk_rows, walked, word_rows}
 use Rattle.elf_model.specs.TableKinds.{dynamic_rows}
 use Rattle.elf_model.specs.VersionRows.{visited_rows}
 use Rattle.elf_model.specs.Versions.{flags_word, hash_word, number_word}
 use Rattle.elf_model.specs.declared.versions.VersionKind.TheVariants.{Definition, File}
-use Rattle.elf_model.specs.declared.causes.Cause.TheVariants.{VersionCut, VersionIndex}
+use Rattle.elf_model.specs.declared.causes.Cause.TheVariants.{Relr, VersionCut, VersionIndex}
 use Rattle.elf_model.specs.SymbolFilterLaws.{EverySymbolIsShown, NarrowedChooses}
 use Rattle.elf_model.specs.declared.causes.Cause.{Cause}
 use Rattle.elf_model.specs.declared.causes.Refusal.{Refusal}
@@ -105,16 +105,79 @@ module _ (file : List ℕ) (style : ListingStyle) (rows : RowFilter) (filter : S
   unfolding symbols
   symbols_same section at = each_fault (symbol_row file selected section at) (symbol_row file style section at) (symbol_same section at) 0 (entry_count file at 24)
 
-  relocation_same : (section at index : ℕ) → SameFault (relocation_row file selected section at index) (relocation_row file style section at index)
+  relocation_same : (addends : Bool) (section at index : ℕ) → SameFault (relocation_row addends file selected section at index) (relocation_row addends file style section at index)
   unfolding relocation_row
-  relocation_same section at index =
-      let rela_at : ℕ = entry_at file at 24 index in
+  relocation_same addends section at index =
+      let rela_at : ℕ = entry_at file at (relocation_size addends) index in
       let named = symbol_named file style.cap at rela_at (r_sym file rela_at) in
-      chosen_fault (relocation_choice file selected rela_at) (relocation_choice file style rela_at) (relocation_prefix style.format style.gnu (e_machine file) file rela_at section) named.0 named.1
+      chosen_fault (relocation_choice addends file selected rela_at) (relocation_choice addends file style rela_at) (relocation_prefix addends style.format style.gnu (e_machine file) file rela_at section) named.0 named.1
 
-  pub relocations_same : IsSame relocations
+  pub relocations_same : (addends : Bool) → IsSame (relocations addends)
   unfolding relocations
-  relocations_same section at = each_fault (relocation_row file selected section at) (relocation_row file style section at) (relocation_same section at) 0 (entry_count file at 24)
+  relocations_same addends section at =
+      each_fault (relocation_row addends file selected section at) (relocation_row addends file style section at) (relocation_same addends section at) 0 (entry_count file at (relocation_size addends))
+
+  relr_same : (section word_at address : ℕ) → SameFault (relr_row file selected section word_at address) (relr_row file style section word_at address)
+  unfolding relr_row
+  relr_same section word_at address = by (nat_lt LAST_ADDRESS address)
+    where
+      here : ListingStyle → RowFilter
+      here shown = placed_choice shown (place_of_relr file word_at address) shown.choice
+
+      row : Bool → ListingStyle → List ListingItem
+      row past shown = if past then refused_row word_at Relr else chosen_row (here shown) (relr_prefix shown.format address section) word_at no_name
+
+      by : (past : Bool) → SameFault (row past selected) (row past style)
+      by true = alike
+      by false = chosen_fault (here selected) (here style) (relr_prefix style.format address section) word_at no_name
+
+  bit_same : (section word_at base word bit : ℕ) → SameFault (bit_row file selected section word_at base word bit) (bit_row file style section word_at base word bit)
+  unfolding bit_row
+  bit_same section word_at base word bit = by (word / 2 ^ (bit + 1) % 2 == 1)
+    where
+      by : (set : Bool)
+          → SameFault (if set then relr_row file selected section word_at (base + 8 * bit) else []) (if set then relr_row file style section word_at (base + 8 * bit) else [])
+      by true = relr_same section word_at (base + 8 * bit)
+      by false = alike
+
+  word_same : (section word_at : ℕ) (base : Option ℕ) (word : ℕ) → SameFault (word_rows file selected section word_at base word) (word_rows file style section word_at base word)
+  unfolding word_rows
+  word_same section word_at base word = by (is_bitmap word) base
+    where
+      bits : Option ℕ → ListingStyle → List ListingItem
+      bits from shown = elim from as (λ _. List ListingItem) [
+        | None ↦ refused_row word_at Relr
+        | Some address ↦ each (bit_row file shown section word_at address word) 0 RELR_BITS
+      ]
+
+      by_base : (from : Option ℕ) → SameFault (bits from selected) (bits from style)
+      by_base None = alike
+      by_base (Some address) =
+          each_fault (bit_row file selected section word_at address word) (bit_row file style section word_at address word) (bit_same section word_at address word) 0 RELR_BITS
+
+      by : (bitmap : Bool) (from : Option ℕ)
+          → SameFault (if bitmap then bits from selected else relr_row file selected section word_at word) (if bitmap then bits from style else relr_row file style section word_at word)
+      by true from = by_base from
+      by false from = relr_same section word_at word
+
+  relr_rows_same : (section at index : ℕ) → SameFault (relr_rows file selected section at index) (relr_rows file style section at index)
+  unfolding relr_rows
+  relr_rows_same section at index =
+      let word_at : ℕ = entry_at file at 8 index in
+      word_same section word_at (bitmap_base file (sh_offset file at) index) (relr_word file word_at)
+
+  pub relative_same : IsSame relative_relocations
+  unfolding relative_relocations
+  relative_same section at = each_fault (relr_rows file selected section at) (relr_rows file style section at) (relr_rows_same section at) 0 (entry_count file at 8)
+
+  -- of one kind or another
+  pub either_same : (one other : TableKind) → IsSame one → IsSame other → IsSame (either_kind one other)
+  either_same one other first second section at = by (one.has_table file at)
+    where
+      by : (has : Bool)
+          → SameFault (if has then one.rows file selected section at else other.rows file selected section at) (if has then one.rows file style section at else other.rows file style section at)
+      by true = first section at
+      by false = second section at
 
   suffixed_symbol_same : (section at index : ℕ) → SameFault (symbol_row_with_version file selected section at index) (symbol_row_with_version file style section at index)
   unfolding symbol_row_with_version
@@ -129,21 +192,22 @@ module _ (file : List ℕ) (style : ListingStyle) (rows : RowFilter) (filter : S
       after_fault (suffixes_refusal file section)
       (each_fault (symbol_row_with_version file selected section at) (symbol_row_with_version file style section at) (suffixed_symbol_same section at) 0 (entry_count file at 24))
 
-  suffixed_relocation_same : (section at index : ℕ) → SameFault (relocation_row_with_version file selected section at index) (relocation_row_with_version file style section at index)
+  suffixed_relocation_same : (addends : Bool) (section at index : ℕ) → SameFault (relocation_row_with_version addends file selected section at index) (relocation_row_with_version addends file style section at index)
   unfolding relocation_row_with_version
-  suffixed_relocation_same section at index =
-      let rela_at : ℕ = entry_at file at 24 index in
+  suffixed_relocation_same addends section at index =
+      let rela_at : ℕ = entry_at file at (relocation_size addends) index in
       let symbol : ℕ = r_sym file rela_at in
       let named = symbol_named file style.cap at rela_at symbol in
-      suffixed_fault (relocation_choice file selected rela_at) (relocation_choice file style rela_at) (relocation_prefix style.format style.gnu (e_machine file) file rela_at section) named.0 named.1
+      suffixed_fault (relocation_choice addends file selected rela_at) (relocation_choice addends file style rela_at) (relocation_prefix addends style.format style.gnu (e_machine file) file rela_at section) named.0 named.1
       (if symbol == 0 then Ok NoSuffix
       else symbol_suffix file style.cap (sh_link file at) (entry_at file (linked_at file at) 24 symbol) symbol)
 
-  pub suffixed_relocations_same : IsSame relocations_with_versions
+  pub suffixed_relocations_same : (addends : Bool) → IsSame (relocations_with_versions addends)
   unfolding relocations_with_versions suffixed_relocation_rows
-  suffixed_relocations_same section at =
-      after_fault (if has_symbols file at && not (entry_count file at 24 == 0) then suffixes_refusal file (sh_link file at) else None)
-      (each_fault (relocation_row_with_version file selected section at) (relocation_row_with_version file style section at) (suffixed_relocation_same section at) 0 (entry_count file at 24))
+  suffixed_relocations_same addends section at =
+      let count : ℕ = entry_count file at (relocation_size addends) in
+      after_fault (if has_symbols file at && not (count == 0) then suffixes_refusal file (sh_link file at) else None)
+      (each_fault (relocation_row_with_version addends file selected section at) (relocation_row_with_version addends file style section at) (suffixed_relocation_same addends section at) 0 count)
 
   notes_same : (index a : ℕ) (notes : List NoteRow) → SameFault (notes_rows selected index a notes) (notes_rows style index a notes)
   unfolding notes_rows note_row
@@ -299,16 +363,16 @@ module _ (file : List ℕ) (style : ListingStyle) (rows : RowFilter) (filter : S
   header_same : SameFault (header_row selected file) (header_row style file)
   header_same = line_fault (shows_place place place_of_header) (shows_place style.place place_of_header) _
 
-  tables_same : AreSame (table_headers style.versions file).kinds → (parts : ℕ) → SameFault (table_items file selected parts) (table_items file style parts)
+  tables_same : AreSame (table_headers style.gnu style.versions file).kinds → (parts : ℕ) → SameFault (table_items file selected parts) (table_items file style parts)
   unfolding table_items
   tables_same same parts =
-      let tables = table_headers style.versions file in
+      let tables = table_headers style.gnu style.versions file in
       appended
       (appended (where_fault (has parts SECTIONS) (each_fault (section_row file selected) (section_row file style) section_same 0 (e_shnum file)))
       (where_fault (has parts SEGMENTS) (each_fault (segment_row file selected) (segment_row file style) segment_same 0 (e_phnum file))))
       (kinds_same tables.kinds tables.headers parts same)
 
-  loads_same : AreSame (table_headers style.versions file).kinds → (headers parts : ℕ) → SameFault (load_items file headers selected parts) (load_items file headers style parts)
+  loads_same : AreSame (table_headers style.gnu style.versions file).kinds → (headers parts : ℕ) → SameFault (load_items file headers selected parts) (load_items file headers style parts)
   unfolding load_items loaded_items view_checks
   loads_same same headers parts =
       where_fault (has_tables parts) (guarded_fault (load_checks file headers) (guarded_fault (view_checks file style parts) (tables_same same parts)))
@@ -319,7 +383,7 @@ SelectsAlike kind = (file : List ℕ) (style : ListingStyle) (rows : RowFilter) 
 
 -- and so has a listing, if the rows of each kind have
 abbrev kinds_of : List ℕ → ListingStyle → List TableKind
-kinds_of file style = (table_headers style.versions (viewed style file)).kinds
+kinds_of file style = (table_headers style.gnu style.versions (viewed style file)).kinds
 
 pub hides_no_fault : (file : List ℕ) (headers : ℕ) (style : ListingStyle) (parts : ℕ) (rows : RowFilter) (filter : SymbolFilter) (place : PlaceFilter)
     → AreSame (viewed style file) style rows filter place (kinds_of file style)

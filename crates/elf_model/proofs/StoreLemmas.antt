@@ -32,10 +32,10 @@ segments_held : (file : List ℕ) (row : ℕ → List ℕ) → ((i : ℕ) → i 
 segments_held file row is i at size below within = ap (λ bytes. field bytes at size) (is i below) ∙ field-slice file (segment_at file i) 56 at size within
 
 pub rows_cost : RowsCostWhatTheFileCosts
-rows_cost file row versions cap parts is =
-    sum_over-equal (λ i. kinds_cost (section_kinds versions) (held_headers (e_shnum file) row) i (length file) cap parts)
-    (λ i. kinds_cost (section_kinds versions) (file_sections file) i (length file) cap parts)
-    0 (e_shnum file) (λ i _ below. section_kinds-held versions (file_sections file) row (sections_held file row is) i (length file) cap parts (omega arith))
+rows_cost file row gnu versions cap parts is =
+    sum_over-equal (λ i. kinds_cost (section_kinds gnu versions) (held_headers (e_shnum file) row) i (length file) cap parts)
+    (λ i. kinds_cost (section_kinds gnu versions) (file_sections file) i (length file) cap parts)
+    0 (e_shnum file) (λ i _ below. section_kinds-held gnu versions (file_sections file) row (sections_held file row is) i (length file) cap parts (omega arith))
 
 pub segments_cost_rows : SegmentsCostWhatTheFileCosts
 segments_cost_rows file row cap parts is =
@@ -45,14 +45,14 @@ segments_cost_rows file row cap parts is =
 
 -- what the sections' tables cost is among the costs of all
 pub sections_counted : (file : List ℕ) (style : ListingStyle) (parts : ℕ)
-    → sum_over (λ i. kinds_cost (section_kinds style.versions) (file_sections file) i (length file) style.cap parts) 0 (e_shnum file) ≤ tables_cost file style parts
+    → sum_over (λ i. kinds_cost (section_kinds style.gnu style.versions) (file_sections file) i (length file) style.cap parts) 0 (e_shnum file) ≤ tables_cost file style parts
 unfolding tables_cost sum_over
 sections_counted file style parts = by_cases (e_shnum file == 0) refl
   where
     by_cases : (none : Bool) → (e_shnum file == 0) ≡ none
-        → sum_over (λ i. kinds_cost (section_kinds style.versions) (file_sections file) i (length file) style.cap parts) 0 (e_shnum file) ≤ tables_cost file style parts
+        → sum_over (λ i. kinds_cost (section_kinds style.gnu style.versions) (file_sections file) i (length file) style.cap parts) 0 (e_shnum file) ≤ tables_cost file style parts
     by_cases true h = let zero : e_shnum file ≡ 0 = eqb-true (e_shnum file) 0 h in rw zero (omega arith)
-    by_cases false h = let same = ap (tables_by file style.cap parts) (headers_some style.versions file h) in omega arith
+    by_cases false h = let same = ap (tables_by file style.cap parts) (headers_some style.gnu style.versions file h) in omega arith
 
 -- a sum of sums, and a sum under one condition
 sum_over-add : (amount other : ℕ → ℕ) (first count : ℕ)
@@ -87,8 +87,8 @@ any_rows table style size headers parts sections segments s p =
     let cap : ℕ = style.cap in
     let n : ℕ = name_bytes cap in
     let bound : ℕ = most_bound style.versions size cap in
-    let tables = sum_over-le (λ i. kinds_cost (section_kinds style.versions) table i size cap parts) bound 0 sections
-    (λ i. section_kinds-le table i size cap style.versions parts) in
+    let tables = sum_over-le (λ i. kinds_cost (section_kinds style.gnu style.versions) table i size cap parts) bound 0 sections
+    (λ i. section_kinds-le table i size cap style.gnu style.versions parts) in
     let m : sections * (64 + n + bound) ≤ headers * (64 + n + bound) = mul-le-mul_right (64 + n + bound) s in
     let e : sections * (64 + n + bound) ≡ sections * 64 + sections * n + sections * bound =
     mul-add sections (64 + n) bound ∙ ap (λ k. k + sections * bound) (mul-add sections 64 n) in

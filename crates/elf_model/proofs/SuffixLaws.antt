@@ -1,6 +1,6 @@
 -- The versions after the names of symbols.
 use Rattle.std.proofs.Common.{◌≡◌, ℕ, zero, suc, ◌==◌, ◌&&◌, nat_lt, not, if◌then◌else◌, Bool, true, false, List, [], ◌∷◌, Option, None, Some, Result, Ok, Err, refl, sym, ap, ◌∙◌, append-nil}
-use Rattle.elf_model.specs.Prelude.{DisplayedName, Line, LinePrefix, ListingItem, ListingStyle, NoSuffix, RowFilter, SHT_GNU_VERDEF, SHT_GNU_VERNEED, Suffix, Suffixed, UndefinedHaveNoDefault, UnversionedEntriesArePlain, UnversionedSymbolsArePlain, VisitedRecord, after_refusal, all_checks, chooses, chosen_row, e_machine, each, entry_at, entry_count, first_refusal, has_symbols, is_default as is_default_of, line_named, line_suffixed, linked_at, name_index, name_member, name_text, named_at, named_line, number_in, or_refusal, r_sym, relocation_choice, relocation_prefix, relocation_row, relocation_row_with_version, relocations, relocations_with_versions, section_at, sh_link, shown, st_name, st_shndx, strings_of, suffix_at, suffix_members, suffix_of, suffix_text, suffixed_line, suffixed_relocation_rows, suffixed_row, suffixed_symbol_rows, suffixed_symbols, suffixes_refusal, symbol_choice, symbol_named, symbol_prefix, symbol_row, symbol_row_with_version, symbol_suffix, symbol_versions, symbols, version_named, version_numbers_of, version_strings, versym, walk_refusal, word_suffix}
+use Rattle.elf_model.specs.Prelude.{DisplayedName, Line, LinePrefix, ListingItem, ListingStyle, NoSuffix, RowFilter, SHT_GNU_VERDEF, SHT_GNU_VERNEED, Suffix, Suffixed, UndefinedHaveNoDefault, UnversionedEntriesArePlain, UnversionedSymbolsArePlain, VisitedRecord, after_refusal, all_checks, chooses, chosen_row, e_machine, each, entry_at, entry_count, first_refusal, has_symbols, is_default as is_default_of, line_named, line_suffixed, linked_at, name_index, name_member, name_text, named_at, named_line, number_in, or_refusal, r_sym, relocation_choice, relocation_prefix, relocation_row, relocation_row_with_version, relocation_size, relocations, relocations_with_versions, section_at, sh_link, shown, st_name, st_shndx, strings_of, suffix_at, suffix_members, suffix_of, suffix_text, suffixed_line, suffixed_relocation_rows, suffixed_row, suffixed_symbol_rows, suffixed_symbols, suffixes_refusal, symbol_choice, symbol_named, symbol_prefix, symbol_row, symbol_row_with_version, symbol_suffix, symbol_versions, symbols, version_named, version_numbers_of, version_strings, versym, walk_refusal, word_suffix}
 use Rattle.elf_model.specs.declared.causes.Cause.{Cause}
 use Rattle.elf_model.specs.declared.formats.Format.TheVariants.{Columns, Object, Table}
 use Rattle.elf_model.specs.declared.versions.VersionKind.TheVariants.{Definition, File}
@@ -68,18 +68,18 @@ unversioned_symbols file style section at none =
     rw (no_refusal file section none) (each_same _ _ _ _ (λ i. plain_symbol file style section at i none))
 
 -- what follows a symbol of an entry, if its table has no versym section
-plain_entry : (file : List ℕ) (style : ListingStyle) (section at index : ℕ) → version_numbers_of file (sh_link file at) ≡ None
-    → relocation_row_with_version file style section at index ≡ relocation_row file style section at index
+plain_entry : (addends : Bool) (file : List ℕ) (style : ListingStyle) (section at index : ℕ) → version_numbers_of file (sh_link file at) ≡ None
+    → relocation_row_with_version addends file style section at index ≡ relocation_row addends file style section at index
 unfolding relocation_row_with_version relocation_row
-plain_entry file style section at index none =
-    let rela_at : ℕ = entry_at file at 24 index in
+plain_entry addends file style section at index none =
+    let rela_at : ℕ = entry_at file at (relocation_size addends) index in
     let symbol : ℕ = r_sym file rela_at in
     let named = symbol_named file style.cap at rela_at symbol in
-    let front : LinePrefix = relocation_prefix style.format style.gnu (e_machine file) file rela_at section in
+    let front : LinePrefix = relocation_prefix addends style.format style.gnu (e_machine file) file rela_at section in
     let behind : Result Suffix Refusal = symbol_suffix file style.cap (sh_link file at) (entry_at file (linked_at file at) 24 symbol) symbol in
     let has_none : (if symbol == 0 then Ok NoSuffix else behind) ≡ Ok NoSuffix =
     by_symbol (symbol == 0) behind (no_suffix file style.cap (sh_link file at) (entry_at file (linked_at file at) 24 symbol) symbol none) in
-    ap (suffixed_row (relocation_choice file style rela_at) front named.0 named.1) has_none ∙ unsuffixed_row (relocation_choice file style rela_at) front named.0 named.1
+    ap (suffixed_row (relocation_choice addends file style rela_at) front named.0 named.1) has_none ∙ unsuffixed_row (relocation_choice addends file style rela_at) front named.0 named.1
   where
     by_symbol : (first : Bool) (suffix : Result Suffix Refusal) → suffix ≡ Ok NoSuffix → (if first then Ok NoSuffix else suffix) ≡ Ok NoSuffix
     by_symbol true suffix is = refl
@@ -91,10 +91,10 @@ no_refusal_linked file false table none = refl
 
 pub unversioned_entries : UnversionedEntriesArePlain
 unfolding relocations_with_versions relocations suffixed_relocation_rows
-unversioned_entries file style section at none =
-    ap (λ (refusal : Option Refusal). after_refusal refusal (each (relocation_row_with_version file style section at) 0 (entry_count file at 24)))
-    (no_refusal_linked file (has_symbols file at && not (entry_count file at 24 == 0)) (sh_link file at) none)
-    ∙ each_same _ _ _ _ (λ i. plain_entry file style section at i none)
+unversioned_entries addends file style section at none =
+    ap (λ (refusal : Option Refusal). after_refusal refusal (each (relocation_row_with_version addends file style section at) 0 (entry_count file at (relocation_size addends))))
+    (no_refusal_linked file (has_symbols file at && not (entry_count file at (relocation_size addends) == 0)) (sh_link file at) none)
+    ∙ each_same _ _ _ _ (λ i. plain_entry addends file style section at i none)
 
 -- an undefined symbol has no default version
 default_none : (word : Bool) (undefined : Bool) → undefined ≡ true → word && not undefined ≡ false

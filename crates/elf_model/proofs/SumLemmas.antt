@@ -79,5 +79,5 @@ headers_within each_header n bound count headers tables few small within =
     omega arith
 
 -- a section holds symbols or relocation entries, and not both
-pub two_kinds : (type most : ℕ) → cost_where (type == 2 || type == 11) most + cost_where (type == 4) most ≤ most
+pub two_kinds : (type most : ℕ) → cost_where (type == 2 || type == 11) most + cost_where (type == 4 || type == 9) most ≤ most
 two_kinds type most = grind (arith, nat_tests)

@@ -1,7 +1,7 @@
 -- The word of each cause in a listing, and in a table what it means.
 use Rattle.std.specs.Prelude.{ℕ, List, codes}
 use Rattle.elf_model.specs.declared.causes.Cause.{Cause}
-use Rattle.elf_model.specs.declared.causes.Cause.TheVariants.{Short, NotElf, BadClass, BadData, BadVersion, ExtendedNumbering, TooManyHeaders, EntrySize, TableOutside, BadLink, NotStrings, SizeNotWhole, NameOutside, NameUnended, NoteCut, NoHash, HashShape, HashIndex, HashCycle, Unsupported, Overflow, NotRel, Unplaced, Undefined, PlaceOutside, SymbolIndex, TooLong, Budget, Unmapped, Thin, NotArchive, MemberCut, VersionCut, VersionIndex, LoadOverlap}
+use Rattle.elf_model.specs.declared.causes.Cause.TheVariants.{Short, NotElf, BadClass, BadData, BadVersion, ExtendedNumbering, TooManyHeaders, EntrySize, TableOutside, BadLink, NotStrings, SizeNotWhole, NameOutside, NameUnended, NoteCut, NoHash, HashShape, HashIndex, HashCycle, Unsupported, Overflow, NotRel, Unplaced, Undefined, PlaceOutside, SymbolIndex, TooLong, Budget, Unmapped, Thin, NotArchive, MemberCut, VersionCut, VersionIndex, LoadOverlap, Relr}
 
 -- a cause's word
 unfoldable pub cause_word : Cause → List ℕ
@@ -40,6 +40,7 @@ cause_word MemberCut = codes "member-cut"
 cause_word VersionCut = codes "version-cut"
 cause_word VersionIndex = codes "version-index"
 cause_word LoadOverlap = codes "load-overlap"
+cause_word Relr = codes "relr"
 
 -- what a cause means, in plain words
 unfoldable pub cause_meaning : Cause → List ℕ
@@ -78,3 +79,4 @@ cause_meaning MemberCut = codes "there is no member of an archive"
 cause_meaning VersionCut = codes "the table of versions ends before the record"
 cause_meaning VersionIndex = codes "no record names the version"
 cause_meaning LoadOverlap = codes "a LOAD segment begins on a page of the previous one, or below it"
+cause_meaning Relr = codes "no address precedes the word, or its addresses end past 2^64"

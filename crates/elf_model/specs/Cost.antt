@@ -7,7 +7,7 @@ use Rattle.elf_model.specs.HeaderTables.{HeaderTable, TableKind}
 use Rattle.elf_model.specs.Listing.{has, has_tables, known_parts, SECTIONS, SEGMENTS, NOTES, DYNAMIC}
 use Rattle.elf_model.specs.Style.{ListingStyle, standard, viewed}
 use Rattle.elf_model.specs.TableKinds.{table_headers}
-use Rattle.elf_model.specs.Tables.{SYMBOL_SIZE}
+use Rattle.elf_model.specs.Tables.{REL_SIZE}
 use Rattle.elf_model.specs.Versions.{VERSYM_SIZE, DEFINITION_SIZE, DEFINED_NAME_SIZE, NEED_SIZE}
 
 -- the costs of this many rows, or tables, starting at a first one
@@ -54,7 +54,7 @@ segments_cost file parts = cost_where (needs_segments file parts) (PROGRAM_HEADE
 -- the tables of all headers that describe tables, if the parts have them
 unfoldable pub tables_cost : List ℕ → ListingStyle → ℕ → ℕ
 tables_cost file style parts =
-    let tables = table_headers style.versions file in
+    let tables = table_headers style.gnu style.versions file in
     sum_over (λ i. kinds_cost tables.kinds tables.headers i (length file) style.cap parts) 0 tables.headers.count
 
 -- how many bytes are read after the file header at most
@@ -85,7 +85,7 @@ ceiling size headers cap =
 -- bytes: a versym entry and a name for each entry, and one walk over the definitions and the needs
 abbrev pub suffixes_most : (size cap : ℕ) → ℕ
 suffixes_most size cap =
-    size / SYMBOL_SIZE * (VERSYM_SIZE + name_bytes cap)
+    size / REL_SIZE * (VERSYM_SIZE + name_bytes cap)
     + (size / DEFINITION_SIZE * (DEFINITION_SIZE + DEFINED_NAME_SIZE) + size / NEED_SIZE * NEED_SIZE)
 
 -- the upper bound of a listing of a style: more if versions follow the names of symbols

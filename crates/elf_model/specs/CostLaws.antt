@@ -38,10 +38,10 @@ PlacesDecideNothing =
 -- file's tables cost
 abbrev pub RowsCostWhatTheFileCosts : Type 0
 RowsCostWhatTheFileCosts =
-    (file : List ℕ) → (row : ℕ → List ℕ) → (versions : Bool) → (cap parts : ℕ)
+    (file : List ℕ) → (row : ℕ → List ℕ) → (gnu versions : Bool) → (cap parts : ℕ)
     → ((i : ℕ) → i < e_shnum file → row i ≡ slice file (section_at file i) SECTION_HEADER_SIZE)
-    → sum_over (λ i. kinds_cost (section_kinds versions) (held_headers (e_shnum file) row) i (length file) cap parts) 0 (e_shnum file)
-    ≡ sum_over (λ i. kinds_cost (section_kinds versions) (file_sections file) i (length file) cap parts) 0 (e_shnum file)
+    → sum_over (λ i. kinds_cost (section_kinds gnu versions) (held_headers (e_shnum file) row) i (length file) cap parts) 0 (e_shnum file)
+    ≡ sum_over (λ i. kinds_cost (section_kinds gnu versions) (file_sections file) i (length file) cap parts) 0 (e_shnum file)
 
 -- and if they are its program headers
 abbrev pub SegmentsCostWhatTheFileCosts : Type 0
@@ -70,7 +70,7 @@ abbrev pub AnyRowsAreWithinCeiling : Type 0
 AnyRowsAreWithinCeiling =
     (table : HeaderTable) → (style : ListingStyle) → (size headers parts sections segments : ℕ) → sections ≤ headers → segments ≤ headers
     → FILE_HEADER_SIZE + (SECTION_HEADER_SIZE * sections + sections * name_bytes style.cap + PROGRAM_HEADER_SIZE * segments
-    + sum_over (λ i. kinds_cost (section_kinds style.versions) table i size style.cap parts) 0 sections)
+    + sum_over (λ i. kinds_cost (section_kinds style.gnu style.versions) table i size style.cap parts) 0 sections)
     ≤ style_ceiling size headers style
 
 -- and so it is without sections, for any headers in the place of the program headers

@@ -11,8 +11,8 @@ use Rattle.elf_model.specs.declared.formats.Format.TheVariants.{Columns, Object,
 -- a field, by its key: a decimal number at the right of a column; a number in this many hexadecimal
 -- digits, and in a table at the right of a column of this width; a number with its sign; a text at the left of a column; a name at the left of a column,
 -- or if the number has none the number itself, in decimal at the right, in hexadecimal digits at
--- the left, or in decimal after a sign of one at the left; and a hyphen in place of fields that a
--- line does not have
+-- the left, or in decimal after a sign of one at the left; a hyphen in place of fields that a line
+-- does not have; and one in place of an addend that an entry does not have
 pub data Field : Type 0 where
   Decimal : (key : List ℕ) (width n : ℕ) → Field
   Hexadecimal : (key : List ℕ) (digits width n : ℕ) → Field
@@ -22,6 +22,7 @@ pub data Field : Type 0 where
   NameOrHexadecimal : (key : List ℕ) (width digits : ℕ) (name : Option (List ℕ)) (n : ℕ) → Field
   NameOrNumber : (key : List ℕ) (width : ℕ) (name : Option (List ℕ)) (n : ℕ) → Field
   Hyphen : Field
+  NoAddend : Field
 
 -- a line, or what precedes its name: its letter, and its fields
 pub record Fields : Type 0 where
@@ -37,6 +38,7 @@ key_of (NameOrDecimal key width name n) = key
 key_of (NameOrHexadecimal key width digits name n) = key
 key_of (NameOrNumber key width name n) = key
 key_of Hyphen = []
+key_of NoAddend = []
 
 -- a number with its sign, and its absolute value in sixteen digits
 abbrev pub sign_of : ℤ → List ℕ
@@ -55,6 +57,7 @@ column (NameOrDecimal key width name n) = name_or_decimal width name n
 column (NameOrHexadecimal key width digits name n) = left_in width (unwrap_or name (hex digits n))
 column (NameOrNumber key width name n) = left_in width (unwrap_or name (number_sign n))
 column Hyphen = codes "-"
+column NoAddend = left_in 17 (codes "-")
 
 -- the widths of two columns of a table: of a number with its sign, and of the word of a cause
 abbrev pub ADDEND_WIDTH : ℕ
@@ -70,6 +73,7 @@ abbrev pub cell : Field → List ℕ
 cell (Hexadecimal key digits width n) = right_in width (short_hex n)
 cell (Signed key n) = right_in ADDEND_WIDTH (sign_of n ++ short_hex (nat_abs n))
 cell Hyphen = right_in 9 (codes "-") ++ space ++ left_in CAUSE_WIDTH (codes "-")
+cell NoAddend = right_in ADDEND_WIDTH (codes "-")
 cell (Decimal key width n) = right_decimal width n
 cell (ArgSpec key width text) = left_in width text
 cell (NameOrDecimal key width name n) = name_or_decimal width name n
@@ -108,6 +112,7 @@ member_value (NameOrDecimal key width name n) = name_or_value name n
 member_value (NameOrHexadecimal key width digits name n) = name_or_value name n
 member_value (NameOrNumber key width name n) = name_or_value name n
 member_value Hyphen = []
+member_value NoAddend = []
 
 -- the key of a member, after the members before it
 unfoldable pub member_key : List ℕ → List ℕ
@@ -124,6 +129,7 @@ unfoldable pub with_field : Format → List ℕ → Field → List ℕ → List 
 with_field Columns line field behind = line ++ column field ++ behind
 with_field Table line field behind = line ++ cell field ++ behind
 with_field Object line Hyphen behind = line
+with_field Object line NoAddend behind = line
 with_field Object line field behind = line ++ member_key (key_of field) ++ member_value field
 
 -- a line with more fields

@@ -26,6 +26,7 @@ pub mod Listing
 pub mod Mapped
 pub mod Overlaps
 pub mod Rows
+pub mod RelativeRelocations
 pub mod HeaderTables
 pub mod VersionCost
 pub mod VersionRows

@@ -1,8 +1,8 @@
 -- The lines with a name, up to the name: the fields of one record, which is at an offset of some
 -- bytes. Whether GNU numbers have names, and on which machine, is given first.
-use Rattle.std.specs.Prelude.{ℕ, Bool, List, [], ◌∷◌, codes}
+use Rattle.std.specs.Prelude.{ℕ, Bool, true, false, List, [], ◌∷◌, Some, codes}
 use Rattle.elf_model.specs.Fields.{Field, Fields, LinePrefix, front}
-use Rattle.elf_model.specs.Fields.Field.{Decimal, Hexadecimal, Signed, ArgSpec, NameOrDecimal, NameOrHexadecimal, NameOrNumber}
+use Rattle.elf_model.specs.Fields.Field.{Decimal, Hexadecimal, Signed, ArgSpec, NameOrDecimal, NameOrHexadecimal, NameOrNumber, NoAddend}
 use Rattle.elf_model.specs.Text.{name_of}
 use Rattle.elf_model.specs.Records.{sh_type, sh_flags, sh_addr, sh_offset, sh_size, sh_link, sh_info, st_value, st_size, st_type, st_bind, st_visibility, st_shndx, r_offset, r_type, r_sym, r_addend, twos_complement, d_tag, d_un}
 use Rattle.elf_model.specs.NameTables.{section_types, section_flags_text, symbol_types, bindings, visibilities, places, relocation_names, dynamic_tags}
@@ -64,21 +64,44 @@ type_width Table = 22
 type_width Columns = 10
 type_width Object = 10
 
--- a relocation entry: the index of its section, offset, type, symbol and addend
-abbrev relocation_fields : Format → Bool → ℕ → List ℕ → ℕ → ℕ → Fields
-relocation_fields format gnu machine bytes at section = record {
+-- a relocation entry with or without an addend: the index of its section, offset, type, symbol and
+-- addend
+abbrev addend_field : (addends : Bool) → List ℕ → ℕ → Field
+addend_field addends bytes at =
+    elim addends [ true ↦ Signed (codes "addend") (twos_complement (r_addend bytes at)) | false ↦ NoAddend ]
+
+abbrev relocation_fields : (addends : Bool) → Format → Bool → ℕ → List ℕ → ℕ → ℕ → Fields
+relocation_fields addends format gnu machine bytes at section = record {
   letter = codes "R";
   fields =
       Decimal (codes "table") 5 section
       ∷ Hexadecimal (codes "offset") 16 9 (r_offset bytes at)
       ∷ NameOrNumber (codes "type") (type_width format) (name_of (names_of_types format gnu machine) (r_type bytes at)) (r_type bytes at)
       ∷ Hexadecimal (codes "symbol") 8 6 (r_sym bytes at)
-      ∷ Signed (codes "addend") (twos_complement (r_addend bytes at))
+      ∷ addend_field addends bytes at
       ∷ [];
 }
 
-unfoldable pub relocation_prefix : Format → Bool → ℕ → List ℕ → ℕ → ℕ → LinePrefix
-relocation_prefix format gnu machine bytes at section = front format (codes "name") (relocation_fields format gnu machine bytes at section)
+unfoldable pub relocation_prefix : (addends : Bool) → Format → Bool → ℕ → List ℕ → ℕ → ℕ → LinePrefix
+relocation_prefix addends format gnu machine bytes at section =
+    front format (codes "name") (relocation_fields addends format gnu machine bytes at section)
+
+-- a relative relocation: the index of its section and its address; its type is RELR on every
+-- machine, and it has no symbol and no addend
+abbrev relr_fields : Format → (address section : ℕ) → Fields
+relr_fields format address section = record {
+  letter = codes "R";
+  fields =
+      Decimal (codes "table") 5 section
+      ∷ Hexadecimal (codes "offset") 16 9 address
+      ∷ NameOrNumber (codes "type") (type_width format) (Some (codes "RELR")) 0
+      ∷ Hexadecimal (codes "symbol") 8 6 0
+      ∷ NoAddend
+      ∷ [];
+}
+
+unfoldable pub relr_prefix : Format → (address section : ℕ) → LinePrefix
+relr_prefix format address section = front format (codes "name") (relr_fields format address section)
 
 -- a note: the index of its section or program header, type, and the sizes of its name and its
 -- descriptor

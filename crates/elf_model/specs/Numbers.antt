@@ -45,8 +45,14 @@ SHT_NOTE = 7
 abbrev pub SHT_NOBITS : ℕ
 SHT_NOBITS = 8
 
+abbrev pub SHT_REL : ℕ
+SHT_REL = 9
+
 abbrev pub SHT_DYNSYM : ℕ
 SHT_DYNSYM = 11
+
+abbrev pub SHT_RELR : ℕ
+SHT_RELR = 19
 
 -- the type of a GNU hash table
 abbrev pub SHT_GNU_HASH : ℕ

@@ -41,7 +41,7 @@ pub use Rattle.elf_model.specs.ExplainLine.{explanation, item_text, where_named}
 unfoldable pub use Rattle.elf_model.specs.ExplainLine.{entry_item_text, entry_text, help_text, items_text, missing_line, place_text, type_prefix}
 unfoldable pub use Rattle.elf_model.specs.Explain.{explained, has_entry, lack_of, missing, missing_for_type, missing_ifunc_entry, missing_of, missing_place, name_wanted, refused_in, relocates_at, resolved_symbol_name, symbol_place, wanted}
 pub use Rattle.elf_model.specs.Fields.{ADDEND_WIDTH, CAUSE_WIDTH, Field, Fields, LinePrefix, cell, closed_line, front, name_or_value, sign_of, with_fields}
-pub use Rattle.elf_model.specs.Fields.Field.{ArgSpec, Decimal, Hexadecimal, NameOrDecimal, NameOrHexadecimal, NameOrNumber}
+pub use Rattle.elf_model.specs.Fields.Field.{ArgSpec, Decimal, Hexadecimal, NameOrDecimal, NameOrHexadecimal, NameOrNumber, NoAddend}
 unfoldable pub use Rattle.elf_model.specs.Fields.{begun, closing, member_key, quoted, signed_text, string_byte, string_text, with_field}
 pub use Rattle.elf_model.specs.FileLists.{front_size, headed, list_status, may_read_bytes, member_fault, members_alone, path_line, placed_after}
 unfoldable pub use Rattle.elf_model.specs.FileLists.{archive_fault, file_magic, first_fault, path_front}
@@ -66,7 +66,7 @@ pub use Rattle.elf_model.specs.Interpreters.{interpreter_line}
 unfoldable pub use Rattle.elf_model.specs.Interpreters.{interpreter_at, interpreter_by_segments, interpreter_front, interpreter_of, interpreter_state, is_interpreter, loaded_interpreter}
 pub use Rattle.elf_model.specs.LibraryFiles.{Accepted, DF_1_NODEFLIB, LibraryFile, RefusedAt, Skipped, library_front_checks, has_other_abi, is_for_machine, library_checks}
 unfoldable pub use Rattle.elf_model.specs.LibraryFiles.{flags_1_by_segments, is_program_file, library_file, library_links}
-unfoldable pub use Rattle.elf_model.specs.LineFronts.{dynamic_prefix, note_prefix, relocation_prefix, section_prefix, symbol_prefix}
+unfoldable pub use Rattle.elf_model.specs.LineFronts.{dynamic_prefix, note_prefix, relocation_prefix, relr_prefix, section_prefix, symbol_prefix}
 pub use Rattle.elf_model.specs.FlagWords.{separator, value_text}
 unfoldable pub use Rattle.elf_model.specs.FlagWords.{dynamic_flags, dynamic_flags_1, flag_words, flags_text, words_from}
 pub use Rattle.elf_model.specs.NoteLines.{GNU_PROPERTY_X86_ISA_1_NEEDED, NT_GNU_ABI_TAG, NT_GNU_GOLD_VERSION, SHOWN_DESCRIPTOR, abi_version, descriptor_mark, descriptor_text, is_note_name, note_line, property_words}
@@ -106,7 +106,7 @@ unfoldable pub use Rattle.elf_model.specs.NeededVersions.{define_version, needed
 pub use Rattle.elf_model.specs.NoteLaws.{BeforeNulExactly, CutIsWalked, FitsOrIsCut, FittingIsWalked, IsAligned, IsNoteInTable, NoteShownCutExactly, NoteShownWholeExactly, OneListAtMost, RowsAligned, RowsStand, WalkedFits, WalkedIsCut}
 pub use Rattle.elf_model.specs.Notes.{AllPadded, CutAt, EndsInSpelling, EndsInZeros, IsNoteEncoding, NextNote, Note, NoteRow, NoteScan, Notes, OneNote, Padded, alignment_gap, are_zeros, before_nul, bytes_to_alignment, capped, descriptor_start, escaped_size, first_end, first_note, note_align, padded_size, with_note}
 unfoldable pub use Rattle.elf_model.specs.Notes.{next_note, note_rows, note_shown, walk_from, walked}
-pub use Rattle.elf_model.specs.Numbers.{DT_GNU_HASH, DT_HASH, DT_NULL, DT_RPATH, DT_RUNPATH, DT_SONAME, DT_STRSZ, DT_STRTAB, DT_SYMTAB, DT_VERDEF, DT_VERNEED, DT_VERSYM, EM_X86_64, ET_REL, PT_DYNAMIC, PT_NOTE, R_X86_64_NONE, SHN_ABS, SHN_COMMON, SHN_LORESERVE, SHN_UNDEF, SHT_DYNAMIC, SHT_DYNSYM, SHT_GNU_HASH, SHT_GNU_VERDEF, SHT_GNU_VERNEED, SHT_GNU_VERSYM, SHT_HASH, SHT_NOTE, SHT_RELA, SHT_STRTAB, STB_GLOBAL, STB_GNU_UNIQUE, STB_WEAK, STT_COMMON, STT_FUNC, STT_GNU_IFUNC, STT_NOTYPE, STT_OBJECT, STT_TLS, STV_DEFAULT, STV_PROTECTED}
+pub use Rattle.elf_model.specs.Numbers.{DT_GNU_HASH, DT_HASH, DT_NULL, DT_RPATH, DT_RUNPATH, DT_SONAME, DT_STRSZ, DT_STRTAB, DT_SYMTAB, DT_VERDEF, DT_VERNEED, DT_VERSYM, EM_X86_64, ET_REL, PT_DYNAMIC, PT_NOTE, R_X86_64_NONE, SHN_ABS, SHN_COMMON, SHN_LORESERVE, SHN_UNDEF, SHT_DYNAMIC, SHT_DYNSYM, SHT_GNU_HASH, SHT_GNU_VERDEF, SHT_GNU_VERNEED, SHT_GNU_VERSYM, SHT_HASH, SHT_NOTE, SHT_REL, SHT_RELA, SHT_RELR, SHT_STRTAB, STB_GLOBAL, STB_GNU_UNIQUE, STB_WEAK, STT_COMMON, STT_FUNC, STT_GNU_IFUNC, STT_NOTYPE, STT_OBJECT, STT_TLS, STV_DEFAULT, STV_PROTECTED}
 pub use Rattle.elf_model.specs.OverlapLaws.{NoPageIsShared, OverlapIsListedElsewhere, OverlapIsListedSecond}
 pub use Rattle.elf_model.specs.Overlaps.{first_page, page_behind, takes_memory}
 unfoldable pub use Rattle.elf_model.specs.Overlaps.{loads_from, overlap_checks, overlaps_from}
@@ -122,10 +122,12 @@ unfoldable pub use Rattle.elf_model.specs.Placing.{address_in, address_named, ba
 pub use Rattle.elf_model.specs.Properties.{GNU_PROPERTY_X86_FEATURE_1_AND, NT_GNU_PROPERTY_TYPE_0, ListEnds, NoProperty, OneProperty, PROPERTY_HEAD_SIZE, Property, PropertyList, PropertyWalk, bare_property, is_gnu_name, is_property_note, padded_property, pr_datasz, pr_type, property_word, with_property}
 unfoldable pub use Rattle.elf_model.specs.Properties.{features_in, first_listing, first_property, listed_from, listed_in, next_property, properties_from, properties_in, property_list}
 pub use Rattle.elf_model.specs.RecordLaws.{FieldsOfSlices, LinesOfSlices}
-pub use Rattle.elf_model.specs.Records.{ELF_MAGIC_SIZE, FILE_HEADER_SIZE, PROGRAM_HEADER_SIZE, SECTION_HEADER_SIZE, d_tag, d_un, e_entry, e_flags, e_machine, e_phentsize, e_phnum, e_phoff, e_shentsize, e_shnum, e_shoff, e_shstrndx, e_type, has_elf_magic, n_descsz, n_namesz, n_type, p_align, p_filesz, p_flags, p_memsz, p_offset, p_paddr, p_type, p_vaddr, r_addend, r_info, r_offset, r_sym, r_type, section_at, segment_at, sh_addr, sh_addralign, sh_entsize, sh_flags, sh_info, sh_link, sh_name, sh_offset, sh_size, sh_type, st_info, st_name, st_other, st_shndx, st_size, st_type, st_value, twos_complement, vd_aux, versym, vn_aux, vn_file, vn_next, vna_name}
+pub use Rattle.elf_model.specs.Records.{ELF_MAGIC_SIZE, FILE_HEADER_SIZE, PROGRAM_HEADER_SIZE, SECTION_HEADER_SIZE, d_tag, d_un, e_entry, e_flags, e_machine, e_phentsize, e_phnum, e_phoff, e_shentsize, e_shnum, e_shoff, e_shstrndx, e_type, has_elf_magic, n_descsz, n_namesz, n_type, p_align, p_filesz, p_flags, p_memsz, p_offset, p_paddr, p_type, p_vaddr, r_addend, r_info, r_offset, r_sym, r_type, relr_word, section_at, segment_at, sh_addr, sh_addralign, sh_entsize, sh_flags, sh_info, sh_link, sh_name, sh_offset, sh_size, sh_type, st_info, st_name, st_other, st_shndx, st_size, st_type, st_value, twos_complement, vd_aux, versym, vn_aux, vn_file, vn_next, vna_name}
 pub use Rattle.elf_model.specs.Report.{items, report, report_fault}
 unfoldable pub use Rattle.elf_model.specs.Report.{kinds_rows, listing, load_items, loaded_items, table_items, table_rows, view_checks}
-pub use Rattle.elf_model.specs.RowPlaces.{is_address, is_in_memory_type, place_of_dynamic, place_of_header, place_of_record, place_of_relocation, place_of_section, place_of_segment, place_of_symbol}
+pub use Rattle.elf_model.specs.RelativeRelocations.{LAST_ADDRESS, RELR_BITS, base_after, is_bitmap}
+unfoldable pub use Rattle.elf_model.specs.RelativeRelocations.{bit_row, bitmap_base, relr_row, relr_rows, word_rows}
+pub use Rattle.elf_model.specs.RowPlaces.{is_address, is_in_memory_type, place_of_dynamic, place_of_header, place_of_record, place_of_relocation, place_of_relr, place_of_section, place_of_segment, place_of_symbol}
 pub use Rattle.elf_model.specs.Rows.{chosen_row, is_string_tag, named_row, no_name, placed_choice, refused_row, relocation_choice, symbol_choice, value_name}
 unfoldable pub use Rattle.elf_model.specs.Rows.{dynamic_row, note_row, notes_rows, relocation_row, section_name, section_row, segment_row, symbol_named, symbol_row, walk_rows}
 pub use Rattle.elf_model.specs.Searches.{NulFound}
@@ -141,9 +143,9 @@ pub use Rattle.elf_model.specs.SymbolFilters.{every_symbol, is_narrow, narrowed,
 pub use Rattle.elf_model.specs.SysvWalk.{EndsAtWord, IsSysvWalk, fault_at, has_name, is_sysv_index, lookup_answer, parse_lookup, section_table_of, sysv_cycle, sysv_walked_by, sysv_word}
 pub use Rattle.elf_model.specs.SysvWalkLaws.{SysvFoundAnswers, SysvWalkAnswers, SysvWalkIsBounded, SysvWalkIsLookup, SysvWalkIsOne}
 unfoldable pub use Rattle.elf_model.specs.SysvWalk.{sysv_bucket_of, sysv_end, sysv_walk_end, sysv_walked, sysv_walked_at, sysv_word_at}
-pub use Rattle.elf_model.specs.TableKinds.{TableHeaders, by_sections, by_segments, section_kinds, segment_kinds}
-unfoldable pub use Rattle.elf_model.specs.TableKinds.{relocations, relocations_with_versions, section_dynamic, section_notes, segment_dynamic, segment_notes, suffixed_symbols, suffixes_cost, symbols, table_headers}
-pub use Rattle.elf_model.specs.Tables.{DYNAMIC_SIZE, RELA_SIZE, SYMBOL_SIZE, all_checks, dynamic_table_checks, entry_at, entry_count, has_symbols, linked_at, linked_table_checks, relocation_table_checks, segment_dynamic_checks, strings_of, symbol_checks_of, symbol_table, symbol_table_checks}
+pub use Rattle.elf_model.specs.TableKinds.{TableHeaders, by_sections, by_segments, either_kind, entries_kind, relocation_type, section_kinds, segment_kinds}
+unfoldable pub use Rattle.elf_model.specs.TableKinds.{gnu_relocations, relative_relocations, relocations, relocations_with_versions, section_dynamic, section_notes, segment_dynamic, segment_notes, suffixed_symbols, suffixes_cost, symbols, table_headers}
+pub use Rattle.elf_model.specs.Tables.{DYNAMIC_SIZE, RELA_SIZE, RELR_SIZE, REL_SIZE, SYMBOL_SIZE, all_checks, dynamic_table_checks, entries_table, entry_at, entry_count, has_symbols, linked_at, linked_table_checks, relocation_size, relocation_table_checks, relr_table, segment_dynamic_checks, strings_of, symbol_checks_of, symbol_table, symbol_table_checks}
 pub use Rattle.elf_model.specs.Text.{newline, space, spaces}
 unfoldable pub use Rattle.elf_model.specs.Text.{digit, hex, left_in, name_of, right_decimal, right_in, short_hex, without_zeros}
 unfoldable pub use Rattle.elf_model.specs.TraitCost.{hash_words_asked, properties_asked, sections_asked, segment_traits_cost, stack_asked, symbols_asked, trait_entries_asked, traits_ceiling, traits_cost}

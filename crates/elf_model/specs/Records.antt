@@ -145,8 +145,8 @@ st_type bytes at = st_info bytes at % 16
 abbrev pub st_visibility : List ℕ → ℕ → ℕ
 st_visibility bytes at = st_other bytes at % 4
 
--- A relocation entry with an addend, 24 bytes (gABI 4, Relocation). The addend is a number below
--- 2^64.
+-- A relocation entry, 24 bytes with an addend and 16 without (gABI 4, Relocation). The addend is a
+-- number below 2^64.
 abbrev pub r_offset : List ℕ → ℕ → ℕ
 r_offset bytes at = field bytes at 8
 
@@ -163,6 +163,10 @@ r_sym bytes at = r_info bytes at / 2 ^ 32
 -- the low 32 bits of r_info
 abbrev pub r_type : List ℕ → ℕ → ℕ
 r_type bytes at = r_info bytes at % 2 ^ 32
+
+-- A word of a table of relative relocations, 8 bytes (gABI 4, Relative Relocation Table).
+abbrev pub relr_word : List ℕ → ℕ → ℕ
+relr_word bytes at = field bytes at 8
 
 -- the number that 64 bits are in two's complement
 abbrev pub twos_complement : ℕ → ℤ

@@ -31,7 +31,7 @@ unfoldable pub table_items : List ℕ → ListingStyle → ℕ → List ListingI
 table_items file style parts =
     where_asked parts SECTIONS (each (section_row file style) 0 (e_shnum file))
     ++ where_asked parts SEGMENTS (each (segment_row file style) 0 (e_phnum file))
-    ++ kinds_rows (table_headers style.versions file).kinds (table_headers style.versions file).headers file style parts
+    ++ kinds_rows (table_headers style.gnu style.versions file).kinds (table_headers style.gnu style.versions file).headers file style parts
 
 -- if a style finds tables by the program headers and the parts need these, LOAD segments do not
 -- overlap

@@ -3,7 +3,7 @@ use Rattle.std.specs.Prelude.{ℕ, ◌==◌, ◌&&◌, ◌||◌, nat_lt, not, if
 use Rattle.elf_model.specs.Numbers.{PT_DYNAMIC, PT_LOAD, PT_NOTE, PT_TLS, SHF_ALLOC, SHN_ABS, SHN_LORESERVE, SHN_UNDEF, SHN_XINDEX, SHT_NOBITS, STT_FILE, STT_SECTION, STT_TLS}
 use Rattle.elf_model.specs.PlaceFilters.{range_if, nowhere}
 use Rattle.elf_model.specs.Records.{FILE_HEADER_SIZE, PROGRAM_HEADER_SIZE, SECTION_HEADER_SIZE, e_type, p_filesz, p_memsz, p_offset, p_type, p_vaddr, r_offset, sh_addr, sh_flags, sh_offset, sh_size, sh_type, st_shndx, st_size, st_type, st_value}
-use Rattle.elf_model.specs.Tables.{DYNAMIC_SIZE, RELA_SIZE, SYMBOL_SIZE}
+use Rattle.elf_model.specs.Tables.{DYNAMIC_SIZE, RELR_SIZE, SYMBOL_SIZE, relocation_size}
 use Rattle.elf_model.specs.TraitNumbers.{PT_GNU_RELRO, has_bits, is_linked_type}
 use Rattle.elf_model.specs.declared.place_filters.RowPlace.{RowPlace}
 
@@ -58,10 +58,19 @@ place_of_symbol file at = record {
       range_if (is_address (st_type file at) (st_shndx file at)) (st_value file at) (if st_size file at == 0 then 1 else st_size file at);
 }
 
--- a relocation entry at an offset: in a program or a library it describes eight bytes of memory
-abbrev pub place_of_relocation : List ℕ → ℕ → RowPlace
-place_of_relocation file at = record {
-  entry = record { start = at; size = RELA_SIZE };
+-- a record of this many bytes at an offset that relocates what is at an address: in a program or a
+-- library it describes eight bytes of memory
+abbrev place_of_relocated : List ℕ → (at size address : ℕ) → RowPlace
+place_of_relocated file at size address = record {
+  entry = record { start = at; size = size };
   bytes = nowhere;
-  memory = range_if (is_linked_type (e_type file)) (r_offset file at) 8;
+  memory = range_if (is_linked_type (e_type file)) address 8;
 }
+
+-- a relocation entry at an offset, with or without an addend
+abbrev pub place_of_relocation : (addends : Bool) → List ℕ → ℕ → RowPlace
+place_of_relocation addends file at = place_of_relocated file at (relocation_size addends) (r_offset file at)
+
+-- an address in the word of a table of relative relocations at an offset
+abbrev pub place_of_relr : List ℕ → (at address : ℕ) → RowPlace
+place_of_relr file at address = place_of_relocated file at RELR_SIZE address

@@ -10,7 +10,7 @@ use Rattle.elf_model.specs.RowPlaces.{place_of_dynamic, place_of_record, place_o
 use Rattle.elf_model.specs.Style.{ListingStyle}
 use Rattle.elf_model.specs.SymbolFilters.{narrowed, shows_symbol}
 use Rattle.elf_model.specs.Notes.{NoteRow, NoteScan, note_rows, note_shown, padded_size}
-use Rattle.elf_model.specs.Tables.{SYMBOL_SIZE, RELA_SIZE, section_bytes, strings_of, linked_at, entry_at, symbol_checks_of}
+use Rattle.elf_model.specs.Tables.{SYMBOL_SIZE, relocation_size, section_bytes, strings_of, linked_at, entry_at, symbol_checks_of}
 use Rattle.elf_model.specs.Checks.{first_refusal}
 use Rattle.elf_model.specs.Fields.{LinePrefix}
 use Rattle.elf_model.specs.LineFronts.{section_prefix, symbol_prefix, relocation_prefix, note_prefix, dynamic_prefix}
@@ -95,16 +95,17 @@ symbol_named file cap header_at rela_at symbol =
       | None ↦ (symbol_at, shown (strings_of file table_at) (st_name file symbol_at) cap)
     ]
 
--- the rows that are shown of the relocation entry at an offset
-abbrev pub relocation_choice : List ℕ → ListingStyle → ℕ → RowFilter
-relocation_choice file style rela_at = placed_choice style (place_of_relocation file rela_at) style.choice
+-- the rows that are shown of the relocation entry at an offset, with or without an addend
+abbrev pub relocation_choice : (addends : Bool) → List ℕ → ListingStyle → ℕ → RowFilter
+relocation_choice addends file style rela_at = placed_choice style (place_of_relocation addends file rela_at) style.choice
 
 -- the row of a relocation entry with the name of its symbol
-unfoldable pub relocation_row : List ℕ → ListingStyle → ℕ → ℕ → ℕ → List ListingItem
-relocation_row file style section at index =
-    let rela_at = entry_at file at RELA_SIZE index in
+unfoldable pub relocation_row : (addends : Bool) → List ℕ → ListingStyle → ℕ → ℕ → ℕ → List ListingItem
+relocation_row addends file style section at index =
+    let rela_at = entry_at file at (relocation_size addends) index in
     let symbol = symbol_named file style.cap at rela_at (r_sym file rela_at) in
-    chosen_row (relocation_choice file style rela_at) (relocation_prefix style.format style.gnu (e_machine file) file rela_at section) symbol.0 symbol.1
+    chosen_row (relocation_choice addends file style rela_at)
+    (relocation_prefix addends style.format style.gnu (e_machine file) file rela_at section) symbol.0 symbol.1
 
 -- the row of a note of an alignment: its record has its padding
 unfoldable pub note_row : ListingStyle → (index a : ℕ) → NoteRow → List ListingItem

@@ -19,8 +19,8 @@ UnversionedSymbolsArePlain =
 -- and so are relocation entries whose symbols are of such a table
 abbrev pub UnversionedEntriesArePlain : Type 0
 UnversionedEntriesArePlain =
-    (file : List ℕ) (style : ListingStyle) (section at : ℕ) → version_numbers_of file (sh_link file at) ≡ None
-    → relocations_with_versions.rows file style section at ≡ relocations.rows file style section at
+    (addends : Bool) (file : List ℕ) (style : ListingStyle) (section at : ℕ) → version_numbers_of file (sh_link file at) ≡ None
+    → (relocations_with_versions addends).rows file style section at ≡ (relocations addends).rows file style section at
 
 -- an undefined symbol has no default version
 abbrev pub UndefinedHaveNoDefault : Type 0
@@ -32,6 +32,6 @@ UndefinedHaveNoDefault =
 -- and a name for each entry, and one walk over the definitions and the needs
 abbrev pub SuffixesAreWithinMost : Type 0
 SuffixesAreWithinMost =
-    (headers : HeaderTable) (index size cap parts : ℕ)
-    → kinds_cost (section_kinds true) headers index size cap parts
-    ≤ kinds_cost (section_kinds false) headers index size cap parts + suffixes_most size cap
+    (gnu : Bool) (headers : HeaderTable) (index size cap parts : ℕ)
+    → kinds_cost (section_kinds gnu true) headers index size cap parts
+    ≤ kinds_cost (section_kinds gnu false) headers index size cap parts + suffixes_most size cap

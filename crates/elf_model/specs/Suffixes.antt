@@ -14,7 +14,7 @@ use Rattle.elf_model.specs.Numbers.{SHN_UNDEF, SHT_GNU_VERDEF, SHT_GNU_VERNEED, 
 use Rattle.elf_model.specs.Records.{e_machine, r_sym, section_at, sh_link, sh_type, st_name, st_shndx, versym}
 use Rattle.elf_model.specs.Rows.{relocation_choice, symbol_choice, symbol_named}
 use Rattle.elf_model.specs.Style.{ListingStyle}
-use Rattle.elf_model.specs.Tables.{RELA_SIZE, SYMBOL_SIZE, all_checks, entry_at, entry_count, has_symbols, linked_at, strings_of}
+use Rattle.elf_model.specs.Tables.{SYMBOL_SIZE, all_checks, entry_at, entry_count, has_symbols, linked_at, relocation_size, strings_of}
 use Rattle.elf_model.specs.Text.{newline}
 use Rattle.elf_model.specs.VersionRows.{first_of_type, section_versions, symbol_versions, version_named, version_strings, version_table}
 use Rattle.elf_model.specs.Versions.{VERSYM_SIZE, named_at, name_index, number_in}
@@ -146,20 +146,21 @@ suffixed_symbol_rows file style section at =
     after_refusal (suffixes_refusal file section)
     (each (symbol_row_with_version file style section at) 0 (entry_count file at SYMBOL_SIZE))
 
--- the row of a relocation entry, whose symbol 0 has no version, and those of a table of them
-unfoldable pub relocation_row_with_version : List ℕ → ListingStyle → ℕ → ℕ → ℕ → List ListingItem
-relocation_row_with_version file style section at index =
-    let rela_at = entry_at file at RELA_SIZE index in
+-- the row of a relocation entry with or without an addend, whose symbol 0 has no version, and those
+-- of a table of them
+unfoldable pub relocation_row_with_version : (addends : Bool) → List ℕ → ListingStyle → ℕ → ℕ → ℕ → List ListingItem
+relocation_row_with_version addends file style section at index =
+    let rela_at = entry_at file at (relocation_size addends) index in
     let symbol = r_sym file rela_at in
     let named = symbol_named file style.cap at rela_at symbol in
     let suffix =
     if symbol == 0 then Ok NoSuffix
     else symbol_suffix file style.cap (sh_link file at) (entry_at file (linked_at file at) SYMBOL_SIZE symbol) symbol in
-    suffixed_row (relocation_choice file style rela_at)
-    (relocation_prefix style.format style.gnu (e_machine file) file rela_at section) named.0 named.1 suffix
+    suffixed_row (relocation_choice addends file style rela_at)
+    (relocation_prefix addends style.format style.gnu (e_machine file) file rela_at section) named.0 named.1 suffix
 
-unfoldable pub suffixed_relocation_rows : List ℕ → ListingStyle → ℕ → ℕ → List ListingItem
-suffixed_relocation_rows file style section at =
-    after_refusal
-    (if has_symbols file at && not (entry_count file at RELA_SIZE == 0) then suffixes_refusal file (sh_link file at) else None)
-    (each (relocation_row_with_version file style section at) 0 (entry_count file at RELA_SIZE))
+unfoldable pub suffixed_relocation_rows : (addends : Bool) → List ℕ → ListingStyle → ℕ → ℕ → List ListingItem
+suffixed_relocation_rows addends file style section at =
+    let count = entry_count file at (relocation_size addends) in
+    after_refusal (if has_symbols file at && not (count == 0) then suffixes_refusal file (sh_link file at) else None)
+    (each (relocation_row_with_version addends file style section at) 0 count)

@@ -1,5 +1,5 @@
 -- The tables of a file: the offsets of their entries, what they link to, and their checks.
-use Rattle.std.specs.Prelude.{ℕ, ◌+◌, ◌*◌, ◌/◌, ◌==◌, ◌&&◌, nat_lt, not, if◌then◌else◌, Bool, List, [], ◌∷◌, ◌++◌, length}
+use Rattle.std.specs.Prelude.{ℕ, ◌+◌, ◌*◌, ◌/◌, ◌==◌, ◌&&◌, nat_lt, not, if◌then◌else◌, Bool, true, false, List, [], ◌∷◌, ◌++◌, length}
 use Rattle.elf_model.specs.Bytes.{slice}
 use Rattle.elf_model.specs.Records.{e_shnum, sh_offset, sh_size, sh_link, p_offset, p_filesz, section_at}
 use Rattle.elf_model.specs.Checks.{Check, refuse, unless_empty, whole_checks_of, table_checks_of, strings_checks, is_symbol_table}
@@ -14,6 +14,17 @@ RELA_SIZE = 24
 
 abbrev pub DYNAMIC_SIZE : ℕ
 DYNAMIC_SIZE = 16
+
+-- that of a relocation entry without an addend, and of a word of a table of relative relocations
+abbrev pub REL_SIZE : ℕ
+REL_SIZE = 16
+
+abbrev pub RELR_SIZE : ℕ
+RELR_SIZE = 8
+
+-- the size of a relocation entry, with or without an addend
+abbrev pub relocation_size : (addends : Bool) → ℕ
+relocation_size addends = elim addends [ true ↦ RELA_SIZE | false ↦ REL_SIZE ]
 
 -- a section's bytes
 abbrev pub section_bytes : List ℕ → ℕ → List ℕ
@@ -74,9 +85,17 @@ has_symbols file at = nat_lt (sh_link file at) (e_shnum file) && is_symbol_table
 abbrev pub linked_table_checks : List ℕ → ℕ → List Check
 linked_table_checks file at = if has_symbols file at then symbol_table_checks file (linked_at file at) else []
 
--- a table of relocation entries: its own checks, then those of the symbol table that it links to
+-- a table of relocation entries, with or without addends: its own checks, then those of the symbol
+-- table that it links to
+abbrev pub entries_table : (addends : Bool) → TableChecks
+entries_table addends = section_table (relocation_size addends) linked_table_checks
+
 abbrev pub relocation_table : TableChecks
-relocation_table = section_table RELA_SIZE linked_table_checks
+relocation_table = entries_table true
+
+-- a table of relative relocations: its own checks alone
+abbrev pub relr_table : TableChecks
+relr_table = section_table RELR_SIZE nothing_linked
 
 abbrev pub relocation_table_checks : List ℕ → ℕ → List Check
 relocation_table_checks file at = all_checks relocation_table file at

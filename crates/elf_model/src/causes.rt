@@ -77,6 +77,9 @@ pub enum Cause {
     VersionIndex,
     /// A LOAD segment begins on a page of the one before it, or below (gABI 5, Program Loading).
     LoadOverlap,
+    /// A word of relative relocations gives an address above 2^64 - 8, or no address precedes a
+    /// bitmap (gABI 4, Relative Relocation Table).
+    Relr,
 }
 
 /// A refusal: its cause, and the file offset that it points to.
