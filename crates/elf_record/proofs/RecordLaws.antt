@@ -2,10 +2,11 @@
 use Rattle.std.proofs.Common.{◌≡◌, ℕ, ◌+◌, ◌≤◌, List, ap, ◌∙◌, arith}
 use Rattle.elf_model.specs.Prelude.{field, slice, twos_complement}
 use Rattle.elf_model.proofs.Slices.{field-slice}
-use Rattle.elf_record.specs.Prelude.{IsDyn, IsNoteHead, IsPhdr, IsRela, IsShdr, IsSym, IsVerdef, IsVernaux, IsVerneed, note_head_parts, phdr_parts, shdr_parts, sym_parts, verdef_parts, vernaux_parts, verneed_parts}
+use Rattle.elf_record.specs.Prelude.{IsDyn, IsNoteHead, IsPhdr, IsRel, IsRela, IsShdr, IsSym, IsVerdef, IsVernaux, IsVerneed, note_head_parts, phdr_parts, rel_parts, shdr_parts, sym_parts, verdef_parts, vernaux_parts, verneed_parts}
 use Rattle.elf_record.specs.declared.dyn_entry.Dyn.{Dyn}
 use Rattle.elf_record.specs.declared.note_head.NoteHead.{NoteHead}
 use Rattle.elf_record.specs.declared.phdr.Phdr.{Phdr}
+use Rattle.elf_record.specs.declared.rel.Rel.{Rel}
 use Rattle.elf_record.specs.declared.rela.Rela.{Rela}
 use Rattle.elf_record.specs.declared.shdr.Shdr.{Shdr}
 use Rattle.elf_record.specs.declared.sym.Sym.{Sym}
@@ -34,6 +35,9 @@ verneed_in_file file at bytes r is stands = let there = parts_in_file file at by
 
 pub vernaux_in_file : (file : List ℕ) (at : ℕ) (bytes : List ℕ) (r : Vernaux) → bytes ≡ slice file at 16 → IsVernaux bytes 0 r → IsVernaux file at r
 vernaux_in_file file at bytes r is stands = let there = parts_in_file file at bytes (vernaux_parts r) is (assumption stands) in assumption there
+
+pub rel_in_file : (file : List ℕ) (at : ℕ) (bytes : List ℕ) (r : Rel) → bytes ≡ slice file at 16 → IsRel bytes 0 r → IsRel file at r
+rel_in_file file at bytes r is stands = let there = parts_in_file file at bytes (rel_parts r) is (assumption stands) in assumption there
 
 -- a field of some bytes of a file is a field of the file
 field_in : (file : List ℕ) (at size : ℕ) (bytes : List ℕ) (k width : ℕ) → bytes ≡ slice file at size → k + width ≤ size → field bytes k width ≡ field file (at + k) width

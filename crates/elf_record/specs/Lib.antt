@@ -3,6 +3,7 @@ pub mod Ehdr
 pub mod NoteHead
 pub mod Parts
 pub mod Phdr
+pub mod Rel
 pub mod Rela
 pub mod Shdr
 pub mod Sym

@@ -4,6 +4,7 @@ pub use Rattle.elf_record.specs.Ehdr.{IsChecked, IsEhdr, ehdr_parts}
 pub use Rattle.elf_record.specs.NoteHead.{IsNoteHead, note_head_parts}
 pub use Rattle.elf_record.specs.Parts.{FieldsAreAt}
 pub use Rattle.elf_record.specs.Phdr.{IsPhdr, phdr_parts}
+pub use Rattle.elf_record.specs.Rel.{IsAddend, IsRel, rel_parts}
 pub use Rattle.elf_record.specs.Rela.{IsRela, rela_parts}
 pub use Rattle.elf_record.specs.Shdr.{IsShdr, shdr_parts}
 pub use Rattle.elf_record.specs.Sym.{IsSym, sym_parts}

@@ -8,6 +8,10 @@ pub const PROGRAM_HEADER_BYTES: u64 = 56;
 pub const SYMBOL_BYTES: u64 = 24;
 /// The size of a relocation entry with an addend (gABI 4, Relocation).
 pub const RELOCATION_BYTES: u64 = 24;
+/// The size of a relocation entry without an addend (gABI 4, Relocation).
+pub const REL_BYTES: u64 = 16;
+/// The size of a word of relative relocations (gABI 4, Relative Relocation Table).
+pub const RELR_BYTES: u64 = 8;
 /// The size of a dynamic entry (gABI 5, Dynamic Section).
 pub const DYNAMIC_BYTES: u64 = 16;
 /// The size of a symbol's version entry (Linux Standard Base Core, Symbol Versioning).
