@@ -1,11 +1,11 @@
 -- What the checks of symbols imply, and those of relocation entries.
 use Rattle.std.proofs.Common.{◌≡◌, ℕ, ◌/◌, ◌%◌, ◌<◌, ◌==◌, not, Bool, true, false, inl, inr, if◌then◌else◌, List, [], ◌∷◌, ◌++◌, length, Option, None, Some, Result, Ok, Err, refl, sym, ap, ◌∙◌, subst, arith}
 use Rattle.std.proofs.lemmas.Bool.{cases_Bool, eqb-true, lt-ltb}
-use Rattle.elf_model.specs.Prelude.{Check, e_shnum, first_refusal, has_symbols, is_symbol_table, linked_at, linked_table_checks, refuse, section_at, sh_entsize, sh_link, sh_offset, sh_size, strings_checks, symbol_table_checks, table_checks, unless_empty, whole_checks_of}
+use Rattle.elf_model.specs.Prelude.{Check, e_shnum, first_refusal, has_symbols, is_symbol_table, linked_at, linked_table_checks, refuse, relocation_size, section_at, sh_entsize, sh_link, sh_offset, sh_size, strings_checks, symbol_table_checks, table_checks, unless_empty, whole_checks_of}
 use Rattle.elf_model.specs.declared.causes.Cause.TheVariants.{EntrySize}
 use Rattle.elf_model.specs.declared.causes.Refusal.{Refusal}
 use Rattle.elf_model.proofs.CheckSteps.{first_refusal-some, first_refusal-none, first_refusal-back}
-use Rattle.elf_table.specs.Prelude.{AreRelocations, AreSymbols, Links, RefusedBy, StringTableRange, TableRange, answered, checked, names_at, rows, string_table_at, strings, symbols_at, table_at, table_of}
+use Rattle.elf_table.specs.Prelude.{AreEntries, AreSymbols, Links, RefusedBy, StringTableRange, TableRange, answered, checked, names_at, rows, string_table_at, strings, symbols_at, table_at, table_of}
 use Rattle.elf_table.specs.declared.fault.Fault.{Fault}
 use Rattle.elf_table.specs.declared.fault.Fault.TheVariants.{Refused, Source}
 
@@ -34,28 +34,44 @@ pub table-passes : {A : Type 0} (empty : Bool) (none some result : A) (checks : 
 table-passes true none some result checks h = (refl, cc)
 table-passes false none some result checks h = passed_first (first_refusal checks) some result h
 
--- the rows of a section, whose own checks are followed by others
-module _ (file : List ℕ) (at : ℕ) where
+-- the rows of a section of relocation entries with or without addends, or of others of these sizes,
+-- whose own checks are followed by others
+module _ (addends : Bool) (file : List ℕ) (at : ℕ) where
+  abbrev entry : ℕ
+  entry = relocation_size addends
+
   -- if there are no whole entries, there are no bytes
-  no_bytes : first_refusal (table_checks file at 24) ≡ None → sh_size file at / 24 ≡ 0 → sh_size file at ≡ 0
+  none_whole : (addends : Bool) (n : ℕ) → n / relocation_size addends ≡ 0 → n % relocation_size addends ≡ 0 → n ≡ 0
+  none_whole true n none divides = omega (arith, none, divides)
+  none_whole false n none divides = omega (arith, none, divides)
+
+  no_entries : (addends : Bool) (n : ℕ) → n ≡ 0 → n / relocation_size addends ≡ 0
+  no_entries true n zero = omega (arith, zero)
+  no_entries false n zero = omega (arith, zero)
+
+  empty_rows : (addends : Bool) (n : ℕ) (table : TableRange) → n ≡ 0 → table ≡ rows (sh_offset file at) 0 (relocation_size addends)
+      → table ≡ rows (sh_offset file at) (n / relocation_size addends) (relocation_size addends)
+  empty_rows addends n table zero is = is ∙ ap (λ (k : ℕ). rows (sh_offset file at) k (relocation_size addends)) (sym (no_entries addends n zero))
+
+  no_bytes : first_refusal (table_checks file at entry) ≡ None → sh_size file at / entry ≡ 0 → sh_size file at ≡ 0
   no_bytes passes none =
-      let whole = first_refusal-back (refuse (not (sh_entsize file at == 24)) at EntrySize ∷ []) (whole_checks_of (length file) (sh_offset file at) (sh_size file at) at 24) passes in
-      elim (cases_Bool (sh_size file at % 24 == 0)) [
-        | inl divides ↦ omega (arith, none, eqb-true (sh_size file at % 24) 0 divides)
+      let whole = first_refusal-back (refuse (not (sh_entsize file at == entry)) at EntrySize ∷ []) (whole_checks_of (length file) (sh_offset file at) (sh_size file at) at entry) passes in
+      elim (cases_Bool (sh_size file at % entry == 0)) [
+        | inl divides ↦ none_whole addends (sh_size file at) none (eqb-true (sh_size file at % entry) 0 divides)
         | inr rest ↦ let refuses = rw rest at whole in cc
       ]
 
-  pub table_refused : (back : List Check) (fault : Fault) → table_at file at 24 ≡ Err fault → RefusedBy (unless_empty (sh_size file at) (table_checks file at 24 ++ back)) fault
-  table_refused back fault h = let p = table-fails (sh_size file at == 0) _ _ (table_checks file at 24) fault h in rw p.0 (front fault p.1)
+  pub table_refused : (back : List Check) (fault : Fault) → table_at file at entry ≡ Err fault → RefusedBy (unless_empty (sh_size file at) (table_checks file at entry ++ back)) fault
+  table_refused back fault h = let p = table-fails (sh_size file at == 0) _ _ (table_checks file at entry) fault h in rw p.0 (front fault p.1)
     where
-      front : (fault : Fault) → RefusedBy (table_checks file at 24) fault → RefusedBy (table_checks file at 24 ++ back) fault
-      front (Refused refusal) k = first_refusal-some (table_checks file at 24) back refusal k
+      front : (fault : Fault) → RefusedBy (table_checks file at entry) fault → RefusedBy (table_checks file at entry ++ back) fault
+      front (Refused refusal) k = first_refusal-some (table_checks file at entry) back refusal k
       front (Source fault offset) k = k
 
-  module _ (table : TableRange) (held : table_at file at 24 ≡ Ok table) where
-    table_is : table ≡ rows (sh_offset file at) (sh_size file at / 24) 24
+  module _ (table : TableRange) (held : table_at file at entry ≡ Ok table) where
+    table_is : table ≡ rows (sh_offset file at) (sh_size file at / entry) entry
     table_is = elim (cases_Bool (sh_size file at == 0)) [
-      | inl empty ↦ let none = rw (empty, table_at, table_of) at held in rw (eqb-true (sh_size file at) 0 empty) (cc)
+      | inl empty ↦ let none = rw (empty, table_at, table_of) at held in empty_rows addends (sh_size file at) table (eqb-true (sh_size file at) 0 empty) cc
       | inr some ↦ sym (passed_first _ _ _ (rw (some, table_at, table_of) at held)).1
     ]
 
@@ -68,40 +84,22 @@ module _ (file : List ℕ) (at : ℕ) where
           rw zero refl
     ]
 
-    passes_empty : (back : List Check) → table.count ≡ 0 → first_refusal (unless_empty (sh_size file at) (table_checks file at 24 ++ back)) ≡ None
+    passes_empty : (back : List Check) → table.count ≡ 0 → first_refusal (unless_empty (sh_size file at) (table_checks file at entry ++ back)) ≡ None
     passes_empty back none = rw (no_rows none) refl
 
     -- if there are rows, the later checks decide
-    later : (back : List Check) → (table.count ≡ 0 → ⊥) → first_refusal (unless_empty (sh_size file at) (table_checks file at 24 ++ back)) ≡ first_refusal back
+    later : (back : List Check) → (table.count ≡ 0 → ⊥) → first_refusal (unless_empty (sh_size file at) (table_checks file at entry ++ back)) ≡ first_refusal back
     later back rows = elim (cases_Bool (sh_size file at == 0)) [
-      | inl empty ↦ absurd (rows (ap (λ (t : TableRange). t.count) table_is ∙ rw (eqb-true (sh_size file at) 0 empty) refl))
-      | inr some ↦ rw some (first_refusal-none (table_checks file at 24) back (passed_first _ _ _ (rw (some, table_at, table_of) at held)).0)
+      | inl empty ↦ absurd (rows (ap (λ (t : TableRange). t.count) table_is ∙ no_entries addends (sh_size file at) (eqb-true (sh_size file at) 0 empty)))
+      | inr some ↦ rw some (first_refusal-none (table_checks file at entry) back (passed_first _ _ _ (rw (some, table_at, table_of) at held)).0)
     ]
 
     pub back_refused : (back : List Check) (fault : Fault) → (table.count ≡ 0 → ⊥) → RefusedBy back fault
-        → RefusedBy (unless_empty (sh_size file at) (table_checks file at 24 ++ back)) fault
+        → RefusedBy (unless_empty (sh_size file at) (table_checks file at entry ++ back)) fault
     back_refused back (Refused refusal) rows h = later back rows ∙ h
     back_refused back (Source fault offset) rows h = h
 
-    pub strings_refused : (fault : Fault) → (table.count ≡ 0 → ⊥) → string_table_at file at ≡ Err fault → RefusedBy (symbol_table_checks file at) fault
-    strings_refused fault rows h = back_refused (strings_checks file at) fault rows (failed (strings_checks file at) (names_at file (linked_at file at)) fault h)
-
-    -- the symbols, which have no names if there are none
-    pub symbols_none : table.count ≡ 0 → (names : StringTableRange) → names ≡ strings table.at 0 → Ok (table, names) ≡ symbols_at file at
-    symbols_none none names is =
-        let own : table ≡ rows (sh_offset file at) 0 24 = table_is ∙ ap (λ (n : ℕ). rows (sh_offset file at) n 24) (sym (ap (λ (t : TableRange). t.count) table_is) ∙ none) in
-        rw (no_rows none, symbols_at, is, own) refl
-
-    pub symbols_some : (table.count ≡ 0 → ⊥) → (names : StringTableRange) → string_table_at file at ≡ Ok names → Ok (table, names) ≡ symbols_at file at
-    symbols_some rows names h = elim (cases_Bool (sh_size file at == 0)) [
-      | inl empty ↦ absurd (rows (ap (λ (t : TableRange). t.count) table_is ∙ rw (eqb-true (sh_size file at) 0 empty) refl))
-      | inr some ↦
-          let own = passed_first _ _ table (rw (some, table_at, table_of) at held) in
-          let named = passed_first _ _ names h in
-          rw (some, symbols_at, first_refusal-none (table_checks file at 24) (strings_checks file at) own.0 ∙ named.0, own.1, named.1) refl
-    ]
-
-    pub relocations_none : table.count ≡ 0 → AreRelocations file at table None
+    pub relocations_none : table.count ≡ 0 → AreEntries addends file at table None
     relocations_none none = record {
       pass = passes_empty (linked_table_checks file at) none;
       counted = ap (λ (t : TableRange). t.count) table_is;
@@ -110,7 +108,7 @@ module _ (file : List ℕ) (at : ℕ) where
       none = λ _. refl;
     }
 
-    pub relocations_some : (linked : Option (TableRange × StringTableRange)) → (table.count ≡ 0 → ⊥) → Links file at (Ok linked) → AreRelocations file at table linked
+    pub relocations_some : (linked : Option (TableRange × StringTableRange)) → (table.count ≡ 0 → ⊥) → Links file at (Ok linked) → AreEntries addends file at table linked
     relocations_some linked rows links = record {
       pass = later (linked_table_checks file at) rows ∙ links.0;
       counted = ap (λ (t : TableRange). t.count) table_is;
@@ -118,6 +116,26 @@ module _ (file : List ℕ) (at : ℕ) where
       refers = λ _. links.1;
       none = λ none. absurd (rows none);
     }
+
+-- a section of symbols, whose entries have the size of relocation entries with addends
+module _ (file : List ℕ) (at : ℕ) (table : TableRange) (held : table_at file at 24 ≡ Ok table) where
+  pub strings_refused : (fault : Fault) → (table.count ≡ 0 → ⊥) → string_table_at file at ≡ Err fault → RefusedBy (symbol_table_checks file at) fault
+  strings_refused fault rows h = back_refused true file at table held (strings_checks file at) fault rows (failed (strings_checks file at) (names_at file (linked_at file at)) fault h)
+
+  -- the symbols, which have no names if there are none
+  pub symbols_none : table.count ≡ 0 → (names : StringTableRange) → names ≡ strings table.at 0 → Ok (table, names) ≡ symbols_at file at
+  symbols_none none names is =
+      let own : table ≡ rows (sh_offset file at) 0 24 = (table_is true file at table held) ∙ ap (λ (n : ℕ). rows (sh_offset file at) n 24) (sym (ap (λ (t : TableRange). t.count) (table_is true file at table held)) ∙ none) in
+      rw (no_rows true file at table held none, symbols_at, is, own) refl
+
+  pub symbols_some : (table.count ≡ 0 → ⊥) → (names : StringTableRange) → string_table_at file at ≡ Ok names → Ok (table, names) ≡ symbols_at file at
+  symbols_some rows names h = elim (cases_Bool (sh_size file at == 0)) [
+    | inl empty ↦ absurd (rows (ap (λ (t : TableRange). t.count) (table_is true file at table held) ∙ rw (eqb-true (sh_size file at) 0 empty) refl))
+    | inr some ↦
+        let own = passed_first _ _ table (rw (some, table_at, table_of) at held) in
+        let named = passed_first _ _ names h in
+        rw (some, symbols_at, first_refusal-none (table_checks file at 24) (strings_checks file at) own.0 ∙ named.0, own.1, named.1) refl
+  ]
 
 -- the symbols of a section
 pub symbols-fail : (file : List ℕ) (at : ℕ) (fault : Fault) → symbols_at file at ≡ Err fault → RefusedBy (symbol_table_checks file at) fault

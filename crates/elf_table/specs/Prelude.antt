@@ -6,7 +6,7 @@ pub use Rattle.elf_table.specs.Ledger.{CallDid, CallReads, IsRead, fault_of_resu
 pub use Rattle.elf_table.specs.LinkedSymbols.{LinkedSymbolInBounds, RefersToSymbol, SymbolRead}
 pub use Rattle.elf_table.specs.Load.{HoldsProgramHeaders, HoldsSectionHeaders, IsOpen, IsOpened, LoadedAs, LoadedFile, PassesLoadChecks, SegmentsInBounds, early_of, file_header_cost, load_cost, section_place}
 pub use Rattle.elf_table.specs.NamesRead.{ComparesName, NameRead, Refuses, Searched, shown_by}
-pub use Rattle.elf_table.specs.Relocations.{AreRelocations, AreSymbols, Links, RefersTo, RefusedBy, Relocates}
+pub use Rattle.elf_table.specs.Relocations.{AreEntries, AreRelocations, AreSymbols, Links, RefersTo, RefusedBy, Relocates, RelocatesWith}
 pub use Rattle.elf_table.specs.Sections.{answered, byte_rows, checked, names_at, rows, section_names, string_table_at, string_table_of, strings, symbols_at, table_at, table_of}
 pub use Rattle.elf_table.specs.Stops.{stop_of}
 pub use Rattle.elf_table.specs.Store.{AreRowSlices, HoldsSections, HoldsSegments, StoreState, emptied, row, segment_bytes}

@@ -1,6 +1,6 @@
 -- The result for a section of relocation entries: its rows, and the symbols that they refer to.
-use Rattle.std.specs.Prelude.{ℕ, ◌≡◌, ◌<◌, true, false, List, Option, None, Some, Result, Ok, Err}
-use Rattle.elf_model.specs.Prelude.{Check, RELA_SIZE, SYMBOL_SIZE, entry_count, first_refusal, has_symbols, linked_at, linked_table_checks, relocation_table_checks, sh_offset, sh_size}
+use Rattle.std.specs.Prelude.{ℕ, ◌≡◌, ◌<◌, Bool, true, false, List, Option, None, Some, Result, Ok, Err}
+use Rattle.elf_model.specs.Prelude.{Check, SYMBOL_SIZE, all_checks, entries_table, entry_count, first_refusal, has_symbols, linked_at, linked_table_checks, relocation_size, sh_offset, sh_size}
 use Rattle.elf_table.specs.Tables.{TableRange, StringTableRange}
 use Rattle.elf_table.specs.Sections.{strings, names_at}
 use Rattle.elf_table.specs.declared.fault.Fault.{Fault}
@@ -31,16 +31,23 @@ abbrev pub Links : List ℕ → ℕ → Result (Option (TableRange × StringTabl
 Links file header (Ok linked) = (first_refusal (linked_table_checks file header) ≡ None) × RefersTo file header linked
 Links file header (Err fault) = RefusedBy (linked_table_checks file header) fault
 
--- the relocation entries of the section with this header, whose checks pass, and the symbols that
--- they refer to; if there is no entry, none are searched
-pub record AreRelocations (file : List ℕ) (header : ℕ) (table : TableRange) (linked : Option (TableRange × StringTableRange)) : Type 0 where
-  pub pass : first_refusal (relocation_table_checks file header) ≡ None
-  pub counted : table.count ≡ entry_count file header RELA_SIZE
+-- the relocation entries, with or without addends, of the section with this header, whose checks
+-- pass, and the symbols that they refer to; if there is no entry, none are searched
+pub record AreEntries (addends : Bool) (file : List ℕ) (header : ℕ) (table : TableRange) (linked : Option (TableRange × StringTableRange)) : Type 0 where
+  pub pass : first_refusal (all_checks (entries_table addends) file header) ≡ None
+  pub counted : table.count ≡ entry_count file header (relocation_size addends)
   pub placed : table.at ≡ sh_offset file header
   pub refers : 0 < table.count → RefersTo file header linked
   pub none : table.count ≡ 0 → linked ≡ None
 
 -- the result for a section of relocation entries: those, or the first of its checks that fails
+abbrev pub RelocatesWith : (addends : Bool) → List ℕ → ℕ → Result (TableRange × Option (TableRange × StringTableRange)) Fault → Type 0
+RelocatesWith addends file header (Ok found) = AreEntries addends file header found.0 found.1
+RelocatesWith addends file header (Err fault) = RefusedBy (all_checks (entries_table addends) file header) fault
+
+-- those with addends
+abbrev pub AreRelocations : (file : List ℕ) → (header : ℕ) → TableRange → Option (TableRange × StringTableRange) → Type 0
+AreRelocations file header table linked = AreEntries true file header table linked
+
 abbrev pub Relocates : List ℕ → ℕ → Result (TableRange × Option (TableRange × StringTableRange)) Fault → Type 0
-Relocates file header (Ok found) = AreRelocations file header found.0 found.1
-Relocates file header (Err fault) = RefusedBy (relocation_table_checks file header) fault
+Relocates file header result = RelocatesWith true file header result

@@ -1,11 +1,11 @@
 //! The tables of the sections of a loaded file, with its section headers handed in at each call.
 ghost use Rattle.std.specs.Prelude.{◌≡◌, ◌==◌, ◌||◌, not, true, ◌<◌, ◌≤◌, ℕ, List};
 ghost use Rattle.std.specs.Prelude.{None, Ok, IfOk, IfErr, IfSome, IsTrue, MatchResult};
-ghost use Rattle.elf_model.specs.Prelude.{has_strings, has_symbols, section_at, sh_link, sh_size};
+ghost use Rattle.elf_model.specs.Prelude.{has_strings, has_symbols, relocation_size, section_at, sh_link, sh_size};
 ghost use Rattle.elf_table.specs.Faults.{IsOfCheck};
 ghost use Rattle.elf_table.specs.Files.{program_headers};
 ghost use Rattle.elf_table.specs.Load.{HoldsSectionHeaders, LoadedFile, section_place};
-ghost use Rattle.elf_table.specs.Relocations.{Links, Relocates};
+ghost use Rattle.elf_table.specs.Relocations.{Links, Relocates, RelocatesWith};
 ghost use Rattle.elf_table.specs.Sections.{byte_rows, section_names, string_table_at};
 ghost use Rattle.elf_table.specs.Sections.{symbols_at, table_at, table_of};
 ghost use Rattle.elf_table.specs.Store.{row};
@@ -24,7 +24,7 @@ use crate::ranges::is_out_of_bounds;
 use crate::table::Table;
 use elf_record::Cause;
 use elf_record::sizes::{
-    PROGRAM_HEADER_BYTES, RELOCATION_BYTES, SYMBOL_BYTES, SYMBOL_VERSION_BYTES,
+    PROGRAM_HEADER_BYTES, REL_BYTES, RELOCATION_BYTES, SYMBOL_BYTES, SYMBOL_VERSION_BYTES,
 };
 
 impl Loaded {
@@ -196,12 +196,10 @@ impl Loaded {
     }
 
     /// Returns the relocation entries of a section, rows of 24 bytes, and the symbols that they
-    /// refer to, as [`Loaded::linked`] does; no rows and `None`, without a check, if the section is
-    /// empty. The section's type is ignored. No bytes are read (gABI 4, Relocation).
+    /// refer to, as [`Loaded::entries`] does.
     ///
     /// # Errors
-    /// Returns the first check that fails: those of [`Loaded::table`], then those of
-    /// [`Loaded::linked`].
+    /// As for [`Loaded::entries`].
     pub fn relocations<R: HeaderRows>(
         &self,
         rows: &R,
@@ -220,7 +218,37 @@ impl Loaded {
             IfSome found.1 (SymbolTableInBounds self.now.size)) }
         ensures refusal { IfErr result IsOfCheck }
     {
-        let table = self.table(rows, section, RELOCATION_BYTES)?;
+        self.entries(rows, section, true)
+    }
+
+    /// Returns the relocation entries of a section, rows of 24 bytes with `addends` and of 16
+    /// without, and the symbols that they refer to, as [`Loaded::linked`] does; no rows and `None`,
+    /// without a check, if the section is empty. The section's type is ignored. No bytes are read
+    /// (gABI 4, Relocation).
+    ///
+    /// # Errors
+    /// Returns the first check that fails: those of [`Loaded::table`], then those of
+    /// [`Loaded::linked`].
+    pub fn entries<R: HeaderRows>(
+        &self,
+        rows: &R,
+        section: u16,
+        addends: bool,
+    ) -> Result<(Table, LinkedSymbolTable), Fault>
+        requires whole { (R.state rows.now).loaded ≡ self.now.header.e_shnum }
+        requires below { section < (R.state rows.now).loaded }
+        ensures held { (file : List ℕ) → HoldsSectionHeaders file self.now (R.state rows.now) →
+            RelocatesWith addends file (section_at file section) result }
+        ensures table { IfOk result (λ found. Ok found.0
+            ≡ table_of (row (R.state rows.now) section) 0 self.now.size
+            (section_place self.now.header section) (relocation_size addends)) }
+        ensures entry { IfOk result (λ found. found.0.entry ≡ relocation_size addends) }
+        ensures within { IfOk result (λ found. TableInBounds self.now.size found.0) }
+        ensures linked { IfOk result (λ found.
+            IfSome found.1 (SymbolTableInBounds self.now.size)) }
+        ensures refusal { IfErr result IsOfCheck }
+    {
+        let table = self.table(rows, section, relocation_bytes(addends))?;
         if table.is_empty() {
             return Ok((table, None));
         }
@@ -264,6 +292,14 @@ impl Loaded {
         let symbols = self.symbols(rows, link)?;
         Ok((table, symbols.0.len()))
     }
+}
+
+/// Returns the size of a relocation entry with or without an addend, in bytes.
+fn relocation_bytes(addends: bool) -> u64
+    ensures size { result ≡ relocation_size addends }
+    ensures few { (0 < result) × (result ≤ 4096) }
+{
+    if addends { RELOCATION_BYTES } else { REL_BYTES }
 }
 
 /// Returns `true` if a section links to a section of symbols, which is not the first.

@@ -1,13 +1,13 @@
 //! The checks of a loaded file's sections.
 ghost use Rattle.std.specs.Prelude.{◌≡◌, ℕ, ◌<◌, ◌≤◌, ◌^◌, ◌==◌, ◌&&◌, ◌||◌, not, List, true, None, Ok, IfOk, IfErr, IfSome, MatchResult};
-ghost use Rattle.elf_model.specs.Prelude.{SHT_GNU_VERSYM as VERSYM, file_sections, first_numbers, first_typed, has_strings, section_at, sh_link};
+ghost use Rattle.elf_model.specs.Prelude.{SHT_GNU_VERSYM as VERSYM, file_sections, first_numbers, first_typed, has_strings, relocation_size, section_at, sh_link};
 ghost use Rattle.elf_record.specs.Shdr.{IsShdr};
 ghost use Rattle.elf_table.specs.Load.{HoldsSectionHeaders, PassesLoadChecks, section_place};
 ghost use Rattle.elf_table.specs.Faults.{IsOfCheck};
 ghost use Rattle.elf_table.specs.Files.{AnswersSection, program_headers, table_in, size_in};
 ghost use Rattle.elf_table.specs.Sections.{byte_rows, table_at, string_table_at, section_names};
 ghost use Rattle.elf_table.specs.Sections.{symbols_at};
-ghost use Rattle.elf_table.specs.Relocations.{Links, Relocates};
+ghost use Rattle.elf_table.specs.Relocations.{Links, Relocates, RelocatesWith};
 ghost use Rattle.elf_table.specs.Versions.{CountsVersions, Versioned, has_names, sections_in};
 ghost use Rattle.elf_table.specs.Store.{row};
 ghost use Rattle.elf_table.specs.Tables.{TableInBounds, Spans, StringsInBounds, SymbolTableInBounds, size_of};
@@ -171,6 +171,27 @@ impl SectionView<'_> {
         ensures refusal { IfErr result IsOfCheck }
     {
         self.loaded.relocations(self.store, section)
+    }
+
+    /// Returns the relocation entries of a section, rows of 24 bytes with `addends` and of 16
+    /// without, and the symbols that they refer to, as [`SectionView::relocations`] does.
+    ///
+    /// # Errors
+    /// As for [`SectionView::relocations`].
+    pub fn entries(&self, section: u16, addends: bool) -> Result<(Table, LinkedSymbolTable), Fault>
+        requires below { section < self.now.store.now.loaded }
+        ensures held { (file : List ℕ) →
+            HoldsSectionHeaders file self.now.loaded self.now.store.now →
+            RelocatesWith addends file (section_at file section) result }
+        ensures table { IfOk result (λ found.
+            Ok found.0 ≡ table_in self.now section (relocation_size addends)) }
+        ensures entry { IfOk result (λ found. found.0.entry ≡ relocation_size addends) }
+        ensures within { IfOk result (λ found. TableInBounds self.now.loaded.size found.0) }
+        ensures linked { IfOk result (λ found.
+            IfSome found.1 (SymbolTableInBounds self.now.loaded.size)) }
+        ensures refusal { IfErr result IsOfCheck }
+    {
+        self.loaded.entries(self.store, section, addends)
     }
 
     /// Returns the first section of a type, if there is one (gABI 4, Section Header).

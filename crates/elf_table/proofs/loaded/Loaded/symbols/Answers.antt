@@ -10,7 +10,7 @@ pub returns-in_err-table-clause-held : goal.returns-in_err-table-clause-held
 returns-in_err-table-clause-held g c = λ file belongs.
     let p = err_from_is_err_and c.from_residual.result c.from_residual.ensures.1 in
     let at = section_at file c.args.section in
-    rw (p.1, p.2) (symbols-refused file at _ (table_refused file at (strings_checks file at) _ (sym (c.in_err-table.ensures.held file belongs))))
+    rw (p.1, p.2) (symbols-refused file at _ (table_refused true file at (strings_checks file at) _ (sym (c.in_err-table.ensures.held file belongs))))
 
 pub returns-then-is_empty-clause-held : goal.returns-then-is_empty-clause-held
 returns-then-is_empty-clause-held g c = λ file belongs.
