@@ -1,3 +1,4 @@
+pub mod Addends
 pub mod Fronts
 pub mod Named
 pub mod Pieces

@@ -4,6 +4,7 @@ ghost use Rattle.std.specs.Prelude.{option_copied};
 ghost use Rattle.arrayvec.specs.ArrayVec.{array_vec_len};
 ghost use Rattle.elf_model.specs.Prelude.{ArgSpec, Decimal, Hexadecimal, NameOrDecimal, NameOrHexadecimal, NameOrNumber, begun, closing, space, with_field};
 ghost use Rattle.elf_model.specs.Fields.Field.{Signed};
+ghost use Rattle.elf_format.specs.Addends.{addend_shown};
 ghost use Rattle.elf_format.specs.Rooms.{half_room, number_room, text_room};
 
 use crate::columns::{LineBuf, number_sign, put, put_left, put_right, put_spaces, write_hex};
@@ -154,6 +155,27 @@ pub fn put_signed<R: Render>(line: &mut LineBuf, key: &[u8], number: i64)
             put_short_hex(line, ADDEND_WIDTH, sign, number.unsigned_abs(), b' ');
         }
         Format::Object => put_number(line, key, number),
+    }
+}
+
+/// Appends the addend of a relocation entry and a space; for an entry without one a hyphen in its
+/// column, and no member of an object.
+#[tactic(auto, unfolding(elf_model::specs::Fields::with_field, elf_model::specs::Text::left_in, elf_model::specs::Text::right_in))]
+#[inline(always)]
+pub fn put_addend<R: Render>(line: &mut LineBuf, addend: Option<i64>)
+    requires { array_vec_len line.old + 30 ≤ 256 }
+    ensures items { line.new.items
+        ≡ with_field R.FORMAT line.old.items (addend_shown addend) space }
+    ensures len { array_vec_len line.new ≤ array_vec_len line.old + 30 }
+{
+    if let Some(number) = addend {
+        put_signed::<R>(line, b"addend", number);
+        return;
+    }
+    match R::FORMAT {
+        Format::Columns => put(line, b"-                 "),
+        Format::Table => put(line, b"        - "),
+        Format::Object => {}
     }
 }
 

@@ -62,7 +62,7 @@ pub use needed_version_rows::show_needed_version;
 pub use note_rows::{note_prefix, show_note};
 pub use overflow_rows::show_overflow;
 pub use path_rows::show_path;
-pub use relocation_rows::relocation_prefix;
+pub use relocation_rows::{relocation_prefix, relr_prefix};
 pub use render::{Columns, Json, Render, Tabular};
 pub use rows::{cause_word, header_row, show_refusal};
 pub use section_rows::section_prefix;

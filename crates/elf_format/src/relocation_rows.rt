@@ -1,18 +1,18 @@
 //! The lines of relocation entries.
-ghost use Rattle.std.specs.Prelude.{◌≡◌, ◌≤◌, ℕ, List, length, IfSome, option_copied};
-ghost use Rattle.elf_model.specs.Prelude.{name_of, names_of_types, type_width, relocation_names, relocation_prefix, relocation_types};
-ghost use Rattle.elf_record.specs.Rela.{IsRela};
+ghost use Rattle.std.specs.Prelude.{◌≡◌, ◌≤◌, ℕ, Bool, List, length, IfSome, option_copied};
+ghost use Rattle.elf_model.specs.Prelude.{name_of, names_of_types, type_width, relocation_names, relocation_prefix, relocation_types, relr_prefix};
+ghost use Rattle.elf_record.specs.Rel.{IsAddend, IsRel};
 ghost use Rattle.elf_format.specs.Fronts.{front_of};
 
 use crate::constant_names::ConstantNames;
 use crate::fields::{
-    LinePrefix, begin_named, put_half, put_hex_field, put_name_or_sign, put_signed,
+    LinePrefix, begin_named, put_addend, put_half, put_hex_field, put_name_or_sign,
 };
 use crate::name_tables::name_in_either_table;
 use crate::relocation_names::psabi_name;
 use crate::render::Render;
 use elf_model::Format;
-use elf_record::Rela;
+use elf_record::Rel;
 use elf_record::gnu_numbers::{
     R_X86_64_DTPMOD64, R_X86_64_DTPOFF32, R_X86_64_DTPOFF64, R_X86_64_GNU_VTENTRY,
     R_X86_64_GNU_VTINHERIT, R_X86_64_GOT32, R_X86_64_GOT64, R_X86_64_GOTOFF64, R_X86_64_GOTPC32,
@@ -29,16 +29,18 @@ use elf_record::numbers::{
 };
 
 /// Fills the prefix with the `R` line of a relocation entry up to the name: the index of its
-/// section, offset, type on this machine, symbol and addend (gABI 4, Relocation).
+/// section, offset, type on this machine, symbol and addend, if it has one (gABI 4, Relocation).
 #[tactic(auto, unfolding(elf_model::specs::LineFronts::relocation_prefix))]
 pub fn relocation_prefix<R: Render>(
     front: &mut LinePrefix,
     section: u16,
-    entry: &Rela,
+    entry: &Rel,
+    addend: Option<i64>,
     naming: ConstantNames,
 )
-    ensures front { (file : List ℕ) (at : ℕ) → IsRela file at entry.now → front_of front.new
-        ≡ relocation_prefix R.FORMAT naming.gnu naming.machine file at section }
+    ensures front { (addends : Bool) (file : List ℕ) (at : ℕ) → IsRel file at entry.now →
+        IsAddend addends file at addend → front_of front.new
+        ≡ relocation_prefix addends R.FORMAT naming.gnu naming.machine file at section }
     ensures key { length front.new.key.now ≤ 16 }
 {
     let kind = entry.kind();
@@ -54,7 +56,24 @@ pub fn relocation_prefix<R: Render>(
         kind,
     );
     put_hex_field::<R>(line, b"symbol", 8, 6, u64::from(entry.symbol()), b' ');
-    put_signed::<R>(line, b"addend", entry.r_addend);
+    put_addend::<R>(line, addend);
+}
+
+/// Fills the prefix with the `R` line of a relative relocation up to the name: the index of its
+/// section and its address (gABI 4, Relative Relocation Table). Its type is `RELR` on every
+/// machine; it has no symbol and no addend.
+#[tactic(auto, unfolding(elf_model::specs::LineFronts::relr_prefix))]
+pub fn relr_prefix<R: Render>(front: &mut LinePrefix, section: u16, address: u64)
+    ensures front { front_of front.new ≡ relr_prefix R.FORMAT address section }
+    ensures key { length front.new.key.now ≤ 16 }
+{
+    begin_named::<R>(front, b"R", b"name");
+    let line = &mut front.line;
+    put_half::<R>(line, b"table", section, b' ');
+    put_hex_field::<R>(line, b"offset", 16, 9, address, b' ');
+    put_name_or_sign::<R>(line, b"type", type_width::<R>(), Some("RELR"), 0);
+    put_hex_field::<R>(line, b"symbol", 8, 6, 0, b' ');
+    put_addend::<R>(line, None);
 }
 
 /// Returns the width of the column of a relocation type.

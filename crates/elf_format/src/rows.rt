@@ -97,7 +97,7 @@ pub fn cause_word(cause: Cause) -> &'static str
 }
 
 /// The words for the causes, in the order of `Cause`.
-const CAUSE_WORDS: [&str; 35] = [
+const CAUSE_WORDS: [&str; 36] = [
     "short",
     "not-elf",
     "class",
@@ -133,6 +133,7 @@ const CAUSE_WORDS: [&str; 35] = [
     "version-cut",
     "version-index",
     "load-overlap",
+    "relr",
 ];
 
 /// Returns what a cause means, in plain words.
@@ -145,7 +146,7 @@ fn cause_meaning(cause: Cause) -> &'static str
 }
 
 /// What the causes mean, in the order of `Cause`.
-const CAUSE_MEANINGS: [&str; 35] = [
+const CAUSE_MEANINGS: [&str; 36] = [
     "the file is shorter than a file header",
     "not an ELF file",
     "not a 64-bit file",
@@ -181,6 +182,7 @@ const CAUSE_MEANINGS: [&str; 35] = [
     "the table of versions ends before the record",
     "no record names the version",
     "a LOAD segment begins on a page of the previous one, or below it",
+    "no address precedes the word, or its addresses end past 2^64",
 ];
 
 /// Returns the name of an object file type.
