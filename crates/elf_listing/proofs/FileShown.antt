@@ -150,7 +150,7 @@ segments_listed_are file style parts loaded store belongs view none =
 -- the tables of the headers in the store, but the section headers and the program headers
 abbrev kinds_by_store : List ℕ → ListingStyle → ℕ → StoreState → List ListingItem
 kinds_by_store file style parts store =
-    kinds_items parts (sections_listed (first_kinds style.versions)) store style file
+    kinds_items parts (sections_listed (first_kinds style.gnu style.versions)) store style file
     ++ (kinds_items parts segments_parts store style file
     ++ (kinds_items parts (sections_listed record_kinds) store style file
     ++ of_headers file style parts (of_sections symbol_versions) store.loaded))
@@ -161,25 +161,25 @@ last_listed file style parts store = append-nil _
 
 -- the tables of all kinds are those of the headers in the store
 kinds_are : (file : List ℕ) (style : ListingStyle) (parts : ℕ) (loaded : LoadedFile) (store : StoreState) → HoldsSectionHeaders file loaded store → store.segments ≡ viewed_headers parts loaded
-    → kinds_rows (table_headers style.versions file).kinds (table_headers style.versions file).headers file style parts ≡ kinds_by_store file style parts store
+    → kinds_rows (table_headers style.gnu style.versions file).kinds (table_headers style.gnu style.versions file).headers file style parts ≡ kinds_by_store file style parts store
 kinds_are file style parts loaded store belongs view =
     let count : store.loaded ≡ e_shnum file = belongs.count ∙ belongs.header.e_shnum in
     elim (cases_Bool (e_shnum file == 0)) [
       | inl none ↦
           let zero : store.loaded ≡ 0 = count ∙ eqb-true (e_shnum file) 0 none in
-          let first = none_listed of_sections (first_kinds style.versions) file style parts store (λ kind. zero) in
+          let first = none_listed of_sections (first_kinds style.gnu style.versions) file style parts store (λ kind. zero) in
           let records = none_listed of_sections record_kinds file style parts store (λ kind. zero) in
           let last = none_of file style parts (of_sections symbol_versions) store.loaded zero in
-          ap (λ (tables : TableHeaders). kinds_rows tables.kinds tables.headers file style parts) (headers_none style.versions file none)
+          ap (λ (tables : TableHeaders). kinds_rows tables.kinds tables.headers file style parts) (headers_none style.gnu style.versions file none)
           ∙ (segments_listed_are file style parts loaded store belongs view none ∙ sym (rw (first, records, last) (append-nil _)))
       | inr some ↦
           let zero : store.segments ≡ 0 = view ∙ viewed_none parts loaded (ap (λ n. n == 0) belongs.header.e_shnum ∙ some) in
           let sections = file_sections file in
           let listed = λ (kinds : List TableKind). sections_listed_by kinds file style parts store count in
-          ap (λ (tables : TableHeaders). kinds_rows tables.kinds tables.headers file style parts) (headers_some style.versions file some)
-          ∙ (kinds_append (first_kinds style.versions) (record_kinds ++ (symbol_versions ∷ [])) sections file style parts
-          ∙ (ap (λ rest. kinds_rows (first_kinds style.versions) sections file style parts ++ rest) (kinds_append record_kinds (symbol_versions ∷ []) sections file style parts)
-          ∙ rw (listed (first_kinds style.versions), listed record_kinds, listed (symbol_versions ∷ []), last_listed file style parts store, none_listed of_segments segment_kinds file style parts store (λ kind. zero)) refl))
+          ap (λ (tables : TableHeaders). kinds_rows tables.kinds tables.headers file style parts) (headers_some style.gnu style.versions file some)
+          ∙ (kinds_append (first_kinds style.gnu style.versions) (record_kinds ++ (symbol_versions ∷ [])) sections file style parts
+          ∙ (ap (λ rest. kinds_rows (first_kinds style.gnu style.versions) sections file style parts ++ rest) (kinds_append record_kinds (symbol_versions ∷ []) sections file style parts)
+          ∙ rw (listed (first_kinds style.gnu style.versions), listed record_kinds, listed (symbol_versions ∷ []), last_listed file style parts store, none_listed of_segments segment_kinds file style parts store (λ kind. zero)) refl))
     ]
 
 regrouped : (a b c d e : List ListingItem) → a ++ (b ++ (c ++ (d ++ e))) ≡ (((a ++ b) ++ c) ++ d) ++ e
@@ -189,7 +189,7 @@ regrouped a b c d e = simp append_assoc
 abbrev pub by_store : List ℕ → ListingStyle → ℕ → StoreState → List ListingItem
 by_store file style parts store =
     ((((of_headers file style parts section_headers_part store.loaded ++ segment_part file style parts)
-    ++ kinds_items parts (sections_listed (first_kinds style.versions)) store style file)
+    ++ kinds_items parts (sections_listed (first_kinds style.gnu style.versions)) store style file)
     ++ kinds_items parts segments_parts store style file)
     ++ kinds_items parts (sections_listed record_kinds) store style file)
     ++ of_headers file style parts (of_sections symbol_versions) store.loaded
@@ -201,7 +201,7 @@ unfolding table_items
 tables_are file style parts loaded store belongs view =
     let count : e_shnum file ≡ store.loaded = sym (belongs.count ∙ belongs.header.e_shnum) in
     let first : List ListingItem = of_headers file style parts section_headers_part store.loaded ++ segment_part file style parts in
-    ap (λ n. (of_headers file style parts section_headers_part n ++ segment_part file style parts) ++ kinds_rows (table_headers style.versions file).kinds (table_headers style.versions file).headers file style parts) count
+    ap (λ n. (of_headers file style parts section_headers_part n ++ segment_part file style parts) ++ kinds_rows (table_headers style.gnu style.versions file).kinds (table_headers style.gnu style.versions file).headers file style parts) count
     ∙ (ap (λ rest. first ++ rest) (kinds_are file style parts loaded store belongs view) ∙ regrouped first _ _ _ _)
 
 -- if the rows of definitions and needs are listed and have no fault, they have none at all

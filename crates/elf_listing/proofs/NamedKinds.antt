@@ -1,9 +1,9 @@
 -- The symbols and the relocation entries of sections, with or without versions after the names: the
 -- same headers describe them, and their checks are the same.
-use Rattle.std.proofs.Common.{◌≡◌, ℕ, ◌==◌, Bool, true, false, List, refl}
-use Rattle.elf_model.specs.Prelude.{is_symbol_table, relocations, relocations_with_versions, sh_type, suffixed_symbols, symbols}
-use Rattle.elf_model.specs.Tables.{relocation_table, symbol_table}
-use Rattle.elf_model.specs.TableKinds.{relocations_kind, symbols_kind}
+use Rattle.std.proofs.Common.{◌≡◌, ℕ, Bool, true, false, List, refl}
+use Rattle.elf_model.specs.Prelude.{entries_kind, entries_table, is_symbol_table, relocations, relocations_with_versions, suffixed_symbols, symbols}
+use Rattle.elf_model.specs.Tables.{symbol_table}
+use Rattle.elf_model.specs.TableKinds.{symbols_kind}
 
 pub symbols_have : (versions : Bool) (file : List ℕ) (at : ℕ) → (symbols_kind versions).has_table file at ≡ is_symbol_table file at
 unfolding symbols suffixed_symbols
@@ -15,12 +15,7 @@ unfolding symbols suffixed_symbols
 symbols_checks true = refl
 symbols_checks false = refl
 
-pub relocations_have : (versions : Bool) (file : List ℕ) (at : ℕ) → (relocations_kind versions).has_table file at ≡ (sh_type file at == 4)
+pub entries_checks : (addends versions : Bool) → (entries_kind addends versions).checks ≡ entries_table addends
 unfolding relocations relocations_with_versions
-relocations_have true file at = refl
-relocations_have false file at = refl
-
-pub relocations_checks : (versions : Bool) → (relocations_kind versions).checks ≡ relocation_table
-unfolding relocations relocations_with_versions
-relocations_checks true = refl
-relocations_checks false = refl
+entries_checks addends true = refl
+entries_checks addends false = refl

@@ -2,7 +2,7 @@
 use Rattle.elf_options.specs.Prelude.{style_of}
 use Rattle.elf_options.specs.declared.caps.ListingStyle.{ListingStyle}
 use Rattle.std.proofs.Common.{◌≡◌, ℕ, ◌+◌, ◌-◌, ◌<◌, Bool, true, false, List, ◌++◌, Some, Result, Ok, Err, refl, sym, ap, ◌∙◌, arith, zero-add}
-use Rattle.elf_model.specs.Prelude.{ListingItem, RELOCS, SYMBOLS, each, has, relocations, relocations_with_versions, suffixed_symbols, sum_over, symbol_versions, symbols}
+use Rattle.elf_model.specs.Prelude.{ListingItem, RELOCS, SYMBOLS, each, gnu_relocations, has, relocations, relocations_with_versions, suffixed_symbols, sum_over, symbol_versions, symbols}
 use Rattle.elf_model.proofs.SumLemmas.{last_cost, sums_split}
 use Rattle.elf_model.proofs.ListingLemmas.{rows_split}
 use Rattle.elf_source.specs.declared.source.Source.{Ghosts as Sources}
@@ -38,10 +38,12 @@ unfolding symbols suffixed_symbols
 symbols_bit true = refl
 symbols_bit false = refl
 
-pub relocations_bit : (versions : Bool) → (relocations_part versions).bit ≡ RELOCS
-unfolding relocations relocations_with_versions
-relocations_bit true = refl
-relocations_bit false = refl
+pub relocations_bit : (gnu versions : Bool) → (relocations_part gnu versions).bit ≡ RELOCS
+unfolding relocations relocations_with_versions gnu_relocations
+relocations_bit true true = refl
+relocations_bit true false = refl
+relocations_bit false true = refl
+relocations_bit false false = refl
 
 module _ {S W X : Type 0} {s : Sources S} {w : Sinks W} where
   -- the same items

@@ -1,5 +1,5 @@
 -- The items of one row, by the line that was written.
-use Rattle.elf_model.specs.Prelude.{DisplayedName, Fault as FaultItem, IsBudgetRefusal, Line, LinePrefix, ListingItem, ListingStyle, NoSuffix, RowFilter, Suffix, chooses, chosen_row, e_machine, e_phoff, entry_at, lines_of, named_row, place_of_segment, placed_line, r_sym, relocation_choice, relocation_prefix, relocation_row, section_at, segment_at, segment_line, segment_row, sh_offset, shown, shows_place, st_name, strings_of, symbol_choice, symbol_named, symbol_prefix, symbol_row}
+use Rattle.elf_model.specs.Prelude.{DisplayedName, Fault as FaultItem, IsBudgetRefusal, Line, LinePrefix, ListingItem, ListingStyle, NoSuffix, RowFilter, Suffix, chooses, chosen_row, e_machine, e_phoff, entry_at, lines_of, named_row, place_of_segment, placed_line, r_sym, relocation_choice, relocation_prefix, relocation_row, relocation_size, section_at, segment_at, segment_line, segment_row, sh_offset, shown, shows_place, st_name, strings_of, symbol_choice, symbol_named, symbol_prefix, symbol_row}
 use Rattle.elf_model.specs.declared.causes.Cause.{Cause}
 use Rattle.elf_model.specs.declared.causes.Refusal.{Refusal}
 use Rattle.elf_model.specs.declared.place_filters.RowPlace.{RowPlace}
@@ -93,13 +93,18 @@ symbol_is file style section index at front table off same_front same_table same
     ∙ (ap (λ name. chosen_row (choice at) (symbol_prefix style.format style.gnu (e_machine file) file at section index) at (shown (strings_of file (section_at file section)) name style.cap)) same_name
     ∙ ap (λ p. chosen_row (choice p) (symbol_prefix style.format style.gnu (e_machine file) file p section index) p (shown (strings_of file (section_at file section)) (st_name file p) style.cap)) place)))
 
+-- the place of an entry of one size, by its index
+pub entry_place : (addends : Bool) (from index : ℕ) → from + index * relocation_size addends ≡ from + relocation_size addends * index
+entry_place true from index = omega arith
+entry_place false from index = omega arith
+
 -- a relocation entry's row at its place
-pub relocation_is : (file : List ℕ) (front : LinePrefix) (style : ListingStyle) (section at entry symbol index : ℕ) → entry ≡ sh_offset file at + index * 24
-    → front ≡ relocation_prefix style.format style.gnu (e_machine file) file entry section → symbol ≡ r_sym file entry
-    → relocation_row file style section at index ≡ chosen_row (relocation_choice file style entry) front (symbol_named file style.cap at entry symbol).0 (symbol_named file style.cap at entry symbol).1
+pub relocation_is : (addends : Bool) (file : List ℕ) (front : LinePrefix) (style : ListingStyle) (section at entry symbol index : ℕ) → entry ≡ sh_offset file at + index * relocation_size addends
+    → front ≡ relocation_prefix addends style.format style.gnu (e_machine file) file entry section → symbol ≡ r_sym file entry
+    → relocation_row addends file style section at index ≡ chosen_row (relocation_choice addends file style entry) front (symbol_named file style.cap at entry symbol).0 (symbol_named file style.cap at entry symbol).1
 unfolding relocation_row
-relocation_is file front style section at entry symbol index here same names =
-    let place : entry ≡ entry_at file at 24 index = omega arith in
-    let row : LinePrefix → ℕ → ℕ → List ListingItem = λ text e k. chosen_row (relocation_choice file style e) text (symbol_named file style.cap at e k).0 (symbol_named file style.cap at e k).1 in
-    sym (ap (λ text. row text entry symbol) same ∙ (ap (λ k. row (relocation_prefix style.format style.gnu (e_machine file) file entry section) entry k) names
-    ∙ ap (λ e. row (relocation_prefix style.format style.gnu (e_machine file) file e section) e (r_sym file e)) place))
+relocation_is addends file front style section at entry symbol index here same names =
+    let place : entry ≡ entry_at file at (relocation_size addends) index = here ∙ entry_place addends (sh_offset file at) index in
+    let row : LinePrefix → ℕ → ℕ → List ListingItem = λ text e k. chosen_row (relocation_choice addends file style e) text (symbol_named file style.cap at e k).0 (symbol_named file style.cap at e k).1 in
+    sym (ap (λ text. row text entry symbol) same ∙ (ap (λ k. row (relocation_prefix addends style.format style.gnu (e_machine file) file entry section) entry k) names
+    ∙ ap (λ e. row (relocation_prefix addends style.format style.gnu (e_machine file) file e section) e (r_sym file e)) place))

@@ -94,9 +94,9 @@ segment_within store i size place cap table kind h =
     unless_by_cases false checks all = refl
 
 -- what the tables read that the headers in the store describe
-abbrev pub sections_sum : Bool → LoadedFile → StoreState → ℕ → ℕ → ℕ
-sections_sum versions loaded store most parts =
-    sum_over (λ i. kinds_cost (section_kinds versions) (store_sections store) i loaded.size most parts) 0 store.loaded
+abbrev pub sections_sum : (gnu versions : Bool) → LoadedFile → StoreState → ℕ → ℕ → ℕ
+sections_sum gnu versions loaded store most parts =
+    sum_over (λ i. kinds_cost (section_kinds gnu versions) (store_sections store) i loaded.size most parts) 0 store.loaded
 
 abbrev pub segments_sum : LoadedFile → StoreState → ℕ → ℕ → ℕ
 segments_sum loaded store most parts = sum_over (λ i. kinds_cost segment_kinds (store_segments store) i loaded.size most parts) 0 store.segments
@@ -155,17 +155,17 @@ unfolding kind_by_kind
 last_cost_listed loaded store most parts = omega arith
 
 -- what is listed reads the names, the program headers, and the tables of all kinds
-listed_parts : (versions : Bool) (loaded : LoadedFile) (store : StoreState) (most parts : ℕ)
-    → view_cost parts loaded + tables_listed parts loaded store most versions
-    ≤ names_asked loaded store.loaded most parts + segments_asked loaded parts + sections_sum versions loaded store most parts + segments_sum loaded store most parts
-listed_parts versions loaded store most parts =
+listed_parts : (gnu versions : Bool) (loaded : LoadedFile) (store : StoreState) (most parts : ℕ)
+    → view_cost parts loaded + tables_listed parts loaded store most gnu versions
+    ≤ names_asked loaded store.loaded most parts + segments_asked loaded parts + sections_sum gnu versions loaded store most parts + segments_sum loaded store most parts
+listed_parts gnu versions loaded store most parts =
     let names = names_listed (has parts SECTIONS) (not (loaded.header.e_shstrndx == 0)) (name_bytes most) store.loaded in
     let once = segments_once (loaded.header.e_shnum == 0) (has parts SEGMENTS) (has parts NOTES) (has parts DYNAMIC) (56 * loaded.header.e_phnum) in
-    let sections = by_kind (section_kinds versions) (store_sections store) loaded.size most parts store.loaded in
+    let sections = by_kind (section_kinds gnu versions) (store_sections store) loaded.size most parts store.loaded in
     let segments = by_kind segment_kinds (store_segments store) loaded.size most parts store.segments in
-    let all = kinds_cost_append (first_kinds versions) (record_kinds ++ (symbol_versions ∷ [])) (store_sections store) loaded.size most parts store.loaded in
+    let all = kinds_cost_append (first_kinds gnu versions) (record_kinds ++ (symbol_versions ∷ [])) (store_sections store) loaded.size most parts store.loaded in
     let last = kinds_cost_append record_kinds (symbol_versions ∷ []) (store_sections store) loaded.size most parts store.loaded in
-    let first = kinds_cost_listed (first_kinds versions) loaded store most parts in
+    let first = kinds_cost_listed (first_kinds gnu versions) loaded store most parts in
     let records = kinds_cost_listed record_kinds loaded store most parts in
     omega (arith, names, once, sections, segments, all, last, first, records, segments_cost_listed segment_kinds loaded store most parts, last_cost_listed loaded store most parts)
 
@@ -195,20 +195,20 @@ module _ (file : List ℕ) (loaded : LoadedFile) (store : StoreState) (style : L
         omega (arith, same)
   ]
 
-  tables_within : sections_sum style.versions loaded store style.cap parts + segments_sum loaded store style.cap parts ≤ tables_cost file style parts
+  tables_within : sections_sum style.gnu style.versions loaded store style.cap parts + segments_sum loaded store style.cap parts ≤ tables_cost file style parts
   unfolding tables_cost
   tables_within =
       let count : store.loaded ≡ e_shnum file = belongs.count ∙ belongs.header.e_shnum in
       elim (cases_Bool (e_shnum file == 0)) [
         | inl none ↦
-            let zero = sum_of_none (λ i. kinds_cost (section_kinds style.versions) (store_sections store) i loaded.size style.cap parts) store.loaded (count ∙ eqb-true (e_shnum file) 0 none) in
-            let same = ap (tables_by file style.cap parts) (headers_none style.versions file none) in
+            let zero = sum_of_none (λ i. kinds_cost (section_kinds style.gnu style.versions) (store_sections store) i loaded.size style.cap parts) store.loaded (count ∙ eqb-true (e_shnum file) 0 none) in
+            let same = ap (tables_by file style.cap parts) (headers_none style.gnu style.versions file none) in
             omega (arith, zero, same, few_segments)
         | inr some ↦
             let unviewed = view ∙ viewed_none parts loaded (ap (λ n. n == 0) belongs.header.e_shnum ∙ some) in
             let zero = sum_of_none (λ i. kinds_cost segment_kinds (store_segments store) i loaded.size style.cap parts) store.segments unviewed in
-            let tables = rows_cost file (row store) style.versions style.cap parts (λ i below. belongs.rows i (omega (arith, count))) in
-            let same : sections_sum style.versions loaded store style.cap parts ≡ sum_over (λ i. kinds_cost (section_kinds style.versions) (held_headers (e_shnum file) (row store)) i (length file) style.cap parts) 0 (e_shnum file) = rw (count, belongs.size) refl in
+            let tables = rows_cost file (row store) style.gnu style.versions style.cap parts (λ i below. belongs.rows i (omega (arith, count))) in
+            let same : sections_sum style.gnu style.versions loaded store style.cap parts ≡ sum_over (λ i. kinds_cost (section_kinds style.gnu style.versions) (held_headers (e_shnum file) (row store)) i (length file) style.cap parts) 0 (e_shnum file) = rw (count, belongs.size) refl in
             omega (arith, zero, same, tables, sections_counted file style parts)
       ]
 
@@ -255,11 +255,11 @@ module _ (file : List ℕ) (loaded : LoadedFile) (store : StoreState) (slots : �
   loads passed = rw (← same) (loadable file store.slots passed (ap is_none (passes_front (early_checks file store.slots) (section_name_checks file) belongs.passes)))
 
   pub loaded_within : HoldsSegments file store → store.segments ≡ viewed_headers parts loaded → first_refusal (header_checks file) ≡ None → has_tables parts ≡ true
-      → 64 * loaded.header.e_shnum + (view_cost parts loaded + tables_listed parts loaded store style.cap style.versions) ≤ after_header file slots style parts
+      → 64 * loaded.header.e_shnum + (view_cost parts loaded + tables_listed parts loaded store style.cap style.gnu style.versions) ≤ after_header file slots style parts
   loaded_within held view passed tables =
       let within = tables_within file loaded store style parts belongs held view in
       let headers = headers_within file loaded style.cap parts belongs.header in
-      let listed = listed_parts style.versions loaded store style.cap parts in
+      let listed = listed_parts style.gnu style.versions loaded store style.cap parts in
       let names = ap (λ n. names_asked loaded n style.cap parts) belongs.count in
       rw (tables, loads passed) (omega (arith, within, headers, listed, names))
 
@@ -272,15 +272,15 @@ module _ (file : List ℕ) (loaded : LoadedFile) (store : StoreState) (slots : �
 -- and within the ceiling, for any source
 pub loaded_below : (loaded : LoadedFile) (store : StoreState) (size slots : ℕ) (style : ListingStyle) (parts : ℕ) → loaded.size ≡ size → store.slots ≡ slots → store.loaded ≡ loaded.header.e_shnum
     → loaded.header.e_shnum ≤ slots → loaded.header.e_phnum ≤ slots → store.segments ≡ viewed_headers parts loaded
-    → 64 + (64 * loaded.header.e_shnum + (view_cost parts loaded + tables_listed parts loaded store style.cap style.versions)) ≤ style_ceiling size slots style
+    → 64 + (64 * loaded.header.e_shnum + (view_cost parts loaded + tables_listed parts loaded store style.cap style.gnu style.versions)) ≤ style_ceiling size slots style
 loaded_below loaded store size slots style parts same slotted count few some view =
-    let listed = listed_parts style.versions loaded store style.cap parts in
+    let listed = listed_parts style.gnu style.versions loaded store style.cap parts in
     let names = cost_where-le (has parts SECTIONS && not (loaded.header.e_shstrndx == 0)) (store.loaded * name_bytes style.cap) in
     let asked = cost_where-le (has parts SEGMENTS || (loaded.header.e_shnum == 0 && (has parts NOTES || has parts DYNAMIC))) (56 * loaded.header.e_phnum) in
     rw (← same) (elim (cases_Bool (loaded.header.e_shnum == 0)) [
       | inl none ↦
           let zero : store.loaded ≡ 0 = count ∙ eqb-true loaded.header.e_shnum 0 none in
-          let tables = sum_of_none (λ i. kinds_cost (section_kinds style.versions) (store_sections store) i loaded.size style.cap parts) store.loaded zero in
+          let tables = sum_of_none (λ i. kinds_cost (section_kinds style.gnu style.versions) (store_sections store) i loaded.size style.cap parts) store.loaded zero in
           let unnamed : store.loaded * name_bytes style.cap ≡ 0 = rw zero (omega arith) in
           let within = cost_where-le (needs_segment_view parts loaded) loaded.header.e_phnum in
           let more = sums_grow (λ i. kinds_cost segment_kinds (store_segments store) i loaded.size style.cap parts) 0 store.segments loaded.header.e_phnum (omega (arith, within, view)) in

@@ -1,6 +1,6 @@
 -- Rows that end in a name with its version, by what was read of both.
 use Rattle.std.proofs.Common.{◌≡◌, ℕ, ◌+◌, ◌*◌, ◌≤◌, ◌==◌, if◌then◌else◌, Bool, true, false, List, [], ◌∷◌, Option, None, Some, Result, Ok, Err, refl, sym, ap, ◌∙◌, arith}
-use Rattle.elf_model.specs.Prelude.{DisplayedName, EveryRow, Fault as FaultItem, Line, LinePrefix, ListingItem, ListingStyle, NoSuffix, RowFilter, Suffix, chooses, e_machine, entry_at, linked_at, named_row, r_sym, relocation_choice, relocation_prefix, relocation_row, relocation_row_with_version, section_at, sh_link, sh_offset, shown, st_name, strings_of, suffixed_row, symbol_choice, symbol_named, symbol_prefix, symbol_row, symbol_row_with_version, symbol_suffix}
+use Rattle.elf_model.specs.Prelude.{DisplayedName, EveryRow, Fault as FaultItem, Line, LinePrefix, ListingItem, ListingStyle, NoSuffix, RowFilter, Suffix, chooses, e_machine, entry_at, linked_at, named_row, r_sym, relocation_choice, relocation_prefix, relocation_row, relocation_row_with_version, relocation_size, section_at, sh_link, sh_offset, shown, st_name, strings_of, suffixed_row, symbol_choice, symbol_named, symbol_prefix, symbol_row, symbol_row_with_version, symbol_suffix}
 use Rattle.elf_model.specs.declared.causes.Cause.{Cause}
 use Rattle.elf_model.specs.declared.causes.Refusal.{Refusal}
 use Rattle.elf_model.proofs.SuffixLaws.{unsuffixed_line, unsuffixed_row}
@@ -18,7 +18,7 @@ use Rattle.elf_listing.specs.declared.listing.Listing.{Listing}
 use Rattle.elf_listing.specs.declared.read_suffix.VersionSuffixEnd.{VersionSuffixEnd}
 use Rattle.elf_listing.specs.declared.suffixes.VersionLookup.{VersionLookup}
 use Rattle.elf_listing.proofs.ListsLaws.{SameFile-then}
-use Rattle.elf_listing.proofs.RowLaws.{Ends-first, WrotePrefix-none, relocation_is, symbol_is}
+use Rattle.elf_listing.proofs.RowLaws.{Ends-first, WrotePrefix-none, entry_place, relocation_is, symbol_is}
 use Rattle.elf_listing.proofs.SymbolNamed.{says_after}
 
 -- a call that reads after another, in a bound on both
@@ -104,17 +104,17 @@ entry_suffix file cap at symbol =
     if symbol == 0 then Ok NoSuffix
     else symbol_suffix file cap (sh_link file at) (entry_at file (linked_at file at) 24 symbol) symbol
 
-suffixed_relocation_is : (file : List ℕ) (front : LinePrefix) (style : ListingStyle) (section at entry symbol index : ℕ) → entry ≡ sh_offset file at + index * 24
-    → front ≡ relocation_prefix style.format style.gnu (e_machine file) file entry section → symbol ≡ r_sym file entry
-    → relocation_row_with_version file style section at index
-    ≡ suffixed_row (relocation_choice file style entry) front (symbol_named file style.cap at entry symbol).0 (symbol_named file style.cap at entry symbol).1 (entry_suffix file style.cap at symbol)
+suffixed_relocation_is : (addends : Bool) (file : List ℕ) (front : LinePrefix) (style : ListingStyle) (section at entry symbol index : ℕ) → entry ≡ sh_offset file at + index * relocation_size addends
+    → front ≡ relocation_prefix addends style.format style.gnu (e_machine file) file entry section → symbol ≡ r_sym file entry
+    → relocation_row_with_version addends file style section at index
+    ≡ suffixed_row (relocation_choice addends file style entry) front (symbol_named file style.cap at entry symbol).0 (symbol_named file style.cap at entry symbol).1 (entry_suffix file style.cap at symbol)
 unfolding relocation_row_with_version
-suffixed_relocation_is file front style section at entry symbol index here same names =
-    let place : entry ≡ entry_at file at 24 index = omega arith in
+suffixed_relocation_is addends file front style section at entry symbol index here same names =
+    let place : entry ≡ entry_at file at (relocation_size addends) index = here ∙ entry_place addends (sh_offset file at) index in
     let row : LinePrefix → ℕ → ℕ → List ListingItem = λ text e k.
-    suffixed_row (relocation_choice file style e) text (symbol_named file style.cap at e k).0 (symbol_named file style.cap at e k).1 (entry_suffix file style.cap at k) in
-    sym (ap (λ text. row text entry symbol) same ∙ (ap (λ k. row (relocation_prefix style.format style.gnu (e_machine file) file entry section) entry k) names
-    ∙ ap (λ e. row (relocation_prefix style.format style.gnu (e_machine file) file e section) e (r_sym file e)) place))
+    suffixed_row (relocation_choice addends file style e) text (symbol_named file style.cap at e k).0 (symbol_named file style.cap at e k).1 (entry_suffix file style.cap at k) in
+    sym (ap (λ text. row text entry symbol) same ∙ (ap (λ k. row (relocation_prefix addends style.format style.gnu (e_machine file) file entry section) entry k) names
+    ∙ ap (λ e. row (relocation_prefix addends style.format style.gnu (e_machine file) file e section) e (r_sym file e)) place))
 
 -- a symbol's row at its place, without a version or with it
 pub symbol_row_is : (versions : Option VersionLookup) (file : List ℕ) (style : ListingStyle) (section index at : ℕ) (front : LinePrefix) (table : List ℕ) (off : ℕ)
@@ -136,13 +136,13 @@ either : (zero : Bool) (none : Result Suffix Refusal) → none ≡ (if zero then
 either true none = refl
 either false none = refl
 
-pub relocation_row_is : (versions : Option VersionLookup) (file : List ℕ) (front : LinePrefix) (style : ListingStyle) (section at entry symbol index : ℕ) → entry ≡ sh_offset file at + index * 24
-    → front ≡ relocation_prefix style.format style.gnu (e_machine file) file entry section → symbol ≡ r_sym file entry
-    → row_by versions (relocation_row file style section at) (relocation_row_with_version file style section at) index
-    ≡ suffixed_row (relocation_choice file style entry) front (symbol_named file style.cap at entry symbol).0 (symbol_named file style.cap at entry symbol).1 (entry_suffix_by versions file style.cap at symbol)
-relocation_row_is None file front style section at entry symbol index here same names =
+pub relocation_row_is : (addends : Bool) (versions : Option VersionLookup) (file : List ℕ) (front : LinePrefix) (style : ListingStyle) (section at entry symbol index : ℕ) → entry ≡ sh_offset file at + index * relocation_size addends
+    → front ≡ relocation_prefix addends style.format style.gnu (e_machine file) file entry section → symbol ≡ r_sym file entry
+    → row_by versions (relocation_row addends file style section at) (relocation_row_with_version addends file style section at) index
+    ≡ suffixed_row (relocation_choice addends file style entry) front (symbol_named file style.cap at entry symbol).0 (symbol_named file style.cap at entry symbol).1 (entry_suffix_by versions file style.cap at symbol)
+relocation_row_is addends None file front style section at entry symbol index here same names =
     let named = symbol_named file style.cap at entry symbol in
-    relocation_is file front style section at entry symbol index here same names
-    ∙ (sym (unsuffixed_row (relocation_choice file style entry) front named.0 named.1) ∙ ap (suffixed_row (relocation_choice file style entry) front named.0 named.1) (either (symbol == 0) (Ok NoSuffix)))
-relocation_row_is (Some suffixes) file front style section at entry symbol index here same names =
-    suffixed_relocation_is file front style section at entry symbol index here same names
+    relocation_is addends file front style section at entry symbol index here same names
+    ∙ (sym (unsuffixed_row (relocation_choice addends file style entry) front named.0 named.1) ∙ ap (suffixed_row (relocation_choice addends file style entry) front named.0 named.1) (either (symbol == 0) (Ok NoSuffix)))
+relocation_row_is addends (Some suffixes) file front style section at entry symbol index here same names =
+    suffixed_relocation_is addends file front style section at entry symbol index here same names

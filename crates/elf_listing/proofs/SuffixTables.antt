@@ -2,12 +2,12 @@
 -- refusal, or its own.
 use Rattle.std.proofs.Common.{◌≡◌, ℕ, ◌+◌, ◌<◌, ◌≤◌, nat_lt, ◌==◌, ◌&&◌, not, if◌then◌else◌, Bool, true, false, List, [], ◌∷◌, Option, None, Some, Result, Ok, Err, ◌⊎◌, inl, inr, refl, sym, ap, ◌∙◌, arith}
 use Rattle.std.proofs.lemmas.Bool.{le-ltb, ne_eqb}
-use Rattle.elf_model.specs.Prelude.{DisplayedName, LinePrefix, ListingItem, ListingStyle, NoSuffix, RowFilter, Suffix, after_refusal, all_checks, chosen_row, e_machine, each, entry_at, entry_count, first_refusal, has_symbols, is_symbol_table, linked_at, r_sym, refuse, relocation_choice, relocation_prefix, relocation_row, relocation_row_with_version, relocations, relocations_with_versions, section_at, sh_link, sh_type, suffixed_relocation_rows, suffixed_row, suffixed_symbol_rows, suffixed_symbols, suffixes_refusal, symbol_checks_of, symbol_named, symbol_row, symbol_row_with_version, symbol_suffix, symbol_table, symbols, table_rows}
+use Rattle.elf_model.specs.Prelude.{DisplayedName, LinePrefix, ListingItem, ListingStyle, NoSuffix, RowFilter, Suffix, after_refusal, all_checks, chosen_row, e_machine, each, entry_at, entry_count, first_refusal, has_symbols, is_symbol_table, linked_at, r_sym, refuse, relocation_choice, relocation_prefix, relocation_row, relocation_row_with_version, relocation_size, relocation_type, relocations, relocations_with_versions, section_at, sh_link, sh_type, suffixed_relocation_rows, suffixed_row, suffixed_symbol_rows, suffixed_symbols, suffixes_refusal, symbol_checks_of, symbol_named, symbol_row, symbol_row_with_version, symbol_suffix, symbol_table, symbols, table_rows}
 use Rattle.elf_model.specs.declared.causes.Cause.TheVariants.{BadLink, SymbolIndex}
 use Rattle.elf_model.specs.declared.causes.Cause.{Cause}
 use Rattle.elf_model.specs.declared.causes.Refusal.{Refusal}
 use Rattle.elf_model.proofs.SuffixLaws.{each_same, unsuffixed_row, unversioned_entries, unversioned_symbols}
-use Rattle.elf_table.specs.Prelude.{AreRelocations, RefersTo, StringTableRange, TableRange, stop_of}
+use Rattle.elf_table.specs.Prelude.{AreEntries, RefersTo, StringTableRange, TableRange, stop_of}
 use Rattle.elf_table.specs.declared.fault.Fault.{Fault}
 use Rattle.elf_table.specs.declared.run_fault.RunFault.{RunFault}
 use Rattle.elf_table.specs.declared.fault.Fault.TheVariants.{Refused, Source}
@@ -100,22 +100,22 @@ refused_name : (choice : RowFilter) (front : LinePrefix) (named : ℕ × Result 
     → suffixed_row choice front named.0 named.1 suffix ≡ chosen_row choice front named.0 named.1
 refused_name choice front named at cause suffix is = rw is refl
 
-unnamed_entry : (file : List ℕ) (style : ListingStyle) (section at index : ℕ) → (has_symbols file at ≡ false) ⊎ (entry_count file (linked_at file at) 24 ≡ 0)
-    → relocation_row_with_version file style section at index ≡ relocation_row file style section at index
+unnamed_entry : (addends : Bool) (file : List ℕ) (style : ListingStyle) (section at index : ℕ) → (has_symbols file at ≡ false) ⊎ (entry_count file (linked_at file at) 24 ≡ 0)
+    → relocation_row_with_version addends file style section at index ≡ relocation_row addends file style section at index
 unfolding relocation_row_with_version relocation_row
-unnamed_entry file style section at index unnamed = by_symbol (r_sym file (entry_at file at 24 index) == 0) refl
+unnamed_entry addends file style section at index unnamed = by_symbol (r_sym file (entry_at file at (relocation_size addends) index) == 0) refl
   where
-    by_symbol : (first : Bool) → (r_sym file (entry_at file at 24 index) == 0) ≡ first
-        → suffixed_row (relocation_choice file style (entry_at file at 24 index)) (relocation_prefix style.format style.gnu (e_machine file) file (entry_at file at 24 index) section)
-        (symbol_named file style.cap at (entry_at file at 24 index) (r_sym file (entry_at file at 24 index))).0
-        (symbol_named file style.cap at (entry_at file at 24 index) (r_sym file (entry_at file at 24 index))).1
+    by_symbol : (first : Bool) → (r_sym file (entry_at file at (relocation_size addends) index) == 0) ≡ first
+        → suffixed_row (relocation_choice addends file style (entry_at file at (relocation_size addends) index)) (relocation_prefix addends style.format style.gnu (e_machine file) file (entry_at file at (relocation_size addends) index) section)
+        (symbol_named file style.cap at (entry_at file at (relocation_size addends) index) (r_sym file (entry_at file at (relocation_size addends) index))).0
+        (symbol_named file style.cap at (entry_at file at (relocation_size addends) index) (r_sym file (entry_at file at (relocation_size addends) index))).1
         (if first then Ok NoSuffix
-        else symbol_suffix file style.cap (sh_link file at) (entry_at file (linked_at file at) 24 (r_sym file (entry_at file at 24 index))) (r_sym file (entry_at file at 24 index)))
-        ≡ chosen_row (relocation_choice file style (entry_at file at 24 index)) (relocation_prefix style.format style.gnu (e_machine file) file (entry_at file at 24 index) section)
-        (symbol_named file style.cap at (entry_at file at 24 index) (r_sym file (entry_at file at 24 index))).0
-        (symbol_named file style.cap at (entry_at file at 24 index) (r_sym file (entry_at file at 24 index))).1
-    by_symbol true is = unsuffixed_row (relocation_choice file style (entry_at file at 24 index)) _ _ _
-    by_symbol false is = refused_name (relocation_choice file style (entry_at file at 24 index)) _ _ _ _ _ (named_fails file at (entry_at file at 24 index) unnamed (r_sym file (entry_at file at 24 index)) is style.cap)
+        else symbol_suffix file style.cap (sh_link file at) (entry_at file (linked_at file at) 24 (r_sym file (entry_at file at (relocation_size addends) index))) (r_sym file (entry_at file at (relocation_size addends) index)))
+        ≡ chosen_row (relocation_choice addends file style (entry_at file at (relocation_size addends) index)) (relocation_prefix addends style.format style.gnu (e_machine file) file (entry_at file at (relocation_size addends) index) section)
+        (symbol_named file style.cap at (entry_at file at (relocation_size addends) index) (r_sym file (entry_at file at (relocation_size addends) index))).0
+        (symbol_named file style.cap at (entry_at file at (relocation_size addends) index) (r_sym file (entry_at file at (relocation_size addends) index))).1
+    by_symbol true is = unsuffixed_row (relocation_choice addends file style (entry_at file at (relocation_size addends) index)) _ _ _
+    by_symbol false is = refused_name (relocation_choice addends file style (entry_at file at (relocation_size addends) index)) _ _ _ _ _ (named_fails file at (entry_at file at (relocation_size addends) index) unnamed (r_sym file (entry_at file at (relocation_size addends) index)) is style.cap)
 
 -- what refuses the versions, of a section that refers to symbols and has entries
 abbrev linked_refusal : (has empty : Bool) → Option Refusal → Option Refusal
@@ -126,55 +126,55 @@ linked_none true true first none = refl
 linked_none true false first none = none
 linked_none false empty first none = refl
 
-module _ (file : List ℕ) (style : ListingStyle) (section : ℕ) (kind : (sh_type file (section_at file section) == 4) ≡ true) (table : TableRange) where
-  entries_are : (linked : Option (TableRange × StringTableRange)) → AreRelocations file (section_at file section) table linked
-      → table_rows relocations_with_versions file style section (section_at file section)
+module _ (addends : Bool) (file : List ℕ) (style : ListingStyle) (section : ℕ) (kind : (sh_type file (section_at file section) == relocation_type addends) ≡ true) (table : TableRange) where
+  entries_are : (linked : Option (TableRange × StringTableRange)) → AreEntries addends file (section_at file section) table linked
+      → table_rows (relocations_with_versions addends) file style section (section_at file section)
       ≡ after_refusal
       (linked_refusal (has_symbols file (section_at file section)) (table.count == 0) (suffixes_refusal file (sh_link file (section_at file section))))
-      (each (relocation_row_with_version file style section (section_at file section)) 0 table.count)
+      (each (relocation_row_with_version addends file style section (section_at file section)) 0 table.count)
   unfolding relocations_with_versions suffixed_relocation_rows
-  entries_are linked are = rw are.counted (table_passes relocations_with_versions file style section (section_at file section) kind are.pass)
+  entries_are linked are = rw are.counted (table_passes (relocations_with_versions addends) file style section (section_at file section) kind are.pass)
 
   -- the rows of a table whose versions are found
-  pub entries_shown : (linked : Option (TableRange × StringTableRange)) → AreRelocations file (section_at file section) table linked → suffixes_refusal file (sh_link file (section_at file section)) ≡ None
-      → table_rows relocations_with_versions file style section (section_at file section) ≡ each (relocation_row_with_version file style section (section_at file section)) 0 table.count
+  pub entries_shown : (linked : Option (TableRange × StringTableRange)) → AreEntries addends file (section_at file section) table linked → suffixes_refusal file (sh_link file (section_at file section)) ≡ None
+      → table_rows (relocations_with_versions addends) file style section (section_at file section) ≡ each (relocation_row_with_version addends file style section (section_at file section)) 0 table.count
   entries_shown linked are none =
       entries_are linked are
-      ∙ ap (λ (first : Option Refusal). after_refusal first (each (relocation_row_with_version file style section (section_at file section)) 0 table.count))
+      ∙ ap (λ (first : Option Refusal). after_refusal first (each (relocation_row_with_version addends file style section (section_at file section)) 0 table.count))
       (linked_none (has_symbols file (section_at file section)) (table.count == 0) (suffixes_refusal file (sh_link file (section_at file section))) none)
 
   -- of one whose symbols have none, or which refers to no symbols
-  pub entries_unnumbered : (linked : Option (TableRange × StringTableRange)) → AreRelocations file (section_at file section) table linked
+  pub entries_unnumbered : (linked : Option (TableRange × StringTableRange)) → AreEntries addends file (section_at file section) table linked
       → SuffixesOr file (sh_link file (section_at file section)) (Ok None)
-      → table_rows relocations_with_versions file style section (section_at file section) ≡ each (relocation_row file style section (section_at file section)) 0 table.count
+      → table_rows (relocations_with_versions addends) file style section (section_at file section) ≡ each (relocation_row addends file style section (section_at file section)) 0 table.count
   unfolding relocations_with_versions relocations
-  entries_unnumbered linked are (none, inl empty) = entries_shown linked are none ∙ each_same _ _ 0 table.count (λ i. unnamed_entry file style section (section_at file section) i (inr empty))
+  entries_unnumbered linked are (none, inl empty) = entries_shown linked are none ∙ each_same _ _ 0 table.count (λ i. unnamed_entry addends file style section (section_at file section) i (inr empty))
   entries_unnumbered linked are (none, inr unnumbered) =
-      table_passes relocations_with_versions file style section (section_at file section) kind are.pass
-      ∙ (unversioned_entries file style section (section_at file section) unnumbered ∙ ap (each (relocation_row file style section (section_at file section)) 0) (sym are.counted))
+      table_passes (relocations_with_versions addends) file style section (section_at file section) kind are.pass
+      ∙ (unversioned_entries addends file style section (section_at file section) unnumbered ∙ ap (each (relocation_row addends file style section (section_at file section)) 0) (sym are.counted))
 
-  pub entries_plain : (linked : Option (TableRange × StringTableRange)) → 0 < table.count → AreRelocations file (section_at file section) table linked
+  pub entries_plain : (linked : Option (TableRange × StringTableRange)) → 0 < table.count → AreEntries addends file (section_at file section) table linked
       → LinkedOr file (sh_link file (section_at file section)) linked (Ok None)
-      → table_rows relocations_with_versions file style section (section_at file section) ≡ each (relocation_row file style section (section_at file section)) 0 table.count
+      → table_rows (relocations_with_versions addends) file style section (section_at file section) ≡ each (relocation_row addends file style section (section_at file section)) 0 table.count
   entries_plain None some are or =
       let at = section_at file section in
       let unlinked = are.refers some in
-      let rows : List ListingItem = each (relocation_row_with_version file style section at) 0 table.count in
+      let rows : List ListingItem = each (relocation_row_with_version addends file style section at) 0 table.count in
       entries_are None are
       ∙ (ap (λ (has : Bool). after_refusal (linked_refusal has (table.count == 0) (suffixes_refusal file (sh_link file at))) rows) unlinked
-      ∙ each_same _ _ 0 table.count (λ i. unnamed_entry file style section at i (inl unlinked)))
+      ∙ each_same _ _ 0 table.count (λ i. unnamed_entry addends file style section at i (inl unlinked)))
   entries_plain (Some found) some are or = let linked = are.refers some in entries_unnumbered (Some found) are (or linked.1.counted)
 
   -- and of one whose versions are refused
-  pub entries_refused : (a : OutState) (linked : Option (TableRange × StringTableRange)) → 0 < table.count → AreRelocations file (section_at file section) table linked
+  pub entries_refused : (a : OutState) (linked : Option (TableRange × StringTableRange)) → 0 < table.count → AreEntries addends file (section_at file section) table linked
       → (fault : Fault) → LinkedOr file (sh_link file (section_at file section)) linked (Err fault)
-      → WroteUntilStop a a (stop_of fault) (table_rows relocations_with_versions file style section (section_at file section))
+      → WroteUntilStop a a (stop_of fault) (table_rows (relocations_with_versions addends) file style section (section_at file section))
   entries_refused a None some are fault or = absurd cc
   entries_refused a (Some found) some are fault or =
       let at = section_at file section in
       let linked = are.refers some in
       let filled : (table.count == 0) ≡ false = ne_eqb table.count 0 (λ zero. omega (arith, zero, some)) in
-      let rows : List ListingItem = each (relocation_row_with_version file style section at) 0 table.count in
+      let rows : List ListingItem = each (relocation_row_with_version addends file style section at) 0 table.count in
       refused_rows a file (sh_link file at) fault _ rows
       (entries_are (Some found) are
       ∙ (ap (λ (has : Bool). after_refusal (linked_refusal has (table.count == 0) (suffixes_refusal file (sh_link file at))) rows) linked.0
@@ -182,8 +182,8 @@ module _ (file : List ℕ) (style : ListingStyle) (section : ℕ) (kind : (sh_ty
       (or linked.1.counted)
 
   -- no entries have no rows
-  pub no_entries : (a : OutState) (linked : Option (TableRange × StringTableRange)) → table.count ≡ 0 → AreRelocations file (section_at file section) table linked
-      → WroteItems a a (table_rows relocations_with_versions file style section (section_at file section))
+  pub no_entries : (a : OutState) (linked : Option (TableRange × StringTableRange)) → table.count ≡ 0 → AreEntries addends file (section_at file section) table linked
+      → WroteItems a a (table_rows (relocations_with_versions addends) file style section (section_at file section))
   unfolding each
   no_entries a linked none are =
       let at = section_at file section in

@@ -51,5 +51,5 @@ ListsSegments parts old new result =
 -- all tables among the parts
 abbrev pub ListsTables : {S W X : Type 0} {s : Sources S} {w : Sinks W} → ℕ → Listing S W s w → Listing S W s w → Result X RunFault → Type 0
 ListsTables parts old new result =
-    ListingCalls old new result (tables_listed parts old.file.loaded old.file.store.now old.style.cap.bytes old.style.versions)
+    ListingCalls old new result (tables_listed parts old.file.loaded old.file.store.now old.style.cap.bytes old.style.gnu old.style.versions)
     (ListingWrote old new result (λ file. table_items file (style_of old.style) parts))

@@ -4,6 +4,7 @@ pub mod HeadersListed
 pub mod Notes
 pub mod Numbered
 pub mod Parts
+pub mod RelativeListed
 pub mod Reports
 pub mod RowCursors
 pub mod RowLayouts

@@ -1,8 +1,8 @@
 -- The parts of a listing after the file header: what is listed of each section, and how much is
 -- read.
-use Rattle.std.specs.Prelude.{ℕ, ◌+◌, ◌-◌, ◌*◌, ◌==◌, ◌&&◌, ◌≡◌, not, Bool, List, [], ◌∷◌, length, take, Option, None, Some, Result}
-use Rattle.elf_model.specs.Prelude.{DisplayedName, HeaderTable, ListingItem, ListingStyle, SECTIONS, SEGMENTS, TableKind, cost_where, each, fault_of, has, held_headers, name_bytes, no_name, records_rows, section_at, section_kinds, section_row, segment_at, segment_kinds, segment_row, shown, sum_over, symbol_versions, table_cost, table_rows, version_definitions, version_needs}
-use Rattle.elf_model.specs.TableKinds.{relocations_kind, symbols_kind}
+use Rattle.std.specs.Prelude.{ℕ, ◌+◌, ◌-◌, ◌*◌, ◌==◌, ◌&&◌, ◌≡◌, not, Bool, false, List, [], ◌∷◌, length, take, Option, None, Some, Result}
+use Rattle.elf_model.specs.Prelude.{DisplayedName, HeaderTable, ListingItem, ListingStyle, SECTIONS, SEGMENTS, TableKind, cost_where, each, either_kind, fault_of, has, held_headers, name_bytes, no_name, records_rows, relative_relocations, section_at, section_kinds, section_row, segment_at, segment_kinds, segment_row, shown, sum_over, symbol_versions, table_cost, table_rows, version_definitions, version_needs}
+use Rattle.elf_model.specs.TableKinds.{entries_kind, relocations_kind, symbols_kind}
 use Rattle.elf_model.specs.declared.causes.Cause.{Cause}
 use Rattle.elf_table.specs.Prelude.{LoadedFile, StoreState, StringTableRange, row, segment_bytes, strings_in}
 
@@ -61,8 +61,19 @@ program_headers_part = record {
 abbrev pub symbols_part : Bool → PartListed
 symbols_part versions = of_sections (symbols_kind versions)
 
-abbrev pub relocations_part : Bool → PartListed
-relocations_part versions = of_sections (relocations_kind versions)
+abbrev pub relocations_part : (gnu versions : Bool) → PartListed
+relocations_part gnu versions = of_sections (relocations_kind gnu versions)
+
+-- the relocation entries of sections of one type, with or without addends
+abbrev pub entries_part : (addends versions : Bool) → PartListed
+entries_part addends versions = of_sections (entries_kind addends versions)
+
+-- relative relocations, and what GNU listings have besides entries with addends
+abbrev pub relative_part : PartListed
+relative_part = of_sections relative_relocations
+
+abbrev pub further_part : (versions : Bool) → PartListed
+further_part versions = of_sections (either_kind (entries_kind false versions) relative_relocations)
 
 -- what holds before the versions of symbols are listed of a file that is known, in a style: they are
 -- named by definitions and needs whose own rows had no fault
@@ -105,8 +116,9 @@ kinds_asked parts (kind ∷ kinds) loaded store cap = asked_cost parts kind load
 abbrev pub record_kinds : List TableKind
 record_kinds = version_definitions ∷ version_needs ∷ []
 
-abbrev pub first_kinds : Bool → List TableKind
-first_kinds versions = take (length (section_kinds versions) - length (symbol_versions ∷ record_kinds)) (section_kinds versions)
+abbrev pub first_kinds : (gnu versions : Bool) → List TableKind
+first_kinds gnu versions =
+    take (length (section_kinds gnu versions) - length (symbol_versions ∷ record_kinds)) (section_kinds gnu versions)
 
 -- what each of some kinds lists, by the headers that describe its tables
 unfoldable pub kinds_listed : (TableKind → PartListed) → List TableKind → List PartListed
@@ -119,13 +131,13 @@ sections_listed kinds = kinds_listed of_sections kinds
 abbrev pub segments_parts : List PartListed
 segments_parts = kinds_listed of_segments segment_kinds
 
--- how many bytes the tables of a loaded file read at most, those among the parts, with or without
--- versions after the names of symbols
-abbrev pub tables_listed : ℕ → LoadedFile → StoreState → (cap : ℕ) → (versions : Bool) → ℕ
-tables_listed parts loaded store cap versions =
+-- how many bytes the tables of a loaded file read at most, those among the parts, of GNU listings or
+-- of the standards', with or without versions after the names of symbols
+abbrev pub tables_listed : ℕ → LoadedFile → StoreState → (cap : ℕ) → (gnu versions : Bool) → ℕ
+tables_listed parts loaded store cap gnu versions =
     asked_cost parts section_headers_part loaded store cap
     + segments_listed parts loaded
-    + kinds_asked parts (sections_listed (first_kinds versions)) loaded store cap
+    + kinds_asked parts (sections_listed (first_kinds gnu versions)) loaded store cap
     + kinds_asked parts segments_parts loaded store cap
     + kinds_asked parts (sections_listed record_kinds) loaded store cap
     + asked_cost parts (of_sections symbol_versions) loaded store cap

@@ -62,10 +62,10 @@ impl<'f> TableRows for DynamicEntries<'f> {
 }
 
 impl ListedKind for SectionDynamic {
-    ghost listed = { λ versions. of_sections section_dynamic };
+    ghost listed = { λ gnu versions. of_sections section_dynamic };
 
     #[tactic(auto, unfolding(elf_model::specs::TableKinds::section_dynamic))]
-    fn part(_versions: bool) -> Parts {
+    fn part(_gnu: bool, _versions: bool) -> Parts {
         Parts::DYNAMIC
     }
 
@@ -92,10 +92,10 @@ impl ListedKind for SectionDynamic {
 }
 
 impl ListedKind for SegmentDynamic {
-    ghost listed = { λ versions. of_segments segment_dynamic };
+    ghost listed = { λ gnu versions. of_segments segment_dynamic };
 
     #[tactic(auto, unfolding(elf_model::specs::TableKinds::segment_dynamic))]
-    fn part(_versions: bool) -> Parts {
+    fn part(_gnu: bool, _versions: bool) -> Parts {
         Parts::DYNAMIC
     }
 

@@ -13,8 +13,9 @@ use elf_table::RunFault;
 
 /// Kinds of tables in the order in which they are listed.
 pub trait KindList {
-    /// What they list, with or without versions after the names of symbols.
-    ghost kinds: { Bool → List PartListed };
+    /// What they list, in GNU listings or in the standards', with or without versions after the
+    /// names of symbols.
+    ghost kinds: { Bool → Bool → List PartListed };
 
     /// What holds before they are listed of a file that is known, in a style.
     ghost ready: { Option (List ℕ) → ListingStyle → Type 0 };
@@ -25,13 +26,13 @@ pub trait KindList {
         parts: Parts,
     ) -> Result<(), RunFault>
         requires { ready listing.old.src.now.seen.file (style_of listing.old.style) }
-        ensures { let listed = kinds listing.old.style.versions in
+        ensures { let listed = kinds listing.old.style.gnu listing.old.style.versions in
             ListsKinds parts.0 listed listing.old listing.new result };
 }
 
 /// No kind.
 impl KindList for () {
-    ghost kinds = { λ versions. [] };
+    ghost kinds = { λ gnu versions. [] };
 
     ghost ready = { λ seen style. Unit {0} };
 
@@ -46,7 +47,7 @@ impl KindList for () {
 
 /// A kind before others.
 impl<A: ListedKind, B: KindList> KindList for (A, B) {
-    ghost kinds = { λ versions. A.listed versions ∷ B.kinds versions };
+    ghost kinds = { λ gnu versions. A.listed gnu versions ∷ B.kinds gnu versions };
 
     ghost ready = { λ seen style. A.ready seen style × B.ready seen style };
 

@@ -15,6 +15,7 @@ mod notes;
 mod numbered;
 mod program_headers;
 mod read_suffix;
+mod relative_relocations;
 mod relocations;
 mod row_cursor;
 mod row_places;

@@ -13,19 +13,21 @@ use elf_table::RunFault;
 
 /// A kind of table: which headers describe one, and how it is shown.
 pub trait ListedKind {
-    /// What it lists, with or without versions after the names of symbols.
-    ghost listed: { Bool → PartListed };
+    /// What it lists, in GNU listings or in the standards', with or without versions after the
+    /// names of symbols.
+    ghost listed: { Bool → Bool → PartListed };
 
     /// What holds before it is listed of a file that is known, in a style.
     ghost ready: { Option (List ℕ) → ListingStyle → Type 0 } = { λ seen style. Unit {0} };
 
     /// Returns the part of a listing that it belongs to.
-    fn part(versions: bool) -> Parts
-        ensures { result.0 ≡ (listed versions).bit };
+    fn part(gnu: bool, versions: bool) -> Parts
+        ensures { result.0 ≡ (listed gnu versions).bit };
 
     /// Returns the number of headers that may describe one, those in the store.
     fn count<S: Source, W: Sink>(listing: &Listing<'_, '_, '_, '_, S, W>) -> u16
-        ensures { result ≡ (listed listing.now.style.versions).count listing.now.file.store.now };
+        ensures { let part = listed listing.now.style.gnu listing.now.style.versions in
+            result ≡ part.count listing.now.file.store.now };
 
     /// Shows the table of the header at an index, if it describes one of this kind, up to the first
     /// refusal.
@@ -34,9 +36,9 @@ pub trait ListedKind {
         index: u16,
     ) -> Result<(), RunFault>
         requires ready { ready listing.old.src.now.seen.file (style_of listing.old.style) }
-        requires below { let part = listed listing.old.style.versions in
+        requires below { let part = listed listing.old.style.gnu listing.old.style.versions in
             index < part.count listing.old.file.store.now }
-        ensures { let part = listed listing.old.style.versions in
+        ensures { let part = listed listing.old.style.gnu listing.old.style.versions in
             ListsHeader part listing.old listing.new result index };
 }
 
@@ -45,12 +47,13 @@ pub(crate) fn list_kind<K: ListedKind, S: Source, W: Sink>(
     listing: &mut Listing<'_, '_, '_, '_, S, W>,
     parts: Parts,
 ) -> Result<(), RunFault>
-    requires { has parts.0 (K.listed listing.old.style.versions).bit ≡ true →
+    requires { let part = K.listed listing.old.style.gnu listing.old.style.versions in
+        has parts.0 part.bit ≡ true →
         K.ready listing.old.src.now.seen.file (style_of listing.old.style) }
-    ensures { let part = K.listed listing.old.style.versions in
+    ensures { let part = K.listed listing.old.style.gnu listing.old.style.versions in
         ListsAsked parts.0 part listing.old listing.new result }
 {
-    if !parts.contains(K::part(listing.style.versions)) {
+    if !parts.contains(K::part(listing.style.gnu, listing.style.versions)) {
         return Ok(());
     }
     list_headers::<K, S, W>(listing)
@@ -63,7 +66,8 @@ pub(crate) fn list_headers<K: ListedKind, S: Source, W: Sink>(
     listing: &mut Listing<'_, '_, '_, '_, S, W>,
 ) -> Result<(), RunFault>
     requires { K.ready listing.old.src.now.seen.file (style_of listing.old.style) }
-    ensures { ListsPart (K.listed listing.old.style.versions) listing.old listing.new result }
+    ensures { let part = K.listed listing.old.style.gnu listing.old.style.versions in
+        ListsPart part listing.old listing.new result }
 {
     let count = K::count(listing);
     let mut index = 0;

@@ -24,10 +24,10 @@ pub struct SectionNotes;
 pub struct SegmentNotes;
 
 impl ListedKind for SectionNotes {
-    ghost listed = { λ versions. of_sections section_notes };
+    ghost listed = { λ gnu versions. of_sections section_notes };
 
     #[tactic(auto, unfolding(elf_model::specs::TableKinds::section_notes))]
-    fn part(_versions: bool) -> Parts {
+    fn part(_gnu: bool, _versions: bool) -> Parts {
         Parts::NOTES
     }
 
@@ -50,10 +50,10 @@ impl ListedKind for SectionNotes {
 }
 
 impl ListedKind for SegmentNotes {
-    ghost listed = { λ versions. of_segments segment_notes };
+    ghost listed = { λ gnu versions. of_segments segment_notes };
 
     #[tactic(auto, unfolding(elf_model::specs::TableKinds::segment_notes))]
-    fn part(_versions: bool) -> Parts {
+    fn part(_gnu: bool, _versions: bool) -> Parts {
         Parts::NOTES
     }
 

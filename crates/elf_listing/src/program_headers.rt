@@ -25,9 +25,9 @@ use elf_table::{Cursor, ExecutionView, Row, RunFault, Table};
 pub struct ProgramHeaders;
 
 impl ListedKind for ProgramHeaders {
-    ghost listed = { λ versions. program_headers_part };
+    ghost listed = { λ gnu versions. program_headers_part };
 
-    fn part(_versions: bool) -> Parts {
+    fn part(_gnu: bool, _versions: bool) -> Parts {
         Parts::SEGMENTS
     }
 

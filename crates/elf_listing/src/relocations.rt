@@ -1,17 +1,20 @@
 //! The relocation entries of sections.
-ghost use Rattle.std.specs.Prelude.{◌≡◌, ◌<◌, true, IfSome};
+ghost use Rattle.std.specs.Prelude.{◌≡◌, ◌<◌, true, ℕ, List, length, IfSome};
+ghost use Rattle.elf_model.specs.Prelude.{relocation_size, relocation_type, slice};
+ghost use Rattle.elf_record.specs.Rel.{IsAddend, IsRel};
 ghost use Rattle.elf_table.specs.Tables.{SymbolTableInBounds};
 ghost use Rattle.elf_listing.specs.Fetched.{FetchesLinked};
 ghost use Rattle.elf_listing.specs.HeadersListed.{ListsHeader};
-ghost use Rattle.elf_listing.specs.Parts.{relocations_part};
+ghost use Rattle.elf_listing.specs.Parts.{entries_part, further_part, relocations_part};
 ghost use Rattle.elf_listing.specs.RowLayouts.{relocation_layout};
 ghost use Rattle.elf_listing.specs.Suffixed.{FetchesOfEntry, FetchesOfLinked, IsUnfilled, SuffixesWithin, lookup_found};
-ghost use Rattle.elf_listing.specs.TablesFound.{AreEntriesOf};
+ghost use Rattle.elf_listing.specs.TablesFound.{AreEntriesOf, IsOfType};
 
 use crate::listed_kind::ListedKind;
 use crate::listing::Listing;
 use crate::name_versions::{FoundVersions, NameVersions, NoVersions};
 use crate::read_suffix::VersionSuffixEnd;
+use crate::relative_relocations::list_relative;
 use crate::row_cursor::RowCursor;
 use crate::row_places::place_of_relocation;
 use crate::row_selection::RowSelection;
@@ -19,8 +22,8 @@ use crate::suffixes::VersionLookup;
 use crate::table_rows::{TableRows, list_rows};
 use elf_format::{LinePrefix, Render, relocation_prefix};
 use elf_note::NameIndex;
-use elf_record::numbers::SHT_RELA;
-use elf_record::{Parts, Rela};
+use elf_record::numbers::{SHT_REL, SHT_RELA};
+use elf_record::{Parts, Rel, Rela};
 use elf_source::{Sink, Source};
 use elf_table::{
     Cursor, Fault, LinkedSymbol, LinkedSymbolTable, NameBuf, NameEnd, Row, RunFault, Table,
@@ -31,6 +34,8 @@ use elf_table::{
 pub struct Relocations {
     /// The index of the section.
     pub section: u16,
+    /// Whether the entries have addends.
+    pub has_addends: bool,
     /// The symbols that they refer to, with their names.
     pub linked: LinkedSymbolTable,
 }
@@ -59,24 +64,42 @@ impl TableRows for Relocations {
         row: &Row<'_>,
     ) -> Result<(), RunFault> {
         let naming = listing.naming();
-        let entry = Rela::decode(row.whole());
+        let (entry, addend) = decode_entry(row, self.has_addends);
         let symbol = entry.symbol();
         let read = listing.read_linked(self.linked, symbol, row.at)?;
         let suffix = read_version(listing, versions, symbol, read.is_defined)?;
-        let place = place_of_relocation(listing.file_type(), row.at, &entry);
+        let place = place_of_relocation(listing.file_type(), row.at, self.has_addends, &entry);
         if !listing.is_row_shown::<C>(&place, read.end, suffix, versions.bytes()) {
             return Ok(());
         }
-        relocation_prefix::<R>(front, self.section, &entry, naming);
+        relocation_prefix::<R>(front, self.section, &entry, addend, naming);
         listing.suffixed_line(front, read.end, suffix, versions.bytes())
     }
+}
+
+/// Reads the fields of a relocation entry, and its addend if entries have addends.
+fn decode_entry(row: &Row<'_>, has_addends: bool) -> (Rel, Option<i64>)
+    requires { length row.now.bytes.now ≡ relocation_size has_addends }
+    ensures { (file : List ℕ) →
+        row.now.bytes.now ≡ slice file row.now.at (relocation_size has_addends) →
+        IsRel file row.now.at result.0 × IsAddend has_addends file row.now.at result.1 }
+{
+    if has_addends {
+        let entry = Rela::decode(row.whole());
+        let without = Rel {
+            r_offset: entry.r_offset,
+            r_info: entry.r_info,
+        };
+        return (without, Some(entry.r_addend));
+    }
+    (Rel::decode(row.whole()), None)
 }
 
 impl ListedKind for Relocations {
     ghost listed = { relocations_part };
 
     #[tactic(auto, using(crate::proofs::PartsLaws::relocations_bit))]
-    fn part(_versions: bool) -> Parts {
+    fn part(_gnu: bool, _versions: bool) -> Parts {
         Parts::RELOCS
     }
 
@@ -88,20 +111,54 @@ impl ListedKind for Relocations {
         listing: &mut Listing<'_, '_, '_, '_, S, W>,
         index: u16,
     ) -> Result<(), RunFault> {
-        if listing.file.section(index).sh_type != SHT_RELA {
+        if listing.file.section(index).sh_type == SHT_RELA {
+            return list_entries(listing, index, true);
+        }
+        if !listing.style.gnu {
             return Ok(());
         }
-        let found = listing.file.relocations(index)?;
-        let (table, linked) = found;
-        let rows = Relocations {
-            section: index,
-            linked,
-        };
-        if listing.style.versions {
-            return list_with_versions(listing, table, &rows);
-        }
-        list_rows(listing, table, &rows, &mut NoVersions)
+        list_further(listing, index)
     }
+}
+
+/// Shows the relocations of a section that only GNU listings have: entries without addends, or
+/// relative relocations.
+fn list_further<S: Source, W: Sink>(
+    listing: &mut Listing<'_, '_, '_, '_, S, W>,
+    index: u16,
+) -> Result<(), RunFault>
+    requires { index < listing.old.file.store.now.loaded }
+    ensures { let part = further_part listing.old.style.versions in
+        ListsHeader part listing.old listing.new result index }
+{
+    if listing.file.section(index).sh_type == SHT_REL {
+        return list_entries(listing, index, false);
+    }
+    list_relative(listing, index)
+}
+
+/// Shows the relocation entries of a section, whose type says whether they have addends.
+fn list_entries<S: Source, W: Sink>(
+    listing: &mut Listing<'_, '_, '_, '_, S, W>,
+    index: u16,
+    has_addends: bool,
+) -> Result<(), RunFault>
+    requires below { index < listing.old.file.store.now.loaded }
+    requires kind { IsOfType listing.old.file index (relocation_type has_addends) }
+    ensures { let part = entries_part has_addends listing.old.style.versions in
+        ListsHeader part listing.old listing.new result index }
+{
+    let found = listing.file.entries(index, has_addends)?;
+    let (table, linked) = found;
+    let rows = Relocations {
+        section: index,
+        has_addends,
+        linked,
+    };
+    if listing.style.versions {
+        return list_with_versions(listing, table, &rows);
+    }
+    list_rows(listing, table, &rows, &mut NoVersions)
 }
 
 /// Shows the relocation entries of a section with the versions of their symbols, if a section of
@@ -112,7 +169,8 @@ fn list_with_versions<S: Source, W: Sink>(
     rows: &Relocations,
 ) -> Result<(), RunFault>
     requires { AreEntriesOf listing.old.file table rows.now }
-    ensures { ListsHeader (relocations_part true) listing.old listing.new result rows.now.section }
+    ensures { let part = entries_part rows.now.has_addends true in
+        ListsHeader part listing.old listing.new result rows.now.section }
 {
     let link = listing.file.section(rows.section).sh_link;
     if table.is_empty() {
@@ -135,7 +193,8 @@ fn list_versioned<S: Source, W: Sink>(
 ) -> Result<(), RunFault>
     requires entries { AreEntriesOf listing.old.file table rows.now }
     requires filled { 0 < table.count }
-    ensures { ListsHeader (relocations_part true) listing.old listing.new result rows.now.section }
+    ensures { let part = entries_part rows.now.has_addends true in
+        ListsHeader part listing.old listing.new result rows.now.section }
 {
     let link = listing.file.section(rows.section).sh_link;
     let mut lookup = VersionLookup::new();

@@ -1,13 +1,13 @@
 //! Where the rows of a listing are: for each kind of row its record, and what it describes.
 ghost use Rattle.std.specs.Prelude.{◌≡◌, ◌==◌, ◌%◌, ◌||◌, ◌+◌, ◌<◌, ◌≤◌, ℕ, List};
-ghost use Rattle.elf_model.specs.Prelude.{bytes_to_alignment, descriptor_start, place_of_header, place_of_record, place_of_relocation, place_of_section, place_of_segment, place_of_symbol, place_of_version};
+ghost use Rattle.elf_model.specs.Prelude.{bytes_to_alignment, descriptor_start, place_of_header, place_of_record, place_of_relocation, place_of_relr, place_of_section, place_of_segment, place_of_symbol, place_of_version};
 ghost use Rattle.elf_model.specs.RowPlaces.{is_address, is_in_memory_type};
 ghost use Rattle.elf_model.specs.Records.{e_type};
 ghost use Rattle.elf_model.specs.Versions.{VisitedRecord, record_size};
 ghost use Rattle.elf_note.specs.Prelude.{IsVersion};
 ghost use Rattle.elf_listing.specs.Notes.{align_of};
 ghost use Rattle.elf_record.specs.Phdr.{IsPhdr};
-ghost use Rattle.elf_record.specs.Rela.{IsRela};
+ghost use Rattle.elf_record.specs.Rel.{IsRel};
 ghost use Rattle.elf_record.specs.Shdr.{IsShdr};
 ghost use Rattle.elf_record.specs.Sym.{IsSym};
 
@@ -19,10 +19,10 @@ use elf_record::numbers::{
     SHT_NOBITS, STT_FILE, STT_SECTION, STT_TLS,
 };
 use elf_record::sizes::{
-    PROGRAM_HEADER_BYTES, RELOCATION_BYTES, SECTION_HEADER_BYTES, SYMBOL_BYTES,
-    VERSION_DEFINITION_BYTES, VERSION_NAME_BYTES, VERSION_NEED_BYTES,
+    PROGRAM_HEADER_BYTES, REL_BYTES, RELOCATION_BYTES, RELR_BYTES, SECTION_HEADER_BYTES,
+    SYMBOL_BYTES, VERSION_DEFINITION_BYTES, VERSION_NAME_BYTES, VERSION_NEED_BYTES,
 };
-use elf_record::{NoteHead, Phdr, Rela, SectionFlags, Shdr, Sym, VersionKind, is_linked_type};
+use elf_record::{NoteHead, Phdr, Rel, SectionFlags, Shdr, Sym, VersionKind, is_linked_type};
 
 /// The size of the file header in bytes (gABI 4, ELF Header).
 const FILE_HEADER_BYTES: u64 = 64;
@@ -114,19 +114,36 @@ fn has_address(symbol: &Sym) -> bool
         && (place < SHN_LORESERVE || place == SHN_ABS || place == SHN_XINDEX)
 }
 
-/// Returns the place of a relocation entry at `at` in a file of the given type: in a program or a
-/// library it describes eight bytes of memory.
-pub(crate) fn place_of_relocation(kind: u16, at: u64, entry: &Rela) -> RowPlace
-    ensures { (file : List ℕ) → kind ≡ e_type file → IsRela file at entry.now →
-        result ≡ place_of_relocation file at }
+/// Returns the place of a relocation entry at `at` in a file of the given type, with an addend or
+/// without: in a program or a library it describes eight bytes of memory.
+pub(crate) fn place_of_relocation(kind: u16, at: u64, has_addend: bool, entry: &Rel) -> RowPlace
+    ensures { (file : List ℕ) → kind ≡ e_type file → IsRel file at entry.now →
+        result ≡ place_of_relocation has_addend file at }
+{
+    let size = if has_addend {
+        RELOCATION_BYTES
+    } else {
+        REL_BYTES
+    };
+    RowPlace {
+        entry: PlaceRange { start: at, size },
+        bytes: PlaceRange::nowhere(),
+        memory: PlaceRange::when(is_linked_type(kind), entry.r_offset, 8),
+    }
+}
+
+/// Returns the place of an address that the word of relative relocations at `at` gives, in a file
+/// of the given type: in a program or a library it describes eight bytes of memory.
+pub(crate) fn place_of_relr(kind: u16, at: u64, address: u64) -> RowPlace
+    ensures { (file : List ℕ) → kind ≡ e_type file → result ≡ place_of_relr file at address }
 {
     RowPlace {
         entry: PlaceRange {
             start: at,
-            size: RELOCATION_BYTES,
+            size: RELR_BYTES,
         },
         bytes: PlaceRange::nowhere(),
-        memory: PlaceRange::when(is_linked_type(kind), entry.r_offset, 8),
+        memory: PlaceRange::when(is_linked_type(kind), address, 8),
     }
 }
 

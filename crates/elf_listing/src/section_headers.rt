@@ -17,9 +17,9 @@ use elf_table::RunFault;
 pub struct SectionHeaders;
 
 impl ListedKind for SectionHeaders {
-    ghost listed = { λ versions. section_headers_part };
+    ghost listed = { λ gnu versions. section_headers_part };
 
-    fn part(_versions: bool) -> Parts {
+    fn part(_gnu: bool, _versions: bool) -> Parts {
         Parts::SECTIONS
     }
 

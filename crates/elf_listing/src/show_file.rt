@@ -221,7 +221,8 @@ fn list_tables<S: Source, W: Sink>(
     requires { IsReady parts.0 src.old loaded store.now }
     ensures grows { OutGrows out.old out.new }
     ensures costs { ListingCosts src.old src.new out.new result
-        (tables_listed parts.0 loaded store.now style.entry.cap.bytes style.entry.versions) }
+        (tables_listed parts.0 loaded store.now
+        style.entry.cap.bytes style.entry.gnu style.entry.versions) }
     ensures text { (file : List ℕ) → src.old.seen.file ≡ Some file →
         WroteSome out.old out.new result (table_items file (style_of style.entry) parts.0) }
 {

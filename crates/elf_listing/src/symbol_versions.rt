@@ -26,12 +26,12 @@ use elf_table::{Fault, Names, RunFault, Table};
 pub struct SymbolVersions;
 
 impl ListedKind for SymbolVersions {
-    ghost listed = { λ versions. of_sections symbol_versions };
+    ghost listed = { λ gnu versions. of_sections symbol_versions };
 
     ghost ready = { AreRecordsListed };
 
     #[tactic(auto, unfolding(elf_model::specs::VersionRows::symbol_versions))]
-    fn part(_versions: bool) -> Parts {
+    fn part(_gnu: bool, _versions: bool) -> Parts {
         Parts::VERSIONS
     }
 

@@ -68,10 +68,10 @@ impl TableRows for Symbols {
 }
 
 impl ListedKind for Symbols {
-    ghost listed = { symbols_part };
+    ghost listed = { λ gnu versions. symbols_part versions };
 
     #[tactic(auto, using(crate::proofs::PartsLaws::symbols_bit))]
-    fn part(_versions: bool) -> Parts {
+    fn part(_gnu: bool, _versions: bool) -> Parts {
         Parts::SYMBOLS
     }
 

@@ -27,10 +27,10 @@ pub struct Definitions;
 pub struct Needs;
 
 impl ListedKind for Definitions {
-    ghost listed = { λ versions. of_sections version_definitions };
+    ghost listed = { λ gnu versions. of_sections version_definitions };
 
     #[tactic(auto, unfolding(elf_model::specs::VersionRows::version_definitions))]
-    fn part(_versions: bool) -> Parts {
+    fn part(_gnu: bool, _versions: bool) -> Parts {
         Parts::VERSIONS
     }
 
@@ -48,10 +48,10 @@ impl ListedKind for Definitions {
 }
 
 impl ListedKind for Needs {
-    ghost listed = { λ versions. of_sections version_needs };
+    ghost listed = { λ gnu versions. of_sections version_needs };
 
     #[tactic(auto, unfolding(elf_model::specs::VersionRows::version_needs))]
-    fn part(_versions: bool) -> Parts {
+    fn part(_gnu: bool, _versions: bool) -> Parts {
         Parts::VERSIONS
     }
 

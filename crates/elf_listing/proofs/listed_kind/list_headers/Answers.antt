@@ -12,11 +12,11 @@ use Rattle.elf_listing.proofs.PartsLaws.{headers_stopped, headers_then}
 use Rattle.elf_listing.proofs.listed_kind.list_headers.Goals as goal
 
 -- what a header reads, and its items
-abbrev costs : (Bool → PartListed) → SectionView → ListingStyle → ℕ → ℕ
-costs listed f style = (listed style.versions).cost f.loaded f.store.now style.cap.bytes
+abbrev costs : (Bool → Bool → PartListed) → SectionView → ListingStyle → ℕ → ℕ
+costs listed f style = (listed style.gnu style.versions).cost f.loaded f.store.now style.cap.bytes
 
-abbrev shown : (Bool → PartListed) → ListingStyle → List ℕ → ℕ → List ListingItem
-shown listed style file i = (listed style.versions).items file (style_of style) i
+abbrev shown : (Bool → Bool → PartListed) → ListingStyle → List ℕ → ℕ → List ListingItem
+shown listed style file i = (listed style.gnu style.versions).items file (style_of style) i
 
 pub headers-init : goal.headers-init
 headers-init g c = record {
@@ -45,5 +45,5 @@ headers-preserved g c =
 pub returns : goal.returns
 returns g c =
     let known = c.headers.invariant in
-    let all : c.headers.index ≡ (g.K.ListedKind.listed c.args.listing.now.style.versions).count c.args.listing.now.file.store.now = omega (arith, c.headers-test.false, known.counted, known.below) in
+    let all : c.headers.index ≡ (g.K.ListedKind.listed c.args.listing.now.style.gnu c.args.listing.now.style.versions).count c.args.listing.now.file.store.now = omega (arith, c.headers-test.false, known.counted, known.below) in
     rw all at known.so_far

@@ -7,7 +7,7 @@ use Rattle.elf_listing.proofs.listed_kind.list_headers.Given as goal
 
 abbrev pub invariant-headers : goal.invariant-headers
 invariant-headers g l =
-    let part = g.K.ListedKind.listed l.fn.listing.style.versions in
+    let part = g.K.ListedKind.listed l.fn.listing.style.gnu l.fn.listing.style.versions in
     let f = l.fn.listing.file in
     let cap = l.fn.listing.style.cap.bytes in
     record {

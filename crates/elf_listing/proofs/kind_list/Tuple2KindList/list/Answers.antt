@@ -9,11 +9,11 @@ use Rattle.elf_listing.specs.Prelude.{PartListed, kinds_asked, kinds_items}
 use Rattle.elf_listing.proofs.PartsLaws.{Parts-more, Parts-then, cost_of_kinds, items_of_kinds}
 use Rattle.elf_listing.proofs.kind_list.Tuple2KindList.list.Goals as goal
 
-abbrev costs : ℕ → (Bool → List PartListed) → SectionView → ListingStyle → ℕ
-costs parts kinds f style = cost_of_kinds parts (kinds style.versions) f style
+abbrev costs : ℕ → (Bool → Bool → List PartListed) → SectionView → ListingStyle → ℕ
+costs parts kinds f style = cost_of_kinds parts (kinds style.gnu style.versions) f style
 
-abbrev shown : ℕ → (Bool → List PartListed) → SectionView → ListingStyle → List ℕ → List ListingItem
-shown parts kinds f style file = items_of_kinds parts (kinds style.versions) f style file
+abbrev shown : ℕ → (Bool → Bool → List PartListed) → SectionView → ListingStyle → List ℕ → List ListingItem
+shown parts kinds f style file = items_of_kinds parts (kinds style.gnu style.versions) f style file
 
 -- what holds before the others are listed still holds
 still_ready : {A B : Type 0} (ready : A → B → Type 0) {a a' : A} {b b' : B} → a' ≡ a → b' ≡ b → ready a b → ready a' b'

@@ -18,10 +18,10 @@ abbrev segments_shown : ℕ → SectionView → ListingStyle → List ℕ → Li
 segments_shown parts f style file = segment_part file (style_of style) parts
 
 abbrev first_cost : ℕ → SectionView → ListingStyle → ℕ
-first_cost parts f style = cost_of_kinds parts (sections_listed (first_kinds style.versions)) f style
+first_cost parts f style = cost_of_kinds parts (sections_listed (first_kinds style.gnu style.versions)) f style
 
 abbrev first_items : ℕ → SectionView → ListingStyle → List ℕ → List ListingItem
-first_items parts f style file = items_of_kinds parts (sections_listed (first_kinds style.versions)) f style file
+first_items parts f style file = items_of_kinds parts (sections_listed (first_kinds style.gnu style.versions)) f style file
 
 pub returns-in_err-list_kind : goal.returns-in_err-list_kind
 returns-in_err-list_kind g c =

@@ -1,62 +1,44 @@
--- The table's checks and those of the symbols that it refers to come before its rows.
-use Rattle.elf_options.specs.Permitted.{style_of}
-use Rattle.std.proofs.Common.{rules, Bool, refl, sym, ap, ◌∙◌, subst}
+-- Entries with addends are listed, and in GNU listings those without and relative relocations.
+use Rattle.std.proofs.Common.{◌≡◌, Bool, true, Ok, refl, sym, ◌∙◌, subst}
 use Rattle.std.proofs.lemmas.Bool.{eq-eqb, ne_eqb}
-use Rattle.std.proofs.lemmas.Result.{err_from_is_err_and}
-use Rattle.elf_model.specs.Prelude.{each, relocation_row, relocations, section_at}
+use Rattle.elf_options.specs.Permitted.{style_of}
+use Rattle.elf_model.specs.Prelude.{entries_kind, section_at}
+use Rattle.elf_model.proofs.RelativeKinds.{entries_have}
 use Rattle.elf_listing.specs.HeadersListed.{ListsHeader}
-use Rattle.elf_model.specs.TableKinds.{relocations_kind}
 use Rattle.elf_listing.specs.Prelude.{relocations_part}
-use Rattle.elf_listing.proofs.NamedKinds.{relocations_checks, relocations_have}
-use Rattle.elf_listing.proofs.RowLaws.{WroteSome-as}
-use Rattle.elf_listing.proofs.SectionCosts.{section_within}
-use Rattle.elf_listing.proofs.SectionShown.{no_table, table_fails, table_passes}
-use Rattle.elf_listing.proofs.SuffixCosts.{table_plain}
-use Rattle.elf_listing.proofs.ListsLaws.{ListingCalls-nothing, ListingCalls-refused, ListingCalls-within}
+use Rattle.elf_listing.proofs.ListsLaws.{ListingCalls-nothing}
+use Rattle.elf_listing.proofs.RelativeShown.{further, with_addends}
+use Rattle.elf_listing.proofs.SectionShown.{no_table}
 use Rattle.elf_listing.proofs.relocations.RelocationsListedKind.header.Goals as goal
 
-pub returns-then-section-ne-SHT_RELA : goal.returns-then-section-ne-SHT_RELA
-returns-then-section-ne-SHT_RELA g c = ListingCalls-nothing _ _ _ _ (λ file held.
-    let versions = c.args.listing.now.style.versions in
-    let stands = c.section.ensures.stands file (c.args.listing.now.loaded.belongs file held) in
-    no_table (relocations_kind versions) file _ _ _ _ (relocations_have versions file _ ∙ ne_eqb _ _ (λ same. c.if-section-ne-SHT_RELA.true (stands.sh_type ∙ same))))
-
-pub returns-in_err-found : goal.returns-in_err-found
-returns-in_err-found g c =
-    let p = err_from_is_err_and c.from_residual.result c.from_residual.ensures.1 in
-    rw (p.1, p.2) (ListingCalls-refused _ _ _ _ (search rules) (λ file held.
-    let versions = c.args.listing.now.style.versions in
-    let belongs = c.args.listing.now.loaded.belongs file held in
-    let kind = sym (c.section.ensures.stands file belongs).sh_type ∙ c.if-section-ne-SHT_RELA.false in
-    table_fails (relocations_kind versions) file _ _ _ (relocations_have versions file _ ∙ eq-eqb _ _ kind) _ _ (rw (relocations_checks versions) (c.in_err-found.ensures.held file belongs))))
-
-pub list_with_versions-requires : goal.list_with_versions-requires
-list_with_versions-requires g c = record {
-  kind = sym c.section.ensures.fields.sh_type ∙ c.if-section-ne-SHT_RELA.false;
-  below = c.requires.below;
-  held = c.in_ok-found.ensures.held;
-  table = c.in_ok-found.ensures.table;
-  entry = c.in_ok-found.ensures.entry;
-  within = c.in_ok-found.ensures.within;
-  linked = c.in_ok-found.ensures.linked;
+pub list_entries-requires-clause-kind : goal.list_entries-requires-clause-kind
+list_entries-requires-clause-kind g c = record {
+  kind = sym c.section.ensures.fields.sh_type ∙ c.if-section-eq-SHT_RELA.true;
+  typed = λ bytes belongs. sym (c.section.ensures.stands bytes belongs).sh_type ∙ c.if-section-eq-SHT_RELA.true;
 }
 
-pub returns-then-listing : goal.returns-then-listing
-returns-then-listing g c =
-    subst (λ (v : Bool). ListsHeader (relocations_part v) c.args.listing.now c.list_with_versions.new.listing c.list_with_versions.result c.args.index) (sym c.if-listing.true) c.list_with_versions.ensures
+pub returns-then-section-eq-SHT_RELA : goal.returns-then-section-eq-SHT_RELA
+returns-then-section-eq-SHT_RELA g c =
+    with_addends c.args.listing.now.style.versions _ _ _ c.args.index c.args.listing.now.style.gnu
+    (eq-eqb _ _ (sym c.section.ensures.fields.sh_type ∙ c.if-section-eq-SHT_RELA.true))
+    (λ file held. eq-eqb _ _ (sym (c.section.ensures.stands file (c.args.listing.now.loaded.belongs file held)).sh_type ∙ c.if-section-eq-SHT_RELA.true))
+    c.list_entries.ensures
+
+pub returns-then-not-listing : goal.returns-then-not-listing
+returns-then-not-listing g c =
+    let versions = c.args.listing.now.style.versions in
+    subst (λ (gnu : Bool). ListsHeader {X = Unit {0}} (relocations_part gnu versions) c.args.listing.now c.args.listing.now (Ok tt) c.args.index) (sym c.if-not-listing.true)
+    (ListingCalls-nothing _ _ _ _ (λ file held.
+    let at = section_at file c.args.index in
+    let stands = c.section.ensures.stands file (c.args.listing.now.loaded.belongs file held) in
+    no_table (entries_kind true versions) file (style_of c.args.listing.now.style) c.args.index at _
+    (entries_have true versions file at ∙ ne_eqb _ _ (λ same. c.if-section-eq-SHT_RELA.false (stands.sh_type ∙ same)))))
 
 pub returns : goal.returns
-unfolding relocations
 returns g c =
-    let f = c.args.listing.now.file in
-    let cap = c.args.listing.now.style.cap.bytes in
-    let style = style_of c.args.listing.now.style in
-    let kind = sym c.section.ensures.fields.sh_type ∙ c.if-section-ne-SHT_RELA.false in
-    let plain = ListingCalls-within _ _ _ _ _ _ _ (table_plain _ _ _ _ (section_within relocations f.store.now c.args.index f.loaded.size _ cap 24 _ _ (eq-eqb _ _ kind) refl refl c.in_ok-found.ensures.table)) c.list_rows.ensures (λ file held.
-    let belongs = c.args.listing.now.loaded.belongs file held in
-    let at = section_at file c.args.index in
-    let kind = sym (c.section.ensures.stands file belongs).sh_type ∙ c.if-section-ne-SHT_RELA.false in
-    let found = c.in_ok-found.ensures.held file belongs in
-    WroteSome-as _ _ _ (table_passes relocations file style c.args.index at (eq-eqb _ _ kind) found.pass ∙ ap (each (relocation_row file style c.args.index at) 0) (sym found.counted))
-    (c.list_rows.ensures.shows file held (λ some. (found.refers some, found.placed, tt)))) in
-    subst (λ (v : Bool). ListsHeader (relocations_part v) c.args.listing.now c.list_rows.new.listing c.list_rows.result c.args.index) (sym c.if-listing.false) plain
+    let versions = c.args.listing.now.style.versions in
+    subst (λ (gnu : Bool). ListsHeader (relocations_part gnu versions) c.args.listing.now c.list_further.new.listing c.list_further.result c.args.index) (sym c.if-not-listing.false)
+    (further versions _ _ _ c.args.index
+    (ne_eqb _ _ (λ same. c.if-section-eq-SHT_RELA.false (c.section.ensures.fields.sh_type ∙ same)))
+    (λ file held. ne_eqb _ _ (λ same. c.if-section-eq-SHT_RELA.false ((c.section.ensures.stands file (c.args.listing.now.loaded.belongs file held)).sh_type ∙ same)))
+    c.list_further.ensures)
