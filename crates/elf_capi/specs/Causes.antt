@@ -1,6 +1,6 @@
 -- The causes of refusals as numbers.
 use Rattle.std.specs.Prelude.{ℕ}
-use Rattle.elf_model.specs.declared.causes.Cause.TheVariants.{BadClass, BadData, BadLink, BadVersion, Budget, EntrySize, ExtendedNumbering, HashCycle, HashIndex, HashShape, LoadOverlap, MemberCut, NameOutside, NameUnended, NoHash, NotArchive, NotElf, NotRel, NotStrings, NoteCut, Overflow, PlaceOutside, Short, SizeNotWhole, SymbolIndex, TableOutside, Thin, TooLong, TooManyHeaders, Undefined, Unmapped, Unplaced, Unsupported, VersionCut, VersionIndex}
+use Rattle.elf_model.specs.declared.causes.Cause.TheVariants.{BadClass, BadData, BadLink, BadVersion, Budget, EntrySize, ExtendedNumbering, HashCycle, HashIndex, HashShape, LoadOverlap, MemberCut, NameOutside, NameUnended, NoHash, NotArchive, NotElf, NotRel, NotStrings, NoteCut, Overflow, PlaceOutside, Relr, Short, SizeNotWhole, SymbolIndex, TableOutside, Thin, TooLong, TooManyHeaders, Undefined, Unmapped, Unplaced, Unsupported, VersionCut, VersionIndex}
 use Rattle.elf_model.specs.declared.causes.Cause.{Cause}
 
 -- the number of a cause, starting at 1; 0 is none
@@ -40,3 +40,4 @@ cause_number Thin = 34
 cause_number NotArchive = 35
 cause_number MemberCut = 36
 cause_number LoadOverlap = 37
+cause_number Relr = 38

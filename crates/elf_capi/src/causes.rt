@@ -44,5 +44,6 @@ pub(crate) fn cause_number(cause: Cause) -> u32
         Cause::NotArchive => 35,
         Cause::MemberCut => 36,
         Cause::LoadOverlap => 37,
+        Cause::Relr => 38,
     }
 }

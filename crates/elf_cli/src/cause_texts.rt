@@ -2,7 +2,7 @@
 use crate::explain::Explanation;
 
 /// What each cause means, in the order of the manual page.
-static CAUSES: [Explanation; 37] = [
+static CAUSES: [Explanation; 38] = [
     Explanation {
         word: "short",
         text: "    The file is shorter than a file header, 64 bytes. The offset is its size.
@@ -127,6 +127,14 @@ static CAUSES: [Explanation; 37] = [
     loaded. (gABI 5, Program Header, Program Loading)
     What to do: the file is no program for this system (a kernel's image has
     such segments), or is hostile: do not load it.
+",
+    },
+    Explanation {
+        word: "relr",
+        text: "    With --gnu, a word of a section of type RELR is a bitmap, and no address
+    precedes it; or the eight bytes at one of its addresses end past 2^64. The
+    offset is that of the word. (gABI 4, Relative Relocation Table)
+    What to do: the section was cut or overwritten: link the file again.
 ",
     },
     Explanation {

@@ -79,6 +79,7 @@ fn cause_of(number: u32) -> Option<Cause>
         35 => Some(Cause::NotArchive),
         36 => Some(Cause::MemberCut),
         37 => Some(Cause::LoadOverlap),
+        38 => Some(Cause::Relr),
         _ => None,
     }
 }

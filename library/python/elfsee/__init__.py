@@ -131,6 +131,7 @@ class Cause(enum.IntEnum):
     NOT_ARCHIVE = 35
     MEMBER_CUT = 36
     LOAD_OVERLAP = 37
+    RELR = 38
 
 
 # ---------------------------------------------------------------------------
