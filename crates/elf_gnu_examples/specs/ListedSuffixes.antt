@@ -100,17 +100,17 @@ relocated_library symbol =
 -- relocation entries whose symbols have a version
 abbrev pub EntriesHaveVersions : Type 0
 EntriesHaveVersions =
-    (report_of Columns (suffixed_relocation_rows (relocated_library 1) (with_versions 63 Columns EveryRow) 7 (section_at (relocated_library 1) 7))
+    (report_of Columns (suffixed_relocation_rows true (relocated_library 1) (with_versions 63 Columns EveryRow) 7 (section_at (relocated_library 1) 7))
     ≡ codes "R     7 00000000000002a0 GLOB_DAT   00000001 +0000000000000000 puts@GLIBC_2.2.5\n")
-    × (report_of Columns (suffixed_relocation_rows (relocated_library 0) (with_versions 63 Columns EveryRow) 7 (section_at (relocated_library 0) 7))
+    × (report_of Columns (suffixed_relocation_rows true (relocated_library 0) (with_versions 63 Columns EveryRow) 7 (section_at (relocated_library 0) 7))
     ≡ codes "R     7 00000000000002a0 GLOB_DAT   00000000 +0000000000000000 \n")
 
 -- an object has the version and whether it is the default one; a version is cut as a name is
 abbrev pub ObjectsHaveVersions : Type 0
 ObjectsHaveVersions =
-    (report_of Columns (suffixed_relocation_rows (relocated_library 1) (with_versions 63 Object EveryRow) 7 (section_at (relocated_library 1) 7))
+    (report_of Columns (suffixed_relocation_rows true (relocated_library 1) (with_versions 63 Object EveryRow) 7 (section_at (relocated_library 1) 7))
     ≡ codes "{\"line\":\"R\",\"table\":7,\"offset\":672,\"type\":\"GLOB_DAT\",\"symbol\":1,\"addend\":0,\"name\":\"puts\",\"version\":\"GLIBC_2.2.5\",\"default\":false}\n")
-    × (report_of Columns (suffixed_relocation_rows (relocated_library 1) (with_versions 4 Columns EveryRow) 7 (section_at (relocated_library 1) 7))
+    × (report_of Columns (suffixed_relocation_rows true (relocated_library 1) (with_versions 4 Columns EveryRow) 7 (section_at (relocated_library 1) 7))
     ≡ codes "R     7 00000000000002a0 GLOB_DAT   00000001 +0000000000000000 puts@GLIB\\+\n")
 
 -- the line of `g`, which has no version
@@ -164,7 +164,7 @@ TablesAreRefusedInOrder =
 
 -- the relocation entries of a file
 abbrev pub entries_listed : List ℕ → List ℕ
-entries_listed file = report_of Columns (suffixed_relocation_rows file (with_versions 63 Columns EveryRow) 7 (section_at file 7))
+entries_listed file = report_of Columns (suffixed_relocation_rows true file (with_versions 63 Columns EveryRow) 7 (section_at file 7))
 
 -- without a symbol, or an entry, nothing is refused; with an entry the versions are, before it
 abbrev pub EmptyTablesAreNotRefused : Type 0
@@ -184,7 +184,7 @@ abbrev pub ObjectsHaveDefaults : Type 0
 ObjectsHaveDefaults =
     (report_of Columns (suffixed_symbol_rows versioned_library (with_versions 63 Object (RowsOf (map (wanted_text true) (codes "f@@V2" ∷ [])))) 2 (section_at versioned_library 2))
     ≡ codes "{\"line\":\"Y\",\"table\":2,\"index\":4,\"value\":681,\"size\":1,\"type\":\"FUNC\",\"binding\":\"GLOBAL\",\"visibility\":\"DEFAULT\",\"place\":7,\"name\":\"f\",\"version\":\"V2\",\"default\":true}\n")
-    × (report_of Columns (suffixed_relocation_rows (relocated_library 1) (with_versions 4 Object EveryRow) 7 (section_at (relocated_library 1) 7))
+    × (report_of Columns (suffixed_relocation_rows true (relocated_library 1) (with_versions 4 Object EveryRow) 7 (section_at (relocated_library 1) 7))
     ≡ codes "{\"line\":\"R\",\"table\":7,\"offset\":672,\"type\":\"GLOB_DAT\",\"symbol\":1,\"addend\":0,\"name\":\"puts\",\"version\":\"GLIB\",\"version_cut\":true,\"default\":false}\n")
 
 -- a listing has them, and costs a versym entry and a name more for each row, and a walk over four
@@ -196,9 +196,9 @@ SuffixesAreCounted =
     × (listing_cost (relocated_library 1) 8 (with_versions 63 Columns EveryRow) RELOCS ≡ 64 + 8 * 64 + (24 + 24 + 64) + (2 + 64) + 4 * 28 + 2 * 16)
     × (listing_cost (with_bytes 0x418 (little 4 3) versioned_library) 8 (with_versions 63 Columns EveryRow) SYMBOLS ≡ 64 + 8 * 64 + 6 * (24 + 64))
 
--- their upper bound with one header: 120 bytes have room for seven rows of 16 bytes, five symbols,
--- six definitions, seven needs
+-- their upper bound with one header: 120 bytes have room for seven rows of 16 bytes, each with a
+-- version, six definitions, seven needs
 abbrev pub CeilingWithVersions : Type 0
 CeilingWithVersions =
     style_ceiling 120 1 (with_versions 63 Columns EveryRow)
-    ≡ 64 + (64 + 56 + 64 + 120 + 7 * (32 + 64)) + (5 * (2 + 64) + 6 * 28 + 7 * 16)
+    ≡ 64 + (64 + 56 + 64 + 120 + 7 * (32 + 64)) + (7 * (2 + 64) + 6 * 28 + 7 * 16)

@@ -20,6 +20,7 @@ mod number_rows;
 mod offered_rows;
 mod overlap_rows;
 mod record_rows;
+mod relative_rows;
 mod rest_rows;
 mod suffix_rows;
 mod view_rows;
