@@ -1,6 +1,6 @@
 -- Worked examples of fields and names: records whose bytes all differ, and each number that has a
 -- name.
-use Rattle.std.specs.Prelude.{◌≡◌, ℕ, false, List, [], ◌∷◌, codes, map}
+use Rattle.std.specs.Prelude.{◌≡◌, ℕ, true, false, List, [], ◌∷◌, codes, map}
 use Rattle.elf_model.specs.Prelude.{bindings, cause_word, d_tag, d_un, dynamic_prefix, dynamic_tag_text, e_entry, e_flags, e_machine, e_phentsize, e_phnum, e_phoff, e_shentsize, e_shnum, e_shoff, e_shstrndx, e_type, escaped, file_type_text, header_line, n_descsz, n_namesz, n_type, name_or_number, numbers_from, p_align, p_filesz, p_flags, p_memsz, p_offset, p_paddr, p_type, p_vaddr, places, r_addend, r_info, r_offset, relocation_prefix, relocation_type_text, section_flags_text, section_prefix, section_type_text, segment_flags_text, segment_line, segment_type_text, sh_addr, sh_addralign, sh_entsize, sh_flags, sh_info, sh_link, sh_name, sh_offset, sh_size, sh_type, st_info, st_name, st_other, st_shndx, st_size, st_value, symbol_prefix, symbol_types, visibilities}
 use Rattle.elf_model.specs.declared.causes.Cause.TheVariants.{BadClass, BadData, BadLink, BadVersion, Budget, EntrySize, ExtendedNumbering, HashCycle, HashIndex, HashShape, MemberCut, NameOutside, NameUnended, NoHash, NotArchive, NotElf, NotRel, NotStrings, NoteCut, Overflow, PlaceOutside, Short, SizeNotWhole, SymbolIndex, TableOutside, Thin, TooLong, TooManyHeaders, Undefined, Unmapped, Unplaced, Unsupported, VersionCut, VersionIndex}
 use Rattle.elf_model.specs.declared.formats.Format.TheVariants.{Columns}
@@ -42,7 +42,7 @@ SymbolFieldsStand =
 -- the fields of a relocation entry
 abbrev pub RelocationFieldsStand : Type 0
 RelocationFieldsStand =
-    (relocation_prefix Columns false 62 places_as_bytes 0x40 3).text
+    (relocation_prefix true Columns false 62 places_as_bytes 0x40 3).text
     ≡ codes "R     3 4746454443424140 #1263159624 4f4e4d4c +5756555453525150 "
 
 -- the fields of a dynamic entry and of a note header; an entry's index may be wider than its column

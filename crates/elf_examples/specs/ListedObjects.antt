@@ -49,7 +49,7 @@ ObjectsOfLines =
     ≡ codes "{\"line\":\"S\",\"index\":7,\"type\":1195787588,\"flags\":\"IOC?\",\"address\":6293311349960364368,\"offset\":6872032732664977752,\"size\":7450754115369591136,\"link\":1802135912,\"info\":1869507948")
     × (segment_line Object false (numbers_from 0 128) 0x40 7
     ≡ codes "{\"line\":\"P\",\"index\":7,\"type\":1128415552,\"permissions\":\"R--\",\"offset\":5714589967255750984,\"vaddr\":6293311349960364368,\"paddr\":6872032732664977752,\"filesz\":7450754115369591136,\"memsz\":8029475498074204520,\"align\":8608196880778817904}\n")
-    × ((relocation_prefix Object false 62 (numbers_from 0 128) 0x40 3).text
+    × ((relocation_prefix true Object false 62 (numbers_from 0 128) 0x40 3).text
     ≡ codes "{\"line\":\"R\",\"table\":3,\"offset\":5135868584551137600,\"type\":1263159624,\"symbol\":1330531660,\"addend\":6293311349960364368")
     × ((dynamic_prefix Object false (numbers_from 0 128) 0x40 5).text
     ≡ codes "{\"line\":\"D\",\"index\":5,\"tag\":5135868584551137600,\"value\":5714589967255750984")
