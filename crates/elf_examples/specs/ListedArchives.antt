@@ -103,9 +103,9 @@ CutMembersCost =
     × (archive_cost (archive_of (member_header (codes "/5") (codes "1"))) 3 (standard 63) ALL ≡ 8 + 60 + 128)
     × (archive_cost (archive_of (member_header (codes "#1/5") (codes "1"))) 3 (standard 63) ALL ≡ 8 + 60 + 128)
 
--- the upper bound with versions after names: 59 bytes have room for two symbols, two definitions
--- and three needs
+-- the upper bound with versions after names: 59 bytes have room for three rows of 16 bytes, two
+-- definitions and three needs
 abbrev pub CeilingsWithVersions : Type 0
 CeilingsWithVersions =
     archive_ceiling 59 1 (record { cap = 63; gnu = true; by_segments = false; format = Columns; choice = EveryRow; symbols = every_symbol; place = every_place; versions = true })
-    ≡ 8 + (64 + (184 + 59 + 3 * 96) + (2 * 66 + 2 * 28 + 3 * 16))
+    ≡ 8 + (64 + (184 + 59 + 3 * 96) + (3 * 66 + 2 * 28 + 3 * 16))
