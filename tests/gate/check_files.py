@@ -613,9 +613,10 @@ def check_scan(counts, program, top):
 
 
 def memory_of(worker):
-    """The most memory that a running program has held, in KiB."""
+    """The most memory that a running program has held, in KiB; 0 if it has ended meanwhile."""
     with open(f"/proc/{worker.pid}/status", "rb") as file:
-        return int(re.search(rb"VmHWM:\s+(\d+) kB", file.read())[1])
+        found = re.search(rb"VmHWM:\s+(\d+) kB", file.read())
+    return int(found[1]) if found else 0
 
 
 def check_million(counts, program, top):

@@ -417,8 +417,10 @@ class Cases:
     def checks(self):
         """A check of a file looks at it, opens it, seeks its length, reads what its listing reads, and closes it."""
         def checked(name, path, wanted, *words):
+            run = self.run(f"check of {name}, with a budget", path, "check", *BUDGET, *words, path)
+            check(f"check of {name}, with a budget: {len(wanted)} reads", first_difference(wanted, run.reads))
             run = self.run(f"check of {name}", path, "check", *words, path)
-            check(f"check of {name}: {len(wanted)} reads", first_difference(wanted, run.reads))
+            check(f"check of {name}: reads", first_difference(by_pages(wanted, os.path.getsize(path)), run.reads))
             check(f"check of {name}: closed once", "" if run.closes == 1 else str(run.closes))
         relocs = os.path.join(self.folder, "relocs")
         checked("10,000 relocation entries", relocs, head_of(1) + pages(FAR, 240000, 170 * 24))
