@@ -6,6 +6,7 @@ use Rattle.std.proofs.lemmas.List.{length-drop, length-take}
 use Rattle.std.specs.Prelude.{IfErr, IfSome}
 use Rattle.elf_model.specs.Prelude.{AT_SIGN, Answer, FoundVersion, IsAnswered, SymbolQuery, asked_after, LoaderLookup, asked_name, find_answer, found_version_line, loader_answer, loader_answer_for, loader_ceiling, loader_cost, loader_looked, looked, looked_at, named_line, parse_query, symbol_version_prefix}
 use Rattle.elf_model.specs.declared.formats.Format.{Format}
+use Rattle.elf_model.specs.declared.fault_rows.FaultRow.TheVariants.{NoRow}
 use Rattle.elf_source.specs.Prelude.{CountedState, OutGrows, OutPuts, OutState, SetsLimit, SinkTakes, SourceState}
 use Rattle.elf_source.specs.declared.faults.OutFault.{OutFault}
 use Rattle.elf_source.proofs.PutsLaws.{SinkTakes-then, SinkTakesPrefix-then}
@@ -59,7 +60,7 @@ module _ {a b : OutState} (format : Format) (budget : Option ℕ) (s0 s1 s2 s3 :
       let size = ap (λ (seen : SourceState). most seen.size) set.seen in
       runs budget s0 s1 s3 (most s0.seen.size) cost set grows (rw (unset.seen) reads.keeps) unset.most (omega (arith, at_most, asked, size))
       (rw asked (within_budget budget s0 s1 s2 set reads.same_limit))
-      (told_says format s0 s1 s2 s3 a b n budget (stop_of fault) told set unset tells (StopSays-fault s1 s2 a fault n n (omega arith) charges.says))
+      (told_says NoRow format s0 s1 s2 s3 a b n budget (stop_of fault) told set unset tells (StopSays-fault s1 s2 a fault n n (omega arith) charges.says))
       (λ file held.
       let it = known file held in
       let costs = it.0.reads.at_most in
