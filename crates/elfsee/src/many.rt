@@ -178,12 +178,9 @@ where
     };
     let lines = TableWriter::new(io::writer(rt), format);
     let output = LineSink::new(WriteSink::new(lines), kept);
-    let output = match buffers.location {
-        Some(room) => LocatedSink::new(output, room),
-        None => LocatedSink::plain(output),
-    };
+    let LineBuffers { held, location } = buffers;
     let mut many = FileRun::new(
-        Out::new(DeferredSink::new(output, buffers.held)),
+        Out::new(DeferredSink::new(located(output, location), held)),
         each,
         format,
         terminal,
@@ -192,6 +189,14 @@ where
     let ended = visit_all(rt, files, &mut many, &mut walk, &mut entries);
     let (ended, _output) = end_many(ended, many);
     ended
+}
+
+/// Returns a sink over `output` that adds locations to rows, if there is a buffer for them.
+fn located<W: Sink>(output: W, location: Option<Vec<u8>>) -> LocatedSink<W> {
+    match location {
+        Some(room) => LocatedSink::new(output, room),
+        None => LocatedSink::plain(output),
+    }
 }
 
 /// Returns the exit status and the line on standard error, by how a visit ended.
