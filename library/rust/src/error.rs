@@ -80,12 +80,14 @@ pub enum Cause {
     MemberCut,
     /// A LOAD segment begins on a page of the previous one, or below it.
     LoadOverlap,
+    /// A word of relative relocations has no address before it, or its addresses end past 2^64.
+    Relr,
 }
 
 use Cause::*;
 
 /// The causes by their numbers.
-const CAUSES: [Cause; 38] = [
+const CAUSES: [Cause; 39] = [
     Unknown,
     Short,
     NotElf,
@@ -124,6 +126,7 @@ const CAUSES: [Cause; 38] = [
     NotArchive,
     MemberCut,
     LoadOverlap,
+    Relr,
 ];
 
 impl Cause {
