@@ -106,4 +106,6 @@ pub mod LinkSteps
 pub mod LinkKeys
 pub mod LinkObjects
 pub mod LinkPasses
+pub mod LinkInputs
+pub mod LinkLines
 pub mod Prelude

@@ -111,6 +111,8 @@ pub struct KeyEntry {
     pub is_group: bool,
     /// Whether a link-once section of this name is kept.
     pub is_link_once: bool,
+    /// Whether an object has a section of this name that is not dropped.
+    pub is_section: bool,
 }
 
 /// An entry of the index of an archive: the indexes of the keys of its name, and the member that has
