@@ -108,4 +108,5 @@ pub mod LinkObjects
 pub mod LinkPasses
 pub mod LinkInputs
 pub mod LinkLines
+pub mod LinkSymbols
 pub mod Prelude

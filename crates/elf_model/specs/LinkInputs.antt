@@ -25,10 +25,10 @@ pub data InputFile : Type 0 where
   WholeFile : List (ℕ × LinkObject) → InputFile
   MissingFile : InputFile
 
--- INPUTS in their order, each with its index, and groups of inputs
+-- INPUTS in their order, each by its index, and groups of inputs
 pub data LinkInputs : Type 0 where
   NoInputs : LinkInputs
-  Input : (index : ℕ) → InputFile → LinkInputs → LinkInputs
+  Input : (index : ℕ) → LinkInputs → LinkInputs
   Group : LinkInputs → LinkInputs → LinkInputs
 
 -- an archive that was searched: its input's index, its row, the entries of its index, and which of
@@ -151,17 +151,18 @@ untaken_in (archive ∷ archives) = untaken archive.taken + untaken_in archives
 unfoldable pub group_settled : (round : Linking → Linking) → (asked : ℕ) → Linking → Linking
 group_settled round asked link = rounds_made (suc (untaken_in link.archives)) round asked link
 
--- INPUTS ONCE MORE, in a further round of the group that they are in
-abbrev pub inputs_again : LinkInputs → Linking → Linking
-inputs_again NoInputs link = link
-inputs_again (Input index file rest) link = inputs_again rest (input_again link index file)
-inputs_again (Group group rest) link = inputs_again rest (group_settled (inputs_again group) link.keys.asked (inputs_again group link))
+module _ (files : ℕ → InputFile) where
+  -- INPUTS ONCE MORE, in a further round of the group that they are in
+  abbrev pub inputs_again : LinkInputs → Linking → Linking
+  inputs_again NoInputs link = link
+  inputs_again (Input index rest) link = inputs_again rest (input_again link index (files index))
+  inputs_again (Group group rest) link = inputs_again rest (group_settled (inputs_again group) link.keys.asked (inputs_again group link))
 
--- INPUTS TAKEN in order; a group again, while a round asks for keys that were not asked for
-abbrev pub inputs_taken : LinkInputs → Linking → Linking
-inputs_taken NoInputs link = link
-inputs_taken (Input index file rest) link = inputs_taken rest (input_taken link index file)
-inputs_taken (Group group rest) link = inputs_taken rest (group_settled (inputs_again group) link.keys.asked (inputs_taken group link))
+  -- INPUTS TAKEN in order; a group again, while a round asks for keys that were not asked for
+  abbrev pub inputs_taken : LinkInputs → Linking → Linking
+  inputs_taken NoInputs link = link
+  inputs_taken (Input index rest) link = inputs_taken rest (input_taken link index (files index))
+  inputs_taken (Group group rest) link = inputs_taken rest (group_settled (inputs_again group) link.keys.asked (inputs_taken group link))
 
 -- a name that an argument asks for: a reference of no file
 abbrev pub plain_reference : SymbolUse
@@ -170,7 +171,10 @@ plain_reference = record { role = Reference; restricted = false; dropped = false
 abbrev pub argument_symbol : List ℕ → LinkSymbol
 argument_symbol name = record { name = name; default_name = None; symbol = plain_reference }
 
+-- before the inputs only arguments ask for names
+unfoldable pub with_arguments : List (List ℕ) → Linking
+with_arguments arguments = record { keys = symbols_taken None no_keys (map argument_symbol arguments); rows = []; archives = [] }
+
 -- A LINK of arguments and inputs
-unfoldable pub linked : (arguments : List (List ℕ)) → LinkInputs → Linking
-linked arguments inputs =
-    inputs_taken inputs (record { keys = symbols_taken None no_keys (map argument_symbol arguments); rows = []; archives = [] })
+abbrev pub linked : (files : ℕ → InputFile) → (arguments : List (List ℕ)) → LinkInputs → Linking
+linked files arguments inputs = inputs_taken files inputs (with_arguments arguments)

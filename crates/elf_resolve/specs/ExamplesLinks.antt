@@ -35,6 +35,10 @@ common size name = in_section None (Common size) name
 abbrev object : List ObjectSymbol → LinkObject
 object symbols = record { groups = []; sections = []; symbols = symbols }
 
+-- what starts a program and needs some names
+abbrev start : List ObjectSymbol → InputFile
+start symbols = ObjectFile (object (defines (codes "_start") ∷ symbols))
+
 -- an archive of objects, whose index has names and their members; the objects have definitions alone
 -- of the names in a list
 abbrev archive : List LinkObject → List IndexSymbol → (defined : List (List ℕ)) → InputFile
@@ -63,19 +67,26 @@ abbrev program : LinkOutput
 program = record { is_shared = false; is_dynamic = false }
 
 -- A LINK HAS THESE LINES, and fails or not
-abbrev Links : LinkInputs → List (List ℕ) → (fails : Bool) → Type 0
-Links inputs lines fails =
-    (link_lines Columns program names (linked (codes "_start" ∷ []) inputs) ≡ lines)
-    × (link_fails program (linked (codes "_start" ∷ []) inputs) ≡ fails)
+abbrev LinksIn : LinkInputs → List InputFile → List (List ℕ) → (fails : Bool) → Type 0
+LinksIn inputs files lines fails =
+    let link = linked (λ index. get_or files index MissingFile) (codes "_start" ∷ []) inputs in
+    (link_lines Columns program names link ≡ lines) × (link_fails program link ≡ fails)
+
+-- two inputs in their order, and three
+abbrev two : LinkInputs
+two = Input 0 (Input 1 NoInputs)
+
+abbrev three : LinkInputs
+three = Input 0 (Input 1 (Input 2 NoInputs))
 
 -- an object needs `f`; the archive's member y has it and needs `g`, which its member x has, before
 -- `f` in the index: a second pass takes x
 abbrev pub SecondPassTakes : Type 0
 SecondPassTakes =
-    Links
-    (Input 0 (ObjectFile (object (defines (codes "_start") ∷ needs (codes "f") ∷ [])))
-    (Input 1 (archive (object (defines (codes "g") ∷ []) ∷ object (defines (codes "f") ∷ needs (codes "g") ∷ []) ∷ [])
-    (indexed (codes "g") 0 ∷ indexed (codes "f") 1 ∷ []) []) NoInputs))
+    LinksIn two
+    (start (needs (codes "f") ∷ [])
+    ∷ archive (object (defines (codes "g") ∷ []) ∷ object (defines (codes "f") ∷ needs (codes "g") ∷ []) ∷ []) (indexed (codes "g") 0 ∷ indexed (codes "f") 1 ∷ []) []
+    ∷ [])
     (codes "I     0 object   -     -     a\n"
     ∷ codes "I     1 archive  -     -     b\n"
     ∷ codes "I     2 member       1     1 y\n"
@@ -88,16 +99,13 @@ SecondPassTakes =
     ∷ [])
     false
 
--- what starts a program and needs some names
-abbrev start : List ObjectSymbol → InputFile
-start symbols = ObjectFile (object (defines (codes "_start") ∷ symbols))
-
 -- two objects define `f`, and one of them weakly `g`
 abbrev pub FurtherDefinitionsAreListed : Type 0
 FurtherDefinitionsAreListed =
-    Links
-    (Input 0 (start (defines (codes "f") ∷ in_section (Some 1) WeakDefinition (codes "g") ∷ []))
-    (Input 1 (ObjectFile (object (defines (codes "g") ∷ defines (codes "f") ∷ []))) NoInputs))
+    LinksIn two
+    (start (defines (codes "f") ∷ in_section (Some 1) WeakDefinition (codes "g") ∷ [])
+    ∷ ObjectFile (object (defines (codes "g") ∷ defines (codes "f") ∷ []))
+    ∷ [])
     (codes "I     0 object   -     -     a\n"
     ∷ codes "I     1 object   -     -     b\n"
     ∷ codes "G defined      0 -     _start\n"
@@ -111,10 +119,10 @@ FurtherDefinitionsAreListed =
 -- names `g`, and a linker defines `_end`
 abbrev pub UndefinedKeysAreListed : Type 0
 UndefinedKeysAreListed =
-    Links
-    (Input 0 (archive (object (defines (codes "f") ∷ []) ∷ object (defines (codes "g") ∷ []) ∷ []) (indexed (codes "f") 0 ∷ indexed (codes "g") 1 ∷ []) [])
-    (Input 1 (start (needs (codes "f") ∷ needs_weakly (codes "g") ∷ needs (codes "h") ∷ needs (codes "_end") ∷ []))
-    (Input 2 MissingFile NoInputs)))
+    LinksIn three
+    (archive (object (defines (codes "f") ∷ []) ∷ object (defines (codes "g") ∷ []) ∷ []) (indexed (codes "f") 0 ∷ indexed (codes "g") 1 ∷ []) []
+    ∷ start (needs (codes "f") ∷ needs_weakly (codes "g") ∷ needs (codes "h") ∷ needs (codes "_end") ∷ [])
+    ∷ [])
     (codes "I     0 archive  -     -     a\n"
     ∷ codes "I     1 object   -     -     b\n"
     ∷ codes "I     2 missing  -     -     c\n"
@@ -137,8 +145,7 @@ second_archive = archive (object (defines (codes "g") ∷ needs (codes "h") ∷ 
 
 abbrev pub GroupsAreSearchedAgain : Type 0
 GroupsAreSearchedAgain =
-    Links
-    (Input 0 (start (needs (codes "f") ∷ [])) (Group (Input 1 first_archive (Input 2 second_archive NoInputs)) NoInputs))
+    LinksIn (Input 0 (Group (Input 1 (Input 2 NoInputs)) NoInputs)) (start (needs (codes "f") ∷ []) ∷ first_archive ∷ second_archive ∷ [])
     (codes "I     0 object   -     -     a\n"
     ∷ codes "I     1 archive  -     -     b\n"
     ∷ codes "I     2 member       1     0 x\n"
@@ -158,8 +165,7 @@ GroupsAreSearchedAgain =
 -- the same without a group
 abbrev pub ArchivesAreSearchedOnce : Type 0
 ArchivesAreSearchedOnce =
-    Links
-    (Input 0 (start (needs (codes "f") ∷ [])) (Input 1 first_archive (Input 2 second_archive NoInputs)))
+    LinksIn three (start (needs (codes "f") ∷ []) ∷ first_archive ∷ second_archive ∷ [])
     (codes "I     0 object   -     -     a\n"
     ∷ codes "I     1 archive  -     -     b\n"
     ∷ codes "I     2 member       1     0 x\n"
@@ -178,10 +184,11 @@ ArchivesAreSearchedOnce =
 -- a common takes a member that defines its name, and not one that has a common of it; it is larger
 abbrev pub CommonsTakeDefinitions : Type 0
 CommonsTakeDefinitions =
-    Links
-    (Input 0 (start (common 4 (codes "f") ∷ common 4 (codes "g") ∷ []))
-    (Input 1 (archive (object (defines (codes "f") ∷ []) ∷ object (common 8 (codes "g") ∷ []) ∷ []) (indexed (codes "f") 0 ∷ indexed (codes "g") 1 ∷ []) (codes "f" ∷ []))
-    (Input 2 (ObjectFile (object (common 8 (codes "g") ∷ []))) NoInputs)))
+    LinksIn three
+    (start (common 4 (codes "f") ∷ common 4 (codes "g") ∷ [])
+    ∷ archive (object (defines (codes "f") ∷ []) ∷ object (common 8 (codes "g") ∷ []) ∷ []) (indexed (codes "f") 0 ∷ indexed (codes "g") 1 ∷ []) (codes "f" ∷ [])
+    ∷ ObjectFile (object (common 8 (codes "g") ∷ []))
+    ∷ [])
     (codes "I     0 object   -     -     a\n"
     ∷ codes "I     1 archive  -     -     b\n"
     ∷ codes "I     2 member       1     0 x\n"
@@ -200,10 +207,11 @@ with_group sections symbols = ObjectFile (record { groups = record { signature =
 
 abbrev pub DroppedGroupsDefineNothing : Type 0
 DroppedGroupsDefineNothing =
-    Links
-    (Input 0 (with_group (1 ∷ []) (defines (codes "_start") ∷ defines (codes "f") ∷ []))
-    (Input 1 (with_group (1 ∷ []) (defines (codes "f") ∷ defines (codes "g") ∷ in_section (Some 2) Definition (codes "h") ∷ []))
-    (Input 2 (archive (object (defines (codes "g") ∷ []) ∷ []) (indexed (codes "g") 0 ∷ []) []) NoInputs)))
+    LinksIn three
+    (with_group (1 ∷ []) (defines (codes "_start") ∷ defines (codes "f") ∷ [])
+    ∷ with_group (1 ∷ []) (defines (codes "f") ∷ defines (codes "g") ∷ in_section (Some 2) Definition (codes "h") ∷ [])
+    ∷ archive (object (defines (codes "g") ∷ []) ∷ []) (indexed (codes "g") 0 ∷ []) []
+    ∷ [])
     (codes "I     0 object   -     -     a\n"
     ∷ codes "I     1 object   -     -     b\n"
     ∷ codes "I     2 archive  -     -     c\n"
@@ -216,8 +224,7 @@ DroppedGroupsDefineNothing =
 
 abbrev pub WholeArchivesAreTaken : Type 0
 WholeArchivesAreTaken =
-    Links
-    (Input 0 (start []) (Input 1 (WholeFile ((1, object (defines (codes "f") ∷ [])) ∷ (0, object (needs (codes "f") ∷ [])) ∷ [])) NoInputs))
+    LinksIn two (start [] ∷ WholeFile ((1, object (defines (codes "f") ∷ [])) ∷ (0, object (needs (codes "f") ∷ [])) ∷ []) ∷ [])
     (codes "I     0 object   -     -     a\n"
     ∷ codes "I     1 archive  -     -     b\n"
     ∷ codes "I     2 member       1     1 y\n"
@@ -230,10 +237,10 @@ WholeArchivesAreTaken =
 -- a default version defines the name without it too, and takes a member for it
 abbrev pub DefaultVersionsDefineNames : Type 0
 DefaultVersionsDefineNames =
-    Links
-    (Input 0 (start (needs (codes "f") ∷ needs (codes "g@V") ∷ []))
-    (Input 1 (archive (object (versioned (codes "f@V") (codes "f") ∷ []) ∷ object (versioned (codes "g@V") (codes "g") ∷ []) ∷ [])
-    (versioned_index (codes "f@V") (codes "f") 0 ∷ versioned_index (codes "g@V") (codes "g") 1 ∷ []) []) NoInputs))
+    LinksIn two
+    (start (needs (codes "f") ∷ needs (codes "g@V") ∷ [])
+    ∷ archive (object (versioned (codes "f@V") (codes "f") ∷ []) ∷ object (versioned (codes "g@V") (codes "g") ∷ []) ∷ []) (versioned_index (codes "f@V") (codes "f") 0 ∷ versioned_index (codes "g@V") (codes "g") 1 ∷ []) []
+    ∷ [])
     (codes "I     0 object   -     -     a\n"
     ∷ codes "I     1 archive  -     -     b\n"
     ∷ codes "I     2 member       1     0 x\n"
