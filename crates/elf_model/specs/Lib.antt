@@ -109,4 +109,5 @@ pub mod LinkPasses
 pub mod LinkInputs
 pub mod LinkLines
 pub mod LinkSymbols
+pub mod LinkArchives
 pub mod Prelude

@@ -3,3 +3,4 @@ pub mod RowTables
 pub mod Symbols
 pub mod Passing
 pub mod ExamplesLinks
+pub mod ExamplesFiles

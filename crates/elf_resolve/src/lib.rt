@@ -11,7 +11,7 @@ mod steps;
 mod symbols;
 mod table;
 
-pub use examples::small_links;
+pub use examples::{small_files, small_links};
 pub use passes::{ArchiveInput, Link, Objects, pass_index, search_archive, visit_entry};
 pub use rows::RowTable;
 pub use symbols::Symbol;
