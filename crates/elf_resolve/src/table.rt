@@ -1,7 +1,7 @@
 //! The table of keys.
-ghost use Rattle.std.specs.Prelude.{◌≡◌, ◌+◌, ◌<◌, ◌≤◌, IfOk, OnOk, length, [], get_or};
-ghost use Rattle.elf_model.specs.LinkKeys.{entry_of, key_in, no_keys};
-ghost use Rattle.elf_resolve.specs.KeyTables.{Enters, KeptGroup, NotedSection, UsesKey};
+ghost use Rattle.std.specs.Prelude.{◌≡◌, ◌+◌, ◌<◌, ◌≤◌, ◌^◌, false, vec_capacity, IfOk, OnOk, length, [], get_or};
+ghost use Rattle.elf_model.specs.LinkKeys.{asked_after as asked_of, entry_of, key_in, no_keys, order_after};
+ghost use Rattle.elf_resolve.specs.KeyTables.{AddsFurther, Enters, KeptGroup, NotedSection, UsesKey};
 
 use crate::steps::{is_further, used};
 use elf_model::{FurtherDefinition, KeyEntry, KeyState, SymbolUse};
@@ -216,19 +216,11 @@ impl<'a> KeyTable<'a> {
     {
         let place = index as usize;
         let entry = self.entries[place];
-        if is_further(entry, symbol) {
-            if self.further.len() >= self.most_further {
-                return Err(KeyFault::TooManyFurther);
-            }
-            self.further.push(FurtherDefinition { key: index, row }).unwrap();
-        }
-        if !entry.is_met {
-            self.order.push(index).unwrap();
-        }
+        let further = FurtherDefinition { key: index, row };
+        add_further(&mut self.further, self.most_further, further, is_further(entry, symbol))?;
+        add_order(&mut self.order, index, entry.is_met);
         let after = used(entry, symbol, row);
-        if after.is_asked && !entry.is_asked {
-            self.asked += 1;
-        }
+        self.asked = asked_after(self.asked, entry, after);
         self.entries[place] = after;
         Ok(())
     }
@@ -278,4 +270,48 @@ fn keep<'a>(rest: &mut &'a mut [u8], name: &[u8]) -> &'a [u8]
     };
     kept.copy_from_slice(name);
     kept
+}
+
+/// Adds a further definition, if it is one.
+fn add_further(
+    further: &mut Vec<FurtherDefinition>,
+    most: usize,
+    definition: FurtherDefinition,
+    is_one: bool,
+) -> Result<(), KeyFault>
+    requires fits { most ≤ vec_capacity further.old }
+    requires within { length further.old.items ≤ most }
+    ensures adds { AddsFurther further.old.items further.new.items most definition is_one result }
+    ensures capacity { vec_capacity further.old ≤ vec_capacity further.new }
+{
+    if !is_one {
+        return Ok(());
+    }
+    if further.len() >= most {
+        return Err(KeyFault::TooManyFurther);
+    }
+    further.push(definition).unwrap();
+    Ok(())
+}
+
+/// Adds a key that is first named to the order.
+fn add_order(order: &mut Vec<u32>, index: u32, is_met: bool)
+    requires { is_met ≡ false → length order.old.items < vec_capacity order.old }
+    ensures order { order.new.items ≡ order_after order.old.items index is_met }
+    ensures capacity { vec_capacity order.old ≤ vec_capacity order.new }
+{
+    if !is_met {
+        order.push(index).unwrap();
+    }
+}
+
+/// Returns how many keys have been asked for after a change of one.
+fn asked_after(asked: usize, before: KeyEntry, after: KeyEntry) -> usize
+    requires { asked < 2 ^ 32 }
+    ensures { result ≡ asked_of asked before after }
+{
+    if after.is_asked && !before.is_asked {
+        return asked + 1;
+    }
+    asked
 }
