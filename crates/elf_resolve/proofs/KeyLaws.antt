@@ -1,7 +1,9 @@
 -- What a symbol keeps of the entry of its key, and the counts of entries.
 use Rattle.std.proofs.Common.{◌≡◌, ℕ, ◌+◌, ◌<◌, Bool, true, false, List, [], ◌∷◌, ◌++◌, length, length-append, get_or, set, count_by, refl, sym, ap, ◌∙◌, arith}
-use Rattle.std.specs.Prelude.{Option, ◌||◌, ◌&&◌, not, if◌then◌else◌}
-use Rattle.elf_model.specs.LinkKeys.{asked_after, asks_after, change_of, changed, first_row, new_key, order_after, prepared, references_by, removed, used}
+use Rattle.std.proofs.lemmas.List.Quantifiers.{position-Some}
+use Rattle.std.specs.Prelude.{Option, None, Some, bytes_eq, ◌||◌, ◌&&◌, not, if◌then◌else◌}
+use Rattle.elf_model.specs.LinkKeys.{LinkKeys, asked_after, asks_after, change_of, changed, entered, entered_at, first_row, index_of, index_or, key_in, new_key, order_after, prepared, references_by, removed, used}
+use Rattle.elf_model.specs.LinkObjects.{kept}
 use Rattle.elf_model.specs.declared.link_states.KeyEntry.{KeyEntry}
 use Rattle.elf_model.specs.declared.link_states.StateChange.{StateChange}
 use Rattle.elf_model.specs.declared.link_states.StateChange.TheVariants.{Stays, Multiple, Enlarged, Becomes}
@@ -72,3 +74,26 @@ asked_by entries asked i after false true there was is kept counted =
 pub asked_counted : (entries : List KeyEntry) (asked i : ℕ) (after : KeyEntry) → i < length entries → ((get_or entries i new_key).is_asked ≡ true → after.is_asked ≡ true)
     → asked ≡ count_by (λ (e : KeyEntry). e.is_asked) entries → asked_after asked (get_or entries i new_key) after ≡ count_by (λ (e : KeyEntry). e.is_asked) (set entries i after)
 asked_counted entries asked i after there kept counted = asked_by entries asked i after (get_or entries i new_key).is_asked after.is_asked there refl refl kept counted
+
+-- another entry at an index that is met and asked for as the one before
+pub counted_as_before : (p : KeyEntry → Bool) (entries : List KeyEntry) (i count : ℕ) (after : KeyEntry) → i < length entries → p after ≡ p (get_or entries i new_key)
+    → count ≡ count_by p entries → count ≡ count_by p (set entries i after)
+counted_as_before p entries i count after there same counted = counted ∙ sym (count_by_kept p entries i after new_key there (sym same))
+
+-- the index of a name is one of the keys among which it is entered
+within_by : (keys : LinkKeys) (name : List ℕ) (place : Option ℕ) → key_in keys.names name ≡ place → index_or place (length keys.names) < length (entered_at place keys name).names
+within_by keys name None is = omega (arith, length-append keys.names (name ∷ []))
+within_by keys name (Some i) is = (position-Some (bytes_eq name) keys.names i [] is).0
+
+pub index_within : (keys : LinkKeys) (name : List ℕ) → index_of keys name < length (entered keys name).names
+unfolding index_of entered
+index_within keys name = within_by keys name (key_in keys.names name) refl
+
+-- a group is kept at a key with the counts as before
+pub kept_met : (is_link_once : Bool) (entry : KeyEntry) → (kept is_link_once entry).is_met ≡ entry.is_met
+kept_met true entry = refl
+kept_met false entry = refl
+
+pub kept_asked : (is_link_once : Bool) (entry : KeyEntry) → (kept is_link_once entry).is_asked ≡ entry.is_asked
+kept_asked true entry = refl
+kept_asked false entry = refl

@@ -1,3 +1,4 @@
 pub mod ListLaws
 pub mod KeyLaws
 pub mod TableLaws
+pub mod SymbolLaws

@@ -1,6 +1,7 @@
 //! The table of keys.
 ghost use Rattle.std.specs.Prelude.{◌≡◌, ◌+◌, ◌<◌, ◌≤◌, ◌^◌, false, vec_capacity, IfOk, OnOk, length, [], get_or};
-ghost use Rattle.elf_model.specs.LinkKeys.{asked_after as asked_of, entry_of, key_in, no_keys, order_after};
+ghost use Rattle.elf_model.specs.LinkKeys.{asked_after as asked_of, entry_of, key_in, no_keys, order_after, with_entry};
+ghost use Rattle.elf_model.specs.LinkObjects.{is_kept as is_kept_at, kept as kept_at};
 ghost use Rattle.elf_resolve.specs.KeyTables.{AddsFurther, Enters, KeptGroup, NotedSection, UsesKey};
 
 use crate::steps::{is_further, used};
@@ -233,9 +234,8 @@ impl<'a> KeyTable<'a> {
         ensures { OnOk result (NotedSection self.old self.new name.now) }
     {
         let index = self.enter(name)?;
-        let place = index as usize;
-        let entry = self.entries[place];
-        self.entries[place] = KeyEntry { is_section: true, ..entry };
+        let entry = self.entry(index);
+        self.set_entry(index, KeyEntry { is_section: true, ..entry });
         Ok(())
     }
 
@@ -248,14 +248,41 @@ impl<'a> KeyTable<'a> {
         ensures { IfOk result (λ dropped. KeptGroup self.old self.new signature.now is_link_once dropped) }
     {
         let index = self.enter(signature)?;
-        let place = index as usize;
-        let entry = self.entries[place];
-        if is_link_once {
-            self.entries[place] = KeyEntry { is_link_once: true, ..entry };
-            return Ok(entry.is_link_once);
-        }
-        self.entries[place] = KeyEntry { is_group: true, ..entry };
-        Ok(entry.is_group)
+        let entry = self.entry(index);
+        self.set_entry(index, kept(is_link_once, entry));
+        Ok(is_kept(is_link_once, entry))
+    }
+
+    /// Sets what is known of a key, except what is counted.
+    fn set_entry(&mut self, index: u32, entry: KeyEntry)
+        requires within { index < length self.old.keys.names }
+        requires same_met { entry.is_met ≡ (entry_of self.old.keys index).is_met }
+        requires same_asked { entry.is_asked ≡ (entry_of self.old.keys index).is_asked }
+        ensures { self.new ≡ record self.old { keys = with_entry self.old.keys index entry } }
+    {
+        self.entries[index as usize] = entry;
+    }
+}
+
+/// Returns whether a group, or a link-once section, is kept at a key.
+fn is_kept(is_link_once: bool, entry: KeyEntry) -> bool
+    ensures { result ≡ is_kept_at is_link_once entry }
+{
+    if is_link_once {
+        entry.is_link_once
+    } else {
+        entry.is_group
+    }
+}
+
+/// Returns the entry of a key at which a group, or a link-once section, is kept.
+fn kept(is_link_once: bool, entry: KeyEntry) -> KeyEntry
+    ensures { result ≡ kept_at is_link_once entry }
+{
+    if is_link_once {
+        KeyEntry { is_link_once: true, ..entry }
+    } else {
+        KeyEntry { is_group: true, ..entry }
     }
 }
 
