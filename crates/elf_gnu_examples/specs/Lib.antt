@@ -20,6 +20,7 @@ pub mod ExamplesBindings
 pub mod ExamplesBoundSymbols
 pub mod ExamplesLinks
 pub mod ExamplesLoaderCache
+pub mod ExamplesImage
 pub mod ExamplesInterpreters
 pub mod ExamplesNeededVersions
 pub mod ExamplesLibraryFiles

@@ -9,6 +9,7 @@ mod bound_rows;
 mod chain_rows;
 mod choice_rows;
 mod hash_rows;
+mod image_rows;
 mod interpreter_rows;
 mod library_file_rows;
 mod library_rows;

@@ -9,7 +9,7 @@ use Rattle.elf_model.specs.Apply.{StoredBytes, patched, places_from}
 use Rattle.elf_model.specs.Bytes.{field, little, slice}
 use Rattle.elf_model.specs.Checks.{Check, first_refusal, header_checks, is_outside, load_checks, refuse}
 use Rattle.elf_model.specs.Dynamic.{dynamic_at, dynamic_count}
-use Rattle.elf_model.specs.DynamicRelocations.{RelocationTable, linkage_tags, rela_tags, relative_tags, relocation_checks, relocation_table_at}
+use Rattle.elf_model.specs.DynamicRelocations.{LocatedTable, located_table, tags_of}
 use Rattle.elf_model.specs.Find.{first_that}
 use Rattle.elf_model.specs.ImageItems.{ImageItems}
 use Rattle.elf_model.specs.ImageValues.{changed_size, dynamic_symbol_checks, dynamic_type, entry_symbol, stored_bytes}
@@ -25,7 +25,9 @@ use Rattle.elf_model.specs.Traits.{has_text_relocations, permits}
 use Rattle.elf_model.specs.declared.causes.Cause.{Cause}
 use Rattle.elf_model.specs.declared.causes.Cause.TheVariants.{BadLink, Budget, LoadAlign, NotImage, PlaceOutside, Relr, Repeat, TableOutside, TableWritten, Undefined, Unplaced, Unsupported}
 use Rattle.elf_model.specs.declared.causes.Refusal.{Refusal}
-use Rattle.elf_model.specs.declared.dynamic_relocations.DynamicType.{DynamicType}
+use Rattle.elf_model.specs.declared.dynamic_types.DynamicType.{DynamicType}
+use Rattle.elf_model.specs.declared.relocation_tables.RelocationTable.{RelocationTable}
+use Rattle.elf_model.specs.declared.relocation_tables.RelocationTable.TheVariants as table
 
 -- CHECKS. The file is a program or a shared library for x86-64
 unfoldable pub kind_checks : List ℕ → List Check
@@ -88,20 +90,43 @@ addend_checks file at =
     ++ checks_of_row (tagged_row file at DT_JMPREL) (λ row.
     checks_of_row (tagged_row file at DT_PLTREL) (λ kind_row. refuse (not (d_un file kind_row == DT_RELA)) kind_row Unsupported ∷ []))
 
--- TABLES: of relative relocations, of entries with addends, and of those of the procedure linkage
--- table, each if it has a byte
-abbrev pub relative_table : List ℕ → ℕ → Option RelocationTable
-relative_table file at = relocation_table_at file at relative_tags
+-- TABLES. One that dynamic entries locate, or its refusal
+abbrev pub located_checks : Result (Option LocatedTable) Refusal → List Check
+located_checks (Ok located) = []
+located_checks (Err refusal) = record { fails = true; refusal = refusal } ∷ []
 
-abbrev pub rela_table : List ℕ → ℕ → Option RelocationTable
-rela_table file at = relocation_table_at file at rela_tags
+-- the value of the first entry with a tag, or 0
+abbrev pub row_value : List ℕ → (at tag : ℕ) → ℕ
+row_value file at tag = elim (tagged_row file at tag) [ None ↦ 0 | Some row ↦ d_un file row ]
 
-abbrev pub linkage_table : List ℕ → ℕ → Option RelocationTable
-linkage_table file at = relocation_table_at file at linkage_tags
+-- its address, the offset of its first row in the file, and how many rows it has
+pub record LoadedTable : Type 0 where
+  pub address : ℕ
+  pub place : ℕ
+  pub count : ℕ
 
--- the address at which a table ends
-abbrev pub table_end : RelocationTable → ℕ
-table_end table = table.address + table.size
+abbrev pub loaded_if_located : (address : ℕ) → Result (Option LocatedTable) Refusal → Option LoadedTable
+loaded_if_located address (Ok (Some located)) = Some (record { address = address; place = located.place; count = located.count })
+loaded_if_located address (Ok None) = None
+loaded_if_located address (Err refusal) = None
+
+-- the table, if it has a row
+unfoldable pub loaded_table : List ℕ → (at : ℕ) → RelocationTable → Option LoadedTable
+loaded_table file at table = loaded_if_located (row_value file at (tags_of table).address) (located_table file at table)
+
+-- of relative relocations, of entries with addends, and of those of the procedure linkage table
+abbrev pub relative_table : List ℕ → ℕ → Option LoadedTable
+relative_table file at = loaded_table file at table.Relr
+
+abbrev pub rela_table : List ℕ → ℕ → Option LoadedTable
+rela_table file at = loaded_table file at table.Rela
+
+abbrev pub linkage_table : List ℕ → ℕ → Option LoadedTable
+linkage_table file at = loaded_table file at table.Jmprel
+
+-- the address at which a table of entries with addends ends
+abbrev pub entries_end : LoadedTable → ℕ
+entries_end table = table.address + RELA_SIZE * table.count
 
 -- the entries of the procedure linkage table are the last of those with addends: these are no fewer
 unfoldable pub linkage_checks : List ℕ → ℕ → List Check
@@ -110,7 +135,7 @@ linkage_checks file at = elim (rela_table file at) [
   | Some entries ↦ elim (linkage_table file at) [
     | None ↦ []
     | Some calls ↦ checks_of_row (tagged_row file at DT_JMPREL) (λ row.
-      refuse (table_end calls == table_end entries && nat_lt entries.size calls.size) row Unsupported ∷ [])
+      refuse (entries_end calls == entries_end entries && nat_lt entries.count calls.count) row Unsupported ∷ [])
   ]
 ]
 
@@ -126,9 +151,9 @@ dynamic_image_checks file at =
     segment_dynamic_checks file at
     ++ repeat_checks file at
     ++ addend_checks file at
-    ++ relocation_checks file at relative_tags
-    ++ relocation_checks file at rela_tags
-    ++ relocation_checks file at linkage_tags
+    ++ located_checks (located_table file at table.Relr)
+    ++ located_checks (located_table file at table.Rela)
+    ++ located_checks (located_table file at table.Jmprel)
     ++ symbols_checks file at
     ++ linkage_checks file at
 
@@ -157,10 +182,14 @@ holder_of file address size = first_that (λ i. holds_in_memory file (segment_at
 -- the addresses of the tables that a loader reads
 unfoldable pub read_addresses : List ℕ → ℕ → List ℕ
 read_addresses file at =
-    map (λ table. table.address) (option_to_list (relative_table file at))
-    ++ map (λ table. table.address) (option_to_list (rela_table file at))
-    ++ map (λ table. table.address) (option_to_list (linkage_table file at))
+    map (λ loaded. loaded.address) (option_to_list (relative_table file at))
+    ++ map (λ loaded. loaded.address) (option_to_list (rela_table file at))
+    ++ map (λ loaded. loaded.address) (option_to_list (linkage_table file at))
     ++ map (d_un file) (option_to_list (tagged_row file at DT_SYMTAB))
+
+-- the first byte of a table is in the segment of an index
+abbrev pub has_table : List ℕ → (segment address : ℕ) → Bool
+has_table file segment address = elim (holder_of file address 1) [ None ↦ false | Some i ↦ i == segment ]
 
 -- the bytes at an address are among those of the dynamic entries
 abbrev pub meets_rows : List ℕ → (at address size : ℕ) → Bool
@@ -176,7 +205,7 @@ place_checks file at refused_at address size = elim (holder_of file address size
   | Some i ↦
       refuse (not (permits file PF_W i || has_text_relocations file)) refused_at PlaceOutside
       ∷ refuse
-      (list_any (λ table. holds_in_memory file (segment_at file i) table 1) (read_addresses file at) || meets_rows file at address size)
+      (list_any (has_table file i) (read_addresses file at) || meets_rows file at address size)
       refused_at TableWritten
       ∷ []
 ]
@@ -234,12 +263,12 @@ word_addresses word_at base word =
     else record { word_at = word_at; address = Some word } ∷ []
 
 -- those of a table
-unfoldable pub table_addresses : List ℕ → RelocationTable → List RelativeAddress
+unfoldable pub table_addresses : List ℕ → LoadedTable → List RelativeAddress
 table_addresses file table =
     flat_map (λ i.
     let word_at = table.place + RELR_SIZE * i in
     word_addresses word_at (bitmap_base file table.place i) (relr_word file word_at))
-    (places_from (λ i. i) 0 (table.size / RELR_SIZE))
+    (places_from (λ i. i) 0 table.count)
 
 -- WHAT IS RELOCATED: the whole file, the same without section headers, its program header of dynamic
 -- entries, and the items
@@ -318,30 +347,26 @@ resolved_changes source relas = flat_map (entry_change source) (filter (is_resol
 abbrev pub range_changes : ImageSource → (count : ℕ) → List ℕ → List ImageChange
 range_changes source count relas = direct_changes source count relas ++ resolved_changes source relas
 
--- RANGES. The offsets of the entries of a table, up to a size
-unfoldable pub entries_within : RelocationTable → (size : ℕ) → List ℕ
-entries_within table size = places_from (λ i. table.place + RELA_SIZE * i) 0 (size / RELA_SIZE)
+-- RANGES. The offsets of the first entries of a table, as many as a count
+unfoldable pub first_entries : LoadedTable → (count : ℕ) → List ℕ
+first_entries table count = places_from (λ i. table.place + RELA_SIZE * i) 0 count
 
--- how many bytes of a table are before another that ends where it ends
-abbrev pub size_before : (entries calls : RelocationTable) → ℕ
-size_before entries calls = if table_end calls == table_end entries then entries.size - calls.size else entries.size
+-- how many entries of a table are before another that ends where it ends
+abbrev pub count_before : (entries calls : LoadedTable) → ℕ
+count_before entries calls = if entries_end calls == entries_end entries then entries.count - calls.count else entries.count
 
 -- the entries of two tables, the second of them those of the procedure linkage table: a range of
 -- both if that begins where the other ends, otherwise one of each
-unfoldable pub entry_ranges : Option RelocationTable → Option RelocationTable → List ℕ × List ℕ
+unfoldable pub entry_ranges : Option LoadedTable → Option LoadedTable → List ℕ × List ℕ
 entry_ranges None None = ([], [])
-entry_ranges (Some entries) None = (entries_within entries entries.size, [])
-entry_ranges None (Some calls) = ([], entries_within calls calls.size)
+entry_ranges (Some entries) None = (first_entries entries entries.count, [])
+entry_ranges None (Some calls) = ([], first_entries calls calls.count)
 entry_ranges (Some entries) (Some calls) =
-    let size = size_before entries calls in
-    elim (entries.address + size == calls.address) [
-      | true ↦ (entries_within entries size ++ entries_within calls calls.size, [])
-      | false ↦ (entries_within entries size, entries_within calls calls.size)
+    let count = count_before entries calls in
+    elim (entries.address + RELA_SIZE * count == calls.address) [
+      | true ↦ (first_entries entries count ++ first_entries calls calls.count, [])
+      | false ↦ (first_entries entries count, first_entries calls calls.count)
     ]
-
--- the value of the first entry with a tag, or 0
-abbrev pub row_value : List ℕ → (at tag : ℕ) → ℕ
-row_value file at tag = elim (tagged_row file at tag) [ None ↦ 0 | Some row ↦ d_un file row ]
 
 -- ALL CHANGES in the order in which a loader makes them
 unfoldable pub relocation_changes : ImageSource → List ImageChange

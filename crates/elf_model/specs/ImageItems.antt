@@ -46,25 +46,16 @@ may_be_unbound file symbol = is_looked_up file symbol && st_bind file symbol == 
 abbrev pub item_of : List (ℕ × ℕ) → List ℕ → (index symbol : ℕ) → Option ℕ
 item_of items file index symbol = elim (is_looked_up file symbol) [ true ↦ address_in items index | false ↦ None ]
 
--- the first of two, if there is one
-abbrev pub first_of : Option ℕ → Option ℕ → Option ℕ
-first_of (Some value) other = Some value
-first_of None other = other
-
 -- the items do not say where a symbol is bound
 abbrev pub lacks_item : List ℕ → ImageItems → ℕ → Bool
 lacks_item file items symbol = items.partial && is_looked_up file symbol
-
--- its cause: the symbol is defined elsewhere, or perhaps here
-abbrev pub cause_of_lack : List ℕ → ℕ → Cause
-cause_of_lack file symbol = if is_undefined file symbol then Undefined else Unplaced
 
 -- S of a symbol that has no item: 0 if it may be unbound; its own value if it is absolute; otherwise
 -- its place in the file, which a reserved index does not have, and of a system-specific type is not
 -- the value
 unfoldable pub own_value : List ℕ → ImageItems → ℕ → Result ℕ Cause
 own_value file items symbol =
-    if lacks_item file items symbol then Err (cause_of_lack file symbol)
+    if lacks_item file items symbol then Err Undefined
     else if is_undefined file symbol then (if may_be_unbound file symbol then Ok 0 else Err Undefined)
     else if st_shndx file symbol == SHN_ABS then Ok (st_value file symbol)
     else if not (nat_lt (st_shndx file symbol) SHN_LORESERVE) || not (nat_lt (st_type file symbol) STT_LOOS) then Err Unplaced
@@ -109,7 +100,7 @@ or_unplaced None = Err Unplaced
 -- of a symbol without an item: nothing if it may be unbound; that of the file's own
 unfoldable pub own_thread_symbol : ThreadValue → List ℕ → ImageItems → ℕ → Result (Option ℕ) Cause
 own_thread_symbol kind file items symbol =
-    if lacks_item file items symbol then Err (cause_of_lack file symbol)
+    if lacks_item file items symbol then Err Undefined
     else if is_undefined file symbol then (if may_be_unbound file symbol then Ok None else Err Undefined)
     else or_unplaced (own_thread_value kind items (st_value file symbol))
 

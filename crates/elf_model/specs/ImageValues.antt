@@ -12,8 +12,8 @@ use Rattle.elf_model.specs.Tables.{SYMBOL_SIZE}
 use Rattle.elf_model.specs.Values.{value}
 use Rattle.elf_model.specs.declared.causes.Cause.{Cause}
 use Rattle.elf_model.specs.declared.causes.Cause.TheVariants.{BadLink, Overflow, SymbolIndex, Undefined, Unplaced, Unsupported}
-use Rattle.elf_model.specs.declared.dynamic_relocations.DynamicType.{DynamicType}
-use Rattle.elf_model.specs.declared.dynamic_relocations.DynamicType.TheVariants.{Relative, Absolute, Address, Call, Narrow, Resolved, Module, BlockOffset, ThreadOffset, Copy, Descriptor}
+use Rattle.elf_model.specs.declared.dynamic_types.DynamicType.{DynamicType}
+use Rattle.elf_model.specs.declared.dynamic_types.DynamicType.TheVariants.{Relative, Absolute, Address, Call, Narrow, Resolved, Module, BlockOffset, ThreadOffset, Copy, Descriptor}
 
 -- the relocation types that a loader applies, by their numbers: R_X86_64_64, PC32, COPY, GLOB_DAT,
 -- JUMP_SLOT, RELATIVE, 32, DTPMOD64, DTPOFF64, TPOFF64, TLSDESC, IRELATIVE
@@ -94,10 +94,10 @@ copied_bytes true (Some bytes) size = if nat_lt size (length bytes) then Err Ove
 
 -- a descriptor: the function, and what it is called with
 unfoldable pub descriptor_bytes : Option ℕ → Result (Option ℕ) Cause → (addend : ℕ) → Result (List ℕ) Cause
-descriptor_bytes None argument addend = Err Unplaced
+descriptor_bytes function (Err cause) addend = Err cause
+descriptor_bytes function (Ok None) addend = Err Undefined
+descriptor_bytes None (Ok (Some value)) addend = Err Unplaced
 descriptor_bytes (Some function) (Ok (Some value)) addend = Ok (little 8 function ++ little 8 ((value + addend) % 2 ^ 64))
-descriptor_bytes (Some function) (Ok None) addend = Err Undefined
-descriptor_bytes (Some function) (Err cause) addend = Err cause
 
 -- WHAT AN ENTRY STORES, by its type, A and the index and the offset of its symbol; or the cause for
 -- which it has no value

@@ -149,6 +149,10 @@ DT_RPATH = 15
 abbrev pub DT_RUNPATH : ℕ
 DT_RUNPATH = 29
 
+-- how many entries with addends are relative, the first ones (a GNU tag)
+abbrev pub DT_RELACOUNT : ℕ
+DT_RELACOUNT = 0x6ffffff9
+
 -- GNU dynamic array tags: the GNU hash table, and indices, definitions and needs of symbol versions
 abbrev pub DT_GNU_HASH : ℕ
 DT_GNU_HASH = 0x6ffffef5
@@ -184,6 +188,9 @@ abbrev pub SHN_COMMON : ℕ
 SHN_COMMON = 0xfff2
 
 -- symbol bindings (gABI 4, Symbol Binding), and one GNU binding
+abbrev pub STB_LOCAL : ℕ
+STB_LOCAL = 0
+
 abbrev pub STB_GLOBAL : ℕ
 STB_GLOBAL = 1
 
@@ -232,6 +239,13 @@ STV_PROTECTED = 3
 -- the relocation type of x86-64 that stores nothing (x86-64 psABI, Relocation Types)
 abbrev pub R_X86_64_NONE : ℕ
 R_X86_64_NONE = 0
+
+-- those of relative relocations, and of values that a function returns
+abbrev pub R_X86_64_RELATIVE : ℕ
+R_X86_64_RELATIVE = 8
+
+abbrev pub R_X86_64_IRELATIVE : ℕ
+R_X86_64_IRELATIVE = 37
 
 -- the marks of extended numbering: the program headers' number, and the section of the section
 -- names

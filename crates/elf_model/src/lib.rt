@@ -12,6 +12,7 @@ mod causes;
 mod choice_laws;
 mod cost_laws;
 mod dynamic;
+mod dynamic_types;
 mod fault_rows;
 mod formats;
 mod gnu_hash_laws;
@@ -40,6 +41,7 @@ mod version_laws;
 mod versions;
 
 pub use causes::{Cause, Refusal};
+pub use dynamic_types::DynamicType;
 pub use fault_rows::FaultRow;
 pub use formats::{Format, LinePlace, TableState};
 pub use missing::{LayoutAddress, MissingAddress, OverflowedValue};
