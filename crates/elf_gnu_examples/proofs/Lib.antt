@@ -1,2 +1,3 @@
 pub mod OnExamples
 pub mod OnBindings
+pub mod OnImages

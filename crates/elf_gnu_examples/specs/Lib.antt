@@ -21,6 +21,7 @@ pub mod ExamplesBoundSymbols
 pub mod ExamplesLinks
 pub mod ExamplesLoaderCache
 pub mod ExamplesImage
+pub mod ExamplesImageTypes
 pub mod ExamplesInterpreters
 pub mod ExamplesNeededVersions
 pub mod ExamplesLibraryFiles

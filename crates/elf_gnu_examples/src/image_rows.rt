@@ -2,7 +2,7 @@
 ghost use Rattle.elf_gnu_examples.specs.ExamplesImage.{DynamicIsChecked, HeadersAreChecked, ItemsSay, PlacesAreChecked, RangesAre, RelativeIsApplied, SegmentsAre, SymbolsAreBound};
 
 /// Works out the first words of a segment that is relocated, or for what it is refused.
-#[tactic(auto, unfolding(elf_model::proofs::OnLiterals::on_literals, elf_model::proofs::OnLoader::on_loader, elf_model::proofs::OnImage::on_image, crate::specs::ExamplesImage::first_words, crate::specs::ExamplesImage::image_of, crate::specs::ExamplesImage::items_with))]
+#[tactic(auto, unfolding(elf_model::proofs::OnLiterals::on_literals, elf_model::proofs::OnLoader::on_loader, elf_model::proofs::OnImage::on_image, crate::proofs::OnImages::on_images))]
 pub fn image_words()
     ensures items_say { ItemsSay }
     ensures segments_are { SegmentsAre }

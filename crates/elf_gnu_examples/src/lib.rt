@@ -10,6 +10,7 @@ mod chain_rows;
 mod choice_rows;
 mod hash_rows;
 mod image_rows;
+mod image_type_rows;
 mod interpreter_rows;
 mod library_file_rows;
 mod library_rows;

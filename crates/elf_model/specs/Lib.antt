@@ -107,4 +107,6 @@ pub mod LibraryFiles
 pub mod ImageItems
 pub mod ImageValues
 pub mod Image
+pub mod ImageMissing
+pub mod ImageCost
 pub mod Prelude
