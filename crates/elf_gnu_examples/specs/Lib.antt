@@ -1,5 +1,6 @@
 pub mod ListedVersions
 pub mod ListedChoices
+pub mod ListedLocated
 pub mod ListedRelative
 pub mod ListedSuffixes
 pub mod LoaderWords
@@ -19,6 +20,7 @@ pub mod ExamplesBindings
 pub mod ExamplesBoundSymbols
 pub mod ExamplesLinks
 pub mod ExamplesLoaderCache
+pub mod ExamplesImage
 pub mod ExamplesInterpreters
 pub mod ExamplesNeededVersions
 pub mod ExamplesLibraryFiles

@@ -32,6 +32,7 @@ pub mod NoteRowLaws
 pub mod Nuls
 pub mod OnLiterals
 pub mod OnLoader
+pub mod OnImage
 mod OneRule
 pub mod OverlapLemmas
 pub mod PatchLaws
