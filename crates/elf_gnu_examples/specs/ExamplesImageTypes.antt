@@ -2,11 +2,10 @@
 -- process's, and of what is read.
 use Rattle.std.specs.Prelude.{ℕ, ◌≡◌, ◌+◌, ◌-◌, ◌*◌, ◌^◌, List, [], ◌∷◌, ◌++◌, codes, length, option_map, Option, None, Some, Result, Ok, Err, Bool, true, false}
 use Rattle.elf_gnu_examples.specs.ExamplesImage.{eight_words, first_words, image_of}
-use Rattle.elf_model.specs.Apply.{StoredBytes}
 use Rattle.elf_model.specs.Fixtures.{with_bytes}
 use Rattle.elf_model.specs.FixturesApply.{relocation}
 use Rattle.elf_model.specs.FixturesImage.{loaded_items, loaded_library, long_words}
-use Rattle.elf_model.specs.Image.{image_changes, writes_in, writes_of}
+use Rattle.elf_model.specs.Image.{SegmentWrite, image_changes, writes_in, writes_of}
 use Rattle.elf_model.specs.ImageCost.{image_cost, met_windows}
 use Rattle.elf_model.specs.ImageItems.{ImageItems}
 use Rattle.elf_model.specs.ImageMissing.{missing_entries, missing_text}
@@ -114,14 +113,14 @@ PartialItemsLeave =
     ++ codes "M 00000000000001c0 0000000000001238 JUMP_SLOT           2 undefined\n"
     ++ codes "M 0000000000000178 0000000000001220 IRELATIVE           0 unplaced\n"))
 
--- what is stored in the second segment
-unfoldable pub stored_in_second : Result (List StoredBytes) Refusal
-stored_in_second = elim (writes_of false (image_changes loaded_library loaded_library loaded_items)) [
+-- the writes to the second segment
+unfoldable pub writes_in_second : Result (List SegmentWrite) Refusal
+writes_in_second = elim (writes_of false (image_changes loaded_library loaded_library loaded_items)) [
   | Err refusal ↦ Err refusal
   | Ok writes ↦ Ok (writes_in 1 writes)
 ]
 
-unfoldable pub met_of : Result (List StoredBytes) Refusal → ℕ
+unfoldable pub met_of : Result (List SegmentWrite) Refusal → ℕ
 met_of (Ok writes) = met_windows 64 7 writes
 met_of (Err refusal) = 0
 
@@ -130,5 +129,5 @@ met_of (Err refusal) = 0
 abbrev pub ImageCosts : Type 0
 ImageCosts =
     (option_map length (elim (image_of 1 loaded_library loaded_items) [ Ok bytes ↦ Some bytes | Err refusal ↦ None ]) ≡ Some 400)
-    × (met_of stored_in_second ≡ 1)
+    × (met_of writes_in_second ≡ 1)
     × (image_cost loaded_library 1 64 1 ≡ 1690)

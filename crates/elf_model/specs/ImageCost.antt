@@ -1,10 +1,10 @@
 -- How many bytes may be read to make the image of a segment, and what is printed of it.
-use Rattle.std.specs.Prelude.{ℕ, ◌+◌, ◌-◌, ◌*◌, ◌/◌, ◌&&◌, ◌||◌, nat_lt, not, Bool, List, length, filter, Option, None, Some, Result, Ok, Err}
+use Rattle.std.specs.Prelude.{ℕ, ◌+◌, ◌-◌, ◌*◌, ◌/◌, ◌==◌, ◌&&◌, ◌||◌, nat_lt, not, Bool, List, length, filter, Option, None, Some, Result, Ok, Err}
 use Rattle.std.specs.List.{list_any}
 use Rattle.elf_model.specs.Answer.{Answer}
-use Rattle.elf_model.specs.Apply.{StoredBytes, places_from}
+use Rattle.elf_model.specs.Apply.{places_from}
 use Rattle.elf_model.specs.FindApplyAnswer.{applied_status, applied_text}
-use Rattle.elf_model.specs.Image.{LoadedTable, image, linkage_table, rela_table, relative_table}
+use Rattle.elf_model.specs.Image.{LoadedTable, SegmentWrite, image, linkage_table, rela_table, relative_table}
 use Rattle.elf_model.specs.ImageItems.{ImageItems}
 use Rattle.elf_model.specs.LoaderScope.{dynamic_segment_index}
 use Rattle.elf_model.specs.Records.{FILE_HEADER_SIZE, PROGRAM_HEADER_SIZE, e_phnum, p_filesz, p_memsz, segment_at}
@@ -14,17 +14,18 @@ use Rattle.elf_model.specs.Tables.{RELA_SIZE, RELR_SIZE, SYMBOL_SIZE}
 abbrev pub windows_of : List ℕ → (segment window : ℕ) → ℕ
 windows_of file segment window = (p_memsz file (segment_at file segment) + (window - 1)) / window
 
--- bytes are stored in the window of an index
-abbrev pub meets_window : (window index : ℕ) → StoredBytes → Bool
-meets_window window index stored =
-    nat_lt stored.at (window * index + window) && nat_lt (window * index) (stored.at + length stored.bytes)
+-- a write may change bytes in the window of an index
+abbrev pub meets_window : (window index : ℕ) → SegmentWrite → Bool
+meets_window window index write =
+    nat_lt write.stored.at (window * index + window)
+    && (nat_lt (window * index) (write.stored.at + write.size) && not (write.size == 0))
 
--- for how many windows it is known whether bytes are stored in them
+-- for how many windows it is known whether a write meets them
 abbrev pub MARKED_WINDOWS : ℕ
 MARKED_WINDOWS = 4096
 
--- how many windows, of a count, bytes are stored in; those after the marked ones count as such
-unfoldable pub met_windows : (window count : ℕ) → List StoredBytes → ℕ
+-- how many windows, of a count, writes to a segment meet; those after the marked ones count as met
+unfoldable pub met_windows : (window count : ℕ) → List SegmentWrite → ℕ
 met_windows window count writes =
     length (filter (λ k. not (nat_lt k MARKED_WINDOWS) || list_any (meets_window window k) writes) (places_from (λ k. k) 0 count))
 
@@ -47,7 +48,7 @@ relocations_cost file passes = elim (dynamic_segment_index file) [
   | Some index ↦ let at = segment_at file index in p_filesz file at + passes * relocation_pass file at
 ]
 
--- HOW MANY BYTES AN IMAGE READS at most, in windows of a size of which this many are stored in: the
+-- HOW MANY BYTES AN IMAGE READS at most, in windows of a size of which this many are met: the
 -- headers; the dynamic entries and the relocations, which are read once to be checked and once for
 -- each of these windows; the segment, and seven bytes at both ends of each window, since a word of
 -- eight bytes may lie over it

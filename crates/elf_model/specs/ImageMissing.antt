@@ -5,7 +5,7 @@ use Rattle.elf_model.specs.Causes.{cause_word}
 use Rattle.elf_model.specs.Checks.{first_refusal}
 use Rattle.elf_model.specs.Fields.{Field, Fields, closed_line}
 use Rattle.elf_model.specs.Fields.Field.{ArgSpec, Decimal, Hexadecimal}
-use Rattle.elf_model.specs.Image.{ImageChange, Lacks, Refuses, Stores, image_changes, image_checks}
+use Rattle.elf_model.specs.Image.{ImageChange, Keeps, Lacks, Refuses, Stores, image_changes, image_checks}
 use Rattle.elf_model.specs.ImageItems.{ImageItems}
 use Rattle.elf_model.specs.NameTables.{relocation_type_text}
 use Rattle.elf_model.specs.Numbers.{EM_X86_64}
@@ -22,6 +22,7 @@ and_lacks lack (Ok lacks) = Ok (lack ∷ lacks)
 -- the entries among changes that have no value, each with its cause, or the first refusal
 unfoldable pub lacks_of : List ImageChange → Result (List Refusal) Refusal
 lacks_of [] = Ok []
+lacks_of (Keeps ∷ changes) = lacks_of changes
 lacks_of (Refuses refusal ∷ changes) = Err refusal
 lacks_of (Lacks lack ∷ changes) = and_lacks lack (lacks_of changes)
 lacks_of (Stores write ∷ changes) = lacks_of changes
