@@ -33,6 +33,8 @@ pub mod Nuls
 pub mod OnLiterals
 pub mod OnLoader
 pub mod OnImage
+mod ImageValues
+mod ImageLaws
 mod OneRule
 pub mod OverlapLemmas
 pub mod PatchLaws

@@ -109,4 +109,5 @@ pub mod ImageValues
 pub mod Image
 pub mod ImageMissing
 pub mod ImageCost
+pub mod ImageLaws
 pub mod Prelude
