@@ -4,8 +4,10 @@ use crate::image_items::{CopyBytes, ImageItems};
 use crate::place::{Place, holder};
 use crate::ranges::{EntryRanges, entry_ranges};
 use crate::tables::{ImageTables, MappedTable, image_tables};
+use elf_hash::DynEntry;
 use elf_record::Cause;
 use elf_record::numbers::PT_DYNAMIC;
+use elf_record::sizes::DYNAMIC_BYTES;
 use elf_reloc::Patch;
 use elf_source::{Counted, Source};
 use elf_table::{ExecutionView, Fault, Table};
@@ -18,6 +20,8 @@ const DF_TEXTREL: u64 = 4;
 pub(crate) struct ImageFile<'a> {
     pub(crate) view: ExecutionView<'a>,
     pub(crate) items: &'a ImageItems<'a>,
+    /// The load address.
+    pub(crate) base: u64,
     /// Whether an entry that lacks an item changes nothing, and a symbol that another object may
     /// define lacks its item even if it is weak or defined here.
     pub(crate) leaves: bool,
@@ -99,35 +103,35 @@ pub(crate) fn image_file<'a, S: Source>(
     items: &'a ImageItems<'a>,
     leaves: bool,
 ) -> Result<ImageFile<'a>, Fault> {
-    let (rows, dynamic) = dynamic_entries(src, &view)?;
+    let (rows, address) = dynamic_entries(src, &view)?;
     let tables = image_tables(&view, &rows)?;
     let ranges = entry_ranges(&tables, &rows)?;
     Ok(ImageFile {
         view,
         items,
+        base: items.base(),
         leaves,
         writes_text: has_text_relocations(&rows),
         compact: tables.compact.rows,
         ranges,
-        symbols: symbols_of(&tables),
-        dynamic,
-        table_segments: table_segments(&view, &tables),
+        symbols: tables.symbols,
+        dynamic: (address, DYNAMIC_BYTES * rows.count),
+        table_segments: table_segments(&view, &tables, rows.symbols),
     })
 }
 
 /// Returns the dynamic entries of the first DYNAMIC program header that say how the file is
-/// relocated, and the address and the size of all; none if there is no such header.
+/// relocated, and the segment's address; none if there is no such header.
 fn dynamic_entries<S: Source>(
     src: &mut Counted<S>,
     view: &ExecutionView<'_>,
-) -> Result<(ImageRows, (u64, u64)), Fault> {
+) -> Result<(ImageRows, u64), Fault> {
     let Some(segment) = view.first_segment(PT_DYNAMIC) else {
-        return Ok((no_rows(), (0, 0)));
+        return Ok((no_rows(), 0));
     };
     let table = view.dynamic(segment)?;
     let rows = image_rows(src, table)?;
-    let header = view.segment(segment);
-    Ok((rows, (header.p_vaddr, header.p_filesz)))
+    Ok((rows, view.segment(segment).p_vaddr))
 }
 
 /// Returns `true` if the file has text relocations: by DT_TEXTREL, or by the flag of DT_FLAGS (gABI
@@ -140,15 +144,14 @@ fn has_text_relocations(rows: &ImageRows) -> bool {
     rows.text.is_some() || flags & DF_TEXTREL == DF_TEXTREL
 }
 
-/// Returns the symbols, if there are any.
-fn symbols_of(tables: &ImageTables) -> Option<Table> {
-    Some(tables.symbols?.rows)
-}
-
-/// Returns the segments that hold the first byte of a table with rows.
-fn table_segments(view: &ExecutionView<'_>, tables: &ImageTables) -> [Option<u16>; 4] {
-    let symbols = match &tables.symbols {
-        Some(table) => holder(view, table.address, 1),
+/// Returns the segments that hold the first byte of a table with rows, or of the symbols.
+fn table_segments(
+    view: &ExecutionView<'_>,
+    tables: &ImageTables,
+    symbols: Option<DynEntry>,
+) -> [Option<u16>; 4] {
+    let symbols = match symbols {
+        Some(row) => holder(view, row.value, 1),
         None => None,
     };
     [

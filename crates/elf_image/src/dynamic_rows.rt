@@ -38,6 +38,8 @@ pub(crate) struct ImageRows {
     pub(crate) flags: Option<DynEntry>,
     /// DT_RELACOUNT.
     pub(crate) relative: Option<DynEntry>,
+    /// How many entries were read.
+    pub(crate) count: u64,
 }
 
 /// Iterates over the dynamic entries of a table, up to and including the first DT_NULL, and returns
@@ -79,6 +81,7 @@ pub(crate) fn no_rows() -> ImageRows {
         text: None,
         flags: None,
         relative: None,
+        count: 0,
     }
 }
 
@@ -121,6 +124,7 @@ fn with_row(rows: &ImageRows, at: u64, entry: &Dyn) -> ImageRows {
         text: first_of(rows.text, DT_TEXTREL, at, entry),
         flags: first_of(rows.flags, DT_FLAGS, at, entry),
         relative: first_of(rows.relative, DT_RELACOUNT, at, entry),
+        count: rows.count + 1,
     }
 }
 

@@ -129,7 +129,7 @@ impl OrderedEntries {
         let at = row.at;
         let index = row.index;
         let entry = Rela::decode(row.whole());
-        if self.is_relative(index) && entry.kind() != R_X86_64_RELATIVE {
+        if !self.part.indirect && self.is_relative(index) && entry.kind() != R_X86_64_RELATIVE {
             return refused(at, Cause::Unsupported);
         }
         let is_indirect = entry.kind() == R_X86_64_IRELATIVE;

@@ -6,6 +6,7 @@
 
 mod changes;
 mod dynamic_rows;
+mod dynamic_types;
 mod entries;
 mod entry;
 mod headers;
@@ -17,6 +18,7 @@ mod missing;
 mod place;
 mod ranges;
 mod relative_rows;
+mod stored;
 mod symbols;
 mod tables;
 mod values;

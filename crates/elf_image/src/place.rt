@@ -12,7 +12,28 @@ pub(crate) struct Place {
     pub(crate) offset: u64,
 }
 
-/// Returns the place of `width` bytes at an address. A refusal points to `at`.
+/// A LOAD segment: the index of its program header, its addresses in memory, and what relocations
+/// may do to it.
+#[derive(Clone, Copy)]
+pub(crate) struct HeldRange {
+    segment: u16,
+    first: u64,
+    end: u128,
+    /// Whether relocations may change it.
+    permits: bool,
+    /// Whether it holds a table that says how the file is relocated.
+    has_table: bool,
+}
+
+impl HeldRange {
+    /// Returns `true` if the segment holds `width` bytes at an address in memory.
+    fn holds(&self, address: u64, width: u64) -> bool {
+        self.first <= address && u128::from(address) + u128::from(width) <= self.end
+    }
+}
+
+/// Returns the place of `width` bytes at an address. A refusal points to `at`. `last` is the
+/// segment of the place before, and then that of this one.
 ///
 /// # Errors
 /// Returns `PlaceOutside` if no LOAD segment holds them in memory, or one that is not writable in a
@@ -20,24 +41,53 @@ pub(crate) struct Place {
 /// file is relocated, or the place meets the dynamic entries.
 pub(crate) fn checked_place(
     image: &ImageFile<'_>,
+    last: &mut Option<HeldRange>,
     address: u64,
     width: u64,
     at: u64,
 ) -> Result<Place, Fault> {
-    let Some(segment) = holder(&image.view, address, width) else {
+    let Some(range) = held_range(image, last, address, width) else {
         return refused(at, Cause::PlaceOutside);
     };
-    let header = image.view.segment(segment);
-    if !image.writes_text && !is_writable(&header) {
+    *last = Some(range);
+    if !range.permits {
         return refused(at, Cause::PlaceOutside);
     }
-    if image.has_table(segment) || image.meets_dynamic(address, width) {
+    if range.has_table || image.meets_dynamic(address, width) {
         return refused(at, Cause::TableWritten);
     }
     Ok(Place {
-        segment,
-        offset: address - header.p_vaddr,
+        segment: range.segment,
+        offset: address - range.first,
     })
+}
+
+/// Returns the LOAD segment that holds `width` bytes at an address in memory, if there is one: no
+/// other than `last` if that holds them.
+fn held_range(
+    image: &ImageFile<'_>,
+    last: &Option<HeldRange>,
+    address: u64,
+    width: u64,
+) -> Option<HeldRange> {
+    if let Some(range) = last {
+        if width > 0 && range.holds(address, width) {
+            return Some(*range);
+        }
+    }
+    Some(range_of(image, holder(&image.view, address, width)?))
+}
+
+/// Returns the LOAD segment of a program header.
+fn range_of(image: &ImageFile<'_>, segment: u16) -> HeldRange {
+    let header = image.view.segment(segment);
+    HeldRange {
+        segment,
+        first: header.p_vaddr,
+        end: u128::from(header.p_vaddr) + u128::from(header.p_memsz),
+        permits: image.writes_text || is_writable(&header),
+        has_table: image.has_table(segment),
+    }
 }
 
 /// Returns the index of the LOAD program header whose segment holds `width` bytes at an address in

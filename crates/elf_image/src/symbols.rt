@@ -4,10 +4,23 @@ use elf_record::{Cause, Sym};
 use elf_source::{Counted, Source};
 use elf_table::{Fault, Table, refused};
 
-/// The visibility of a symbol that another object may refer to (gABI 4, Symbol Visibility).
+/// The visibility of a symbol that other objects may refer to and define (gABI 4, Symbol
+/// Visibility).
 const STV_DEFAULT: u8 = 0;
-/// The visibility of a symbol that only this object's references are bound to here.
+/// The visibility of a symbol that other objects may refer to.
 const STV_PROTECTED: u8 = 3;
+
+/// Returns symbol 0, which has no fields.
+pub(crate) fn no_symbol() -> Sym {
+    Sym {
+        st_value: 0,
+        st_size: 0,
+        st_name: 0,
+        st_shndx: 0,
+        st_info: 0,
+        st_other: 0,
+    }
+}
 
 /// Reads the symbol of an index, to which the entry at the file offset `at` refers.
 ///
@@ -32,7 +45,7 @@ pub(crate) fn read_symbol<S: Source>(
 
 /// Returns `true` if a loader looks a symbol up in all objects: it is not local, and its visibility
 /// is DEFAULT or PROTECTED (gABI 4, Symbol Binding).
-pub(crate) fn is_asked_for(symbol: &Sym) -> bool {
+pub(crate) fn is_looked_up(symbol: &Sym) -> bool {
     let visibility = symbol.visibility();
     symbol.binding() != STB_LOCAL && (visibility == STV_DEFAULT || visibility == STV_PROTECTED)
 }

@@ -25,7 +25,7 @@ pub(crate) struct ImageTables {
     /// Those of calls.
     pub(crate) calls: MappedTable,
     /// The symbols that the entries refer to, if there are any.
-    pub(crate) symbols: Option<MappedTable>,
+    pub(crate) symbols: Option<Table>,
 }
 
 /// Returns the tables that the dynamic entries locate. No bytes are read.
@@ -131,13 +131,10 @@ fn empty_table(address: u64, entry: u64) -> MappedTable {
 fn checked_symbols(
     view: &ExecutionView<'_>,
     row: Option<DynEntry>,
-) -> Result<Option<MappedTable>, Fault> {
+) -> Result<Option<Table>, Fault> {
     let Some(row) = row else {
         return Ok(None);
     };
     let rest = view.rest(row.value, row.at)?;
-    Ok(Some(MappedTable {
-        address: row.value,
-        rows: Table::new(rest.at(), rest.len() / SYMBOL_BYTES, SYMBOL_BYTES),
-    }))
+    Ok(Some(Table::new(rest.at(), rest.len() / SYMBOL_BYTES, SYMBOL_BYTES)))
 }

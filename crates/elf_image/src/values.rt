@@ -1,53 +1,57 @@
 //! The values of symbols in an image.
 use crate::changes::ImageFile;
 use crate::image_items::ItemKind;
-use crate::symbols::is_asked_for;
+use crate::symbols::is_looked_up;
 use elf_record::numbers::{SHN_ABS, SHN_LORESERVE, SHN_UNDEF, STB_WEAK, STT_LOOS};
 use elf_record::{Cause, Sym};
 
-/// A value of a thread-local symbol, by the kind of its item.
-#[derive(Clone, Copy)]
-pub(crate) struct ThreadValue {
-    pub(crate) kind: ItemKind,
-    /// Whether a weak symbol without a definition has no value and changes nothing.
-    pub(crate) weak: bool,
-}
-
-/// Returns S, the value of the symbol of an index; `kind` is the item that is searched first.
+/// Returns S, the value of the symbol of an index.
 ///
 /// # Errors
 /// Returns `Undefined` if the symbol has no definition, `Unplaced` if its value is not known.
-pub(crate) fn symbol_value(
-    image: &ImageFile<'_>,
-    kind: ItemKind,
-    index: u32,
-    symbol: &Sym,
-) -> Result<u64, Cause> {
-    if is_asked_for(symbol) {
-        if let Some(value) = bound_value(image, kind, index) {
-            return Ok(value);
-        }
-        if image.leaves {
-            return Err(Cause::Undefined);
-        }
-    }
-    own_value(image, symbol)
-}
-
-/// Returns the value of the item of a symbol: of a kind, otherwise the address that the symbol is
-/// bound to.
-fn bound_value(image: &ImageFile<'_>, kind: ItemKind, index: u32) -> Option<u64> {
-    let key = u64::from(index);
-    match image.items.number(kind, key) {
-        Some(value) => Some(value),
-        None => image.items.number(ItemKind::Symbol, key),
+pub(crate) fn bound_value(image: &ImageFile<'_>, index: u32, symbol: &Sym) -> Result<u64, Cause> {
+    match item_of(image, ItemKind::Symbol, index, symbol) {
+        Some(value) => Ok(value),
+        None => own_value(image, symbol),
     }
 }
 
-/// Returns the value of a symbol without an item.
+/// Returns S of the symbol of an index as it is called.
+///
+/// # Errors
+/// Those of [`bound_value`].
+pub(crate) fn called_value(image: &ImageFile<'_>, index: u32, symbol: &Sym) -> Result<u64, Cause> {
+    match item_of(image, ItemKind::Call, index, symbol) {
+        Some(value) => Ok(value),
+        None => bound_value(image, index, symbol),
+    }
+}
+
+/// Returns the item of a kind of the symbol of an index, if it is looked up.
+fn item_of(image: &ImageFile<'_>, kind: ItemKind, index: u32, symbol: &Sym) -> Option<u64> {
+    if !is_looked_up(symbol) {
+        return None;
+    }
+    image.items.number(kind, u64::from(index))
+}
+
+/// Returns `true` if the items do not say where a symbol is bound.
+fn lacks_item(image: &ImageFile<'_>, symbol: &Sym) -> bool {
+    image.leaves && is_looked_up(symbol)
+}
+
+/// Returns `true` if a symbol may be bound to nothing.
+fn may_be_unbound(symbol: &Sym) -> bool {
+    is_looked_up(symbol) && symbol.binding() == STB_WEAK
+}
+
+/// Returns S of a symbol without an item.
 fn own_value(image: &ImageFile<'_>, symbol: &Sym) -> Result<u64, Cause> {
+    if lacks_item(image, symbol) {
+        return Err(Cause::Undefined);
+    }
     if symbol.st_shndx == SHN_UNDEF {
-        if is_asked_for(symbol) && symbol.binding() == STB_WEAK {
+        if may_be_unbound(symbol) {
             return Ok(0);
         }
         return Err(Cause::Undefined);
@@ -58,55 +62,61 @@ fn own_value(image: &ImageFile<'_>, symbol: &Sym) -> Result<u64, Cause> {
     if symbol.st_shndx >= SHN_LORESERVE || symbol.kind() >= STT_LOOS {
         return Err(Cause::Unplaced);
     }
-    Ok(image.items.base().wrapping_add(symbol.st_value))
+    Ok(image.base.wrapping_add(symbol.st_value))
 }
 
-/// Returns the value of a thread-local symbol, or `None` if the entry changes nothing; without a
-/// symbol that of this object.
+/// Returns the value of the thread-local symbol of an index, by the kind of its item, or `None` if
+/// it is bound to nothing. That of index 0 is the value of the file's own thread-local block.
 ///
 /// # Errors
 /// Returns `Undefined` if the symbol has no definition, `Unplaced` if its value is not known.
 pub(crate) fn thread_value(
     image: &ImageFile<'_>,
-    wanted: ThreadValue,
+    kind: ItemKind,
     index: u32,
-    symbol: Option<&Sym>,
+    symbol: &Sym,
 ) -> Result<Option<u64>, Cause> {
-    let Some(symbol) = symbol else {
-        return own_thread_value(image, wanted.kind, 0);
-    };
-    if is_asked_for(symbol) {
-        if let Some(value) = image.items.number(wanted.kind, u64::from(index)) {
-            return Ok(Some(value));
-        }
-        if image.leaves {
-            return Err(Cause::Undefined);
-        }
+    if index == 0 {
+        return own_thread_value(image, kind, 0);
+    }
+    match item_of(image, kind, index, symbol) {
+        Some(value) => Ok(Some(value)),
+        None => own_thread_symbol(image, kind, symbol),
+    }
+}
+
+/// Returns the value of a thread-local symbol without an item.
+fn own_thread_symbol(
+    image: &ImageFile<'_>,
+    kind: ItemKind,
+    symbol: &Sym,
+) -> Result<Option<u64>, Cause> {
+    if lacks_item(image, symbol) {
+        return Err(Cause::Undefined);
     }
     if symbol.st_shndx != SHN_UNDEF {
-        return own_thread_value(image, wanted.kind, symbol.st_value);
+        return own_thread_value(image, kind, symbol.st_value);
     }
-    if wanted.weak && is_asked_for(symbol) && symbol.binding() == STB_WEAK {
+    if may_be_unbound(symbol) {
         return Ok(None);
     }
     Err(Cause::Undefined)
 }
 
-/// Returns the value of a thread-local symbol of this object, whose `st_value` is `value`.
+/// Returns the value of a thread-local symbol of the file itself, whose `st_value` is `value`.
 fn own_thread_value(
     image: &ImageFile<'_>,
     kind: ItemKind,
     value: u64,
 ) -> Result<Option<u64>, Cause> {
-    match kind {
-        ItemKind::Value => Ok(Some(value)),
-        ItemKind::Thread => match image.items.number(kind, 0) {
-            Some(block) => Ok(Some(block.wrapping_add(value))),
-            None => Err(Cause::Unplaced),
-        },
-        _ => match image.items.number(kind, 0) {
-            Some(module) => Ok(Some(module)),
-            None => Err(Cause::Unplaced),
-        },
+    if kind == ItemKind::Value {
+        return Ok(Some(value));
     }
+    let Some(own) = image.items.number(kind, 0) else {
+        return Err(Cause::Unplaced);
+    };
+    if kind == ItemKind::Thread {
+        return Ok(Some(own.wrapping_add(value)));
+    }
+    Ok(Some(own))
 }

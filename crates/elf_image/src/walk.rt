@@ -2,7 +2,7 @@
 use crate::changes::{EntryResult, ImageChange, ImageFile, StoredBytes};
 use crate::entries::{OrderedEntries, OrderedEntry};
 use crate::entry::entry_result;
-use crate::place::checked_place;
+use crate::place::{HeldRange, checked_place};
 use crate::relative_rows::{RelativeRow, RelativeRows};
 use elf_source::{Counted, Source};
 use elf_table::Fault;
@@ -15,6 +15,8 @@ pub(crate) struct ImageWalk {
     entries: OrderedEntries,
     /// Whether there are no more relative relocations.
     past_rows: bool,
+    /// The segment of the last place.
+    last: Option<HeldRange>,
 }
 
 /// A step of the walk.
@@ -37,6 +39,7 @@ impl ImageWalk {
             rows: RelativeRows::new(image.compact),
             entries: OrderedEntries::new(image.ranges),
             past_rows: false,
+            last: None,
         }
     }
 
@@ -53,7 +56,7 @@ impl ImageWalk {
             return self.entry_step(src, image);
         }
         match self.rows.next(src)? {
-            Some(row) => Ok(WalkStep::Stores(row_change(image, row)?)),
+            Some(row) => Ok(WalkStep::Stores(row_change(image, &mut self.last, row)?)),
             None => {
                 self.past_rows = true;
                 Ok(WalkStep::Nothing)
@@ -70,7 +73,7 @@ impl ImageWalk {
         let Some(ordered) = self.entries.next(src)? else {
             return Ok(WalkStep::End);
         };
-        match entry_result(src, image, &ordered.entry, ordered.at)? {
+        match entry_result(src, image, &mut self.last, &ordered.entry, ordered.at)? {
             EntryResult::Nothing => Ok(WalkStep::Nothing),
             EntryResult::Stores(change) => Ok(WalkStep::Stores(change)),
             EntryResult::Lacks(cause) => Ok(WalkStep::Lacks(ordered, cause)),
@@ -79,8 +82,12 @@ impl ImageWalk {
 }
 
 /// Returns what a relative relocation changes.
-fn row_change<'a>(image: &ImageFile<'a>, row: RelativeRow) -> Result<ImageChange<'a>, Fault> {
-    let place = checked_place(image, row.address, 8, row.at)?;
+fn row_change<'a>(
+    image: &ImageFile<'a>,
+    last: &mut Option<HeldRange>,
+    row: RelativeRow,
+) -> Result<ImageChange<'a>, Fault> {
+    let place = checked_place(image, last, row.address, 8, row.at)?;
     Ok(ImageChange {
         place,
         width: 8,

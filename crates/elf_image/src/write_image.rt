@@ -179,7 +179,7 @@ fn patch_window<S: Source>(
     segment: u16,
     window: &mut ImageWindow<'_>,
 ) -> Result<(), Fault> {
-    let base = image.items.base();
+    let base = image.base;
     let mut walk = ImageWalk::new(image);
     'steps: loop {
         match walk.step(src, image)? {
