@@ -1,3 +1,0 @@
-pub mod OnExamples
-pub mod OnBindings
-pub mod OnImages
