@@ -78,6 +78,7 @@ pub mod SysvWalk
 pub mod SysvWalkLaws
 pub mod Loader
 pub mod LoaderScope
+pub mod DynamicRelocations
 pub mod LoaderFind
 pub mod LoaderAnswer
 pub mod LoaderLaws

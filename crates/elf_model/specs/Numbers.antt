@@ -101,6 +101,45 @@ DT_SYMTAB = 6
 abbrev pub DT_STRSZ : ℕ
 DT_STRSZ = 10
 
+-- those of the tables of relocations: of calls by the procedure linkage table their size, the type of
+-- the entries and the address; of entries with addends, without addends, and of relative relocations
+-- the address, the size of the table and that of an entry
+abbrev pub DT_PLTRELSZ : ℕ
+DT_PLTRELSZ = 2
+
+abbrev pub DT_PLTREL : ℕ
+DT_PLTREL = 20
+
+abbrev pub DT_JMPREL : ℕ
+DT_JMPREL = 23
+
+abbrev pub DT_RELA : ℕ
+DT_RELA = 7
+
+abbrev pub DT_RELASZ : ℕ
+DT_RELASZ = 8
+
+abbrev pub DT_RELAENT : ℕ
+DT_RELAENT = 9
+
+abbrev pub DT_REL : ℕ
+DT_REL = 17
+
+abbrev pub DT_RELSZ : ℕ
+DT_RELSZ = 18
+
+abbrev pub DT_RELENT : ℕ
+DT_RELENT = 19
+
+abbrev pub DT_RELR : ℕ
+DT_RELR = 36
+
+abbrev pub DT_RELRSZ : ℕ
+DT_RELRSZ = 35
+
+abbrev pub DT_RELRENT : ℕ
+DT_RELRENT = 37
+
 abbrev pub DT_SONAME : ℕ
 DT_SONAME = 14
 
