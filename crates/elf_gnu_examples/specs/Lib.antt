@@ -1,5 +1,6 @@
 pub mod ListedVersions
 pub mod ListedChoices
+pub mod ListedLocated
 pub mod ListedRelative
 pub mod ListedSuffixes
 pub mod LoaderWords

@@ -14,6 +14,7 @@ mod library_file_rows;
 mod library_rows;
 mod link_rows;
 mod listed_versions;
+mod located_rows;
 mod loader_cache_rows;
 mod needed_version_rows;
 mod number_rows;
