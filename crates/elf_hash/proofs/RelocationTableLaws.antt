@@ -21,22 +21,33 @@ use Rattle.elf_hash.proofs.SegmentLaws.{IsRest, entry_passes, entry_refused, row
 
 -- the table whose address and size two entries have
 module _ (file : List ℕ) (address size : DynEntry) (form : RelocationForm) (a : IsEntryOf file address) (z : IsEntryOf file size) where
-  abbrev found_rows : IsLocated
-  found_rows = record { form = form; place = mapped_place file address.value size.value; count = size.value / form_size form }
+  abbrev checks_of : (v n : ℕ) → List Check
+  checks_of v n = refuse (not (n % form_size form == 0)) size.at SizeNotWhole ∷ mapped_checks file v n address.at
 
-  abbrev by_refusal : Option Refusal → Result (Option IsLocated) Refusal
-  by_refusal (Some refusal) = Err refusal
-  by_refusal None = Ok (Some found_rows)
+  abbrev rows_or : (v n : ℕ) → Option Refusal → Result (Option IsLocated) Refusal
+  rows_or v n (Some refusal) = Err refusal
+  rows_or v n None = Ok (Some (record { form = form; place = mapped_place file v n; count = n / form_size form }))
+
+  opened : table_mapped file address.at size.at form
+      ≡ rows_or (d_un file address.at) (d_un file size.at) (first_refusal (checks_of (d_un file address.at) (d_un file size.at)))
+  unfolding table_mapped
+  opened = refl
+
+  valued : table_mapped file address.at size.at form ≡ rows_or address.value size.value (first_refusal (checks_of address.value size.value))
+  valued =
+      opened ∙ (ap (λ (v : ℕ). rows_or v (d_un file size.at) (first_refusal (checks_of v (d_un file size.at)))) a
+      ∙ ap (λ (n : ℕ). rows_or address.value n (first_refusal (checks_of address.value n))) z)
 
   pub part_row : (size.value % form_size form ≡ 0 → ⊥) → table_mapped file address.at size.at form ≡ Err (record { at = size.at; cause = SizeNotWhole })
-  unfolding table_mapped
-  part_row h = rw (a, z, ne_eqb _ 0 h) refl
+  part_row h =
+      let first : first_refusal (checks_of address.value size.value) ≡ Some (record { at = size.at; cause = SizeNotWhole }) = rw (ne_eqb _ 0 h) refl in
+      valued ∙ ap (rows_or address.value size.value) first
 
   whole_rows : size.value % form_size form ≡ 0 → (r : Option Refusal) → first_refusal (mapped_checks file address.value size.value address.at) ≡ r
-      → table_mapped file address.at size.at form ≡ by_refusal r
-  unfolding table_mapped
-  whole_rows h None e = rw (a, z, h, e) refl
-  whole_rows h (Some refusal) e = rw (a, z, h, e) refl
+      → table_mapped file address.at size.at form ≡ rows_or address.value size.value r
+  whole_rows h r e =
+      let first : first_refusal (checks_of address.value size.value) ≡ first_refusal (mapped_checks file address.value size.value address.at) = rw h refl in
+      valued ∙ ap (rows_or address.value size.value) (first ∙ e)
 
   pub rows_refused : size.value % form_size form ≡ 0 → (fault : Fault) → Err fault ≡ strings_mapped file address.value size.value address.at
       → Err fault ≡ located_by (table_mapped file address.at size.at form)
@@ -51,10 +62,12 @@ module _ (file : List ℕ) (address size : DynEntry) (form : RelocationForm) (a 
       → Ok (Some (record { form = form; table = table })) ≡ located_by (table_mapped file address.at size.at form)
   rows_found h names table m is =
       let p = checked_passes (mapped_checks file address.value size.value address.at) (strings (mapped_place file address.value size.value) size.value) names m in
+      let rows_at : ℕ → TableRange = λ at. record { at = at; count = size.value / form_size form; entry = form_size form } in
+      let answer : TableRange → Result (Option LocatedTable) Fault = λ t. Ok (Some (record { form = form; table = t })) in
       let place : names.at ≡ mapped_place file address.value size.value = sym (ap (λ (s : StringTableRange). s.at) p.1) in
       let same : table ≡ record { at = mapped_place file address.value size.value; count = size.value / form_size form; entry = form_size form } =
-      is ∙ ap (λ (at : ℕ) : TableRange. record { at = at; count = size.value / form_size form; entry = form_size form }) place in
-      ap (λ (t : TableRange) : Result (Option LocatedTable) Fault. Ok (Some (record { form = form; table = t }))) same
+      is ∙ ap rows_at place in
+      ap answer same
       ∙ sym (ap located_by (whole_rows h None p.0))
 
 -- a table by its entries
@@ -100,13 +113,13 @@ module _ (file : List ℕ) (at : ℕ) (table : RelocationTable) (entries : Table
         pub no_form : form_by table row.value ≡ None → located_table file at table ≡ Err (record { at = row.at; cause = EntrySize })
         unfolding table_of_rows
         no_form none =
-            let opened : table_of_rows file table address.at size.at (Some row.at) ≡ Err (record { at = row.at; cause = EntrySize }) = rw (row_here.1, none) refl in
+            let opened : table_of_rows file table address.at size.at (Some row.at) ≡ Err (record { at = row.at; cause = EntrySize }) = rw (row_here.1, none, table_of_rows) refl in
             some_rows some ∙ ap (table_of_rows file table address.at size.at) row_here.0 ∙ opened
 
         pub of_form : (form : RelocationForm) → form_by table row.value ≡ Some form → located_table file at table ≡ table_mapped file address.at size.at form
         unfolding table_of_rows
         of_form form is =
-            let opened : table_of_rows file table address.at size.at (Some row.at) ≡ table_mapped file address.at size.at form = rw (row_here.1, is) refl in
+            let opened : table_of_rows file table address.at size.at (Some row.at) ≡ table_mapped file address.at size.at form = rw (row_here.1, is, table_of_rows) refl in
             some_rows some ∙ ap (table_of_rows file table address.at size.at) row_here.0 ∙ opened
 
 -- the symbols by three entries
@@ -145,17 +158,29 @@ module _ (file : List ℕ) (at : ℕ) (found : DynamicTags) (symtab strtab strsz
   abbrev checks : List Check
   checks = rest_checks file symtab.at ++ mapped_checks file strtab.value strsz.value strtab.at
 
-  abbrev found_symbols : LocatedSymbols
-  found_symbols = record { place = rest_place file symtab.at; count = rest_size file symtab.at / SYMBOL_SIZE; strings = mapped_bytes file strtab.value strsz.value }
+  abbrev checks_of_names : (v n : ℕ) → List Check
+  checks_of_names v n = rest_checks file symtab.at ++ mapped_checks file v n strtab.at
 
-  abbrev symbols_or : Option Refusal → Result (Option LocatedSymbols) Refusal
-  symbols_or (Some refusal) = Err refusal
-  symbols_or None = Ok (Some found_symbols)
+  abbrev symbols_or : (v n : ℕ) → Option Refusal → Result (Option LocatedSymbols) Refusal
+  symbols_or v n (Some refusal) = Err refusal
+  symbols_or v n None =
+      Ok (Some (record { place = rest_place file symtab.at; count = rest_size file symtab.at / SYMBOL_SIZE; strings = mapped_bytes file v n }))
 
-  symbols_are : (r : Option Refusal) → first_refusal checks ≡ r → located_symbols file at ≡ symbols_or r
-  unfolding located_symbols symbols_by symbols_mapped
-  symbols_are None e = rw (symtab_here.0, strtab_here.0, strsz_here.0, strtab_here.1, strsz_here.1, e) refl
-  symbols_are (Some refusal) e = rw (symtab_here.0, strtab_here.0, strsz_here.0, strtab_here.1, strsz_here.1, e) refl
+  entries_are : located_symbols file at ≡ symbols_mapped file symtab.at strtab.at strsz.at
+  unfolding located_symbols symbols_by
+  entries_are = rw (symtab_here.0, strtab_here.0, strsz_here.0) refl
+
+  symbols_opened : symbols_mapped file symtab.at strtab.at strsz.at
+      ≡ symbols_or (d_un file strtab.at) (d_un file strsz.at) (first_refusal (checks_of_names (d_un file strtab.at) (d_un file strsz.at)))
+  unfolding symbols_mapped
+  symbols_opened = refl
+
+  symbols_are : (r : Option Refusal) → first_refusal checks ≡ r → located_symbols file at ≡ symbols_or strtab.value strsz.value r
+  symbols_are r e =
+      entries_are ∙ (symbols_opened
+      ∙ (ap (λ (v : ℕ). symbols_or v (d_un file strsz.at) (first_refusal (checks_of_names v (d_un file strsz.at)))) strtab_here.1
+      ∙ (ap (λ (n : ℕ). symbols_or strtab.value n (first_refusal (checks_of_names strtab.value n))) strsz_here.1
+      ∙ ap (symbols_or strtab.value strsz.value) e)))
 
   refused_by : (fault : Fault) → RefusedBy checks fault → FindsSymbols file (located_symbols file at) (Err fault)
   refused_by (Refused refusal) r = symbols_are (Some refusal) r

@@ -19,4 +19,4 @@ returns-in_err-names c =
 
 pub returns : goal.returns
 returns c = finds _ (search rules) (λ bytes views a z.
-    rows_found bytes _ _ _ a z (rw c.row_bytes-row.ensures at c.if-size-row-ne0.false) _ _ (c.in_ok-names.ensures.held bytes views) (rw c.row_bytes-row.ensures at c.new-table.ensures))
+    rows_found bytes _ _ _ a z (rw c.row_bytes-row.ensures at c.if-size-row-ne0.false) _ _ (c.in_ok-names.ensures.held bytes views) (rw (c.row_bytes-row.ensures, c.at.ensures.value) at c.new-table.ensures))
