@@ -2,7 +2,7 @@
 ghost use Rattle.elf_examples.specs.ListedLocated.{BytesAreRefused, EntriesAreRefused, LocatedCost, TablesAreLocated, TablesAreRefused, TablesMayOverlap};
 
 /// Works out the rows of four tables, in a file without sections and by the program headers.
-#[tactic(auto, unfolding(elf_model::proofs::OnLiterals::on_literals, crate::proofs::OnExamples::on_examples))]
+#[tactic(auto, unfolding(elf_model::proofs::OnLiterals::on_literals, crate::proofs::OnGnuExamples::on_gnu_examples))]
 pub fn located_relocations()
     ensures tables_are_located { TablesAreLocated }
     ensures tables_are_refused { TablesAreRefused }
