@@ -2,3 +2,5 @@ pub mod ListLaws
 pub mod KeyLaws
 pub mod TableLaws
 pub mod SymbolLaws
+pub mod PassLaws
+pub mod PassingLaws

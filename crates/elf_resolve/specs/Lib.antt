@@ -2,5 +2,6 @@ pub mod KeyTables
 pub mod RowTables
 pub mod Symbols
 pub mod Passing
+pub mod LinkLaws
 pub mod ExamplesLinks
 pub mod ExamplesFiles

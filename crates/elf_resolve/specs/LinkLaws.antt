@@ -1,0 +1,15 @@
+-- What is so of every link.
+use Rattle.std.specs.Prelude.{◌≡◌, Contains, ℕ, true, false, List}
+use Rattle.elf_model.specs.LinkPasses.{ArchivePass, LinkArchive, archive_searched, asks_for, is_taken, member_taken}
+use Rattle.elf_model.specs.declared.link_states.IndexEntry.{IndexEntry}
+
+-- ONE STATE COMES FROM ANOTHER BY TAKING MEMBERS, each of which was not taken, and for an entry of the
+-- index whose key asked for it just before
+pub data Reaches (archive : LinkArchive) (entries : List IndexEntry) : ArchivePass → ArchivePass → Type 0 where
+  Stays : (pass : ArchivePass) → Reaches archive entries pass pass
+  Takes : (pass end : ArchivePass) (entry : IndexEntry) → Contains entries entry → asks_for archive.members pass.keys entry ≡ true → is_taken pass.taken entry.member ≡ false
+      → Reaches archive entries (member_taken archive pass entry) end → Reaches archive entries pass end
+
+-- members of an archive that is searched are taken only so
+abbrev pub MembersAreAskedFor : Type 0
+MembersAreAskedFor = (archive : LinkArchive) (entries : List IndexEntry) (pass : ArchivePass) → Reaches archive entries pass (archive_searched archive entries pass)
