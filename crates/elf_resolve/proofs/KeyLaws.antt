@@ -1,5 +1,5 @@
 -- What a symbol keeps of the entry of its key, and the counts of entries.
-use Rattle.std.proofs.Common.{◌≡◌, ℕ, ◌+◌, ◌<◌, Bool, true, false, List, [], ◌∷◌, ◌++◌, length, length-append, get_or, set, count_by, refl, sym, ap, ◌∙◌, arith}
+use Rattle.std.proofs.Common.{◌≡◌, ℕ, ◌+◌, ◌<◌, Bool, true, false, List, [], ◌∷◌, length, length-append, get_or, set, count_by, refl, sym, ◌∙◌, arith}
 use Rattle.std.proofs.lemmas.List.Quantifiers.{position-Some}
 use Rattle.std.specs.Prelude.{Option, None, Some, bytes_eq, ◌||◌, ◌&&◌, not, if◌then◌else◌}
 use Rattle.elf_model.specs.LinkKeys.{LinkKeys, asked_after, asks_after, change_of, changed, entered, entered_at, first_row, index_of, index_or, key_in, new_key, order_after, prepared, references_by, removed, used}

@@ -4,3 +4,5 @@ pub mod TableLaws
 pub mod SymbolLaws
 pub mod PassLaws
 pub mod PassingLaws
+pub mod StateLaws
+pub mod Laws

@@ -1,12 +1,12 @@
 -- The symbols of a file, taken in order.
 use Rattle.std.proofs.Common.{◌≡◌, ℕ, ◌+◌, ◌<◌, Bool, true, false, List, [], ◌∷◌, ◌++◌, length, get_or, take, map, refl, sym, ap, ◌∙◌, arith}
-use Rattle.std.specs.Prelude.{Option, None, Some, if◌then◌else◌}
+use Rattle.std.specs.Prelude.{Option, None, Some}
 use Rattle.std.proofs.lemmas.List.{get_or-map, length-map, take_more}
 use Rattle.elf_model.specs.LinkKeys.{LinkKeys, LinkSymbol, default_used, entry_named, name_used, prepared, symbol_taken, symbols_taken}
 use Rattle.elf_model.specs.LinkSteps.{ends_at}
 use Rattle.elf_model.specs.declared.link_states.KeyEntry.{KeyEntry}
 use Rattle.elf_resolve.specs.KeyTables.{Table}
-use Rattle.elf_resolve.specs.Symbols.{TookSymbol, TookSymbols, UsedName, name_in, symbol_of}
+use Rattle.elf_resolve.specs.Symbols.{TookSymbol, TookSymbols, UsedName, symbol_of}
 use Rattle.elf_resolve.specs.declared.symbols.Symbol as given
 
 -- a symbol after others

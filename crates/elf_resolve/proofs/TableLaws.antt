@@ -1,9 +1,9 @@
 -- Names that are entered in a table of keys, and keys that are used.
-use Rattle.std.proofs.Common.{◌≡◌, ℕ, ◌+◌, ◌<◌, Bool, true, false, cond, List, [], ◌∷◌, ◌++◌, length, map, Bor, refl, sym, ap, subst, ◌∙◌, arith}
+use Rattle.std.proofs.Common.{◌≡◌, ℕ, ◌+◌, Bool, true, false, cond, List, [], ◌∷◌, ◌++◌, length, Bor, refl, sym, ap, subst, ◌∙◌, arith}
 use Rattle.std.specs.Prelude.{Option, None, Some, bytes_eq}
 use Rattle.std.specs.Map.{lookup}
 use Rattle.std.proofs.lemmas.Slice.Eq.{bytes_eq-Decides}
-use Rattle.elf_model.specs.LinkKeys.{LinkKeys, entered, entered_at, entry_of, index_of, index_or, key_in, key_used, name_used, new_key, with_entry}
+use Rattle.elf_model.specs.LinkKeys.{entered, entered_at, entry_of, index_of, index_or, key_in, key_used, name_used, new_key, with_entry}
 use Rattle.elf_model.specs.LinkObjects.{is_kept, kept, name_noted, signature_kept}
 use Rattle.elf_model.specs.declared.link_states.KeyEntry.{KeyEntry}
 use Rattle.elf_model.specs.declared.link_states.SymbolUse.{SymbolUse}

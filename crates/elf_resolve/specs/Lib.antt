@@ -2,6 +2,7 @@ pub mod KeyTables
 pub mod RowTables
 pub mod Symbols
 pub mod Passing
+pub mod KeyStates
 pub mod LinkLaws
 pub mod ExamplesLinks
 pub mod ExamplesFiles

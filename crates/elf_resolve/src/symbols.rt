@@ -34,7 +34,12 @@ impl<'a> KeyTable<'a> {
     ///
     /// # Errors
     /// Returns a `KeyFault` if there is no room.
-    pub fn use_name(&mut self, name: &[u8], symbol: SymbolUse, row: Option<u32>) -> Result<(), KeyFault>
+    pub fn use_name(
+        &mut self,
+        name: &[u8],
+        symbol: SymbolUse,
+        row: Option<u32>,
+    ) -> Result<(), KeyFault>
         ensures { OnOk result (UsedName self.old self.new name.now symbol row) }
     {
         let index = self.enter(name)?;

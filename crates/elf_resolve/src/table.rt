@@ -84,9 +84,10 @@ impl<'a> Model for KeyTable<'a> {
       most_further = t.most_further;
     } };
 
-    ghost invariant = { λ t. Holds t.places.entries (map (λ n. n.now) t.names.items) t.entries.items (length t.names.items) (length t.order.items) t.asked
-        t.most (vec_capacity t.names) (vec_capacity t.entries) (vec_capacity t.order) (spare t.places)
-        (length t.further.items) t.most_further (vec_capacity t.further) };
+    ghost invariant = { λ t. Holds t.places.entries (map (λ n. n.now) t.names.items) t.entries.items
+        (length t.names.items) (length t.order.items) t.asked t.most (vec_capacity t.names)
+        (vec_capacity t.entries) (vec_capacity t.order) (spare t.places) (length t.further.items)
+        t.most_further (vec_capacity t.further) };
 }
 
 impl<'a> KeyTable<'a> {
@@ -211,14 +212,24 @@ impl<'a> KeyTable<'a> {
     /// Returns [`KeyFault::TooManyFurther`] if the key is defined once more and there is no room:
     /// nothing changes.
     #[tactic(auto, unfolding(elf_model::specs::LinkKeys::key_used))]
-    pub fn use_key(&mut self, index: u32, symbol: SymbolUse, row: Option<u32>) -> Result<(), KeyFault>
+    pub fn use_key(
+        &mut self,
+        index: u32,
+        symbol: SymbolUse,
+        row: Option<u32>,
+    ) -> Result<(), KeyFault>
         requires { index < length self.old.keys.names }
         ensures { UsesKey self.old self.new index symbol row result }
     {
         let place = index as usize;
         let entry = self.entries[place];
         let further = FurtherDefinition { key: index, row };
-        add_further(&mut self.further, self.most_further, further, is_further(entry, symbol))?;
+        add_further(
+            &mut self.further,
+            self.most_further,
+            further,
+            is_further(entry, symbol),
+        )?;
         add_order(&mut self.order, index, entry.is_met);
         let after = used(entry, symbol, row);
         self.asked = asked_after(self.asked, entry, after);
@@ -235,7 +246,13 @@ impl<'a> KeyTable<'a> {
     {
         let index = self.enter(name)?;
         let entry = self.entry(index);
-        self.set_entry(index, KeyEntry { is_section: true, ..entry });
+        self.set_entry(
+            index,
+            KeyEntry {
+                is_section: true,
+                ..entry
+            },
+        );
         Ok(())
     }
 
@@ -245,7 +262,8 @@ impl<'a> KeyTable<'a> {
     /// # Errors
     /// Returns a `KeyFault` if the name is new and there is no room: nothing changes.
     pub fn drop_group(&mut self, signature: &[u8], is_link_once: bool) -> Result<bool, KeyFault>
-        ensures { IfOk result (λ dropped. KeptGroup self.old self.new signature.now is_link_once dropped) }
+        ensures { IfOk result
+            (λ dropped. KeptGroup self.old self.new signature.now is_link_once dropped) }
     {
         let index = self.enter(signature)?;
         let entry = self.entry(index);
@@ -280,9 +298,15 @@ fn kept(is_link_once: bool, entry: KeyEntry) -> KeyEntry
     ensures { result ≡ kept_at is_link_once entry }
 {
     if is_link_once {
-        KeyEntry { is_link_once: true, ..entry }
+        KeyEntry {
+            is_link_once: true,
+            ..entry
+        }
     } else {
-        KeyEntry { is_group: true, ..entry }
+        KeyEntry {
+            is_group: true,
+            ..entry
+        }
     }
 }
 

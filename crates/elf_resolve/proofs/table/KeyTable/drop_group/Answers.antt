@@ -1,4 +1,3 @@
-use Rattle.std.proofs.Common.{sym, ap, ◌∙◌}
 use Rattle.elf_resolve.proofs.KeyLaws.{index_within}
 use Rattle.elf_resolve.proofs.TableLaws.{group_kept}
 use Rattle.elf_resolve.proofs.table.KeyTable.drop_group.Goals as goal

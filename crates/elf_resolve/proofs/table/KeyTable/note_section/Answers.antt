@@ -1,4 +1,4 @@
-use Rattle.std.proofs.Common.{refl, sym, ap, ◌∙◌}
+use Rattle.std.proofs.Common.{refl}
 use Rattle.elf_resolve.proofs.KeyLaws.{index_within}
 use Rattle.elf_resolve.proofs.TableLaws.{section_noted}
 use Rattle.elf_resolve.proofs.table.KeyTable.note_section.Goals as goal

@@ -1,4 +1,4 @@
-use Rattle.std.proofs.Common.{◌≡◌, ◌<◌, length, length-set, arith, ap, sym, ◌∙◌}
+use Rattle.std.proofs.Common.{◌<◌, length, length-set, arith, ap, sym, ◌∙◌}
 use Rattle.std.proofs.lemmas.List.{length-map}
 use Rattle.elf_model.specs.LinkKeys.{entry_of}
 use Rattle.elf_model.specs.declared.link_states.KeyEntry.{KeyEntry}

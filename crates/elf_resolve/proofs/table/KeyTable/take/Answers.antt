@@ -1,7 +1,4 @@
-use Rattle.std.proofs.Common.{◌≡◌, sym, ap, ◌∙◌}
-use Rattle.elf_model.specs.LinkKeys.{prepared}
-use Rattle.elf_model.specs.LinkSteps.{ends_at}
-use Rattle.elf_model.specs.declared.link_states.KeyEntry.{KeyEntry}
+use Rattle.std.proofs.Common.{sym, ap, ◌∙◌}
 use Rattle.elf_resolve.specs.Symbols.{name_in, symbol_of}
 use Rattle.elf_resolve.proofs.SymbolLaws.{ends_as, ends_at_first, first_alone, second_used}
 use Rattle.elf_resolve.proofs.table.KeyTable.take.Goals as goal

@@ -1,4 +1,4 @@
-use Rattle.std.proofs.Common.{rules, ◌≡◌, ◌<◌, ◌≤◌, length, length-set, get_or, set, arith, sym, subst, ap, ◌∙◌}
+use Rattle.std.proofs.Common.{◌≡◌, ◌<◌, length, length-set, get_or, arith, sym, ap, ◌∙◌}
 use Rattle.elf_model.specs.LinkKeys.{asked_after, new_key, order_after, used}
 use Rattle.elf_model.specs.declared.link_states.KeyEntry.{KeyEntry}
 use Rattle.std.proofs.lemmas.List.{length-map}

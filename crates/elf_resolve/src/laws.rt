@@ -1,0 +1,20 @@
+//! The laws of links.
+ghost use Rattle.elf_resolve.specs.LinkLaws.{MembersAreAskedFor, OrderMeansNothing, StateIsLargest};
+
+/// A member is taken only for an entry of the index whose key asked for it just before.
+#[tactic(auto, using(crate::proofs::PassLaws::searched_reaches))]
+pub fn members_are_asked_for()
+    ensures { MembersAreAskedFor }
+{}
+
+/// The state that symbols of objects make is the largest of what they are.
+#[tactic(auto, using(crate::proofs::Laws::state_is_largest))]
+pub fn state_is_largest()
+    ensures { StateIsLargest }
+{}
+
+/// The order of the symbols does not matter.
+#[tactic(auto, using(crate::proofs::Laws::order_means_nothing))]
+pub fn order_means_nothing()
+    ensures { OrderMeansNothing }
+{}
