@@ -5,4 +5,4 @@ pub mod SymbolLaws
 pub mod PassLaws
 pub mod PassingLaws
 pub mod StateLaws
-pub mod Laws
+pub mod StatedLaws

@@ -1,5 +1,6 @@
 -- What is so of every link.
-use Rattle.std.specs.Prelude.{◌≡◌, Contains, true, false, List}
+use Rattle.std.specs.Prelude.{◌≡◌, ◌⊎◌, Contains, true, false, List}
+use Rattle.std.specs.List.Sorted.{IsPermutation}
 use Rattle.elf_model.specs.LinkPasses.{ArchivePass, LinkArchive, archive_searched, asks_for, is_taken, member_taken}
 use Rattle.elf_model.specs.declared.link_states.IndexEntry.{IndexEntry}
 use Rattle.elf_model.specs.declared.link_states.KeyState.TheVariants.{New}

@@ -5,7 +5,7 @@
 #![tactic(auto)]
 
 mod examples;
-mod laws;
+mod link_laws;
 mod passes;
 mod rows;
 mod steps;

@@ -8,13 +8,13 @@ pub fn members_are_asked_for()
 {}
 
 /// The state that symbols of objects make is the largest of what they are.
-#[tactic(auto, using(crate::proofs::Laws::state_is_largest))]
+#[tactic(auto, using(crate::proofs::StatedLaws::state_is_largest))]
 pub fn state_is_largest()
     ensures { StateIsLargest }
 {}
 
 /// The order of the symbols does not matter.
-#[tactic(auto, using(crate::proofs::Laws::order_means_nothing))]
+#[tactic(auto, using(crate::proofs::StatedLaws::order_means_nothing))]
 pub fn order_means_nothing()
     ensures { OrderMeansNothing }
 {}
