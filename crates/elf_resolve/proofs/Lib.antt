@@ -5,4 +5,5 @@ pub mod SymbolLaws
 pub mod PassLaws
 pub mod PassingLaws
 pub mod StateLaws
+pub mod EntryLaws
 pub mod StatedLaws

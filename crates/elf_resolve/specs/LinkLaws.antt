@@ -1,11 +1,12 @@
 -- What is so of every link.
-use Rattle.std.specs.Prelude.{◌≡◌, ◌⊎◌, Contains, true, false, List}
+use Rattle.std.specs.Prelude.{◌≡◌, ◌⊎◌, ℕ, Contains, true, false, List, Option, length}
 use Rattle.std.specs.List.Sorted.{IsPermutation}
+use Rattle.elf_model.specs.LinkKeys.{LinkKeys, LinkSymbol, entry_named, symbols_taken}
 use Rattle.elf_model.specs.LinkPasses.{ArchivePass, LinkArchive, archive_searched, asks_for, is_taken, member_taken}
 use Rattle.elf_model.specs.declared.link_states.IndexEntry.{IndexEntry}
 use Rattle.elf_model.specs.declared.link_states.KeyState.TheVariants.{New}
 use Rattle.elf_model.specs.declared.link_states.SymbolRole.{SymbolRole}
-use Rattle.elf_resolve.specs.KeyStates.{AreOwn, after_all, alone, is_above}
+use Rattle.elf_resolve.specs.KeyStates.{AreOwn, ArePlain, after_all, alone, is_above, roles_of}
 
 -- ONE STATE COMES FROM ANOTHER BY TAKING MEMBERS, each of which was not taken, and for an entry of the
 -- index whose key asked for it just before
@@ -27,3 +28,9 @@ StateIsLargest = (roles : List SymbolRole) → AreOwn roles → ((r : SymbolRole
 -- whatever their order
 abbrev pub OrderMeansNothing : Type 0
 OrderMeansNothing = (roles others : List SymbolRole) → AreOwn roles → AreOwn others → IsPermutation roles others → after_all New roles ≡ after_all New others
+
+-- the state of a name after the symbols of a file is what the symbols of that name make of it, if none
+-- has a default version or another visibility than DEFAULT
+abbrev pub NamesAreApart : Type 0
+NamesAreApart = (row : Option ℕ) (keys : LinkKeys) (symbols : List LinkSymbol) (name : List ℕ) → ArePlain symbols → length keys.entries ≡ length keys.names
+    → (entry_named (symbols_taken row keys symbols) name).state ≡ after_all (entry_named keys name).state (roles_of name symbols)

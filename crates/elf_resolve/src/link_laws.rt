@@ -1,5 +1,5 @@
 //! The laws of links.
-ghost use Rattle.elf_resolve.specs.LinkLaws.{MembersAreAskedFor, OrderMeansNothing, StateIsLargest};
+ghost use Rattle.elf_resolve.specs.LinkLaws.{MembersAreAskedFor, NamesAreApart, OrderMeansNothing, StateIsLargest};
 
 /// A member is taken only for an entry of the index whose key asked for it just before.
 #[tactic(auto, using(crate::proofs::PassLaws::searched_reaches))]
@@ -17,4 +17,10 @@ pub fn state_is_largest()
 #[tactic(auto, using(crate::proofs::StatedLaws::order_means_nothing))]
 pub fn order_means_nothing()
     ensures { OrderMeansNothing }
+{}
+
+/// The state of a name is what the symbols of that name make of it.
+#[tactic(auto, using(crate::proofs::EntryLaws::symbols_state))]
+pub fn names_are_apart()
+    ensures { NamesAreApart }
 {}
