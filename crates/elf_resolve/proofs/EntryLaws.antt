@@ -19,7 +19,7 @@ use Rattle.elf_resolve.proofs.KeyLaws.{index_within}
 use Rattle.elf_resolve.proofs.ListLaws.{position_push, position_push_new, position_push_other}
 
 -- a new entry after others is what the lack of one is
-push_default : {X : Type 0} (xs : List X) (d : X) (i : ℕ) → get_or (xs ++ d ∷ []) i d ≡ get_or xs i d
+pub push_default : {X : Type 0} (xs : List X) (d : X) (i : ℕ) → get_or (xs ++ d ∷ []) i d ≡ get_or xs i d
 push_default [] d zero = refl
 push_default [] d (suc i) = refl
 push_default (x ∷ xs) d zero = refl
@@ -111,7 +111,7 @@ name_entry row keys name q symbol paired =
     ∙ ap (λ e. if bytes_eq q name then used e symbol row else e) (entered_entry keys name q (omega (arith, paired)))
 
 -- the state of an entry that is used by an own symbol of default visibility
-prepared_plain : (entry : KeyEntry) (restricted : Bool) → restricted ≡ false → (let before : KeyEntry = if restricted then record entry { state = removed entry.is_asked entry.state; is_restricted = true } else entry in before ≡ entry)
+pub prepared_plain : (entry : KeyEntry) (restricted : Bool) → restricted ≡ false → (let before : KeyEntry = if restricted then record entry { state = removed entry.is_asked entry.state; is_restricted = true } else entry in before ≡ entry)
 prepared_plain entry true is = cc
 prepared_plain entry false is = refl
 
@@ -139,7 +139,7 @@ unless_both true true x is = cc
 unless_both true false x is = refl
 unless_both false b x is = refl
 
-change_own : (entry : KeyEntry) (symbol : SymbolUse) → IsOwn symbol.role → change_of entry symbol ≡ state_change entry.state symbol.role
+pub change_own : (entry : KeyEntry) (symbol : SymbolUse) → IsOwn symbol.role → change_of entry symbol ≡ state_change entry.state symbol.role
 change_own entry symbol own = unless_both entry.is_restricted (is_shared symbol.role) (state_change entry.state symbol.role) (not_shared symbol.role own)
 
 pub used_state : (entry : KeyEntry) (symbol : SymbolUse) (row : Option ℕ) → symbol.restricted ≡ false → IsOwn symbol.role → (used entry symbol row).state ≡ after entry.state symbol.role

@@ -6,4 +6,6 @@ pub mod PassLaws
 pub mod PassingLaws
 pub mod StateLaws
 pub mod EntryLaws
+pub mod FollowLaws
+pub mod LeftLaws
 pub mod StatedLaws

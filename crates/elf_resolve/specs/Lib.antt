@@ -3,6 +3,7 @@ pub mod RowTables
 pub mod Symbols
 pub mod Passing
 pub mod KeyStates
+pub mod KeyOrders
 pub mod LinkLaws
 pub mod ExamplesLinks
 pub mod ExamplesFiles

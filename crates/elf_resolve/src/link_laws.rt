@@ -1,5 +1,5 @@
 //! The laws of links.
-ghost use Rattle.elf_resolve.specs.LinkLaws.{MembersAreAskedFor, NamesAreApart, OrderMeansNothing, StateIsLargest};
+ghost use Rattle.elf_resolve.specs.LinkLaws.{MembersAreAskedFor, NamesAreApart, NoneIsLeft, OrderMeansNothing, StateIsLargest};
 
 /// A member is taken only for an entry of the index whose key asked for it just before.
 #[tactic(auto, using(crate::proofs::PassLaws::searched_reaches))]
@@ -23,4 +23,10 @@ pub fn order_means_nothing()
 #[tactic(auto, using(crate::proofs::EntryLaws::symbols_state))]
 pub fn names_are_apart()
     ensures { NamesAreApart }
+{}
+
+/// After a search no key that is still undefined is in the index, except of members that are taken.
+#[tactic(auto, using(crate::proofs::LeftLaws::none_left))]
+pub fn none_is_left()
+    ensures { NoneIsLeft }
 {}
