@@ -1,4 +1,14 @@
 //! The checks of a file's headers before its image is made.
+ghost use Rattle.std.specs.Prelude.{◌≡◌, ◌<◌, ℕ, List, length, IfOk, IfErr};
+ghost use Rattle.elf_model.specs.Image.{kind_checks, requested_checks, segment_load_checks, segments_load_checks};
+ghost use Rattle.elf_model.specs.Checks.{first_refusal};
+ghost use Rattle.elf_model.specs.Records.{segment_at};
+ghost use Rattle.elf_record.specs.Phdr.{IsPhdr};
+ghost use Rattle.elf_table.specs.Load.{HoldsProgramHeaders};
+ghost use Rattle.elf_table.specs.Views.{ChecksDecide};
+ghost use Rattle.elf_table.specs.Faults.{IsOfCheck};
+ghost use Rattle.elf_image.specs.Headers.{refusal_for};
+
 use elf_hash::load_by_segments;
 use elf_record::numbers::{EM_X86_64, ET_DYN, ET_EXEC, PT_LOAD};
 use elf_record::{Cause, Phdr};
@@ -53,7 +63,10 @@ fn check_loads(view: &ExecutionView<'_>) -> Result<(), Fault> {
 /// Returns why a program header is refused in a file of `size` bytes, if it is one of a LOAD
 /// segment: its bytes and addresses differ modulo the size of a page, they are more than it has in
 /// memory, they end past the end of the file, or the addresses end above 2^64.
-fn load_fault(header: &Phdr, size: u64) -> Option<Cause> {
+fn load_fault(header: &Phdr, size: u64) -> Option<Cause>
+    ensures { (file : List ℕ) (at : ℕ) → IsPhdr file at header.now → size ≡ length file →
+        first_refusal (segment_load_checks file at) ≡ refusal_for at result }
+{
     if header.p_type != PT_LOAD {
         return None;
     }

@@ -18,16 +18,16 @@ mod missing;
 mod place;
 mod ranges;
 mod relative_rows;
+mod segment_image;
 mod stored;
 mod symbols;
 mod tables;
 mod values;
 mod walk;
 mod window;
-mod write_image;
 
 pub use image_items::{CopyBytes, CopyItem, ImageItems, ItemKind, NumberItem};
 pub use item_list::{ItemList, ItemListFault};
 pub use items::{ImageItem, image_item};
 pub use missing::{LackingEntry, MissingEntries};
-pub use write_image::{ImageRequest, write_image};
+pub use segment_image::{ImageRequest, write_image};

@@ -1,4 +1,12 @@
 //! The place of a relocation: the LOAD segment that holds it in memory.
+ghost use Rattle.std.specs.Prelude.{◌≡◌, ◌<◌, ℕ, List, IfSome, nat_lt};
+ghost use Rattle.elf_model.specs.Image.{holder_of, holds_in_memory};
+ghost use Rattle.elf_model.specs.TraitNumbers.{PF_W};
+ghost use Rattle.elf_model.specs.Traits.{has_bits};
+ghost use Rattle.elf_model.specs.Records.{p_flags};
+ghost use Rattle.elf_record.specs.Phdr.{IsPhdr};
+ghost use Rattle.elf_table.specs.Load.{HoldsProgramHeaders};
+
 use crate::changes::ImageFile;
 use elf_record::numbers::PT_LOAD;
 use elf_record::{Cause, Phdr, SegmentFlags};
@@ -92,7 +100,12 @@ fn range_of(image: &ImageFile<'_>, segment: u16) -> HeldRange {
 
 /// Returns the index of the LOAD program header whose segment holds `width` bytes at an address in
 /// memory, if there is one.
-pub(crate) fn holder(view: &ExecutionView<'_>, address: u64, width: u64) -> Option<u16> {
+pub(crate) fn holder(view: &ExecutionView<'_>, address: u64, width: u64) -> Option<u16>
+    ensures below { IfSome result (λ segment. segment < view.now.store.now.segments) }
+    ensures held { (file : List ℕ) →
+        HoldsProgramHeaders file view.now.loaded view.now.store.now →
+        result ≡ holder_of file address width }
+{
     for segment in 0..view.segments() {
         if holds_place(&view.segment(segment), address, width) {
             return Some(segment);
@@ -103,7 +116,10 @@ pub(crate) fn holder(view: &ExecutionView<'_>, address: u64, width: u64) -> Opti
 
 /// Returns `true` if the segment is a LOAD segment that holds `width` bytes at an address in
 /// memory.
-fn holds_place(header: &Phdr, address: u64, width: u64) -> bool {
+fn holds_place(header: &Phdr, address: u64, width: u64) -> bool
+    ensures { (file : List ℕ) (at : ℕ) → IsPhdr file at header.now →
+        result ≡ holds_in_memory file at address width }
+{
     let end = u128::from(header.p_vaddr) + u128::from(header.p_memsz);
     header.p_type == PT_LOAD
         && header.p_vaddr <= address
@@ -111,6 +127,9 @@ fn holds_place(header: &Phdr, address: u64, width: u64) -> bool {
 }
 
 /// Returns `true` if a segment is writable.
-fn is_writable(header: &Phdr) -> bool {
+fn is_writable(header: &Phdr) -> bool
+    ensures { (file : List ℕ) (at : ℕ) → IsPhdr file at header.now →
+        result ≡ has_bits (p_flags file at) PF_W }
+{
     header.p_flags & SegmentFlags::W.0 == SegmentFlags::W.0
 }
