@@ -118,11 +118,10 @@ module _ (source : ImageSource) where
   lack_allowed rela cause true = tt
   lack_allowed rela cause false = tt
 
-  by_allowed : (rela size : ℕ) (found : Result (Option (List ℕ)) Cause) → first_refusal (place_checks source.file source.at rela (r_offset source.file rela) size) ≡ None
-      → ((bytes : List ℕ) → found ≡ Ok (Some bytes) → length bytes ≤ size) → Allowed (change_by source rela size found)
+  by_allowed : (rela size : ℕ) (found : Result (List ℕ) Cause) → first_refusal (place_checks source.file source.at rela (r_offset source.file rela) size) ≡ None
+      → ((bytes : List ℕ) → found ≡ Ok bytes → length bytes ≤ size) → Allowed (change_by source rela size found)
   unfolding change_by
-  by_allowed rela size (Ok None) passes fits = kept_allowed
-  by_allowed rela size (Ok (Some bytes)) passes fits =
+  by_allowed rela size (Ok bytes) passes fits =
       place_allowed source.file source.at rela (r_offset source.file rela) size bytes (holder_of source.file (r_offset source.file rela) size) refl passes (fits bytes refl)
   by_allowed rela size (Err cause) passes fits = lack_allowed rela cause (is_lack cause)
 
