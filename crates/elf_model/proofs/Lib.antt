@@ -33,8 +33,9 @@ pub mod Nuls
 pub mod OnLiterals
 pub mod OnLoader
 pub mod OnImage
-mod ImageValues
-mod ImageLaws
+pub mod ImageValues
+pub mod ImageLaws
+pub mod ImageHolders
 mod OneRule
 pub mod OverlapLemmas
 pub mod PatchLaws
