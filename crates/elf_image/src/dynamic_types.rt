@@ -20,7 +20,8 @@ pub(crate) fn dynamic_type(kind: u32) -> Option<DynamicType>
 {
     match kind {
         R_X86_64_64 => Some(DynamicType::Absolute),
-        R_X86_64_PC32 | R_X86_64_32 => Some(DynamicType::Narrow),
+        R_X86_64_PC32 => Some(DynamicType::RelativeLow),
+        R_X86_64_32 => Some(DynamicType::Low),
         R_X86_64_COPY => Some(DynamicType::Copy),
         R_X86_64_GLOB_DAT => Some(DynamicType::Address),
         R_X86_64_JUMP_SLOT => Some(DynamicType::Call),
@@ -61,7 +62,7 @@ pub(crate) fn changed_size(found: DynamicType, symbol: &Sym) -> u64
         result ≡ changed_size found file at }
 {
     match found {
-        DynamicType::Narrow => 4,
+        DynamicType::Low | DynamicType::RelativeLow => 4,
         DynamicType::Copy => symbol.st_size,
         DynamicType::Descriptor => 16,
         _ => 8,

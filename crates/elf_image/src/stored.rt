@@ -4,6 +4,7 @@ use crate::image_items::ItemKind;
 use crate::symbols::is_looked_up;
 use crate::values::{bound_value, called_value, thread_value};
 use elf_model::DynamicType;
+use elf_record::numbers::{R_X86_64_32, R_X86_64_PC32};
 use elf_record::{Cause, Rela, Sym};
 use elf_reloc::{Patch, value};
 
@@ -19,12 +20,16 @@ pub(crate) fn stored_bytes<'a>(
 ) -> Result<StoredBytes<'a>, Cause> {
     let index = entry.symbol();
     let addend = entry.r_addend;
+    let place = image.base.wrapping_add(entry.r_offset);
     match found {
         DynamicType::Relative => word_of(Ok(image.base), addend),
         DynamicType::Absolute => word_of(bound_value(image, index, symbol), addend),
         DynamicType::Address => word_of(bound_value(image, index, symbol), 0),
         DynamicType::Call => word_of(called_value(image, index, symbol), 0),
-        DynamicType::Narrow => narrow_bytes(image, entry, bound_value(image, index, symbol)),
+        DynamicType::Low => low_bytes(R_X86_64_32, bound_value(image, index, symbol), addend, place),
+        DynamicType::RelativeLow => {
+            low_bytes(R_X86_64_PC32, bound_value(image, index, symbol), addend, place)
+        }
         DynamicType::Resolved => word_of(resolved_value(image, addend), 0),
         DynamicType::Copy => copied_bytes(image, index, symbol),
         DynamicType::Module => {
@@ -68,15 +73,15 @@ fn word<'a>(number: u64) -> StoredBytes<'a> {
     StoredBytes::Value(Patch::Word64(number.to_le_bytes()))
 }
 
-/// Returns the four bytes of an entry, by the value of its symbol.
-fn narrow_bytes<'a>(
-    image: &ImageFile<'a>,
-    entry: &Rela,
+/// Returns the bytes of a type of which elf_reloc computes the value, by its number.
+fn low_bytes<'a>(
+    number: u32,
     address: Result<u64, Cause>,
+    addend: i64,
+    place: u64,
 ) -> Result<StoredBytes<'a>, Cause> {
     let address = address?;
-    let place = image.base.wrapping_add(entry.r_offset);
-    match value(entry.kind(), address, address, entry.r_addend, place) {
+    match value(number, address, address, addend, place) {
         Ok(patch) => Ok(StoredBytes::Value(patch)),
         Err(_) => Err(Cause::Overflow),
     }

@@ -33,6 +33,9 @@ pub mod Nuls
 pub mod OnLiterals
 pub mod OnLoader
 pub mod OnImage
+pub mod ImageValues
+pub mod ImageLaws
+pub mod ImageHolders
 mod OneRule
 pub mod OverlapLemmas
 pub mod PatchLaws

@@ -210,14 +210,17 @@ place_checks file at refused_at address size = elim (holder_of file address size
       ∷ []
 ]
 
--- CHANGES. Bytes that are stored at an offset of a segment, by the index of its program header
+-- CHANGES. Bytes that are stored at an offset of a segment, by the index of its program header, and
+-- how many bytes from there may be changed
 pub record SegmentWrite : Type 0 where
   pub segment : ℕ
+  pub size : ℕ
   pub stored : StoredBytes
 
--- what a relocation does: bytes are stored; an item of the entry at an offset is not there, and the
--- cause of that; or the image is refused
+-- what a relocation does: nothing; bytes are stored; an item of the entry at an offset is not there,
+-- and the cause of that; or the image is refused
 pub data ImageChange : Type 0 where
+  Keeps : ImageChange
   Stores : SegmentWrite → ImageChange
   Lacks : Refusal → ImageChange
   Refuses : Refusal → ImageChange
@@ -228,6 +231,7 @@ stored_at file address size bytes =
     let segment = unwrap_or (holder_of file address size) 0 in
     Stores (record {
       segment = segment;
+      size = size;
       stored = record { at = address - p_vaddr file (segment_at file segment); bytes = bytes };
     })
 
@@ -319,29 +323,33 @@ change_of_type source rela (Some type) =
     ]
 
 -- what an entry does: R_X86_64_NONE does nothing, and nothing of it is checked
-unfoldable pub entry_change : ImageSource → (rela : ℕ) → List ImageChange
+unfoldable pub entry_change : ImageSource → (rela : ℕ) → ImageChange
 entry_change source rela =
-    if r_type source.file rela == R_X86_64_NONE then []
-    else change_of_type source rela (dynamic_type (r_type source.file rela)) ∷ []
+    if r_type source.file rela == R_X86_64_NONE then Keeps
+    else change_of_type source rela (dynamic_type (r_type source.file rela))
 
 -- the type of an entry is R_X86_64_IRELATIVE: a resolver may use what other entries store, so it is
 -- called after these (x86-64 psABI, R_X86_64_IRELATIVE)
 abbrev pub is_resolved : List ℕ → ℕ → Bool
 is_resolved file rela = r_type file rela == R_X86_64_IRELATIVE
 
--- what entries do before resolvers are called; of the first ones, as many as `count`, the type is
--- R_X86_64_RELATIVE
+-- what an entry does before resolvers are called: nothing if it needs one; if it is one of the first
+-- that are said to be relative, it is
+unfoldable pub direct_change : ImageSource → (relative : Bool) → (rela : ℕ) → ImageChange
+direct_change source relative rela =
+    if relative && not (r_type source.file rela == R_X86_64_RELATIVE) then Refuses (record { at = rela; cause = Unsupported })
+    else if is_resolved source.file rela then Keeps
+    else entry_change source rela
+
+-- what entries do before resolvers are called, of which the first `count` are said to be relative
 unfoldable pub direct_changes : ImageSource → (count : ℕ) → List ℕ → List ImageChange
 direct_changes source count [] = []
 direct_changes source count (rela ∷ relas) =
-    (if nat_lt 0 count && not (r_type source.file rela == R_X86_64_RELATIVE) then Refuses (record { at = rela; cause = Unsupported }) ∷ []
-    else if is_resolved source.file rela then []
-    else entry_change source rela)
-    ++ direct_changes source (count - 1) relas
+    direct_change source (nat_lt 0 count) rela ∷ direct_changes source (count - 1) relas
 
 -- what the others do
 unfoldable pub resolved_changes : ImageSource → List ℕ → List ImageChange
-resolved_changes source relas = flat_map (entry_change source) (filter (is_resolved source.file) relas)
+resolved_changes source relas = map (entry_change source) (filter (is_resolved source.file) relas)
 
 -- what the entries of a range do
 abbrev pub range_changes : ImageSource → (count : ℕ) → List ℕ → List ImageChange
@@ -393,18 +401,23 @@ and_writes write (Ok writes) = Ok (write ∷ writes)
 -- partial
 unfoldable pub writes_of : (partial : Bool) → List ImageChange → Result (List SegmentWrite) Refusal
 writes_of partial [] = Ok []
+writes_of partial (Keeps ∷ changes) = writes_of partial changes
 writes_of partial (Refuses refusal ∷ changes) = Err refusal
 writes_of partial (Lacks refusal ∷ changes) = elim partial [ true ↦ writes_of partial changes | false ↦ Err refusal ]
 writes_of partial (Stores write ∷ changes) = and_writes write (writes_of partial changes)
 
--- what is stored in the segment of an index
-unfoldable pub writes_in : (segment : ℕ) → List SegmentWrite → List StoredBytes
-writes_in segment writes = map (λ write. write.stored) (filter (λ write. write.segment == segment) writes)
+-- the writes to the segment of an index
+abbrev pub writes_in : (segment : ℕ) → List SegmentWrite → List SegmentWrite
+writes_in segment writes = filter (λ write. write.segment == segment) writes
+
+-- what is stored in it
+unfoldable pub stored_in : (segment : ℕ) → List SegmentWrite → List StoredBytes
+stored_in segment writes = map (λ write. write.stored) (writes_in segment writes)
 
 -- the bytes of a segment with what is stored
 unfoldable pub relocated_segment : (whole file : List ℕ) → (segment : ℕ) → List SegmentWrite → List ℕ
 relocated_segment whole file segment writes =
-    patched (writes_in segment writes) (unrelocated whole file (segment_at file segment))
+    patched (stored_in segment writes) (unrelocated whole file (segment_at file segment))
 
 -- the image by the program headers, or the first refusal
 unfoldable pub image_by_segments : (whole file : List ℕ) → (headers segment most : ℕ) → ImageItems → Result (List ℕ) Refusal

@@ -7,19 +7,19 @@ use Rattle.elf_model.specs.ImageItems.{ImageItems, FromPointer, InBlock, ModuleI
 use Rattle.elf_model.specs.LoaderScope.{segment_symbols, tagged_row}
 use Rattle.elf_model.specs.Numbers.{DT_SYMTAB}
 use Rattle.elf_model.specs.Placing.{address_in}
-use Rattle.elf_model.specs.Records.{r_addend, r_offset, r_sym, r_type, st_size, twos_complement}
+use Rattle.elf_model.specs.Records.{r_addend, r_offset, r_sym, st_size, twos_complement}
 use Rattle.elf_model.specs.Tables.{SYMBOL_SIZE}
 use Rattle.elf_model.specs.Values.{value}
 use Rattle.elf_model.specs.declared.causes.Cause.{Cause}
 use Rattle.elf_model.specs.declared.causes.Cause.TheVariants.{BadLink, Overflow, SymbolIndex, Undefined, Unplaced, Unsupported}
 use Rattle.elf_model.specs.declared.dynamic_types.DynamicType.{DynamicType}
-use Rattle.elf_model.specs.declared.dynamic_types.DynamicType.TheVariants.{Relative, Absolute, Address, Call, Narrow, Resolved, Module, BlockOffset, ThreadOffset, Copy, Descriptor}
+use Rattle.elf_model.specs.declared.dynamic_types.DynamicType.TheVariants.{Relative, Absolute, Address, Call, Low, RelativeLow, Resolved, Module, BlockOffset, ThreadOffset, Copy, Descriptor}
 
 -- the relocation types that a loader applies, by their numbers: R_X86_64_64, PC32, COPY, GLOB_DAT,
 -- JUMP_SLOT, RELATIVE, 32, DTPMOD64, DTPOFF64, TPOFF64, TLSDESC, IRELATIVE
 unfoldable pub dynamic_types : List (ℕ × DynamicType)
 dynamic_types =
-    (1, Absolute) ∷ (2, Narrow) ∷ (5, Copy) ∷ (6, Address) ∷ (7, Call) ∷ (8, Relative) ∷ (10, Narrow) ∷ (16, Module)
+    (1, Absolute) ∷ (2, RelativeLow) ∷ (5, Copy) ∷ (6, Address) ∷ (7, Call) ∷ (8, Relative) ∷ (10, Low) ∷ (16, Module)
     ∷ (17, BlockOffset) ∷ (18, ThreadOffset) ∷ (36, Descriptor) ∷ (37, Resolved) ∷ []
 
 unfoldable pub dynamic_type_in : List (ℕ × DynamicType) → ℕ → Option DynamicType
@@ -49,7 +49,8 @@ entry_symbol file at rela = (segment_symbols file at).0 + SYMBOL_SIZE * r_sym fi
 
 -- how many bytes an entry may change
 unfoldable pub changed_size : DynamicType → List ℕ → (symbol : ℕ) → ℕ
-changed_size Narrow file symbol = 4
+changed_size Low file symbol = 4
+changed_size RelativeLow file symbol = 4
 changed_size Copy file symbol = st_size file symbol
 changed_size Descriptor file symbol = 16
 changed_size _ file symbol = 8
@@ -76,10 +77,10 @@ word_if_bound (Ok (Some value)) addend = Ok (little 8 ((value + addend) % 2 ^ 64
 word_if_bound (Ok None) addend = Ok []
 word_if_bound (Err cause) addend = Err cause
 
--- the bytes of a type of `apply` whose B is S
-abbrev pub narrow_bytes : (number : ℕ) → Result ℕ Cause → (addend place : ℕ) → Result (List ℕ) Cause
-narrow_bytes number (Ok s) addend place = value number s s (twos_complement addend) place
-narrow_bytes number (Err cause) addend place = Err cause
+-- the bytes of a type of `apply` whose B is S, by its number
+abbrev pub low_bytes : (number : ℕ) → Result ℕ Cause → (addend place : ℕ) → Result (List ℕ) Cause
+low_bytes number (Ok s) addend place = value number s s (twos_complement addend) place
+low_bytes number (Err cause) addend place = Err cause
 
 -- an address, or no place
 abbrev pub placed : Option ℕ → Result ℕ Cause
@@ -99,6 +100,10 @@ descriptor_bytes function (Ok None) addend = Err Undefined
 descriptor_bytes None (Ok (Some value)) addend = Err Unplaced
 descriptor_bytes (Some function) (Ok (Some value)) addend = Ok (little 8 function ++ little 8 ((value + addend) % 2 ^ 64))
 
+-- P, the place of an entry in memory
+abbrev pub place_of_entry : List ℕ → ImageItems → (rela : ℕ) → ℕ
+place_of_entry file items rela = (items.base + r_offset file rela) % 2 ^ 64
+
 -- WHAT AN ENTRY STORES, by its type, A and the index and the offset of its symbol; or the cause for
 -- which it has no value
 unfoldable pub stored_bytes : DynamicType → List ℕ → ImageItems → (rela symbol : ℕ) → Result (List ℕ) Cause
@@ -106,9 +111,10 @@ stored_bytes Relative file items rela symbol = word_of (Ok items.base) (r_addend
 stored_bytes Absolute file items rela symbol = word_of (bound_value file items (r_sym file rela) symbol) (r_addend file rela)
 stored_bytes Address file items rela symbol = word_of (bound_value file items (r_sym file rela) symbol) 0
 stored_bytes Call file items rela symbol = word_of (called_value file items (r_sym file rela) symbol) 0
-stored_bytes Narrow file items rela symbol =
-    narrow_bytes (r_type file rela) (bound_value file items (r_sym file rela) symbol) (r_addend file rela)
-    ((items.base + r_offset file rela) % 2 ^ 64)
+stored_bytes Low file items rela symbol =
+    low_bytes 10 (bound_value file items (r_sym file rela) symbol) (r_addend file rela) (place_of_entry file items rela)
+stored_bytes RelativeLow file items rela symbol =
+    low_bytes 2 (bound_value file items (r_sym file rela) symbol) (r_addend file rela) (place_of_entry file items rela)
 stored_bytes Resolved file items rela symbol = word_of (placed (address_in items.resolved (r_addend file rela))) 0
 stored_bytes Module file items rela symbol = word_if_bound (thread_value ModuleId file items (r_sym file rela) symbol) 0
 stored_bytes BlockOffset file items rela symbol =

@@ -107,4 +107,7 @@ pub mod LibraryFiles
 pub mod ImageItems
 pub mod ImageValues
 pub mod Image
+pub mod ImageMissing
+pub mod ImageCost
+pub mod ImageLaws
 pub mod Prelude

@@ -11,8 +11,10 @@ pub enum DynamicType {
     Address,
     /// R_X86_64_JUMP_SLOT: the symbol's value, as it is called.
     Call,
-    /// R_X86_64_32 and R_X86_64_PC32: four bytes of a value, if it fits.
-    Narrow,
+    /// R_X86_64_32: four bytes of the symbol's value and the addend, if these fit.
+    Low,
+    /// R_X86_64_PC32: four bytes of the same less the place, if these fit.
+    RelativeLow,
     /// R_X86_64_IRELATIVE: what a function returns.
     Resolved,
     /// R_X86_64_DTPMOD64: the id of the object with the thread-local symbol.

@@ -17,6 +17,7 @@ mod fault_rows;
 mod formats;
 mod gnu_hash_laws;
 mod hash_laws;
+mod image_laws;
 mod listing_laws;
 mod loader_laws;
 mod located_laws;
