@@ -1,3 +1,4 @@
 pub mod Symbols
 pub mod Headers
 pub mod Items
+pub mod Values

@@ -1,4 +1,8 @@
 //! What a file's relocations depend on, and what they change.
+ghost use Rattle.std.specs.Prelude.{◌≡◌, unwrap_or};
+ghost use Rattle.elf_image.specs.Items.{number_of};
+ghost use Rattle.elf_image.specs.declared.image_items.ItemKind.TheVariants.{Base};
+
 use crate::dynamic_rows::{ImageRows, image_rows, no_rows};
 use crate::image_items::{CopyBytes, ImageItems};
 use crate::place::{Place, holder};
@@ -35,6 +39,7 @@ pub(crate) struct ImageFile<'a> {
     pub(crate) dynamic: (u64, u64),
     /// The segments that hold the first byte of a table.
     pub(crate) table_segments: [Option<u16>; 4],
+    pub(crate) ghost based: { base ≡ unwrap_or (number_of items.now Base 0) 0 },
 }
 
 /// The bytes that a relocation stores.
