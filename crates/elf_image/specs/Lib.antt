@@ -1,2 +1,5 @@
 pub mod Symbols
 pub mod Headers
+pub mod Within
+pub mod Images
+pub mod Missing

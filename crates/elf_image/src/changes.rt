@@ -1,4 +1,8 @@
 //! What a file's relocations depend on, and what they change.
+ghost use Rattle.std.specs.Prelude.{◌≡◌, ◌+◌, ◌*◌, ◌^◌, ◌<◌, ◌≤◌, IfOk};
+ghost use Rattle.elf_source.specs.Prelude.{KeepsSource};
+ghost use Rattle.elf_image.specs.Within.{ImageWithin};
+
 use crate::dynamic_rows::{ImageRows, image_rows, no_rows};
 use crate::image_items::{CopyBytes, ImageItems};
 use crate::place::{Place, holder};
@@ -102,7 +106,12 @@ pub(crate) fn image_file<'a, S: Source>(
     view: ExecutionView<'a>,
     items: &'a ImageItems<'a>,
     leaves: bool,
-) -> Result<ImageFile<'a>, Fault> {
+) -> Result<ImageFile<'a>, Fault>
+    requires size { view.loaded.size ≡ src.old.seen.size }
+    ensures keeps { KeepsSource src.old.seen src.new.seen }
+    ensures within { IfOk result (ImageWithin src.old.seen.size) }
+    ensures view { IfOk result (λ image. image.view ≡ view) }
+{
     let (rows, address) = dynamic_entries(src, &view)?;
     let tables = image_tables(&view, &rows)?;
     let ranges = entry_ranges(&tables, &rows)?;
@@ -125,7 +134,11 @@ pub(crate) fn image_file<'a, S: Source>(
 fn dynamic_entries<S: Source>(
     src: &mut Counted<S>,
     view: &ExecutionView<'_>,
-) -> Result<(ImageRows, u64), Fault> {
+) -> Result<(ImageRows, u64), Fault>
+    requires size { view.now.loaded.size ≡ src.old.seen.size }
+    ensures keeps { KeepsSource src.old.seen src.new.seen }
+    ensures few { IfOk result (λ found. found.0.count < 2 ^ 60) }
+{
     let Some(segment) = view.first_segment(PT_DYNAMIC) else {
         return Ok((no_rows(), 0));
     };
