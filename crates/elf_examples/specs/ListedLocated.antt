@@ -110,8 +110,8 @@ TablesMayOverlap =
     × (located_listed true true (with_bytes 0x308 (little 8 0) located_library) ≡ relative_rows ++ call_rows)
     × (located_listed true true (with_bytes 0x2b0 (little 8 37) located_library) ≡ codes "! 00000000000002b0 entry-size\n")
 
--- four tables as large as the file are allowed for, besides the program headers
+-- besides the program headers as many bytes are allowed for as five tables have
 abbrev pub LocatedCost : Type 0
 LocatedCost =
-    (listing_cost located_library 8 (located_style true true) RELOCS ≡ 64 + 3 * 56 + 4 * (880 + 55 * (32 + 64)))
+    (listing_cost located_library 8 (located_style true true) RELOCS ≡ 64 + 3 * 56 + 5 * (880 + 55 * (32 + 64)))
     × (listing_cost located_library 8 (located_style false false) RELOCS ≡ 64)

@@ -60,10 +60,10 @@ segments_cost file style parts = cost_where (needs_segments file style parts) (P
 abbrev pub locates_relocations : List ℕ → ListingStyle → ℕ → Bool
 locates_relocations file style parts = e_shnum file == 0 && (follows_dynamic style && has parts RELOCS)
 
--- the upper bound of what they read in a file of this many bytes: the dynamic entries, and the words
--- or entries of four tables, each with a symbol and its name
+-- the upper bound of what they read in a file of this many bytes: the dynamic entries and four tables,
+-- each with a symbol and its name for each 16 bytes
 abbrev pub located_most : (size cap : ℕ) → ℕ
-located_most size cap = 4 * (size + size / 16 * (32 + name_bytes cap))
+located_most size cap = 5 * (size + size / 16 * (32 + name_bytes cap))
 
 unfoldable pub located_cost : List ℕ → ListingStyle → ℕ → ℕ
 located_cost file style parts = cost_where (locates_relocations file style parts) (located_most (length file) style.cap)

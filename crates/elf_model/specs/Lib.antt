@@ -110,4 +110,12 @@ pub mod Image
 pub mod ImageMissing
 pub mod ImageCost
 pub mod ImageLaws
+pub mod LinkSteps
+pub mod LinkKeys
+pub mod LinkObjects
+pub mod LinkPasses
+pub mod LinkInputs
+pub mod LinkLines
+pub mod LinkSymbols
+pub mod LinkArchives
 pub mod Prelude

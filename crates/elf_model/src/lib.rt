@@ -18,6 +18,7 @@ mod formats;
 mod gnu_hash_laws;
 mod hash_laws;
 mod image_laws;
+mod link_states;
 mod listing_laws;
 mod loader_laws;
 mod located_laws;
@@ -45,6 +46,10 @@ pub use causes::{Cause, Refusal};
 pub use dynamic_types::DynamicType;
 pub use fault_rows::FaultRow;
 pub use formats::{Format, LinePlace, TableState};
+pub use link_states::{
+    FurtherDefinition, IndexEntry, KeyEntry, KeyState, LinkCause, LinkRefusal, LinkRow, RowKind,
+    RowReason, SharedDefinition, SharedKind, StateChange, SymbolRole, SymbolUse,
+};
 pub use missing::{LayoutAddress, MissingAddress, OverflowedValue};
 pub use place_filters::{PlaceFilter, PlaceRange, RowPlace};
 pub use relocation_tables::{RelocationForm, RelocationTable};
