@@ -10,6 +10,7 @@ use Rattle.elf_image.specs.declared.image_items.CopyItem.{CopyItem}
 use Rattle.elf_image.specs.declared.image_items.ItemKind.{ItemKind}
 use Rattle.elf_image.specs.declared.image_items.ItemKind.TheVariants as kind
 use Rattle.elf_image.specs.declared.image_items.NumberItem.{NumberItem}
+use Rattle.elf_image.specs.declared.image_items.ImageItems.{ImageItems as IsImageItems}
 
 -- the number of a kind
 abbrev pub kind_number : ItemKind → ℕ
@@ -21,43 +22,6 @@ kind_number kind.Module = 4
 kind_number kind.Value = 5
 kind_number kind.Thread = 6
 kind_number kind.Resolver = 7
-
--- THE ITEMS THAT ARE GIVEN: numbers, each of a kind and with a key, and the bytes of copied objects, by
--- the index of their symbol
-pub record GivenItems : Type 0 where
-  pub numbers : List NumberItem
-  pub copies : List (ℕ × List ℕ)
-
--- the numbers of a kind, by their key
-unfoldable pub of_kind : (kind : ℕ) → List NumberItem → List (ℕ × ℕ)
-of_kind kind [] = []
-of_kind kind (item ∷ items) = if item.kind == kind then (item.key, item.value) ∷ of_kind kind items else of_kind kind items
-
--- the number of a kind and a key
-abbrev pub number_of : GivenItems → ItemKind → (key : ℕ) → Option ℕ
-number_of given kind key = address_in (of_kind (kind_number kind) given.numbers) key
-
--- WHAT THEY SAY, as all items of a process or as some
-unfoldable pub said_by : GivenItems → (partial : Bool) → ImageItems
-said_by given partial = record {
-  base = unwrap_or (number_of given kind.Base 0) 0;
-  symbols = of_kind (kind_number kind.Symbol) given.numbers;
-  calls = of_kind (kind_number kind.Call) given.numbers;
-  modules = of_kind (kind_number kind.Module) given.numbers;
-  blocks = of_kind (kind_number kind.Value) given.numbers;
-  threads = of_kind (kind_number kind.Thread) given.numbers;
-  resolved = of_kind (kind_number kind.Resolver) given.numbers;
-  copies = given.copies;
-  descriptor = number_of given kind.Descriptor 0;
-  partial = partial;
-}
-
--- the place of an item in the order of items, and that of a kind and a key
-abbrev pub rank : (kind key : ℕ) → ℕ
-rank kind key = kind * 2 ^ 64 + key
-
-abbrev pub rank_of : NumberItem → ℕ
-rank_of item = rank item.kind item.key
 
 -- the value of a hexadecimal digit of either case; 0 of another byte
 unfoldable pub digit_value : ℕ → ℕ
@@ -96,3 +60,43 @@ copy_index item = item.index
 
 abbrev pub copies_of : List CopyItem → List (ℕ × List ℕ)
 copies_of items = map (λ item. (copy_index item, copy_bytes item.bytes)) items
+
+-- THE ITEMS THAT ARE GIVEN: numbers, each of a kind and with a key, and the bytes of copied objects, by
+-- the index of their symbol
+pub record GivenItems : Type 0 where
+  pub numbers : List NumberItem
+  pub copies : List (ℕ × List ℕ)
+
+abbrev pub given : IsImageItems → GivenItems
+given items = record { numbers = items.numbers.now; copies = copies_of items.copies.now }
+
+-- the numbers of a kind, by their key
+unfoldable pub of_kind : (kind : ℕ) → List NumberItem → List (ℕ × ℕ)
+of_kind kind [] = []
+of_kind kind (item ∷ items) = if item.kind == kind then (item.key, item.value) ∷ of_kind kind items else of_kind kind items
+
+-- the number of a kind and a key
+abbrev pub number_of : GivenItems → ItemKind → (key : ℕ) → Option ℕ
+number_of given kind key = address_in (of_kind (kind_number kind) given.numbers) key
+
+-- WHAT THEY SAY, as all items of a process or as some
+unfoldable pub said_by : GivenItems → (partial : Bool) → ImageItems
+said_by given partial = record {
+  base = unwrap_or (number_of given kind.Base 0) 0;
+  symbols = of_kind (kind_number kind.Symbol) given.numbers;
+  calls = of_kind (kind_number kind.Call) given.numbers;
+  modules = of_kind (kind_number kind.Module) given.numbers;
+  blocks = of_kind (kind_number kind.Value) given.numbers;
+  threads = of_kind (kind_number kind.Thread) given.numbers;
+  resolved = of_kind (kind_number kind.Resolver) given.numbers;
+  copies = given.copies;
+  descriptor = number_of given kind.Descriptor 0;
+  partial = partial;
+}
+
+-- the place of an item in the order of items, and that of a kind and a key
+abbrev pub rank : (kind key : ℕ) → ℕ
+rank kind key = kind * 2 ^ 64 + key
+
+abbrev pub rank_of : NumberItem → ℕ
+rank_of item = rank item.kind item.key

@@ -2,3 +2,6 @@ pub mod Symbols
 pub mod Headers
 pub mod Items
 pub mod Values
+pub mod Within
+pub mod Images
+pub mod Missing

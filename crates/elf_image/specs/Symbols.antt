@@ -4,13 +4,9 @@ use Rattle.elf_model.specs.Prelude.{Check, IsBudgetRefusal, first_refusal, refus
 use Rattle.elf_model.specs.declared.causes.Cause.TheVariants.{BadLink, SymbolIndex}
 use Rattle.elf_record.specs.Prelude.{IsSym}
 use Rattle.elf_record.specs.declared.sym.Sym.{Sym}
-use Rattle.elf_table.specs.Prelude.{TableInBounds, TableRange, row_at}
+use Rattle.elf_table.specs.Prelude.{TableRange, row_at}
 use Rattle.elf_table.specs.declared.fault.Fault.{Fault}
 use Rattle.elf_table.specs.declared.fault.Fault.TheVariants.{Refused, Source}
-
--- symbols lie within a source of this size
-abbrev pub SymbolsWithin : ℕ → TableRange → Type 0
-SymbolsWithin size table = (table.entry ≡ 24) × TableInBounds size table
 
 -- how many symbols there are, and where the one of an index is
 abbrev pub count_of : Option TableRange → ℕ

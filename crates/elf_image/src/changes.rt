@@ -1,6 +1,8 @@
 //! What a file's relocations depend on, and what they change.
-ghost use Rattle.std.specs.Prelude.{◌≡◌, unwrap_or};
-ghost use Rattle.elf_image.specs.Items.{number_of};
+ghost use Rattle.std.specs.Prelude.{◌≡◌, ◌+◌, ◌*◌, ◌^◌, ◌<◌, ◌≤◌, IfOk, unwrap_or};
+ghost use Rattle.elf_source.specs.Prelude.{KeepsSource};
+ghost use Rattle.elf_image.specs.Items.{given, number_of};
+ghost use Rattle.elf_image.specs.Within.{ImageWithin};
 ghost use Rattle.elf_image.specs.declared.image_items.ItemKind.TheVariants.{Base};
 
 use crate::dynamic_rows::{ImageRows, image_rows, no_rows};
@@ -39,7 +41,7 @@ pub(crate) struct ImageFile<'a> {
     pub(crate) dynamic: (u64, u64),
     /// The segments that hold the first byte of a table.
     pub(crate) table_segments: [Option<u16>; 4],
-    pub(crate) ghost based: { base ≡ unwrap_or (number_of items.now Base 0) 0 },
+    pub(crate) ghost based: { base ≡ unwrap_or (number_of (given items.now) Base 0) 0 },
 }
 
 /// The bytes that a relocation stores.
@@ -107,14 +109,20 @@ pub(crate) fn image_file<'a, S: Source>(
     view: ExecutionView<'a>,
     items: &'a ImageItems<'a>,
     leaves: bool,
-) -> Result<ImageFile<'a>, Fault> {
+) -> Result<ImageFile<'a>, Fault>
+    requires size { view.loaded.size ≡ src.old.seen.size }
+    ensures keeps { KeepsSource src.old.seen src.new.seen }
+    ensures within { IfOk result (ImageWithin src.old.seen.size) }
+    ensures view { IfOk result (λ image. image.view ≡ view) }
+{
+    let base = items.base();
     let (rows, address) = dynamic_entries(src, &view)?;
     let tables = image_tables(&view, &rows)?;
     let ranges = entry_ranges(&tables, &rows)?;
     Ok(ImageFile {
         view,
         items,
-        base: items.base(),
+        base,
         leaves,
         writes_text: has_text_relocations(&rows),
         compact: tables.compact.rows,
@@ -130,7 +138,11 @@ pub(crate) fn image_file<'a, S: Source>(
 fn dynamic_entries<S: Source>(
     src: &mut Counted<S>,
     view: &ExecutionView<'_>,
-) -> Result<(ImageRows, u64), Fault> {
+) -> Result<(ImageRows, u64), Fault>
+    requires size { view.now.loaded.size ≡ src.old.seen.size }
+    ensures keeps { KeepsSource src.old.seen src.new.seen }
+    ensures few { IfOk result (λ found. found.0.count < 2 ^ 60) }
+{
     let Some(segment) = view.first_segment(PT_DYNAMIC) else {
         return Ok((no_rows(), 0));
     };

@@ -1,4 +1,7 @@
 //! What a relocation entry changes.
+ghost use Rattle.elf_source.specs.Prelude.{KeepsSource};
+ghost use Rattle.elf_image.specs.Within.{ImageWithin};
+
 use crate::changes::{EntryResult, ImageChange, ImageFile, StoredBytes};
 use crate::dynamic_types::{changed_size, dynamic_type, is_thread_local, uses_no_symbol};
 use crate::place::{HeldRange, checked_place};
@@ -24,7 +27,10 @@ pub(crate) fn entry_result<'a, S: Source>(
     last: &mut Option<HeldRange>,
     entry: &Rela,
     at: u64,
-) -> Result<EntryResult<'a>, Fault> {
+) -> Result<EntryResult<'a>, Fault>
+    requires { ImageWithin src.old.seen.size image.now }
+    ensures { KeepsSource src.old.seen src.new.seen }
+{
     let kind = entry.kind();
     if kind == R_X86_64_NONE {
         return Ok(EntryResult::Nothing);
@@ -52,7 +58,10 @@ fn entry_symbol<S: Source>(
     found: DynamicType,
     index: u32,
     at: u64,
-) -> Result<Sym, Fault> {
+) -> Result<Sym, Fault>
+    requires { ImageWithin src.old.seen.size image.now }
+    ensures { KeepsSource src.old.seen src.new.seen }
+{
     if uses_no_symbol(found) {
         return Ok(no_symbol());
     }

@@ -1,12 +1,10 @@
 //! The checks of a file's headers before its image is made.
-ghost use Rattle.std.specs.Prelude.{◌≡◌, ◌<◌, ℕ, List, length, IfOk, IfErr};
-ghost use Rattle.elf_model.specs.Image.{kind_checks, requested_checks, segment_load_checks, segments_load_checks};
+ghost use Rattle.std.specs.Prelude.{◌≡◌, ◌+◌, ◌<◌, ◌≤◌, ℕ, List, None, length, IfOk};
+ghost use Rattle.elf_model.specs.Image.{segment_load_checks};
 ghost use Rattle.elf_model.specs.Checks.{first_refusal};
-ghost use Rattle.elf_model.specs.Records.{segment_at};
 ghost use Rattle.elf_record.specs.Phdr.{IsPhdr};
-ghost use Rattle.elf_table.specs.Load.{HoldsProgramHeaders};
-ghost use Rattle.elf_table.specs.Views.{ChecksDecide};
-ghost use Rattle.elf_table.specs.Faults.{IsOfCheck};
+ghost use Rattle.elf_source.specs.Prelude.{KeepsSource};
+ghost use Rattle.elf_hash.specs.Loading.{FitsSource};
 ghost use Rattle.elf_image.specs.Headers.{refusal_for};
 
 use elf_hash::load_by_segments;
@@ -27,7 +25,11 @@ const PAGE_BYTES: u64 = 4096;
 pub(crate) fn load_image<S: Source>(
     src: &mut Counted<S>,
     store: &mut HeaderStore,
-) -> Result<Loaded, Fault> {
+) -> Result<Loaded, Fault>
+    ensures keeps { KeepsSource src.old.seen src.new.seen }
+    ensures slots { store.new.slots ≡ store.old.slots }
+    ensures fits { IfOk result (FitsSource src.old.seen.size store.new) }
+{
     load_by_segments(src, store)
 }
 
@@ -91,13 +93,19 @@ pub(crate) fn wanted_segment(
     view: &ExecutionView<'_>,
     segment: u16,
     most: u64,
-) -> Result<Phdr, Fault> {
+) -> Result<Phdr, Fault>
+    ensures within { IfOk result (λ header.
+        header.p_offset + header.p_filesz ≤ view.now.loaded.size) }
+{
     if segment >= view.segments() {
         return refused(0x38, Cause::BadLink);
     }
     let header = view.segment(segment);
     if header.p_type != PT_LOAD {
         return refused(0x38, Cause::BadLink);
+    }
+    if is_out_of_bounds(view.loaded.size(), header.p_offset, header.p_filesz) {
+        return refused(view.place(segment), Cause::TableOutside);
     }
     if header.p_memsz > most {
         return refused(view.place(segment), Cause::Budget);

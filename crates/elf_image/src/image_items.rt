@@ -3,11 +3,10 @@ ghost use Rattle.std.specs.Prelude.{◌≡◌, ◌+◌, ◌*◌, ◌/◌, ◌^�
 ghost use Rattle.std.specs.Ordering.{nat_cmp};
 ghost use Rattle.elf_layout.specs.Lent.{FindsKey, Follows, KeysAscend};
 ghost use Rattle.elf_model.specs.ImageItems.{bytes_for};
-ghost use Rattle.elf_image.specs.Items.{byte_in, byte_of_digits, copies_of, copy_bytes, copy_index, copy_size, digit_value, kind_number, number_of, rank, rank_of};
+ghost use Rattle.elf_image.specs.Items.{byte_in, byte_of_digits, copies_of, copy_bytes, copy_index, copy_size, digit_value, given, kind_number, number_of, rank, rank_of};
 ghost use Rattle.elf_image.specs.declared.image_items.ItemKind.TheVariants.{Base};
 ghost use Rattle.elf_image.specs.declared.image_items.NumberItem.{NumberItem as IsNumberItem};
 
-use std::marker::Model;
 
 /// What an item says. Items are sorted by it, in this order.
 #[derive(Clone, Copy, PartialEq, Eq)]
@@ -124,29 +123,18 @@ fn digit_of(byte: u8) -> u8
 }
 
 /// The items of an image, in ascending order: numbers by kind and key, copies by index.
-#[derive(Drop)]
+#[derive(Clone, Copy)]
 pub struct ImageItems<'a> {
     numbers: &'a [NumberItem],
     copies: &'a [CopyItem<'a>],
-}
-
-impl<'a> Model for ImageItems<'a> {
-    ghost use Rattle.std.specs.Ordering.{nat_cmp};
-    ghost use Rattle.elf_layout.specs.Lent.{KeysAscend};
-    ghost use Rattle.elf_image.specs.Items.{GivenItems, copies_of, copy_index, rank_of};
-
-    ghost Value = { GivenItems };
-
-    ghost view = { λ i. record { numbers = i.numbers.now; copies = copies_of i.copies.now } };
-
-    ghost invariant = { λ i. KeysAscend nat_cmp rank_of i.numbers.now
-        × KeysAscend nat_cmp copy_index i.copies.now };
+    pub ghost ascending: { KeysAscend nat_cmp rank_of numbers.now
+        × KeysAscend nat_cmp copy_index copies.now },
 }
 
 impl<'a> ImageItems<'a> {
     /// Returns the items of these slices, or `None` if one is not above the one before it.
     pub fn new(numbers: &'a [NumberItem], copies: &'a [CopyItem<'a>]) -> Option<ImageItems<'a>>
-        ensures { IfSome result (λ items. items ≡ record { numbers = numbers.now; copies = copies_of copies.now }) }
+        ensures { IfSome result (λ items. given items ≡ record { numbers = numbers.now; copies = copies_of copies.now }) }
     {
         if !numbers_ascend(numbers) || !copies_ascend(copies) {
             return None;
@@ -156,7 +144,7 @@ impl<'a> ImageItems<'a> {
 
     /// Returns the value of the item of a kind and a key, if there is one.
     pub fn number(&self, kind: ItemKind, key: u64) -> Option<u64>
-        ensures { result ≡ number_of self.now kind key }
+        ensures { result ≡ number_of (given self.now) kind key }
     {
         match search_number(self.numbers, rank(kind.number(), key)) {
             Ok(found) => Some(key_and_value(self.numbers, found).1),
@@ -166,14 +154,14 @@ impl<'a> ImageItems<'a> {
 
     /// Returns the load address, 0 without an item.
     pub fn base(&self) -> u64
-        ensures { result ≡ unwrap_or (number_of self.now Base 0) 0 }
+        ensures { result ≡ unwrap_or (number_of (given self.now) Base 0) 0 }
     {
         self.number(ItemKind::Base, 0).unwrap_or(0)
     }
 
     /// Returns the bytes of the copied object of a symbol, if there is an item.
     pub fn copy(&self, index: u32) -> Option<CopyBytes<'a>>
-        ensures { option_map copy_bytes result ≡ bytes_for self.now.copies index }
+        ensures { option_map copy_bytes result ≡ bytes_for (given self.now).copies index }
     {
         match search_copy(self.copies, index) {
             Ok(found) => Some(self.copies[found].bytes),

@@ -1,4 +1,8 @@
 //! The entries that lack an item.
+ghost use Rattle.std.specs.Prelude.{IfOk};
+ghost use Rattle.elf_source.specs.Prelude.{KeepsSource};
+ghost use Rattle.elf_image.specs.Missing.{IsAliveIn, StepsMissing};
+
 use crate::changes::{ImageFile, image_file};
 use crate::headers::{check_headers, load_image};
 use crate::image_items::ImageItems;
@@ -26,8 +30,8 @@ pub struct LackingEntry {
 /// them.
 #[derive(Drop)]
 pub struct MissingEntries<'a> {
-    image: ImageFile<'a>,
-    walk: ImageWalk,
+    pub(crate) image: ImageFile<'a>,
+    pub(crate) walk: ImageWalk,
 }
 
 impl<'a> MissingEntries<'a> {
@@ -41,7 +45,10 @@ impl<'a> MissingEntries<'a> {
         src: &mut Counted<S>,
         store: &'a mut HeaderStore<'_>,
         items: &'a ImageItems<'a>,
-    ) -> Result<MissingEntries<'a>, Fault> {
+    ) -> Result<MissingEntries<'a>, Fault>
+        ensures keeps { KeepsSource src.old.seen src.new.seen }
+        ensures alive { IfOk result (IsAliveIn src.old.seen.size) }
+    {
         let loaded = load_image(src, store)?;
         let view = ExecutionView { loaded, store };
         check_headers(&view)?;
@@ -54,7 +61,12 @@ impl<'a> MissingEntries<'a> {
     ///
     /// # Errors
     /// Returns the first refusal of an entry, or a fault of a read.
-    pub fn next<S: Source>(&mut self, src: &mut Counted<S>) -> Result<Option<LackingEntry>, Fault> {
+    pub fn next<S: Source>(&mut self, src: &mut Counted<S>) -> Result<Option<LackingEntry>, Fault>
+        requires { IsAliveIn src.old.seen.size self.old }
+        ensures keeps { KeepsSource src.old.seen src.new.seen }
+        ensures alive { IfOk result (λ _. IsAliveIn src.old.seen.size self.new) }
+        ensures steps { IfOk result (StepsMissing self.old self.new) }
+    {
         'steps: loop {
             match self.walk.step(src, &self.image)? {
                 WalkStep::Lacks(ordered, cause) => {

@@ -1,11 +1,12 @@
 //! The place of a relocation: the LOAD segment that holds it in memory.
-ghost use Rattle.std.specs.Prelude.{◌≡◌, ◌<◌, ℕ, List, IfSome, nat_lt};
+ghost use Rattle.std.specs.Prelude.{◌≡◌, ◌<◌, ◌≤◌, ℕ, List, IfSome, true};
 ghost use Rattle.elf_model.specs.Image.{holder_of, holds_in_memory};
+ghost use Rattle.elf_model.specs.Prelude.{has_bits};
 ghost use Rattle.elf_model.specs.TraitNumbers.{PF_W};
-ghost use Rattle.elf_model.specs.Traits.{has_bits};
-ghost use Rattle.elf_model.specs.Records.{p_flags};
+ghost use Rattle.elf_model.specs.Records.{p_flags, p_vaddr};
 ghost use Rattle.elf_record.specs.Phdr.{IsPhdr};
 ghost use Rattle.elf_table.specs.Load.{HoldsProgramHeaders};
+ghost use Rattle.elf_table.specs.Store.{segment_bytes};
 
 use crate::changes::ImageFile;
 use elf_record::numbers::PT_LOAD;
@@ -35,7 +36,9 @@ pub(crate) struct HeldRange {
 
 impl HeldRange {
     /// Returns `true` if the segment holds `width` bytes at an address in memory.
-    fn holds(&self, address: u64, width: u64) -> bool {
+    fn holds(&self, address: u64, width: u64) -> bool
+        ensures above { result ≡ true → self.now.first ≤ address }
+    {
         self.first <= address && u128::from(address) + u128::from(width) <= self.end
     }
 }
@@ -77,7 +80,9 @@ fn held_range(
     last: &Option<HeldRange>,
     address: u64,
     width: u64,
-) -> Option<HeldRange> {
+) -> Option<HeldRange>
+    ensures above { IfSome result (λ range. range.first ≤ address) }
+{
     if let Some(range) = last {
         if width > 0 && range.holds(address, width) {
             return Some(*range);
@@ -87,7 +92,10 @@ fn held_range(
 }
 
 /// Returns the LOAD segment of a program header.
-fn range_of(image: &ImageFile<'_>, segment: u16) -> HeldRange {
+fn range_of(image: &ImageFile<'_>, segment: u16) -> HeldRange
+    requires { segment < image.now.view.store.now.segments }
+    ensures { result.first ≡ p_vaddr (segment_bytes image.now.view.store.now segment) 0 }
+{
     let header = image.view.segment(segment);
     HeldRange {
         segment,
@@ -102,6 +110,8 @@ fn range_of(image: &ImageFile<'_>, segment: u16) -> HeldRange {
 /// memory, if there is one.
 pub(crate) fn holder(view: &ExecutionView<'_>, address: u64, width: u64) -> Option<u16>
     ensures below { IfSome result (λ segment. segment < view.now.store.now.segments) }
+    ensures above { IfSome result (λ segment.
+        p_vaddr (segment_bytes view.now.store.now segment) 0 ≤ address) }
     ensures held { (file : List ℕ) →
         HoldsProgramHeaders file view.now.loaded view.now.store.now →
         result ≡ holder_of file address width }
@@ -117,8 +127,9 @@ pub(crate) fn holder(view: &ExecutionView<'_>, address: u64, width: u64) -> Opti
 /// Returns `true` if the segment is a LOAD segment that holds `width` bytes at an address in
 /// memory.
 fn holds_place(header: &Phdr, address: u64, width: u64) -> bool
-    ensures { (file : List ℕ) (at : ℕ) → IsPhdr file at header.now →
+    ensures value { (file : List ℕ) (at : ℕ) → IsPhdr file at header.now →
         result ≡ holds_in_memory file at address width }
+    ensures above { result ≡ true → header.now.p_vaddr ≤ address }
 {
     let end = u128::from(header.p_vaddr) + u128::from(header.p_memsz);
     header.p_type == PT_LOAD

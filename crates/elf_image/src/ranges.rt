@@ -1,4 +1,7 @@
 //! The ranges of relocation entries, in the order of a loader.
+ghost use Rattle.std.specs.Prelude.{◌≡◌, ◌≤◌, ℕ, IfOk};
+ghost use Rattle.elf_image.specs.Within.{RangesWithin, TableWithin, TablesWithin};
+
 use crate::dynamic_rows::ImageRows;
 use crate::tables::{ImageTables, MappedTable};
 use elf_record::Cause;
@@ -24,7 +27,10 @@ pub(crate) struct EntryRanges {
 ///
 /// # Errors
 /// Returns `Unsupported` at DT_JMPREL if the calls end where the others end, and begin before them.
-pub(crate) fn entry_ranges(tables: &ImageTables, rows: &ImageRows) -> Result<EntryRanges, Fault> {
+pub(crate) fn entry_ranges(tables: &ImageTables, rows: &ImageRows) -> Result<EntryRanges, Fault>
+    requires widths { (tables.now.addends.rows.entry ≡ 24) × (tables.now.calls.rows.entry ≡ 24) }
+    ensures within { (size : ℕ) → TablesWithin size tables.now → IfOk result (RangesWithin size) }
+{
     let relative = match rows.relative {
         Some(row) => row.value,
         None => 0,
@@ -66,6 +72,11 @@ fn calls_row(rows: &ImageRows) -> u64 {
 }
 
 /// Returns a table without its last rows, as many as `count`.
-fn front_of(table: &Table, count: u64) -> Table {
+fn front_of(table: &Table, count: u64) -> Table
+    requires entry { table.now.entry ≡ 24 }
+    requires few { count ≤ table.now.count }
+    ensures within { (size : ℕ) → TableWithin 24 size table.now → TableWithin 24 size result }
+{
+    let _ = table.entry();
     Table::new(table.at(), table.len() - count, RELOCATION_BYTES)
 }

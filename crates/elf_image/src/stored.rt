@@ -26,9 +26,19 @@ pub(crate) fn stored_bytes<'a>(
         DynamicType::Absolute => word_of(bound_value(image, index, symbol), addend),
         DynamicType::Address => word_of(bound_value(image, index, symbol), 0),
         DynamicType::Call => word_of(called_value(image, index, symbol), 0),
-        DynamicType::Low => low_bytes(R_X86_64_32, bound_value(image, index, symbol), addend, place),
+        DynamicType::Low => low_bytes(
+            R_X86_64_32,
+            bound_value(image, index, symbol),
+            addend,
+            place,
+        ),
         DynamicType::RelativeLow => {
-            low_bytes(R_X86_64_PC32, bound_value(image, index, symbol), addend, place)
+            low_bytes(
+                R_X86_64_PC32,
+                bound_value(image, index, symbol),
+                addend,
+                place,
+            )
         }
         DynamicType::Resolved => word_of(resolved_value(image, addend), 0),
         DynamicType::Copy => copied_bytes(image, index, symbol),

@@ -3,7 +3,8 @@ ghost use Rattle.std.specs.Prelude.{◌≡◌, ℕ, List, IfSome};
 ghost use Rattle.elf_model.specs.ImageItems.{is_looked_up};
 ghost use Rattle.elf_record.specs.Sym.{IsSym};
 ghost use Rattle.elf_table.specs.Prelude.{CallDid, fault_of_result};
-ghost use Rattle.elf_image.specs.Symbols.{ReadsSymbol, SymbolsWithin};
+ghost use Rattle.elf_image.specs.Symbols.{ReadsSymbol};
+ghost use Rattle.elf_image.specs.Within.{TableWithin};
 
 use elf_record::numbers::STB_LOCAL;
 use elf_record::{Cause, Sym};
@@ -39,7 +40,7 @@ pub(crate) fn read_symbol<S: Source>(
     index: u32,
     at: u64,
 ) -> Result<Sym, Fault>
-    requires { IfSome symbols (SymbolsWithin src.old.seen.size) }
+    requires { IfSome symbols (TableWithin 24 src.old.seen.size) }
     ensures { CallDid src.old src.new (fault_of_result result) 24
         (λ file. ReadsSymbol file symbols index at result) }
 {

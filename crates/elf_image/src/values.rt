@@ -2,7 +2,7 @@
 ghost use Rattle.std.specs.Prelude.{◌≡◌, ℕ, List};
 ghost use Rattle.elf_model.specs.ImageItems.{bound_value, called_value, item_of, lacks_item, may_be_unbound, own_value};
 ghost use Rattle.elf_record.specs.Sym.{IsSym};
-ghost use Rattle.elf_image.specs.Items.{kind_number, of_kind};
+ghost use Rattle.elf_image.specs.Items.{given, kind_number, of_kind};
 ghost use Rattle.elf_image.specs.Values.{items_of};
 
 use crate::changes::ImageFile;
@@ -44,7 +44,7 @@ pub(crate) fn called_value(image: &ImageFile<'_>, index: u32, symbol: &Sym) -> R
 /// Returns the item of a kind of the symbol of an index, if it is looked up.
 fn item_of(image: &ImageFile<'_>, kind: ItemKind, index: u32, symbol: &Sym) -> Option<u64>
     ensures { (file : List ℕ) (at : ℕ) → IsSym file at symbol.now →
-        result ≡ item_of (of_kind (kind_number kind) image.now.items.now.numbers) file index at }
+        result ≡ item_of (of_kind (kind_number kind) (given image.now.items.now).numbers) file index at }
 {
     if !is_looked_up(symbol) {
         return None;

@@ -10,7 +10,7 @@ use elf_layout::{LayoutFileFault, TextEnd};
 use elf_listing::show_stop;
 use elf_model::Format;
 use elf_source::{Counted, Out, Sink, Source, WriteSink};
-use elf_table::{HeaderStore, RunFault};
+use elf_table::{Fault, HeaderStore, RunFault};
 use std::io::{self, BufWriter, Stderr, Write};
 use std::os::unix::fs::FileExt;
 use std::rt::Files;
@@ -188,10 +188,10 @@ fn write_job<S: Source + Drop, W: Write + Drop>(
 ///
 /// # Errors
 /// A refusal of the file, or a fault of the source or of the output.
-fn answer_job<'a, S: Source, W: Sink>(
-    job: &'a ImageJob<'a>,
+fn answer_job<S: Source, W: Sink>(
+    job: &ImageJob<'_>,
     src: &mut Counted<S>,
-    store: &'a mut HeaderStore<'_>,
+    store: &mut HeaderStore<'_>,
     window: &mut [u8],
     out: &mut Out<W>,
 ) -> Result<(), RunFault> {
@@ -212,11 +212,39 @@ fn answer_job<'a, S: Source, W: Sink>(
     }
 }
 
+/// Writes a line for each entry that lacks an item, once all entries were checked.
+///
+/// # Errors
+/// A refusal of the file, with nothing written, or a fault of the source or of the output.
+fn write_missing<S: Source, W: Sink>(
+    job: &ImageJob<'_>,
+    src: &mut Counted<S>,
+    store: &mut HeaderStore<'_>,
+    out: &mut Out<W>,
+) -> Result<(), RunFault> {
+    check_entries(job, src, store)?;
+    write_entries(job, src, store, out)
+}
+
+/// Checks all entries.
+///
+/// # Errors
+/// A refusal of the file, or a fault of the source.
+fn check_entries<'a, S: Source>(
+    job: &'a ImageJob<'a>,
+    src: &mut Counted<S>,
+    store: &'a mut HeaderStore<'_>,
+) -> Result<(), Fault> {
+    let mut missing = MissingEntries::open(src, store, job.items)?;
+    'entries: while missing.next(src)?.is_some() {}
+    Ok(())
+}
+
 /// Writes a line for each entry that lacks an item.
 ///
 /// # Errors
 /// A refusal of the file, or a fault of the source or of the output.
-fn write_missing<'a, S: Source, W: Sink>(
+fn write_entries<'a, S: Source, W: Sink>(
     job: &'a ImageJob<'a>,
     src: &mut Counted<S>,
     store: &'a mut HeaderStore<'_>,

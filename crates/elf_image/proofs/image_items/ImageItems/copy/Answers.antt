@@ -13,12 +13,10 @@ nothing = record { index = 0; bytes = Raw (record { ref_ptr = (0, 0); now = [] }
 
 pub returns-in-Ok : goal.returns-in-Ok
 returns-in-Ok c =
-    let items = c.self.inside.copies.now in
+    let items = c.args.self.now.copies.now in
     let item = get_or items c.in-Ok.found nothing in
     sym (copy_found items c.args.index c.in-Ok.found item c.in-Ok.ensures (get_or_default items c.in-Ok.found nothing item c.in-Ok.ensures.0))
-    ∙ ap (λ (g : GivenItems). bytes_for g.copies c.args.index) c.self.view_is
 
 pub returns-in-Err : goal.returns-in-Err
 returns-in-Err c =
-    sym (copy_absent c.self.inside.copies.now c.args.index c.in-Err.field-0 nothing c.in-Err.ensures)
-    ∙ ap (λ (g : GivenItems). bytes_for g.copies c.args.index) c.self.view_is
+    sym (copy_absent c.args.self.now.copies.now c.args.index c.in-Err.field-0 nothing c.in-Err.ensures)
