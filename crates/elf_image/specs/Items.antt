@@ -10,7 +10,6 @@ use Rattle.elf_image.specs.declared.image_items.CopyItem.{CopyItem}
 use Rattle.elf_image.specs.declared.image_items.ItemKind.{ItemKind}
 use Rattle.elf_image.specs.declared.image_items.ItemKind.TheVariants as kind
 use Rattle.elf_image.specs.declared.image_items.NumberItem.{NumberItem}
-use Rattle.elf_image.specs.declared.image_items.ImageItems.{ImageItems as IsImageItems}
 
 -- the number of a kind
 abbrev pub kind_number : ItemKind → ℕ
@@ -67,8 +66,8 @@ pub record GivenItems : Type 0 where
   pub numbers : List NumberItem
   pub copies : List (ℕ × List ℕ)
 
-abbrev pub given : IsImageItems → GivenItems
-given items = record { numbers = items.numbers.now; copies = copies_of items.copies.now }
+abbrev pub given : List NumberItem → List CopyItem → GivenItems
+given numbers copies = record { numbers = numbers; copies = copies_of copies }
 
 -- the numbers of a kind, by their key
 unfoldable pub of_kind : (kind : ℕ) → List NumberItem → List (ℕ × ℕ)

@@ -1,9 +1,7 @@
 //! What a file's relocations depend on, and what they change.
-ghost use Rattle.std.specs.Prelude.{◌≡◌, ◌+◌, ◌*◌, ◌^◌, ◌<◌, ◌≤◌, IfOk, unwrap_or};
+ghost use Rattle.std.specs.Prelude.{◌≡◌, ◌+◌, ◌*◌, ◌^◌, ◌<◌, ◌≤◌, IfOk};
 ghost use Rattle.elf_source.specs.Prelude.{KeepsSource};
-ghost use Rattle.elf_image.specs.Items.{given, number_of};
 ghost use Rattle.elf_image.specs.Within.{ImageWithin};
-ghost use Rattle.elf_image.specs.declared.image_items.ItemKind.TheVariants.{Base};
 
 use crate::dynamic_rows::{ImageRows, image_rows, no_rows};
 use crate::image_items::{CopyBytes, ImageItems};
@@ -41,7 +39,6 @@ pub(crate) struct ImageFile<'a> {
     pub(crate) dynamic: (u64, u64),
     /// The segments that hold the first byte of a table.
     pub(crate) table_segments: [Option<u16>; 4],
-    pub(crate) ghost based: { base ≡ unwrap_or (number_of (given items.now) Base 0) 0 },
 }
 
 /// The bytes that a relocation stores.
@@ -115,14 +112,13 @@ pub(crate) fn image_file<'a, S: Source>(
     ensures within { IfOk result (ImageWithin src.old.seen.size) }
     ensures view { IfOk result (λ image. image.view ≡ view) }
 {
-    let base = items.base();
     let (rows, address) = dynamic_entries(src, &view)?;
     let tables = image_tables(&view, &rows)?;
     let ranges = entry_ranges(&tables, &rows)?;
     Ok(ImageFile {
         view,
         items,
-        base,
+        base: items.base(),
         leaves,
         writes_text: has_text_relocations(&rows),
         compact: tables.compact.rows,

@@ -134,7 +134,7 @@ pub struct ImageItems<'a> {
 impl<'a> ImageItems<'a> {
     /// Returns the items of these slices, or `None` if one is not above the one before it.
     pub fn new(numbers: &'a [NumberItem], copies: &'a [CopyItem<'a>]) -> Option<ImageItems<'a>>
-        ensures { IfSome result (λ items. given items ≡ record { numbers = numbers.now; copies = copies_of copies.now }) }
+        ensures { IfSome result (λ items. given items.numbers.now items.copies.now ≡ given numbers.now copies.now) }
     {
         if !numbers_ascend(numbers) || !copies_ascend(copies) {
             return None;
@@ -144,7 +144,7 @@ impl<'a> ImageItems<'a> {
 
     /// Returns the value of the item of a kind and a key, if there is one.
     pub fn number(&self, kind: ItemKind, key: u64) -> Option<u64>
-        ensures { result ≡ number_of (given self.now) kind key }
+        ensures { result ≡ number_of (given self.now.numbers.now self.now.copies.now) kind key }
     {
         match search_number(self.numbers, rank(kind.number(), key)) {
             Ok(found) => Some(key_and_value(self.numbers, found).1),
@@ -154,14 +154,14 @@ impl<'a> ImageItems<'a> {
 
     /// Returns the load address, 0 without an item.
     pub fn base(&self) -> u64
-        ensures { result ≡ unwrap_or (number_of (given self.now) Base 0) 0 }
+        ensures { result ≡ unwrap_or (number_of (given self.now.numbers.now self.now.copies.now) Base 0) 0 }
     {
         self.number(ItemKind::Base, 0).unwrap_or(0)
     }
 
     /// Returns the bytes of the copied object of a symbol, if there is an item.
     pub fn copy(&self, index: u32) -> Option<CopyBytes<'a>>
-        ensures { option_map copy_bytes result ≡ bytes_for (given self.now).copies index }
+        ensures { option_map copy_bytes result ≡ bytes_for (given self.now.numbers.now self.now.copies.now).copies index }
     {
         match search_copy(self.copies, index) {
             Ok(found) => Some(self.copies[found].bytes),

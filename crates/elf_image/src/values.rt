@@ -2,8 +2,8 @@
 ghost use Rattle.std.specs.Prelude.{◌≡◌, ℕ, List};
 ghost use Rattle.elf_model.specs.ImageItems.{bound_value, called_value, item_of, lacks_item, may_be_unbound, own_value};
 ghost use Rattle.elf_record.specs.Sym.{IsSym};
-ghost use Rattle.elf_image.specs.Items.{given, kind_number, of_kind};
-ghost use Rattle.elf_image.specs.Values.{items_of};
+ghost use Rattle.elf_image.specs.Items.{kind_number, of_kind};
+ghost use Rattle.elf_image.specs.Values.{IsBased, items_of};
 
 use crate::changes::ImageFile;
 use crate::image_items::ItemKind;
@@ -17,7 +17,7 @@ use elf_record::{Cause, Sym};
 /// Returns `Undefined` if the symbol has no definition, `Unplaced` if its value is not known.
 #[tactic(auto, unfolding(elf_model::specs::ImageItems::bound_value, crate::specs::Items::said_by))]
 pub(crate) fn bound_value(image: &ImageFile<'_>, index: u32, symbol: &Sym) -> Result<u64, Cause>
-    ensures { (file : List ℕ) (at : ℕ) → IsSym file at symbol.now →
+    ensures { (file : List ℕ) (at : ℕ) → IsSym file at symbol.now → IsBased image.now →
         result ≡ bound_value file (items_of image.now) index at }
 {
     match item_of(image, ItemKind::Symbol, index, symbol) {
@@ -32,7 +32,7 @@ pub(crate) fn bound_value(image: &ImageFile<'_>, index: u32, symbol: &Sym) -> Re
 /// Those of [`bound_value`].
 #[tactic(auto, unfolding(elf_model::specs::ImageItems::called_value, crate::specs::Items::said_by))]
 pub(crate) fn called_value(image: &ImageFile<'_>, index: u32, symbol: &Sym) -> Result<u64, Cause>
-    ensures { (file : List ℕ) (at : ℕ) → IsSym file at symbol.now →
+    ensures { (file : List ℕ) (at : ℕ) → IsSym file at symbol.now → IsBased image.now →
         result ≡ called_value file (items_of image.now) index at }
 {
     match item_of(image, ItemKind::Call, index, symbol) {
@@ -44,7 +44,7 @@ pub(crate) fn called_value(image: &ImageFile<'_>, index: u32, symbol: &Sym) -> R
 /// Returns the item of a kind of the symbol of an index, if it is looked up.
 fn item_of(image: &ImageFile<'_>, kind: ItemKind, index: u32, symbol: &Sym) -> Option<u64>
     ensures { (file : List ℕ) (at : ℕ) → IsSym file at symbol.now →
-        result ≡ item_of (of_kind (kind_number kind) (given image.now.items.now).numbers) file index at }
+        result ≡ item_of (of_kind (kind_number kind) image.now.items.now.numbers.now) file index at }
 {
     if !is_looked_up(symbol) {
         return None;
@@ -72,7 +72,7 @@ fn may_be_unbound(symbol: &Sym) -> bool
 /// Returns S of a symbol without an item.
 #[tactic(auto, unfolding(elf_model::specs::ImageItems::own_value, crate::specs::Items::said_by))]
 fn own_value(image: &ImageFile<'_>, symbol: &Sym) -> Result<u64, Cause>
-    ensures { (file : List ℕ) (at : ℕ) → IsSym file at symbol.now →
+    ensures { (file : List ℕ) (at : ℕ) → IsSym file at symbol.now → IsBased image.now →
         result ≡ own_value file (items_of image.now) at }
 {
     if lacks_item(image, symbol) {
