@@ -1,1 +1,2 @@
 pub mod ItemSteps
+pub mod StoredSteps
