@@ -71,7 +71,7 @@ fn entry_symbol<S: Source>(
         }
         return refused(at, Cause::Unsupported);
     }
-    read_symbol(src, image.symbols, index, at)
+    read_symbol(src, image.told.symbols, index, at)
 }
 
 /// Returns the result of an entry whose bytes are not known, for a cause.

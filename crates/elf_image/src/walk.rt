@@ -42,9 +42,11 @@ impl ImageWalk {
     pub(crate) fn new(image: &ImageFile<'_>) -> ImageWalk
         ensures { (size : ℕ) → ImageWithin size image.now → WalkAlive size result }
     {
+        let rows = RelativeRows::new(image.told.compact);
+        let entries = OrderedEntries::new(image.told.ranges);
         ImageWalk {
-            rows: RelativeRows::new(image.compact),
-            entries: OrderedEntries::new(image.ranges),
+            rows,
+            entries,
             past_rows: false,
             last: None,
         }
