@@ -21,8 +21,8 @@ const DF_TEXTREL: u64 = 4;
 
 /// A file whose headers and tables are checked, with the items of its image.
 #[derive(Clone, Copy)]
-pub(crate) struct ImageFile<'a> {
-    pub(crate) view: ExecutionView<'a>,
+pub(crate) struct ImageFile<'v, 'a> {
+    pub(crate) view: ExecutionView<'v>,
     pub(crate) items: &'a ImageItems<'a>,
     /// The load address.
     pub(crate) base: u64,
@@ -118,16 +118,18 @@ pub(crate) fn told_relocations<S: Source>(
     ensures keeps { KeepsSource src.old.seen src.new.seen }
     ensures within { IfOk result (RelocationsWithin src.old.seen.size) }
 {
-    let (rows, address) = dynamic_entries(src, view)?;
+    let found = dynamic_entries(src, view)?;
+    let rows = found.0;
     let tables = image_tables(view, &rows)?;
     let ranges = entry_ranges(&tables, &rows)?;
+    let table_segments = table_segments(view, &tables, rows.symbols);
     Ok(Relocations {
         writes_text: has_text_relocations(&rows),
         compact: tables.compact.rows,
         ranges,
         symbols: tables.symbols,
-        dynamic: (address, DYNAMIC_BYTES * rows.count),
-        table_segments: table_segments(view, &tables, rows.symbols),
+        dynamic: (found.1, DYNAMIC_BYTES * rows.count),
+        table_segments,
     })
 }
 

@@ -30,12 +30,12 @@ pub struct LackingEntry {
 /// An iterator over the entries of a file that lack an item, in the order in which a loader applies
 /// them.
 #[derive(Drop)]
-pub struct MissingEntries<'a> {
-    pub(crate) image: ImageFile<'a>,
+pub struct MissingEntries<'v, 'a> {
+    pub(crate) image: ImageFile<'v, 'a>,
     pub(crate) walk: ImageWalk,
 }
 
-impl<'a> MissingEntries<'a> {
+impl<'v, 'a> MissingEntries<'v, 'a> {
     /// Reads the dynamic entries of a loaded file, and checks its headers and these. The fields of
     /// the file header that locate section headers are masked ([`Counted::mask_section_headers`]),
     /// also while the entries are read.
@@ -44,11 +44,11 @@ impl<'a> MissingEntries<'a> {
     /// Returns the first check that fails, or a fault of a read.
     pub fn open<S: Source>(
         src: &mut Counted<S>,
-        store: &'a HeaderStore<'a>,
+        store: &'v HeaderStore<'v>,
         loaded: Loaded,
         items: &'a ImageItems<'a>,
-    ) -> Result<MissingEntries<'a>, Fault>
-        requires fits { FitsSource src.old.seen.size store.entry.now loaded }
+    ) -> Result<MissingEntries<'v, 'a>, Fault>
+        requires fits { FitsSource src.old.seen.size store.now loaded }
         ensures keeps { KeepsSource src.old.seen src.new.seen }
         ensures alive { IfOk result (IsAliveIn src.old.seen.size) }
     {

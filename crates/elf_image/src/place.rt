@@ -51,7 +51,7 @@ impl HeldRange {
 /// file without text relocations; `TableWritten` if the segment holds a table that says how the
 /// file is relocated, or the place meets the dynamic entries.
 pub(crate) fn checked_place(
-    image: &ImageFile<'_>,
+    image: &ImageFile<'_, '_>,
     last: &mut Option<HeldRange>,
     address: u64,
     width: u64,
@@ -76,7 +76,7 @@ pub(crate) fn checked_place(
 /// Returns the LOAD segment that holds `width` bytes at an address in memory, if there is one: no
 /// other than `last` if that holds them.
 fn held_range(
-    image: &ImageFile<'_>,
+    image: &ImageFile<'_, '_>,
     last: &Option<HeldRange>,
     address: u64,
     width: u64,
@@ -92,7 +92,7 @@ fn held_range(
 }
 
 /// Returns the LOAD segment of a program header.
-fn range_of(image: &ImageFile<'_>, segment: u16) -> HeldRange
+fn range_of(image: &ImageFile<'_, '_>, segment: u16) -> HeldRange
     requires { segment < image.now.view.store.now.segments }
     ensures { result.first ≡ p_vaddr (segment_bytes image.now.view.store.now segment) 0 }
 {

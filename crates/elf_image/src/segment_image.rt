@@ -96,16 +96,16 @@ fn write_masked<S: Source, W: Sink>(
 }
 
 /// Writes the image of a loaded file.
-fn write_loaded<'a, S: Source, W: Sink>(
+fn write_loaded<S: Source, W: Sink>(
     src: &mut Counted<S>,
-    store: &'a HeaderStore<'a>,
+    store: &HeaderStore,
     loaded: Loaded,
-    masked: &Masked<'a>,
+    masked: &Masked<'_>,
     window: &mut [u8],
     out: &mut Out<W>,
 ) -> Result<(), RunFault>
     requires room { 16 ≤ length window.old }
-    requires fits { FitsSource src.old.seen.size store.entry.now loaded }
+    requires fits { FitsSource src.old.seen.size store.now loaded }
 {
     let request = masked.request;
     let view = ExecutionView { loaded, store };
@@ -149,7 +149,7 @@ fn target_of(index: u16, header: &Phdr, window: u64, hides: bool) -> Target
 /// Returns the first refusal, or a fault of the source.
 fn check<S: Source>(
     src: &mut Counted<S>,
-    image: &ImageFile<'_>,
+    image: &ImageFile<'_, '_>,
     target: &Target,
 ) -> Result<WindowMarks, Fault>
     requires image { ImageWithin src.old.seen.size image.now }
@@ -175,7 +175,7 @@ fn check<S: Source>(
 /// Returns `Budget` at the segment's bytes in the file.
 fn check_budget<S: Source>(
     src: &Counted<S>,
-    image: &ImageFile<'_>,
+    image: &ImageFile<'_, '_>,
     target: &Target,
     marks: &WindowMarks,
 ) -> Result<(), Fault>
@@ -202,7 +202,7 @@ fn check_budget<S: Source>(
 /// Writes the segment, window by window. All relocations are checked.
 fn write_windows<S: Source, W: Sink>(
     src: &mut Counted<S>,
-    image: &ImageFile<'_>,
+    image: &ImageFile<'_, '_>,
     target: &Target,
     marks: &WindowMarks,
     room: &mut [u8],
@@ -249,7 +249,7 @@ fn read_window<'w, S: Source>(
 /// Stores into a window of a segment what the relocations store there.
 fn patch_window<S: Source>(
     src: &mut Counted<S>,
-    image: &ImageFile<'_>,
+    image: &ImageFile<'_, '_>,
     segment: u16,
     window: &mut ImageWindow<'_>,
 ) -> Result<(), Fault>

@@ -13,7 +13,7 @@ use elf_reloc::{Patch, value};
 /// # Errors
 /// Returns `Undefined` or `Unplaced` if an item is missing, `Overflow` if a value does not fit.
 pub(crate) fn stored_bytes<'a>(
-    image: &ImageFile<'a>,
+    image: &ImageFile<'_, 'a>,
     found: DynamicType,
     entry: &Rela,
     symbol: &Sym,
@@ -98,7 +98,7 @@ fn low_bytes<'a>(
 }
 
 /// Returns the answer of the resolver at an address.
-fn resolved_value(image: &ImageFile<'_>, address: i64) -> Result<u64, Cause> {
+fn resolved_value(image: &ImageFile<'_, '_>, address: i64) -> Result<u64, Cause> {
     match image
         .items
         .number(ItemKind::Resolver, address.cast_unsigned())
@@ -110,7 +110,7 @@ fn resolved_value(image: &ImageFile<'_>, address: i64) -> Result<u64, Cause> {
 
 /// Returns the bytes of a copied object, at most as many as the symbol has.
 fn copied_bytes<'a>(
-    image: &ImageFile<'a>,
+    image: &ImageFile<'_, 'a>,
     index: u32,
     symbol: &Sym,
 ) -> Result<StoredBytes<'a>, Cause> {

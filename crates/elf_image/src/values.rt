@@ -9,7 +9,7 @@ use elf_record::{Cause, Sym};
 ///
 /// # Errors
 /// Returns `Undefined` if the symbol has no definition, `Unplaced` if its value is not known.
-pub(crate) fn bound_value(image: &ImageFile<'_>, index: u32, symbol: &Sym) -> Result<u64, Cause> {
+pub(crate) fn bound_value(image: &ImageFile<'_, '_>, index: u32, symbol: &Sym) -> Result<u64, Cause> {
     match item_of(image, ItemKind::Symbol, index, symbol) {
         Some(value) => Ok(value),
         None => own_value(image, symbol),
@@ -20,7 +20,7 @@ pub(crate) fn bound_value(image: &ImageFile<'_>, index: u32, symbol: &Sym) -> Re
 ///
 /// # Errors
 /// Those of [`bound_value`].
-pub(crate) fn called_value(image: &ImageFile<'_>, index: u32, symbol: &Sym) -> Result<u64, Cause> {
+pub(crate) fn called_value(image: &ImageFile<'_, '_>, index: u32, symbol: &Sym) -> Result<u64, Cause> {
     match item_of(image, ItemKind::Call, index, symbol) {
         Some(value) => Ok(value),
         None => bound_value(image, index, symbol),
@@ -28,7 +28,7 @@ pub(crate) fn called_value(image: &ImageFile<'_>, index: u32, symbol: &Sym) -> R
 }
 
 /// Returns the item of a kind of the symbol of an index, if it is looked up.
-fn item_of(image: &ImageFile<'_>, kind: ItemKind, index: u32, symbol: &Sym) -> Option<u64> {
+fn item_of(image: &ImageFile<'_, '_>, kind: ItemKind, index: u32, symbol: &Sym) -> Option<u64> {
     if !is_looked_up(symbol) {
         return None;
     }
@@ -36,7 +36,7 @@ fn item_of(image: &ImageFile<'_>, kind: ItemKind, index: u32, symbol: &Sym) -> O
 }
 
 /// Returns `true` if the items do not say where a symbol is bound.
-fn lacks_item(image: &ImageFile<'_>, symbol: &Sym) -> bool {
+fn lacks_item(image: &ImageFile<'_, '_>, symbol: &Sym) -> bool {
     image.leaves && is_looked_up(symbol)
 }
 
@@ -46,7 +46,7 @@ fn may_be_unbound(symbol: &Sym) -> bool {
 }
 
 /// Returns S of a symbol without an item.
-fn own_value(image: &ImageFile<'_>, symbol: &Sym) -> Result<u64, Cause> {
+fn own_value(image: &ImageFile<'_, '_>, symbol: &Sym) -> Result<u64, Cause> {
     if lacks_item(image, symbol) {
         return Err(Cause::Undefined);
     }
@@ -71,7 +71,7 @@ fn own_value(image: &ImageFile<'_>, symbol: &Sym) -> Result<u64, Cause> {
 /// # Errors
 /// Returns `Undefined` if the symbol has no definition, `Unplaced` if its value is not known.
 pub(crate) fn thread_value(
-    image: &ImageFile<'_>,
+    image: &ImageFile<'_, '_>,
     kind: ItemKind,
     index: u32,
     symbol: &Sym,
@@ -87,7 +87,7 @@ pub(crate) fn thread_value(
 
 /// Returns the value of a thread-local symbol without an item.
 fn own_thread_symbol(
-    image: &ImageFile<'_>,
+    image: &ImageFile<'_, '_>,
     kind: ItemKind,
     symbol: &Sym,
 ) -> Result<Option<u64>, Cause> {
@@ -105,7 +105,7 @@ fn own_thread_symbol(
 
 /// Returns the value of a thread-local symbol of the file itself, whose `st_value` is `value`.
 fn own_thread_value(
-    image: &ImageFile<'_>,
+    image: &ImageFile<'_, '_>,
     kind: ItemKind,
     value: u64,
 ) -> Result<Option<u64>, Cause> {
