@@ -1,1 +1,2 @@
 pub mod AliveSteps
+pub mod ItemSteps
