@@ -1,4 +1,3 @@
-pub mod Symbols
 pub mod Headers
 pub mod Items
 pub mod Values

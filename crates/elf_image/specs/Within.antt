@@ -3,6 +3,7 @@ use Rattle.std.specs.Prelude.{ℕ, if◌then◌else◌, ◌≡◌, ◌+◌, ◌-
 use Rattle.elf_model.specs.Prelude.{p_filesz, p_offset, p_vaddr}
 use Rattle.elf_table.specs.Prelude.{TableInBounds, TableRange}
 use Rattle.elf_image.specs.declared.changes.ImageFile.{ImageFile}
+use Rattle.elf_image.specs.declared.changes.Relocations.{Relocations}
 use Rattle.elf_image.specs.declared.entries.EntryStep.{EntryStep}
 use Rattle.elf_image.specs.declared.entries.EntryStep.TheVariants.{Past}
 use Rattle.elf_image.specs.declared.entries.OrderedEntries.{OrderedEntries}
@@ -30,10 +31,13 @@ pub record RangesWithin (size : ℕ) (ranges : EntryRanges) : Type 0 where
   pub first : TableWithin 24 size ranges.first
   pub second : TableWithin 24 size ranges.second
 
-pub record ImageWithin (size : ℕ) (image : ImageFile) : Type 0 where
-  pub compact : TableWithin 8 size image.compact
-  pub ranges : RangesWithin size image.ranges
-  pub symbols : IfSome image.symbols (TableWithin 24 size)
+pub record RelocationsWithin (size : ℕ) (told : Relocations) : Type 0 where
+  pub compact : TableWithin 8 size told.compact
+  pub ranges : RangesWithin size told.ranges
+  pub symbols : IfSome told.symbols (TableWithin 24 size)
+
+abbrev pub ImageWithin : ℕ → ImageFile → Type 0
+ImageWithin size image = RelocationsWithin size image.told
 
 -- the rows of relative relocations that are left can be read, and their addresses do not wrap
 pub record RowsAlive (size : ℕ) (rows : RelativeRows) : Type 0 where
@@ -48,7 +52,7 @@ row_steps rows = 64 * rows.cursor.left + rows.left
 
 -- a step past the last row, or one of those that were left
 abbrev pub StepsRows : (old new : RelativeRows) → RelativeStep → Type 0
-StepsRows old new Ended = Unit {0}
+StepsRows old new Ended = row_steps new ≤ row_steps old
 StepsRows old new step = row_steps new < row_steps old
 
 -- the entries that are left can be read

@@ -104,9 +104,11 @@ impl OrderedEntries {
         ensures few { self.new.cursor.left
             ≤ self.old.ranges.first.count + self.old.ranges.second.count }
     {
-        self.part = self.part_of(self.begun);
+        let part = self.part_of(self.begun);
+        let cursor = Cursor::new(part.table);
+        self.part = part;
         self.begun += 1;
-        self.cursor = Cursor::new(self.part.table);
+        self.cursor = cursor;
     }
 
     /// Returns the part of a number below 4.

@@ -23,7 +23,7 @@ use elf_table::{Fault, refused};
 /// to the symbol.
 pub(crate) fn entry_result<'a, S: Source>(
     src: &mut Counted<S>,
-    image: &ImageFile<'a>,
+    image: &ImageFile<'_, 'a>,
     last: &mut Option<HeldRange>,
     entry: &Rela,
     at: u64,
@@ -54,7 +54,7 @@ pub(crate) fn entry_result<'a, S: Source>(
 /// Reads the symbol of an index, if the type of the entry at `at` uses it.
 fn entry_symbol<S: Source>(
     src: &mut Counted<S>,
-    image: &ImageFile<'_>,
+    image: &ImageFile<'_, '_>,
     found: DynamicType,
     index: u32,
     at: u64,
@@ -71,12 +71,12 @@ fn entry_symbol<S: Source>(
         }
         return refused(at, Cause::Unsupported);
     }
-    read_symbol(src, image.symbols, index, at)
+    read_symbol(src, image.told.symbols, index, at)
 }
 
 /// Returns the result of an entry whose bytes are not known, for a cause.
 fn without_bytes<'a>(
-    image: &ImageFile<'a>,
+    image: &ImageFile<'_, 'a>,
     at: u64,
     cause: Cause,
 ) -> Result<EntryResult<'a>, Fault> {

@@ -22,10 +22,7 @@ const PAGE_BYTES: u64 = 4096;
 /// # Errors
 /// Returns the first check that fails: those of [`load_by_segments`], otherwise a fault of a read,
 /// or the refusal `Budget`, at the offset of the read.
-pub(crate) fn load_image<S: Source>(
-    src: &mut Counted<S>,
-    store: &mut HeaderStore,
-) -> Result<Loaded, Fault>
+pub fn load_image<S: Source>(src: &mut Counted<S>, store: &mut HeaderStore) -> Result<Loaded, Fault>
     ensures keeps { KeepsSource src.old.seen src.new.seen }
     ensures slots { store.new.slots ≡ store.old.slots }
     ensures fits { IfOk result (FitsSource src.old.seen.size store.new) }

@@ -26,6 +26,7 @@ mod values;
 mod walk;
 mod window;
 
+pub use headers::load_image;
 pub use image_items::{CopyBytes, CopyItem, ImageItems, ItemKind, NumberItem};
 pub use item_list::{ItemList, ItemListFault};
 pub use items::{ImageItem, image_item};

@@ -51,7 +51,7 @@ impl HeldRange {
 /// file without text relocations; `TableWritten` if the segment holds a table that says how the
 /// file is relocated, or the place meets the dynamic entries.
 pub(crate) fn checked_place(
-    image: &ImageFile<'_>,
+    image: &ImageFile<'_, '_>,
     last: &mut Option<HeldRange>,
     address: u64,
     width: u64,
@@ -64,7 +64,7 @@ pub(crate) fn checked_place(
     if !range.permits {
         return refused(at, Cause::PlaceOutside);
     }
-    if range.has_table || image.meets_dynamic(address, width) {
+    if range.has_table || image.told.meets_dynamic(address, width) {
         return refused(at, Cause::TableWritten);
     }
     Ok(Place {
@@ -76,7 +76,7 @@ pub(crate) fn checked_place(
 /// Returns the LOAD segment that holds `width` bytes at an address in memory, if there is one: no
 /// other than `last` if that holds them.
 fn held_range(
-    image: &ImageFile<'_>,
+    image: &ImageFile<'_, '_>,
     last: &Option<HeldRange>,
     address: u64,
     width: u64,
@@ -92,7 +92,7 @@ fn held_range(
 }
 
 /// Returns the LOAD segment of a program header.
-fn range_of(image: &ImageFile<'_>, segment: u16) -> HeldRange
+fn range_of(image: &ImageFile<'_, '_>, segment: u16) -> HeldRange
     requires { segment < image.now.view.store.now.segments }
     ensures { result.first ≡ p_vaddr (segment_bytes image.now.view.store.now segment) 0 }
 {
@@ -101,8 +101,8 @@ fn range_of(image: &ImageFile<'_>, segment: u16) -> HeldRange
         segment,
         first: header.p_vaddr,
         end: u128::from(header.p_vaddr) + u128::from(header.p_memsz),
-        permits: image.writes_text || is_writable(&header),
-        has_table: image.has_table(segment),
+        permits: image.told.writes_text || is_writable(&header),
+        has_table: image.told.has_table(segment),
     }
 }
 
@@ -116,9 +116,9 @@ pub(crate) fn holder(view: &ExecutionView<'_>, address: u64, width: u64) -> Opti
         HoldsProgramHeaders file view.now.loaded view.now.store.now →
         result ≡ holder_of file address width }
 {
-    for segment in 0..view.segments() {
-        if holds_place(&view.segment(segment), address, width) {
-            return Some(segment);
+    for index in 0..view.segments() {
+        if holds_place(&view.segment(index), address, width) {
+            return Some(index);
         }
     }
     None

@@ -85,15 +85,16 @@ impl RelativeRows {
 
     /// Begins the word that was read, and returns its row if it is an address.
     fn word(&mut self) -> Result<RelativeStep, Fault>
-        requires index { (0 < self.old.cursor.index) × (self.old.cursor.index ≤ 2 ^ 64) }
+        requires index { 0 < self.old.cursor.index }
         requires whole { length self.old.cursor.row ≡ 8 }
         requires left { self.old.left ≡ 0 }
         ensures cursor { self.new.cursor ≡ self.old.cursor }
+        ensures index { self.old.cursor.index ≤ 2 ^ 64 }
         ensures few { self.new.left ≤ 63 }
         ensures next { IfSome self.old.next (λ address.
             address + 504 ≤ 2 ^ 64 + 504 * self.old.cursor.index) →
-            IfOk result (λ _. IfSome self.new.next (λ address.
-            address + 8 * self.new.left ≤ 2 ^ 64 + 504 * self.old.cursor.index)) }
+            IfSome self.new.next (λ address.
+            address + 8 * self.new.left ≤ 2 ^ 64 + 504 * self.old.cursor.index) }
     {
         let row = self.cursor.row();
         let word = u64_at(row.bytes, 0);
@@ -116,9 +117,9 @@ impl RelativeRows {
         requires fits { IfSome self.old.next (λ address. address + 8 < 2 ^ 128) }
         ensures cursor { self.new.cursor ≡ self.old.cursor }
         ensures left { self.new.left + 1 ≡ self.old.left }
-        ensures next { (most : ℕ) → 8 ≤ most →
-            IfSome self.old.next (λ address. address + 8 ≤ most) →
-            IfSome self.new.next (λ address. address ≤ most) }
+        ensures next { (most : ℕ) → 504 ≤ most →
+            IfSome self.old.next (λ address. address + 8 * self.old.left ≤ most) →
+            IfSome self.new.next (λ address. address + 8 * self.new.left ≤ most) }
     {
         let address = self.next.unwrap_or(0);
         let is_set = self.bits % 2 == 1;

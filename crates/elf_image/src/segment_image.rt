@@ -1,10 +1,11 @@
 //! The call that writes the image of a segment.
 ghost use Rattle.std.specs.Prelude.{◌≡◌, ◌+◌, ◌<◌, ◌≤◌, ℕ, length};
 ghost use Rattle.elf_source.specs.Prelude.{KeepsSource};
+ghost use Rattle.elf_hash.specs.Loading.{FitsSource};
 ghost use Rattle.elf_image.specs.Images.{TargetWithin};
 ghost use Rattle.elf_image.specs.Within.{ImageWithin};
 
-use crate::changes::{ImageFile, image_file};
+use crate::changes::{ImageFile, told_relocations};
 use crate::headers::{check_headers, load_image, wanted_segment};
 use crate::image_items::ImageItems;
 use crate::marks::WindowMarks;
@@ -12,7 +13,7 @@ use crate::walk::{ImageWalk, WalkStep};
 use crate::window::{ImageWindow, SegmentBytes};
 use elf_record::{Cause, Phdr, Refusal};
 use elf_source::{Counted, Out, Sink, Source};
-use elf_table::{ExecutionView, Fault, HeaderStore, RunFault};
+use elf_table::{ExecutionView, Fault, HeaderStore, Loaded, RunFault};
 
 /// Which image is written.
 #[derive(Clone, Copy)]
@@ -66,18 +67,24 @@ pub fn write_image<S: Source, W: Sink>(
 {
     let hides = src.hides();
     src.mask_section_headers(true);
-    let written = write_masked(src, store, request, hides, window, out);
+    let written = write_masked(src, store, &Masked { request, hides }, window, out);
     src.mask_section_headers(hides);
     written
 }
 
-/// Writes the image; the fields that locate section headers are masked, but not in the bytes of the
-/// segment unless `hides` says so.
+/// A request for a file whose fields that locate section headers are masked, and whether they are
+/// masked in the bytes of the segment too.
+#[derive(Clone, Copy)]
+struct Masked<'a> {
+    request: &'a ImageRequest<'a>,
+    hides: bool,
+}
+
+/// Writes the image.
 fn write_masked<S: Source, W: Sink>(
     src: &mut Counted<S>,
     store: &mut HeaderStore,
-    request: &ImageRequest<'_>,
-    hides: bool,
+    masked: &Masked<'_>,
     window: &mut [u8],
     out: &mut Out<W>,
 ) -> Result<(), RunFault>
@@ -85,11 +92,34 @@ fn write_masked<S: Source, W: Sink>(
     ensures { store.new.slots ≡ store.old.slots }
 {
     let loaded = load_image(src, store)?;
+    write_loaded(src, store, loaded, masked, window, out)
+}
+
+/// Writes the image of a loaded file.
+fn write_loaded<S: Source, W: Sink>(
+    src: &mut Counted<S>,
+    store: &HeaderStore,
+    loaded: Loaded,
+    masked: &Masked<'_>,
+    window: &mut [u8],
+    out: &mut Out<W>,
+) -> Result<(), RunFault>
+    requires room { 16 ≤ length window.old }
+    requires fits { FitsSource src.old.seen.size store.now loaded }
+{
+    let request = masked.request;
     let view = ExecutionView { loaded, store };
     check_headers(&view)?;
     let header = wanted_segment(&view, request.segment, request.most)?;
-    let image = image_file(src, view, request.items, request.leaves)?;
-    let target = target_of(request.segment, &header, window.len() as u64, hides);
+    let told = told_relocations(src, &view)?;
+    let image = ImageFile {
+        view,
+        items: request.items,
+        base: request.items.base(),
+        leaves: request.leaves,
+        told,
+    };
+    let target = target_of(request.segment, &header, window.len() as u64, masked.hides);
     let marks = check(src, &image, &target)?;
     check_budget(src, &image, &target, &marks)?;
     write_windows(src, &image, &target, &marks, window, out)
@@ -119,7 +149,7 @@ fn target_of(index: u16, header: &Phdr, window: u64, hides: bool) -> Target
 /// Returns the first refusal, or a fault of the source.
 fn check<S: Source>(
     src: &mut Counted<S>,
-    image: &ImageFile<'_>,
+    image: &ImageFile<'_, '_>,
     target: &Target,
 ) -> Result<WindowMarks, Fault>
     requires image { ImageWithin src.old.seen.size image.now }
@@ -145,7 +175,7 @@ fn check<S: Source>(
 /// Returns `Budget` at the segment's bytes in the file.
 fn check_budget<S: Source>(
     src: &Counted<S>,
-    image: &ImageFile<'_>,
+    image: &ImageFile<'_, '_>,
     target: &Target,
     marks: &WindowMarks,
 ) -> Result<(), Fault>
@@ -155,8 +185,9 @@ fn check_budget<S: Source>(
         return Ok(());
     };
     let windows = target.size.div_ceil(target.window);
-    let entries = u128::from(image.ranges.first.len()) + u128::from(image.ranges.second.len());
-    let each = 8 * u128::from(image.compact.len()) + 72 * entries;
+    let entries = u128::from(image.told.ranges.first.len())
+        + u128::from(image.told.ranges.second.len());
+    let each = 8 * u128::from(image.told.compact.len()) + 72 * entries;
     let walks = u128::from(marks.marked(windows)).saturating_mul(each);
     let bytes = u128::from(target.bytes.size) + 14 * u128::from(windows);
     if walks.saturating_add(bytes) > u128::from(left) {
@@ -171,7 +202,7 @@ fn check_budget<S: Source>(
 /// Writes the segment, window by window. All relocations are checked.
 fn write_windows<S: Source, W: Sink>(
     src: &mut Counted<S>,
-    image: &ImageFile<'_>,
+    image: &ImageFile<'_, '_>,
     target: &Target,
     marks: &WindowMarks,
     room: &mut [u8],
@@ -218,7 +249,7 @@ fn read_window<'w, S: Source>(
 /// Stores into a window of a segment what the relocations store there.
 fn patch_window<S: Source>(
     src: &mut Counted<S>,
-    image: &ImageFile<'_>,
+    image: &ImageFile<'_, '_>,
     segment: u16,
     window: &mut ImageWindow<'_>,
 ) -> Result<(), Fault>

@@ -24,7 +24,7 @@ use elf_reloc::{Patch, ValueFault, value};
 /// Returns `Undefined` or `Unplaced` if an item is missing, `Overflow` if a value does not fit.
 #[tactic(auto, unfolding(elf_model::specs::ImageValues::stored_bytes, crate::specs::Items::said_by))]
 pub(crate) fn stored_bytes<'a>(
-    image: &ImageFile<'a>,
+    image: &ImageFile<'_, 'a>,
     found: DynamicType,
     entry: &Rela,
     symbol: &Sym,
@@ -126,7 +126,7 @@ fn low_bytes<'a>(
 
 /// Returns the answer of the resolver at an address.
 #[tactic(auto, unfolding(crate::specs::Items::said_by))]
-fn resolved_value(image: &ImageFile<'_>, address: u64) -> Result<u64, Cause>
+fn resolved_value(image: &ImageFile<'_, '_>, address: u64) -> Result<u64, Cause>
     ensures { result ≡ placed (address_in (items_of image.now).resolved address) }
 {
     match image.items.number(ItemKind::Resolver, address) {
@@ -138,7 +138,7 @@ fn resolved_value(image: &ImageFile<'_>, address: u64) -> Result<u64, Cause>
 /// Returns the bytes of a copied object, at most as many as the symbol has.
 #[tactic(auto, unfolding(elf_model::specs::ImageValues::copied_bytes, crate::specs::Items::said_by))]
 fn copied_bytes<'a>(
-    image: &ImageFile<'a>,
+    image: &ImageFile<'_, 'a>,
     index: u32,
     symbol: &Sym,
 ) -> Result<StoredBytes<'a>, Cause>

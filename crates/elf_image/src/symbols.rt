@@ -2,8 +2,7 @@
 ghost use Rattle.std.specs.Prelude.{◌≡◌, ℕ, List, IfSome};
 ghost use Rattle.elf_model.specs.ImageItems.{is_looked_up};
 ghost use Rattle.elf_record.specs.Sym.{IsSym};
-ghost use Rattle.elf_table.specs.Prelude.{CallDid, fault_of_result};
-ghost use Rattle.elf_image.specs.Symbols.{ReadsSymbol};
+ghost use Rattle.elf_source.specs.Source.{ReadsUpTo};
 ghost use Rattle.elf_image.specs.Within.{TableWithin};
 
 use elf_record::numbers::STB_LOCAL;
@@ -41,8 +40,7 @@ pub(crate) fn read_symbol<S: Source>(
     at: u64,
 ) -> Result<Sym, Fault>
     requires { IfSome symbols (TableWithin 24 src.old.seen.size) }
-    ensures { CallDid src.old src.new (fault_of_result result) 24
-        (λ file. ReadsSymbol file symbols index at result) }
+    ensures { ReadsUpTo src.old src.new 24 }
 {
     let Some(table) = symbols else {
         return refused(at, Cause::BadLink);

@@ -17,7 +17,7 @@ use elf_record::{Cause, Sym};
 /// # Errors
 /// Returns `Undefined` if the symbol has no definition, `Unplaced` if its value is not known.
 #[tactic(auto, unfolding(elf_model::specs::ImageItems::bound_value, crate::specs::Items::said_by))]
-pub(crate) fn bound_value(image: &ImageFile<'_>, index: u32, symbol: &Sym) -> Result<u64, Cause>
+pub(crate) fn bound_value(image: &ImageFile<'_, '_>, index: u32, symbol: &Sym) -> Result<u64, Cause>
     ensures { (file : List ℕ) (at : ℕ) → IsSym file at symbol.now → IsBased image.now →
         result ≡ bound_value file (items_of image.now) index at }
 {
@@ -32,7 +32,7 @@ pub(crate) fn bound_value(image: &ImageFile<'_>, index: u32, symbol: &Sym) -> Re
 /// # Errors
 /// Those of [`bound_value`].
 #[tactic(auto, unfolding(elf_model::specs::ImageItems::called_value, crate::specs::Items::said_by))]
-pub(crate) fn called_value(image: &ImageFile<'_>, index: u32, symbol: &Sym) -> Result<u64, Cause>
+pub(crate) fn called_value(image: &ImageFile<'_, '_>, index: u32, symbol: &Sym) -> Result<u64, Cause>
     ensures { (file : List ℕ) (at : ℕ) → IsSym file at symbol.now → IsBased image.now →
         result ≡ called_value file (items_of image.now) index at }
 {
@@ -43,7 +43,7 @@ pub(crate) fn called_value(image: &ImageFile<'_>, index: u32, symbol: &Sym) -> R
 }
 
 /// Returns the item of a kind of the symbol of an index, if it is looked up.
-fn item_of(image: &ImageFile<'_>, kind: ItemKind, index: u32, symbol: &Sym) -> Option<u64>
+fn item_of(image: &ImageFile<'_, '_>, kind: ItemKind, index: u32, symbol: &Sym) -> Option<u64>
     ensures { (file : List ℕ) (at : ℕ) → IsSym file at symbol.now →
         result ≡ item_of (of_kind (kind_number kind) image.now.items.now.numbers.now) file index at }
 {
@@ -55,7 +55,7 @@ fn item_of(image: &ImageFile<'_>, kind: ItemKind, index: u32, symbol: &Sym) -> O
 
 /// Returns `true` if the items do not say where a symbol is bound.
 #[tactic(auto, unfolding(crate::specs::Items::said_by))]
-fn lacks_item(image: &ImageFile<'_>, symbol: &Sym) -> bool
+fn lacks_item(image: &ImageFile<'_, '_>, symbol: &Sym) -> bool
     ensures { (file : List ℕ) (at : ℕ) → IsSym file at symbol.now →
         result ≡ lacks_item file (items_of image.now) at }
 {
@@ -72,7 +72,7 @@ fn may_be_unbound(symbol: &Sym) -> bool
 
 /// Returns S of a symbol without an item.
 #[tactic(auto, unfolding(elf_model::specs::ImageItems::own_value, crate::specs::Items::said_by))]
-fn own_value(image: &ImageFile<'_>, symbol: &Sym) -> Result<u64, Cause>
+fn own_value(image: &ImageFile<'_, '_>, symbol: &Sym) -> Result<u64, Cause>
     ensures { (file : List ℕ) (at : ℕ) → IsSym file at symbol.now → IsBased image.now →
         result ≡ own_value file (items_of image.now) at }
 {
@@ -101,7 +101,7 @@ fn own_value(image: &ImageFile<'_>, symbol: &Sym) -> Result<u64, Cause>
 /// Returns `Undefined` if the symbol has no definition, `Unplaced` if its value is not known.
 #[tactic(auto, unfolding(elf_model::specs::ImageItems::thread_value, crate::specs::Items::said_by))]
 pub(crate) fn thread_value(
-    image: &ImageFile<'_>,
+    image: &ImageFile<'_, '_>,
     kind: ItemKind,
     index: u32,
     symbol: &Sym,
@@ -122,7 +122,7 @@ pub(crate) fn thread_value(
 /// Returns the value of a thread-local symbol without an item.
 #[tactic(auto, unfolding(elf_model::specs::ImageItems::own_thread_symbol, crate::specs::Items::said_by))]
 fn own_thread_symbol(
-    image: &ImageFile<'_>,
+    image: &ImageFile<'_, '_>,
     kind: ItemKind,
     symbol: &Sym,
 ) -> Result<Option<u64>, Cause>
@@ -145,7 +145,7 @@ fn own_thread_symbol(
 /// Returns the value of a thread-local symbol of the file itself, whose `st_value` is `value`.
 #[tactic(auto, unfolding(elf_model::specs::ImageItems::own_thread_value, crate::specs::Items::said_by))]
 fn own_thread_value(
-    image: &ImageFile<'_>,
+    image: &ImageFile<'_, '_>,
     kind: ItemKind,
     value: u64,
 ) -> Result<Option<u64>, Cause>

@@ -39,12 +39,14 @@ pub(crate) enum WalkStep<'a> {
 
 impl ImageWalk {
     /// Creates a walk before the first relocation of a file.
-    pub(crate) fn new(image: &ImageFile<'_>) -> ImageWalk
+    pub(crate) fn new(image: &ImageFile<'_, '_>) -> ImageWalk
         ensures { (size : ℕ) → ImageWithin size image.now → WalkAlive size result }
     {
+        let rows = RelativeRows::new(image.told.compact);
+        let entries = OrderedEntries::new(image.told.ranges);
         ImageWalk {
-            rows: RelativeRows::new(image.compact),
-            entries: OrderedEntries::new(image.ranges),
+            rows,
+            entries,
             past_rows: false,
             last: None,
         }
@@ -57,7 +59,7 @@ impl ImageWalk {
     pub(crate) fn step<'a, S: Source>(
         &mut self,
         src: &mut Counted<S>,
-        image: &ImageFile<'a>,
+        image: &ImageFile<'_, 'a>,
     ) -> Result<WalkStep<'a>, Fault>
         requires image { ImageWithin src.old.seen.size image.now }
         requires walk { WalkAlive src.old.seen.size self.old }
@@ -84,7 +86,7 @@ impl ImageWalk {
     fn entry_step<'a, S: Source>(
         &mut self,
         src: &mut Counted<S>,
-        image: &ImageFile<'a>,
+        image: &ImageFile<'_, 'a>,
     ) -> Result<WalkStep<'a>, Fault>
         requires image { ImageWithin src.old.seen.size image.now }
         requires walk { WalkAlive src.old.seen.size self.old }
@@ -103,7 +105,7 @@ impl ImageWalk {
     fn entry_change<'a, S: Source>(
         &mut self,
         src: &mut Counted<S>,
-        image: &ImageFile<'a>,
+        image: &ImageFile<'_, 'a>,
         ordered: OrderedEntry,
     ) -> Result<WalkStep<'a>, Fault>
         requires image { ImageWithin src.old.seen.size image.now }
@@ -123,7 +125,7 @@ impl ImageWalk {
 
 /// Returns what a relative relocation changes.
 fn row_change<'a>(
-    image: &ImageFile<'a>,
+    image: &ImageFile<'_, 'a>,
     last: &mut Option<HeldRange>,
     row: RelativeRow,
 ) -> Result<ImageChange<'a>, Fault> {
