@@ -31,7 +31,7 @@ located_layout rows = record {
 
 -- the entries are those of a segment of the file that is known, which has a size
 pub record ViewsEntries (size : ℕ) (seen : Option (List ℕ)) (entries : SegmentEntries) : Type 0 where
-  pub size : entries.view.loaded.size ≡ size
+  pub sized : entries.view.loaded.size ≡ size
   pub viewed : (file : List ℕ) → seen ≡ Some file → HoldsProgramHeaders file entries.view.loaded entries.view.store.now
   pub tagged : (file : List ℕ) → seen ≡ Some file → AreTaggedEntries file (segment_at file entries.segment) entries.found
 

@@ -274,7 +274,7 @@ fn list_tables<S: Source, W: Sink>(
     style: ListingStyle,
     parts: Parts,
 ) -> Result<(), RunFault>
-    requires { IsReady (style_of style.entry) parts.0 src.old loaded store.now }
+    requires { IsReady (style_of style) parts.0 src.old loaded store.now }
     ensures grows { OutGrows out.old out.new }
     ensures costs { ListingCosts src.old src.new out.new result
         (tables_listed (style_of style.entry) parts.0 loaded store.now) }

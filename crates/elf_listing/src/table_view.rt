@@ -55,7 +55,7 @@ fn check_view(
     style: ListingStyle,
     parts: Parts,
 ) -> Result<(), Fault>
-    requires { store.now.segments ≡ viewed_headers (style_of style.entry) parts.0 loaded.now }
+    requires { store.now.segments ≡ viewed_headers (style_of style) parts.0 loaded.now }
     ensures checked { (file : List ℕ) → HoldsSectionHeaders file loaded.now store.now →
         HoldsSegments file store.now → (style.entry.by_segments ≡ true → e_shnum file ≡ 0) →
         ChecksDecide (view_checks file (style_of style.entry) parts.0) result }
