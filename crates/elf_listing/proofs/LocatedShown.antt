@@ -2,7 +2,7 @@
 use Rattle.std.proofs.Common.{◌≡◌, ◌≢◌, ℕ, ◌+◌, ◌*◌, ◌/◌, ◌<◌, ◌≤◌, ◌==◌, ◌&&◌, ◌||◌, nat_lt, if◌then◌else◌, Bool, true, false, List, [], ◌∷◌, ◌++◌, Option, None, Some, Result, Ok, Err, refl, sym, ap, subst, ◌∙◌, arith}
 use Rattle.std.proofs.Math.Nat.{mul-add, mul-le-mul, mul-le-mul_left}
 use Rattle.std.proofs.lemmas.Bool.{le-ltb, lt-ltb, ne_eqb}
-use Rattle.elf_model.specs.Prelude.{Check, DisplayedName, Fault as FaultItem, LinePrefix, ListingItem, ListingStyle, LocatedSymbols, LocatedTable as IsLocated, RELOCS, SEGMENTS, chosen_row, dynamic_relocations, dynamic_segment_index, e_machine, e_phnum, each, entries_rows, first_refusal, first_segment_relocations, follows_dynamic, form_rows, form_size, guarded, has, lies_in_segments, located_items, located_row, located_rows, located_symbols, located_table, locates_relocations, name_bytes, named_among, no_name, overlap_checks, r_sym, relocation_choice, relocation_prefix, relocation_size, relocation_table_rows, relr_rows_at, segment_at, segment_dynamic_checks, segment_relocations, shown, st_name}
+use Rattle.elf_model.specs.Prelude.{Check, DisplayedName, Fault as FaultItem, LinePrefix, ListingItem, ListingStyle, LocatedSymbols, LocatedTable as IsLocated, RELOCS, SEGMENTS, chosen_row, dynamic_relocations, dynamic_segment_index, e_machine, e_phnum, each, entries_rows, first_refusal, first_segment_relocations, follows_dynamic, form_rows, form_size, guarded, has, lies_in_segments, located_items, located_row, located_rows, located_symbols, located_table, locates_relocations, name_bytes, named_among, no_name, overlap_checks, p_filesz, p_offset, r_sym, relocation_choice, relocation_prefix, relocation_size, relocation_table_rows, relr_rows_at, segment_at, segment_dynamic_checks, segment_relocations, shown, st_name}
 use Rattle.elf_model.specs.declared.causes.Cause.TheVariants.{BadLink, SymbolIndex}
 use Rattle.elf_model.specs.declared.causes.Cause.{Cause}
 use Rattle.elf_model.specs.declared.causes.Refusal.{Refusal}
@@ -12,22 +12,25 @@ use Rattle.elf_model.specs.declared.relocation_tables.RelocationTable.{Relocatio
 use Rattle.elf_model.specs.declared.relocation_tables.RelocationTable.TheVariants.{Jmprel, Rel, Rela, Relr}
 use Rattle.elf_model.proofs.ListingLemmas.{guarded-fault, guarded-passes}
 use Rattle.elf_source.specs.Output.{OutState}
-use Rattle.elf_table.specs.Prelude.{IsAmong, NameRead, RefusedBy, Refuses, StringTableRange, TableInBounds, TableRange, known_symbols, row_at, size_of, stop_of, strings_in}
+use Rattle.elf_table.specs.Prelude.{HoldsProgramHeaders, HoldsSectionHeaders, IsAmong, LoadedFile, NameRead, RefusedBy, Refuses, StoreState, StringTableRange, TableRange, dynamic_table_at, known_symbols, row_at, rows, stop_of, strings_in}
 use Rattle.elf_table.specs.declared.fault.Fault.{Fault}
 use Rattle.elf_table.specs.declared.fault.Fault.TheVariants.{Refused, Source}
 use Rattle.elf_table.specs.declared.names.NameEnd.{NameEnd}
 use Rattle.elf_hash.specs.Prelude.{FindsSymbols, located_by}
+use Rattle.elf_hash.proofs.SettleLaws.{checked_passes}
+use Rattle.elf_listing.specs.Viewed.{IsViewed, viewed_headers}
 use Rattle.elf_hash.specs.declared.relocation_tables.LocatedTable.{LocatedTable}
 use Rattle.elf_source.specs.declared.source.Source.{Ghosts as Sources}
 use Rattle.elf_source.specs.declared.sink.Sink.{Ghosts as Sinks}
 use Rattle.elf_table.specs.declared.file.SectionView.{SectionView}
 use Rattle.elf_table.specs.declared.run_fault.RunFault.{RunFault}
-use Rattle.elf_listing.specs.Shows.{ListingCalls, WroteUntilStop}
+use Rattle.elf_listing.specs.Shows.{ListingCalls, ListingWrote, WroteUntilStop}
 use Rattle.elf_listing.specs.Located.{ViewsEntries}
 use Rattle.elf_listing.specs.declared.dynamic_relocations.SegmentEntries.{SegmentEntries}
 use Rattle.elf_listing.specs.declared.listing.Listing.{Listing}
 use Rattle.elf_listing.specs.Parts.{table_most}
-use Rattle.elf_listing.proofs.RowLaws.{Ends-first, WroteUntilStop-first, entry_place}
+use Rattle.elf_listing.proofs.ListsLaws.{ListingCalls-within}
+use Rattle.elf_listing.proofs.RowLaws.{Ends-first, WroteSome-as, WroteUntilStop-first, entry_place}
 use Rattle.elf_listing.proofs.SymbolNamed.{refuses_as}
 
 -- the symbol that an entry names, among some symbols
@@ -216,3 +219,36 @@ items_asked file style parts is = rw is refl
 pub items_none : (file : List ℕ) (style : ListingStyle) (parts : ℕ) → locates_relocations file style parts ≡ false → located_items file style parts ≡ []
 unfolding located_items
 items_none file style parts is = rw is refl
+
+-- the dynamic entries of a segment
+pub segment_found : (file : List ℕ) (at : ℕ) (table : TableRange) → dynamic_table_at file at ≡ Ok table
+    → (first_refusal (segment_dynamic_checks file at) ≡ None) × (rows (p_offset file at) (p_filesz file at / 16) 16 ≡ table)
+segment_found file at table is = checked_passes (segment_dynamic_checks file at) (rows (p_offset file at) (p_filesz file at / 16) 16) table (sym is)
+
+-- the program headers in the store are those of the file, also if there are none
+pub viewed_whole : (file : List ℕ) (loaded : LoadedFile) (store : StoreState) (known : Option (List ℕ)) → HoldsSectionHeaders file loaded store → IsViewed known loaded store → known ≡ Some file
+    → store.segments ≡ loaded.header.e_phnum → HoldsProgramHeaders file loaded store
+viewed_whole file loaded store known belongs viewed held whole = record { belongs = belongs; count = whole; rows = viewed.held file held }
+
+-- the same items, within a larger bound
+pub lists_as : {S W X : Type 0} {s : Sources S} {w : Sinks W} {a b : Listing S W s w} {result : Result X RunFault} {n k : ℕ} {xs ys : List ℕ → List ListingItem} → n ≤ k
+    → ((file : List ℕ) → ys file ≡ xs file) → ListingCalls a b result n (ListingWrote a b result xs) → ListingCalls a b result k (ListingWrote a b result ys)
+lists_as within same p = ListingCalls-within _ _ _ _ _ _ _ within p (λ file held. WroteSome-as _ _ _ (same file) (p.shows file held))
+
+-- relocations are located by the file, or by what was loaded of it
+pub asked_by : (file : List ℕ) (style : ListingStyle) (parts : ℕ) (loaded : LoadedFile) (store : StoreState) → HoldsSectionHeaders file loaded store
+    → locates_relocations file style parts ≡ (loaded.header.e_shnum == 0 && (follows_dynamic style && has parts RELOCS))
+asked_by file style parts loaded store belongs = ap (λ (n : ℕ). n == 0 && (follows_dynamic style && has parts RELOCS)) (sym belongs.header.e_shnum)
+
+-- then all program headers are in the store
+pub located_whole : (style : ListingStyle) (parts : ℕ) (loaded : LoadedFile) → (loaded.header.e_shnum == 0 && (follows_dynamic style && has parts RELOCS)) ≡ true
+    → viewed_headers style parts loaded ≡ loaded.header.e_phnum
+located_whole style parts loaded asked = ap (λ (needed : Bool). if needed then loaded.header.e_phnum else 0) (needs (loaded.header.e_shnum == 0) (follows_dynamic style && has parts RELOCS) (has parts 4) (has parts 32) (has parts 64) asked)
+  where
+    needs : (none located shown notes dynamic : Bool) → (none && located) ≡ true → (none && (shown || (notes || (dynamic || located)))) ≡ true
+    needs true true true notes dynamic e = refl
+    needs true true false true dynamic e = refl
+    needs true true false false true e = refl
+    needs true true false false false e = refl
+    needs true false shown notes dynamic e = absurd cc
+    needs false located shown notes dynamic e = absurd cc
