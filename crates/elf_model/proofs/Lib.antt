@@ -30,8 +30,12 @@ pub mod NoteLaws
 pub mod NoteLoops
 pub mod NoteRowLaws
 pub mod Nuls
+pub mod OnLinks
 pub mod OnLiterals
 pub mod OnLoader
+pub mod OnImage
+mod ImageValues
+mod ImageLaws
 mod OneRule
 pub mod OverlapLemmas
 pub mod PatchLaws

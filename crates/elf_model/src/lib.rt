@@ -12,10 +12,13 @@ mod causes;
 mod choice_laws;
 mod cost_laws;
 mod dynamic;
+mod dynamic_types;
 mod fault_rows;
 mod formats;
 mod gnu_hash_laws;
 mod hash_laws;
+mod image_laws;
+mod link_states;
 mod listing_laws;
 mod loader_laws;
 mod located_laws;
@@ -25,6 +28,7 @@ mod notes;
 mod overlap_laws;
 mod place_filters;
 mod record_laws;
+mod relocation_tables;
 mod relocation_types;
 mod states;
 mod style_laws;
@@ -39,10 +43,16 @@ mod version_laws;
 mod versions;
 
 pub use causes::{Cause, Refusal};
+pub use dynamic_types::DynamicType;
 pub use fault_rows::FaultRow;
 pub use formats::{Format, LinePlace, TableState};
+pub use link_states::{
+    FurtherDefinition, IndexEntry, KeyEntry, KeyState, LinkCause, LinkRefusal, LinkRow, RowKind,
+    RowReason, SharedDefinition, SharedKind, StateChange, SymbolRole, SymbolUse,
+};
 pub use missing::{LayoutAddress, MissingAddress, OverflowedValue};
 pub use place_filters::{PlaceFilter, PlaceRange, RowPlace};
+pub use relocation_tables::{RelocationForm, RelocationTable};
 pub use relocation_types::{Formula, RelocationBase, RelocationType, ValueRange};
 pub use states::{BindingState, FileMagic, FileStatus, VersionState};
 pub use symbol_filters::SymbolFilter;
