@@ -6,7 +6,8 @@ use Rattle.elf_model.specs.ImageItems.{bytes_for}
 use Rattle.elf_model.specs.Placing.{address_in}
 use Rattle.elf_layout.specs.Prelude.{FindsKey}
 use Rattle.elf_layout.proofs.LayoutSteps.{address_in-hit, address_in-miss}
-use Rattle.elf_image.specs.Items.{copies_of, copy_bytes, copy_index, of_kind, rank, rank_of}
+use Rattle.elf_image.specs.Items.{bytes_from, copies_of, copy_bytes, copy_index, copy_size, of_kind, rank, rank_of}
+use Rattle.elf_image.specs.declared.image_items.CopyBytes.{CopyBytes}
 use Rattle.elf_image.specs.declared.image_items.CopyItem.{CopyItem}
 use Rattle.elf_image.specs.declared.image_items.NumberItem.{NumberItem}
 
@@ -95,3 +96,12 @@ copy_absent items index i d found = copy_none items index d other
       | inl before ↦ below_is_other (copy_index (get_or items k d)) index (found.1 k d before)
       | inr behind ↦ above_is_other (copy_index (get_or items k d)) index (found.2 k d behind below)
     ]
+
+-- as many bytes as a copied object has
+length-bytes_from : (bytes : CopyBytes) (index count : ℕ) → length (bytes_from bytes index count) ≡ count
+unfolding bytes_from
+length-bytes_from bytes index zero = refl
+length-bytes_from bytes index (suc count) = ap suc (length-bytes_from bytes (suc index) count)
+
+pub copy_length : (bytes : CopyBytes) → length (copy_bytes bytes) ≡ copy_size bytes
+copy_length bytes = length-bytes_from bytes 0 (copy_size bytes)

@@ -79,8 +79,10 @@ pub struct CopyItem<'a> {
 
 impl CopyBytes<'_> {
     /// Returns the number of bytes.
+    #[tactic(auto, using(crate::proofs::ItemSteps::copy_length))]
     pub fn len(&self) -> usize
-        ensures { result ≡ copy_size self.now }
+        ensures size { result ≡ copy_size self.now }
+        ensures length { result ≡ length (copy_bytes self.now) }
     {
         match self {
             CopyBytes::Raw(bytes) => bytes.len(),

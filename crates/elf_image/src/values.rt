@@ -1,9 +1,10 @@
 //! The values of symbols in an image.
 ghost use Rattle.std.specs.Prelude.{◌≡◌, ℕ, List};
-ghost use Rattle.elf_model.specs.ImageItems.{bound_value, called_value, item_of, lacks_item, may_be_unbound, own_value};
+ghost use Rattle.elf_model.specs.ImageItems.{ThreadValue, bound_value, called_value, item_of, lacks_item, may_be_unbound, or_unplaced};
+ghost use Rattle.elf_model.specs.ImageItems.{own_thread_symbol, own_thread_value, own_value, thread_value};
 ghost use Rattle.elf_record.specs.Sym.{IsSym};
 ghost use Rattle.elf_image.specs.Items.{kind_number, of_kind};
-ghost use Rattle.elf_image.specs.Values.{IsBased, items_of};
+ghost use Rattle.elf_image.specs.Values.{IsBased, IsSymbolOf, ThreadKind, items_of};
 
 use crate::changes::ImageFile;
 use crate::image_items::ItemKind;
@@ -98,12 +99,17 @@ fn own_value(image: &ImageFile<'_, '_>, symbol: &Sym) -> Result<u64, Cause>
 ///
 /// # Errors
 /// Returns `Undefined` if the symbol has no definition, `Unplaced` if its value is not known.
+#[tactic(auto, unfolding(elf_model::specs::ImageItems::thread_value, crate::specs::Items::said_by))]
 pub(crate) fn thread_value(
     image: &ImageFile<'_, '_>,
     kind: ItemKind,
     index: u32,
     symbol: &Sym,
-) -> Result<Option<u64>, Cause> {
+) -> Result<Option<u64>, Cause>
+    ensures { (said : ThreadValue) → ThreadKind kind said → (file : List ℕ) (at : ℕ) →
+        IsSymbolOf file at index symbol.now →
+        result ≡ thread_value said file (items_of image.now) index at }
+{
     if index == 0 {
         return own_thread_value(image, kind, 0);
     }
@@ -114,11 +120,16 @@ pub(crate) fn thread_value(
 }
 
 /// Returns the value of a thread-local symbol without an item.
+#[tactic(auto, unfolding(elf_model::specs::ImageItems::own_thread_symbol, crate::specs::Items::said_by))]
 fn own_thread_symbol(
     image: &ImageFile<'_, '_>,
     kind: ItemKind,
     symbol: &Sym,
-) -> Result<Option<u64>, Cause> {
+) -> Result<Option<u64>, Cause>
+    ensures { (said : ThreadValue) → ThreadKind kind said → (file : List ℕ) (at : ℕ) →
+        IsSym file at symbol.now →
+        result ≡ own_thread_symbol said file (items_of image.now) at }
+{
     if lacks_item(image, symbol) {
         return Err(Cause::Undefined);
     }
@@ -132,11 +143,15 @@ fn own_thread_symbol(
 }
 
 /// Returns the value of a thread-local symbol of the file itself, whose `st_value` is `value`.
+#[tactic(auto, unfolding(elf_model::specs::ImageItems::own_thread_value, crate::specs::Items::said_by))]
 fn own_thread_value(
     image: &ImageFile<'_, '_>,
     kind: ItemKind,
     value: u64,
-) -> Result<Option<u64>, Cause> {
+) -> Result<Option<u64>, Cause>
+    ensures { (said : ThreadValue) → ThreadKind kind said →
+        result ≡ or_unplaced (own_thread_value said (items_of image.now) value) }
+{
     if kind == ItemKind::Value {
         return Ok(Some(value));
     }

@@ -273,7 +273,7 @@ none_stored file segment (write ∷ writes) all closed =
       | inl same ↦
           let equal : write.segment ≡ segment = eqb-true write.segment segment same in
           let opened : (permits file PF_W segment || has_text_relocations file) ≡ true
-              = subst (λ i. (permits file PF_W i || has_text_relocations file) ≡ true) equal (All-head (IsPermitted file) write writes all) in
+          = subst (λ i. (permits file PF_W i || has_text_relocations file) ≡ true) equal (All-head (IsPermitted file) write writes all) in
           absurd (cc)
       | inr other ↦ rw other (none_stored file segment writes (All-tail (IsPermitted file) write writes all) closed)
     ]

@@ -135,7 +135,7 @@ linkage_checks file at = elim (rela_table file at) [
   | Some entries ↦ elim (linkage_table file at) [
     | None ↦ []
     | Some calls ↦ checks_of_row (tagged_row file at DT_JMPREL) (λ row.
-      refuse (entries_end calls == entries_end entries && nat_lt entries.count calls.count) row Unsupported ∷ [])
+        refuse (entries_end calls == entries_end entries && nat_lt entries.count calls.count) row Unsupported ∷ [])
   ]
 ]
 
