@@ -2,5 +2,8 @@ pub mod KeyTables
 pub mod RowTables
 pub mod Symbols
 pub mod Passing
+pub mod KeyStates
+pub mod KeyOrders
+pub mod LinkLaws
 pub mod ExamplesLinks
 pub mod ExamplesFiles

@@ -19,3 +19,8 @@ pub record TookObject (object : LinkObject) (old new : Table) (row : ℕ) : Type
   pub keys : new.keys ≡ object_taken (Some row) old.keys object
   pub most : new.most ≡ old.most
   pub most_further : new.most_further ≡ old.most_further
+
+-- members are what they were, and this is what some entries, or passes, make of what was held
+pub record PassedTo (before after : ArchiveMembers) (made now : ArchivePass) : Type 0 where
+  pub same : after ≡ before
+  pub holds : now ≡ made

@@ -1,10 +1,11 @@
 //! How a linker resolves symbols: the [`KeyTable`] of the names that it finds symbols by, what the
 //! symbols of objects make of them, and which members of an archive are taken by its index.
 //!
-//! A caller reads the files: it is an [`Objects`], whose objects are taken one symbol after another.
+//! A caller reads the files: it is an [`Objects`], whose symbols are taken one after another.
 #![tactic(auto)]
 
 mod examples;
+mod link_laws;
 mod passes;
 mod rows;
 mod steps;

@@ -34,16 +34,18 @@ pub trait Objects {
     /// # Errors
     /// Returns a `LinkStop` if the member can't be read, or there is no room for a key.
     fn take<'a>(&mut self, member: u32, row: u32, keys: &mut KeyTable<'a>) -> Result<(), LinkStop>
-        ensures takes { OnOk result (TookObject ((members self.old).objects member) keys.old keys.new row) }
+        ensures takes { OnOk result
+            (TookObject ((members self.old).objects member) keys.old keys.new row) }
         ensures same { members self.new ≡ members self.old };
 
-    /// Returns whether the first symbol of an entry's name in the entry's member is a definition, not
-    /// weak and no function.
+    /// Returns whether the first symbol of an entry's name in the entry's member is a definition,
+    /// not weak and no function.
     ///
     /// # Errors
     /// Returns a `LinkStop` if the member can't be read.
     fn defines<'a>(&mut self, entry: IndexEntry, keys: &KeyTable<'a>) -> Result<bool, LinkStop>
-        ensures defines { IfOk result (λ is_defined. is_defined ≡ (members self.old).defines entry.member (index_name keys.now.keys entry)) }
+        ensures defines { IfOk result (λ is_defined. is_defined
+            ≡ (members self.old).defines entry.member (index_name keys.now.keys entry)) }
         ensures same { members self.new ≡ members self.old };
 }
 
@@ -86,7 +88,8 @@ fn asks_for<'a, M: Objects>(
     entry: IndexEntry,
     members: &mut M,
 ) -> Result<bool, LinkStop>
-    ensures asks { IfOk result (λ asks. asks ≡ asks_by (M.members members.old) keys.now.keys entry) }
+    ensures asks { IfOk result
+        (λ asks. asks ≡ asks_by (M.members members.old) keys.now.keys entry) }
     ensures same { M.members members.new ≡ M.members members.old }
 {
     let known = keys.entry(key_of_entry(keys, entry));
@@ -107,7 +110,10 @@ fn member_row<'a>(archive: ArchiveInput, keys: &KeyTable<'a>, entry: IndexEntry)
         input: archive.input,
         archive: Some(archive.row),
         member: Some(entry.member),
-        reason: Some(RowReason { key, row: keys.entry(key).row }),
+        reason: Some(RowReason {
+            key,
+            row: keys.entry(key).row,
+        }),
     }
 }
 
@@ -122,7 +128,9 @@ pub fn visit_entry<'a, M: Objects>(
     entry: IndexEntry,
     members: &mut M,
 ) -> Result<(), LinkStop>
-    ensures visits { OnOk result (pass_of link.new taken.new ≡ entry_visited (archive_of archive (M.members members.old)) (pass_of link.old taken.old) entry) }
+    ensures visits { OnOk result (pass_of link.new taken.new
+        ≡ entry_visited (archive_of archive (M.members members.old)) (pass_of link.old taken.old)
+        entry) }
     ensures same { M.members members.new ≡ M.members members.old }
 {
     if is_taken(taken, entry.member) {
@@ -151,7 +159,9 @@ pub fn pass_index<'a, M: Objects>(
     entries: &[IndexEntry],
     members: &mut M,
 ) -> Result<(), LinkStop>
-    ensures passes { OnOk result (pass_of link.new taken.new ≡ index_passed (archive_of archive (M.members members.old)) (pass_of link.old taken.old) entries.now) }
+    ensures passes { OnOk result (pass_of link.new taken.new
+        ≡ index_passed (archive_of archive (M.members members.old)) (pass_of link.old taken.old)
+        entries.now) }
     ensures same { M.members members.new ≡ M.members members.old }
 {
     for i in 0..entries.len() {
@@ -160,7 +170,8 @@ pub fn pass_index<'a, M: Objects>(
     Ok(())
 }
 
-/// Makes passes over the index of an archive until one asks for no key that was not asked for before.
+/// Makes passes over the index of an archive until one asks for no key that was not asked for
+/// before.
 ///
 /// # Errors
 /// Returns a `LinkStop` if a member can't be taken.
@@ -171,7 +182,9 @@ pub fn search_archive<'a, M: Objects>(
     entries: &[IndexEntry],
     members: &mut M,
 ) -> Result<(), LinkStop>
-    ensures searches { OnOk result (pass_of link.new taken.new ≡ archive_searched (archive_of archive (M.members members.old)) entries.now (pass_of link.old taken.old)) }
+    ensures searches { OnOk result (pass_of link.new taken.new
+        ≡ archive_searched (archive_of archive (M.members members.old)) entries.now
+        (pass_of link.old taken.old)) }
     ensures same { M.members members.new ≡ M.members members.old }
 {
     loop {
