@@ -190,7 +190,11 @@ fn read_bytes<S: Source>(src: &mut Counted<S>, at: u64, bytes: &mut [u8]) -> Res
     let mut done = 0;
     while done < bytes.len() {
         let count = READ_BYTES.min(bytes.len() - done);
-        fill(src, at + done as u64, &mut bytes[done..done + count])?;
+        fill(
+            src,
+            at.saturating_add(done as u64),
+            &mut bytes[done..done + count],
+        )?;
         done += count;
     }
     Ok(())
