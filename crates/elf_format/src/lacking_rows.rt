@@ -12,7 +12,7 @@ use elf_source::{Out, OutFault, Sink};
 ///
 /// # Errors
 /// Returns a fault of the output; a prefix of the line was written.
-pub fn show_lacking<W: Sink>(
+pub fn show_lacking_entry<W: Sink>(
     at: u64,
     address: u64,
     kind: u32,

@@ -31,7 +31,7 @@ pub struct ImageRequest<'a> {
 
 /// The segment that is written.
 #[derive(Clone, Copy)]
-pub(crate) struct Target {
+pub(crate) struct ImageTarget {
     pub(crate) index: u16,
     /// Its bytes in the file.
     pub(crate) bytes: SegmentBytes,
@@ -122,16 +122,16 @@ fn write_loaded<S: Source, W: Sink>(
     let target = target_of(request.segment, &header, window.len() as u64, masked.hides);
     let marks = check(src, &image, &target)?;
     check_budget(src, &image, &target, &marks)?;
-    write_windows(src, &image, &target, &marks, window, out)
+    write_segment_windows(src, &image, &target, &marks, window, out)
 }
 
 /// Returns the segment of a program header, written in windows of a size.
-fn target_of(index: u16, header: &Phdr, window: u64, hides: bool) -> Target
+fn target_of(index: u16, header: &Phdr, window: u64, hides: bool) -> ImageTarget
     requires { 16 ≤ window }
     ensures { (size : ℕ) → header.now.p_offset + header.now.p_filesz ≤ size →
         TargetWithin size window result }
 {
-    Target {
+    ImageTarget {
         index,
         bytes: SegmentBytes {
             at: header.p_offset,
@@ -150,7 +150,7 @@ fn target_of(index: u16, header: &Phdr, window: u64, hides: bool) -> Target
 fn check<S: Source>(
     src: &mut Counted<S>,
     image: &ImageFile<'_, '_>,
-    target: &Target,
+    target: &ImageTarget,
 ) -> Result<WindowMarks, Fault>
     requires image { ImageWithin src.old.seen.size image.now }
     requires window { 0 < target.now.window }
@@ -176,7 +176,7 @@ fn check<S: Source>(
 fn check_budget<S: Source>(
     src: &Counted<S>,
     image: &ImageFile<'_, '_>,
-    target: &Target,
+    target: &ImageTarget,
     marks: &WindowMarks,
 ) -> Result<(), Fault>
     requires { 0 < target.now.window }
@@ -207,10 +207,10 @@ struct WindowPlace {
 }
 
 /// Writes the segment, window by window. All relocations are checked.
-fn write_windows<S: Source, W: Sink>(
+fn write_segment_windows<S: Source, W: Sink>(
     src: &mut Counted<S>,
     image: &ImageFile<'_, '_>,
-    target: &Target,
+    target: &ImageTarget,
     marks: &WindowMarks,
     room: &mut [u8],
     out: &mut Out<W>,
@@ -234,7 +234,7 @@ fn write_windows<S: Source, W: Sink>(
 fn write_window<S: Source, W: Sink>(
     src: &mut Counted<S>,
     image: &ImageFile<'_, '_>,
-    target: &Target,
+    target: &ImageTarget,
     place: WindowPlace,
     bytes: &mut [u8],
     out: &mut Out<W>,
@@ -259,7 +259,7 @@ fn write_window<S: Source, W: Sink>(
 /// Returns a fault of a read.
 fn read_window<'w, S: Source>(
     src: &mut Counted<S>,
-    target: &Target,
+    target: &ImageTarget,
     low: u64,
     bytes: &'w mut [u8],
 ) -> Result<ImageWindow<'w>, Fault>

@@ -4,7 +4,7 @@ ghost use Rattle.elf_model.specs.Apply.{put};
 ghost use Rattle.elf_model.specs.ApplyLaws.{clipped};
 ghost use Rattle.elf_source.specs.Prelude.{KeepsSource};
 
-use crate::changes::{ImageChange, StoredBytes};
+use crate::changes::{PlacedBytes, RelocatedBytes};
 use crate::image_items::CopyBytes;
 use elf_source::{Counted, READ_BYTES, Source};
 use elf_table::{Fault, fill};
@@ -73,19 +73,19 @@ impl<'w> ImageWindow<'w> {
 
     /// Stores the part of what a relocation stores in this segment that falls into the window. A
     /// word to which the base is added has not been stored to before.
-    pub(crate) fn store(&mut self, change: &ImageChange<'_>, base: u64) {
+    pub(crate) fn store(&mut self, change: &PlacedBytes<'_>, base: u64) {
         let offset = change.place.offset;
         match &change.bytes {
-            StoredBytes::Based => {
+            RelocatedBytes::Based => {
                 let word = self.word(offset);
                 self.put(offset, &word.wrapping_add(base).to_le_bytes());
             }
-            StoredBytes::Value(patch) => self.put(offset, patch.bytes()),
-            StoredBytes::Pair(first, second) => {
+            RelocatedBytes::Value(patch) => self.put(offset, patch.bytes()),
+            RelocatedBytes::Pair(first, second) => {
                 self.put(offset, &first.to_le_bytes());
                 self.put(offset.saturating_add(8), &second.to_le_bytes());
             }
-            StoredBytes::Copied(bytes) => self.put_copied(offset, bytes),
+            RelocatedBytes::Copied(bytes) => self.put_copied(offset, bytes),
         }
     }
 
@@ -190,7 +190,11 @@ fn read_bytes<S: Source>(src: &mut Counted<S>, at: u64, bytes: &mut [u8]) -> Res
     let mut done = 0;
     while done < bytes.len() {
         let count = READ_BYTES.min(bytes.len() - done);
-        fill(src, at + done as u64, &mut bytes[done..done + count])?;
+        fill(
+            src,
+            at.saturating_add(done as u64),
+            &mut bytes[done..done + count],
+        )?;
         done += count;
     }
     Ok(())

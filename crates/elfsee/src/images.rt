@@ -7,7 +7,7 @@ use elf_cli::{
     CANNOT_OPEN, CommandArgs, ExitLine, OUT_OF_MEMORY, allocate, allocate_pages, end_answer,
     open_by_pages,
 };
-use elf_format::show_lacking;
+use elf_format::show_lacking_entry;
 use elf_image::{
     ImageItems, ImageRequest, ItemList, ItemListFault, MissingEntries, load_image, write_image,
 };
@@ -56,7 +56,7 @@ pub fn write_images<R: Files + Print + AllocGlobal>(
 where
     R::File: FileExt,
 {
-    let wanted = wanted_of(asked)?;
+    let wanted = parse_wanted(asked)?;
     let mut bytes = Vec::new(rt.alloc());
     let end = match asked.layout {
         None => TextEnd::Whole,
@@ -79,7 +79,7 @@ where
 }
 
 /// Returns what is written.
-fn wanted_of(asked: &CommandArgs<'_>) -> Result<Wanted, ExitLine> {
+fn parse_wanted(asked: &CommandArgs<'_>) -> Result<Wanted, ExitLine> {
     if asked.missing {
         return Ok(Wanted::Missing);
     }
@@ -294,7 +294,7 @@ fn write_lines<S: Source, W: Sink>(
 {
     let mut missing = MissingEntries::open(src, store, loaded, job.items)?;
     'entries: while let Some(entry) = missing.next(src)? {
-        show_lacking(
+        show_lacking_entry(
             entry.at,
             entry.place,
             entry.kind,

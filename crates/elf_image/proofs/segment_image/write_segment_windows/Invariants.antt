@@ -1,7 +1,7 @@
 -- The bytes so far were written, and there is room for a window.
 use Rattle.std.proofs.Common.{◌≡◌, ◌-◌, ◌≤◌, length}
 use Rattle.elf_source.specs.Prelude.{KeepsSource}
-use Rattle.elf_image.proofs.segment_image.write_windows.Given as goal
+use Rattle.elf_image.proofs.segment_image.write_segment_windows.Given as goal
 
 abbrev pub invariant-windows : goal.invariant-windows
 invariant-windows g l = record {

@@ -1,7 +1,7 @@
 use Rattle.std.proofs.Common.{◌≡◌, ◌+◌, ◌≤◌, length, arith}
 use borrow.Rule.Slice.PartMut.{same_len_mid}
 use Rattle.elf_source.proofs.ReadsLaws.{KeepsSource-then}
-use Rattle.elf_image.proofs.segment_image.write_windows.Goals as goal
+use Rattle.elf_image.proofs.segment_image.write_segment_windows.Goals as goal
 
 pub windows-preserved : goal.windows-preserved
 windows-preserved g c =
