@@ -23,7 +23,10 @@ pub fn show_lacking<W: Sink>(
     put(&mut line, b" ");
     write_hex(&mut line, 16, address);
     put(&mut line, b" ");
-    let name = relocation_type_name(kind, true).unwrap_or("");
+    let name = match relocation_type_name(kind, true) {
+        Some(name) => name,
+        None => "",
+    };
     put_left(&mut line, 10, name.as_bytes(), b' ');
     put_right(&mut line, 10, u64::from(symbol), b' ');
     put(&mut line, cause_word(cause).as_bytes());

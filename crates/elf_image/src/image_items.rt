@@ -7,7 +7,6 @@ ghost use Rattle.elf_image.specs.Items.{byte_in, byte_of_digits, copies_of, copy
 ghost use Rattle.elf_image.specs.declared.image_items.ItemKind.TheVariants.{Base};
 ghost use Rattle.elf_image.specs.declared.image_items.NumberItem.{NumberItem as IsNumberItem};
 
-
 /// What an item says. Items are sorted by it, in this order.
 #[derive(Clone, Copy, PartialEq, Eq)]
 pub enum ItemKind {

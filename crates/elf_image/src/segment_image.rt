@@ -199,6 +199,13 @@ fn check_budget<S: Source>(
     Ok(())
 }
 
+/// A window of the segment: its offset, and whether a relocation stores something in it.
+#[derive(Clone, Copy)]
+struct WindowPlace {
+    low: u64,
+    met: bool,
+}
+
 /// Writes the segment, window by window. All relocations are checked.
 fn write_windows<S: Source, W: Sink>(
     src: &mut Counted<S>,
@@ -215,13 +222,33 @@ fn write_windows<S: Source, W: Sink>(
     let mut low = 0;
     'windows: while low < size {
         let count = (size - low).min(target.window);
-        let mut window = read_window(src, target, low, &mut room[..count as usize])?;
-        if marks.is_marked(low / target.window) {
-            patch_window(src, image, target.index, &mut window)?;
-        }
-        out.put(window.bytes())?;
+        let met = marks.is_marked(low / target.window);
+        let place = WindowPlace { low, met };
+        write_window(src, image, target, place, &mut room[0..count as usize], out)?;
         low += count;
     }
+    Ok(())
+}
+
+/// Writes one window of the segment, as many bytes as `bytes` has; they are left in it.
+fn write_window<S: Source, W: Sink>(
+    src: &mut Counted<S>,
+    image: &ImageFile<'_, '_>,
+    target: &Target,
+    place: WindowPlace,
+    bytes: &mut [u8],
+    out: &mut Out<W>,
+) -> Result<(), RunFault>
+    requires image { ImageWithin src.old.seen.size image.now }
+    requires within { target.now.bytes.at + target.now.bytes.size ≤ src.old.seen.size }
+    requires fits { place.low + length bytes.old ≤ target.now.size }
+    ensures { KeepsSource src.old.seen src.new.seen }
+{
+    let mut window = read_window(src, target, place.low, bytes)?;
+    if place.met {
+        patch_window(src, image, target.index, &mut window)?;
+    }
+    out.put(window.bytes())?;
     Ok(())
 }
 

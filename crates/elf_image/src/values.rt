@@ -32,7 +32,11 @@ pub(crate) fn bound_value(image: &ImageFile<'_, '_>, index: u32, symbol: &Sym) -
 /// # Errors
 /// Those of [`bound_value`].
 #[tactic(auto, unfolding(elf_model::specs::ImageItems::called_value, crate::specs::Items::said_by))]
-pub(crate) fn called_value(image: &ImageFile<'_, '_>, index: u32, symbol: &Sym) -> Result<u64, Cause>
+pub(crate) fn called_value(
+    image: &ImageFile<'_, '_>,
+    index: u32,
+    symbol: &Sym,
+) -> Result<u64, Cause>
     ensures { (file : List ℕ) (at : ℕ) → IsSym file at symbol.now → IsBased image.now →
         result ≡ called_value file (items_of image.now) index at }
 {

@@ -1,4 +1,5 @@
 //! Segments as a loader leaves them, and what their images lack.
+ghost use Rattle.std.specs.Prelude.{◌≤◌, length};
 ghost use Rattle.elf_hash.specs.Loading.{FitsSource};
 
 use crate::layouts::{read_list, told};
@@ -176,7 +177,9 @@ fn write_job<S: Source + Drop, W: Write + Drop>(
     mut store: HeaderStore<'_>,
     window: &mut [u8],
     output: BufWriter<W>,
-) -> ExitLine {
+) -> ExitLine
+    requires { 16 ≤ length window.old }
+{
     let mut src = Counted::new(source);
     src.limit(job.budget);
     let mut out = Out::new(WriteSink::new(output));
@@ -198,7 +201,9 @@ fn answer_job<S: Source, W: Sink>(
     store: &mut HeaderStore<'_>,
     window: &mut [u8],
     out: &mut Out<W>,
-) -> Result<(), RunFault> {
+) -> Result<(), RunFault>
+    requires { 16 ≤ length window.old }
+{
     match job.wanted {
         Wanted::Segment(segment) => {
             let request = ImageRequest {
