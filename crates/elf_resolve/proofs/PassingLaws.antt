@@ -8,7 +8,7 @@ use Rattle.elf_model.specs.LinkObjects.{object_taken}
 use Rattle.elf_model.specs.LinkPasses.{ArchiveMembers, ArchivePass, LinkArchive, archive_searched, entry_visited, index_passed, member_row, member_taken, untaken}
 use Rattle.elf_model.specs.declared.link_states.IndexEntry.{IndexEntry}
 use Rattle.elf_model.specs.declared.link_states.LinkRow.{LinkRow}
-use Rattle.elf_resolve.specs.Passing.{PassedTo, archive_of}
+use Rattle.elf_resolve.specs.Passing.{PassedTo, searched_archive}
 use Rattle.elf_resolve.specs.declared.passes.ArchiveInput.{ArchiveInput}
 use Rattle.elf_resolve.proofs.PassLaws.{fewer_untaken, index_passed-push, searched_end, searched_more}
 
@@ -25,46 +25,46 @@ member_by archive p e index keys row rows next taken row_is added =
 
 module _ (archive : ArchiveInput) (m0 m1 m2 : ArchiveMembers) (start now new : ArchivePass) (es : List IndexEntry) where
   -- one entry more
-  pub one_more : (i : ℕ) (d : IndexEntry) → i < length es → PassedTo m0 m1 (index_passed (archive_of archive m0) start (take i es)) now → m2 ≡ m1
-      → new ≡ entry_visited (archive_of archive m1) now (get_or es i d) → PassedTo m0 m2 (index_passed (archive_of archive m0) start (take (i + 1) es)) new
+  pub one_more : (i : ℕ) (d : IndexEntry) → i < length es → PassedTo m0 m1 (index_passed (searched_archive archive m0) start (take i es)) now → m2 ≡ m1
+      → new ≡ entry_visited (searched_archive archive m1) now (get_or es i d) → PassedTo m0 m2 (index_passed (searched_archive archive m0) start (take (i + 1) es)) new
   one_more i d there before same visited = record {
     same = same ∙ before.same;
     holds =
         visited
-        ∙ ap (λ m. entry_visited (archive_of archive m) now (get_or es i d)) before.same
-        ∙ ap (λ p. entry_visited (archive_of archive m0) p (get_or es i d)) before.holds
-        ∙ sym (index_passed-push (archive_of archive m0) start (take i es) (get_or es i d))
-        ∙ ap (λ l. index_passed (archive_of archive m0) start l) (sym (take_more es i d there));
+        ∙ ap (λ m. entry_visited (searched_archive archive m) now (get_or es i d)) before.same
+        ∙ ap (λ p. entry_visited (searched_archive archive m0) p (get_or es i d)) before.holds
+        ∙ sym (index_passed-push (searched_archive archive m0) start (take i es) (get_or es i d))
+        ∙ ap (λ l. index_passed (searched_archive archive m0) start l) (sym (take_more es i d there));
   }
 
-  passed : PassedTo m0 m1 (archive_searched (archive_of archive m0) es start) (archive_searched (archive_of archive m0) es now) → new ≡ index_passed (archive_of archive m1) now es → new ≡ index_passed (archive_of archive m0) now es
-  passed before is = is ∙ ap (λ m. index_passed (archive_of archive m) now es) before.same
+  passed : PassedTo m0 m1 (archive_searched (searched_archive archive m0) es start) (archive_searched (searched_archive archive m0) es now) → new ≡ index_passed (searched_archive archive m1) now es → new ≡ index_passed (searched_archive archive m0) now es
+  passed before is = is ∙ ap (λ m. index_passed (searched_archive archive m) now es) before.same
 
   -- the last pass
-  pub last_pass : PassedTo m0 m1 (archive_searched (archive_of archive m0) es start) (archive_searched (archive_of archive m0) es now) → new ≡ index_passed (archive_of archive m1) now es
-      → new.keys.asked ≡ now.keys.asked → new ≡ archive_searched (archive_of archive m0) es start
+  pub last_pass : PassedTo m0 m1 (archive_searched (searched_archive archive m0) es start) (archive_searched (searched_archive archive m0) es now) → new ≡ index_passed (searched_archive archive m1) now es
+      → new.keys.asked ≡ now.keys.asked → new ≡ archive_searched (searched_archive archive m0) es start
   last_pass before is same_asked =
-      let this : new ≡ index_passed (archive_of archive m0) now es = passed before is in
-      this ∙ sym (searched_end (archive_of archive m0) es now (ap (λ (p : ArchivePass). p.keys.asked) (sym this) ∙ same_asked)) ∙ before.holds
+      let this : new ≡ index_passed (searched_archive archive m0) now es = passed before is in
+      this ∙ sym (searched_end (searched_archive archive m0) es now (ap (λ (p : ArchivePass). p.keys.asked) (sym this) ∙ same_asked)) ∙ before.holds
 
   differ_by : (a b c : ℕ) → a ≡ b → (a ≡ c → ⊥) → (b == c) ≡ false
   differ_by a b c same differ = grind (arith, nat_tests)
 
   -- another pass
-  pub another : PassedTo m0 m1 (archive_searched (archive_of archive m0) es start) (archive_searched (archive_of archive m0) es now) → m2 ≡ m1 → new ≡ index_passed (archive_of archive m1) now es
-      → (new.keys.asked ≡ now.keys.asked → ⊥) → PassedTo m0 m2 (archive_searched (archive_of archive m0) es start) (archive_searched (archive_of archive m0) es new)
+  pub another : PassedTo m0 m1 (archive_searched (searched_archive archive m0) es start) (archive_searched (searched_archive archive m0) es now) → m2 ≡ m1 → new ≡ index_passed (searched_archive archive m1) now es
+      → (new.keys.asked ≡ now.keys.asked → ⊥) → PassedTo m0 m2 (archive_searched (searched_archive archive m0) es start) (archive_searched (searched_archive archive m0) es new)
   another before same is differ =
-      let this : new ≡ index_passed (archive_of archive m0) now es = passed before is in
+      let this : new ≡ index_passed (searched_archive archive m0) now es = passed before is in
       record {
         same = same ∙ before.same;
         holds =
-            ap (λ p. archive_searched (archive_of archive m0) es p) this
-            ∙ sym (searched_more (archive_of archive m0) es now (differ_by _ _ _ (ap (λ (p : ArchivePass). p.keys.asked) this) differ))
+            ap (λ p. archive_searched (searched_archive archive m0) es p) this
+            ∙ sym (searched_more (searched_archive archive m0) es now (differ_by _ _ _ (ap (λ (p : ArchivePass). p.keys.asked) this) differ))
             ∙ before.holds;
       }
 
-  pub fewer_left : PassedTo m0 m1 (archive_searched (archive_of archive m0) es start) (archive_searched (archive_of archive m0) es now) → new ≡ index_passed (archive_of archive m1) now es
+  pub fewer_left : PassedTo m0 m1 (archive_searched (searched_archive archive m0) es start) (archive_searched (searched_archive archive m0) es now) → new ≡ index_passed (searched_archive archive m1) now es
       → (new.keys.asked ≡ now.keys.asked → ⊥) → untaken new.taken < untaken now.taken
   fewer_left before is differ =
-      let this : new ≡ index_passed (archive_of archive m0) now es = passed before is in
-      subst (λ (p : ArchivePass). untaken p.taken < untaken now.taken) (sym this) (fewer_untaken (archive_of archive m0) now es (λ same. differ (ap (λ (p : ArchivePass). p.keys.asked) this ∙ same)))
+      let this : new ≡ index_passed (searched_archive archive m0) now es = passed before is in
+      subst (λ (p : ArchivePass). untaken p.taken < untaken now.taken) (sym this) (fewer_untaken (searched_archive archive m0) now es (λ same. differ (ap (λ (p : ArchivePass). p.keys.asked) this ∙ same)))

@@ -1,7 +1,7 @@
 //! How a linker resolves symbols: the [`KeyTable`] of the names that it finds symbols by, what the
 //! symbols of objects make of them, and which members of an archive are taken by its index.
 //!
-//! A caller reads the files: it is an [`Objects`], whose symbols are taken one after another.
+//! A caller reads the files: it is an [`ArchiveObjects`], whose symbols are taken one after another.
 #![tactic(auto)]
 
 mod examples;
@@ -13,7 +13,7 @@ mod symbols;
 mod table;
 
 pub use examples::{small_files, small_links};
-pub use passes::{ArchiveInput, Link, Objects, pass_index, search_archive, visit_entry};
+pub use passes::{ArchiveInput, ArchiveObjects, Link, pass_index, search_archive, visit_entry};
 pub use rows::RowTable;
 pub use symbols::Symbol;
 pub use table::{KeyFault, KeyTable, LinkStop};

@@ -5,12 +5,12 @@ use Rattle.elf_resolve.proofs.passes.search_archive.Goals as goal
 
 pub returns-then-asked-before-clause-searches : goal.returns-then-asked-before-clause-searches
 returns-then-asked-before-clause-searches g c =
-    last_pass c.args.archive _ _ (g.M.Objects.members c.pass_index.new.members) _ _ (pass_of c.pass_index.new.link c.pass_index.new.taken) c.args.entries.now c.loop.invariant
+    last_pass c.args.archive _ _ (g.M.ArchiveObjects.members c.pass_index.new.members) _ _ (pass_of c.pass_index.new.link c.pass_index.new.taken) c.args.entries.now c.loop.invariant
     c.in_ok-pass_index.ensures.passes (sym c.asked.ensures ∙ c.if-asked-before.true ∙ c.asked-before.ensures)
 
 pub loop-smaller : goal.loop-smaller
 loop-smaller g c =
-    fewer_left c.args.archive _ _ (g.M.Objects.members c.pass_index.new.members) _ _ (pass_of c.pass_index.new.link c.pass_index.new.taken) c.args.entries.now c.loop.invariant
+    fewer_left c.args.archive _ _ (g.M.ArchiveObjects.members c.pass_index.new.members) _ _ (pass_of c.pass_index.new.link c.pass_index.new.taken) c.args.entries.now c.loop.invariant
     c.in_ok-pass_index.ensures.passes (λ same. c.if-asked-before.false (c.asked.ensures ∙ same ∙ sym c.asked-before.ensures))
 
 pub loop-preserved : goal.loop-preserved

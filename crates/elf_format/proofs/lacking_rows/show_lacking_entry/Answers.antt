@@ -1,7 +1,7 @@
 -- The line has room: its parts have at most 16 bytes, or 18.
 use Rattle.std.proofs.Common.{arith}
 use Rattle.elf_format.proofs.Decimals.{ten_digits}
-use Rattle.elf_format.proofs.lacking_rows.show_lacking.Goals as goal
+use Rattle.elf_format.proofs.lacking_rows.show_lacking_entry.Goals as goal
 
 pub put_right-requires-clause-room : goal.put_right-requires-clause-room
 put_right-requires-clause-room g c =
