@@ -1,9 +1,12 @@
 //! Items: what an image depends on besides its file.
-ghost use Rattle.std.specs.Prelude.{◌≡◌, ◌+◌, ◌*◌, ◌/◌, ◌^◌, ◌<◌, ◌≤◌, length, IfSome, MatchBool, true, option_map, slice_index_or, unwrap_or, ℕ, List};
+ghost use Rattle.std.specs.Prelude.{◌≡◌, ◌+◌, ◌*◌, ◌/◌, ◌^◌, ◌<◌, ◌≤◌, length, IfSome, MatchBool};
+ghost use Rattle.std.specs.Prelude.{true, option_map, slice_index_or, unwrap_or, ℕ, List};
 ghost use Rattle.std.specs.Ordering.{nat_cmp};
 ghost use Rattle.elf_layout.specs.Lent.{FindsKey, Follows, KeysAscend};
 ghost use Rattle.elf_model.specs.ImageItems.{bytes_for};
-ghost use Rattle.elf_image.specs.Items.{byte_in, byte_of_digits, copies_of, copy_bytes, copy_index, copy_size, digit_value, given, item_kind_number, number_of, item_rank, item_rank_of};
+ghost use Rattle.elf_image.specs.Items.{byte_in, byte_of_digits, copies_of, copy_bytes, copy_index};
+ghost use Rattle.elf_image.specs.Items.{copy_size, digit_value, given, item_kind_number, number_of};
+ghost use Rattle.elf_image.specs.Items.{item_rank, item_rank_of};
 ghost use Rattle.elf_image.specs.declared.image_items.ItemKind.TheVariants.{LoadAddress};
 ghost use Rattle.elf_image.specs.declared.image_items.NumberItem.{NumberItem as IsNumberItem};
 
@@ -135,7 +138,8 @@ pub struct ImageItems<'a> {
 impl<'a> ImageItems<'a> {
     /// Returns the items of these slices, or `None` if one is not above the one before it.
     pub fn new(numbers: &'a [NumberItem], copies: &'a [CopyItem<'a>]) -> Option<ImageItems<'a>>
-        ensures { IfSome result (λ items. given items.numbers.now items.copies.now ≡ given numbers.now copies.now) }
+        ensures { IfSome result (λ items.
+            given items.numbers.now items.copies.now ≡ given numbers.now copies.now) }
     {
         if !numbers_ascend(numbers) || !copies_ascend(copies) {
             return None;
@@ -155,14 +159,16 @@ impl<'a> ImageItems<'a> {
 
     /// Returns the load address, 0 without an item.
     pub fn base(&self) -> u64
-        ensures { result ≡ unwrap_or (number_of (given self.now.numbers.now self.now.copies.now) LoadAddress 0) 0 }
+        ensures { result ≡ unwrap_or
+            (number_of (given self.now.numbers.now self.now.copies.now) LoadAddress 0) 0 }
     {
         self.number(ItemKind::LoadAddress, 0).unwrap_or(0)
     }
 
     /// Returns the bytes of the copied object of a symbol, if there is an item.
     pub fn copy(&self, index: u32) -> Option<CopyBytes<'a>>
-        ensures { option_map copy_bytes result ≡ bytes_for (given self.now.numbers.now self.now.copies.now).copies index }
+        ensures { option_map copy_bytes result
+            ≡ bytes_for (given self.now.numbers.now self.now.copies.now).copies index }
     {
         match search_copy(self.copies, index) {
             Ok(found) => Some(self.copies[found].bytes),

@@ -2,7 +2,8 @@
 ghost use Rattle.std.specs.Prelude.{◌≡◌, ◌<◌, ◌/◌, ◌^◌, ℕ, List};
 ghost use Rattle.elf_model.specs.Bytes.{little};
 ghost use Rattle.elf_model.specs.ImageItems.{bytes_for, is_looked_up};
-ghost use Rattle.elf_model.specs.ImageValues.{copied_bytes, descriptor_bytes, low_four_bytes, placed_value, stored_bytes, word_if_bound, word_of};
+ghost use Rattle.elf_model.specs.ImageValues.{copied_bytes, descriptor_bytes, low_four_bytes, placed_value};
+ghost use Rattle.elf_model.specs.ImageValues.{stored_bytes, word_if_bound, word_of};
 ghost use Rattle.elf_model.specs.Placing.{address_in};
 ghost use Rattle.elf_model.specs.Records.{r_addend, st_size, twos_complement};
 ghost use Rattle.elf_record.specs.Rela.{IsRela};

@@ -1,7 +1,9 @@
 //! The values of symbols in an image.
 ghost use Rattle.std.specs.Prelude.{◌≡◌, ℕ, List};
-ghost use Rattle.elf_model.specs.ImageItems.{ThreadValue, bound_value, called_value, item_of, lacks_item, may_be_unbound, or_unplaced};
-ghost use Rattle.elf_model.specs.ImageItems.{own_thread_symbol, own_thread_value, own_value, thread_value};
+ghost use Rattle.elf_model.specs.ImageItems.{ThreadValue, bound_value, called_value, item_of};
+ghost use Rattle.elf_model.specs.ImageItems.{lacks_item, may_be_unbound, or_unplaced};
+ghost use Rattle.elf_model.specs.ImageItems.{own_thread_symbol, own_thread_value, own_value};
+ghost use Rattle.elf_model.specs.ImageItems.{thread_value};
 ghost use Rattle.elf_record.specs.Sym.{IsSym};
 ghost use Rattle.elf_image.specs.Items.{item_kind_number, of_kind};
 ghost use Rattle.elf_image.specs.Values.{IsBased, IsSymbolOf, ThreadKind, known_items};
@@ -49,7 +51,8 @@ pub(crate) fn called_value(
 /// Returns the item of a kind of the symbol of an index, if it is looked up.
 fn item_of(image: &ImageFile<'_, '_>, kind: ItemKind, index: u32, symbol: &Sym) -> Option<u64>
     ensures { (file : List ℕ) (at : ℕ) → IsSym file at symbol.now →
-        result ≡ item_of (of_kind (item_kind_number kind) image.now.items.now.numbers.now) file index at }
+        result
+        ≡ item_of (of_kind (item_kind_number kind) image.now.items.now.numbers.now) file index at }
 {
     if !is_looked_up(symbol) {
         return None;
