@@ -1,5 +1,5 @@
 //! The call that writes the image of a segment.
-ghost use Rattle.std.specs.Prelude.{◌≡◌, ◌+◌, ◌<◌, ◌≤◌, ℕ, length};
+ghost use Rattle.std.specs.Prelude.{◌≡◌, ◌+◌, ◌<◌, ◌≤◌, ◌^◌, ℕ, length};
 ghost use Rattle.elf_source.specs.Prelude.{KeepsSource};
 ghost use Rattle.elf_hash.specs.Loading.{FitsSource};
 ghost use Rattle.elf_image.specs.Images.{TargetWithin};
@@ -241,8 +241,8 @@ fn write_window<S: Source, W: Sink>(
 ) -> Result<(), RunFault>
     requires image { ImageWithin src.old.seen.size image.now }
     requires within { target.now.bytes.at + target.now.bytes.size ≤ src.old.seen.size }
-    requires fits { place.low + length bytes.old ≤ target.now.size }
-    ensures { KeepsSource src.old.seen src.new.seen }
+    requires fits { place.low + length bytes.old < 2 ^ 64 }
+    ensures { src.new.seen.size ≡ src.old.seen.size }
 {
     let mut window = read_window(src, target, place.low, bytes)?;
     if place.met {
@@ -264,8 +264,8 @@ fn read_window<'w, S: Source>(
     bytes: &'w mut [u8],
 ) -> Result<ImageWindow<'w>, Fault>
     requires within { target.now.bytes.at + target.now.bytes.size ≤ src.old.seen.size }
-    requires fits { low + length bytes.old ≤ target.now.size }
-    ensures { KeepsSource src.old.seen src.new.seen }
+    requires fits { low + length bytes.old < 2 ^ 64 }
+    ensures { src.new.seen.size ≡ src.old.seen.size }
 {
     src.mask_section_headers(target.hides);
     let window = ImageWindow::read(src, target.bytes, low, bytes);

@@ -1,11 +1,10 @@
 -- The bytes so far were written, and there is room for a window.
 use Rattle.std.proofs.Common.{◌≡◌, ◌-◌, ◌≤◌, length}
-use Rattle.elf_source.specs.Prelude.{KeepsSource}
 use Rattle.elf_image.proofs.segment_image.write_segment_windows.Given as goal
 
 abbrev pub invariant-windows : goal.invariant-windows
 invariant-windows g l = record {
-  keeps : KeepsSource l.fn.src.seen l.src.seen;
+  same : l.src.seen.size ≡ l.fn.src.seen.size;
   sized : l.size ≡ l.target.size;
   within : l.low ≤ l.size;
   room : l.target.window ≤ length l.room;
