@@ -16,12 +16,12 @@ use Rattle.elf_image.specs.declared.image_items.ItemKind.{ItemKind}
 use Rattle.elf_image.specs.declared.image_items.ItemKind.TheVariants as kind
 
 -- the items of an image
-abbrev pub items_of : ImageFile → ImageItems
-items_of image = said_by (given image.items.now.numbers.now image.items.now.copies.now) image.leaves
+abbrev pub known_items : ImageFile → ImageItems
+known_items image = said_by (given image.items.now.numbers.now image.items.now.copies.now) image.leaves
 
 -- the load address that an image has is that of its items
 abbrev pub IsBased : ImageFile → Type 0
-IsBased image = image.base ≡ (items_of image).base
+IsBased image = image.base ≡ (known_items image).base
 
 -- what the items of a kind say of a thread-local symbol
 abbrev pub ThreadKind : ItemKind → ThreadValue → Type 0

@@ -2,12 +2,13 @@
 ghost use Rattle.std.specs.Prelude.{◌≡◌, ◌<◌, ◌/◌, ◌^◌, ℕ, List};
 ghost use Rattle.elf_model.specs.Bytes.{little};
 ghost use Rattle.elf_model.specs.ImageItems.{bytes_for, is_looked_up};
-ghost use Rattle.elf_model.specs.ImageValues.{copied_bytes, descriptor_bytes, low_bytes, placed, stored_bytes, word_if_bound, word_of};
+ghost use Rattle.elf_model.specs.ImageValues.{copied_bytes, descriptor_bytes, low_bytes, placed};
+ghost use Rattle.elf_model.specs.ImageValues.{stored_bytes, word_if_bound, word_of};
 ghost use Rattle.elf_model.specs.Placing.{address_in};
 ghost use Rattle.elf_model.specs.Records.{r_addend, st_size, twos_complement};
 ghost use Rattle.elf_record.specs.Rela.{IsRela};
 ghost use Rattle.elf_record.specs.Sym.{IsSym};
-ghost use Rattle.elf_image.specs.Values.{IsBased, IsUsed, bytes_or_cause, items_of, stored_as};
+ghost use Rattle.elf_image.specs.Values.{IsBased, IsUsed, bytes_or_cause, known_items, stored_as};
 
 use crate::changes::{ImageFile, RelocatedBytes};
 use crate::image_items::ItemKind;
@@ -32,7 +33,7 @@ pub(crate) fn stored_bytes<'a>(
     ensures { (file : List ℕ) (rela at : ℕ) → IsRela file rela entry.now →
         r_addend file rela < 2 ^ 64 →
         IsUsed found file at (entry.now.r_info / 2 ^ 32) symbol.now → IsBased image.now →
-        bytes_or_cause result ≡ stored_bytes found file (items_of image.now) rela at }
+        bytes_or_cause result ≡ stored_bytes found file (known_items image.now) rela at }
 {
     let index = entry.symbol();
     let addend = entry.r_addend.cast_unsigned();
@@ -127,7 +128,7 @@ fn low_bytes<'a>(
 /// Returns the answer of the resolver at an address.
 #[tactic(auto, unfolding(crate::specs::Items::said_by))]
 fn resolved_value(image: &ImageFile<'_, '_>, address: u64) -> Result<u64, Cause>
-    ensures { result ≡ placed (address_in (items_of image.now).resolved address) }
+    ensures { result ≡ placed (address_in (known_items image.now).resolved address) }
 {
     match image.items.number(ItemKind::Resolver, address) {
         Some(answer) => Ok(answer),
@@ -144,7 +145,7 @@ fn copied_bytes<'a>(
 ) -> Result<RelocatedBytes<'a>, Cause>
     ensures { (file : List ℕ) (at : ℕ) → IsSym file at symbol.now →
         bytes_or_cause result
-        ≡ copied_bytes (is_looked_up file at) (bytes_for (items_of image.now).copies index)
+        ≡ copied_bytes (is_looked_up file at) (bytes_for (known_items image.now).copies index)
         (st_size file at) }
 {
     if !is_looked_up(symbol) {
