@@ -8,4 +8,6 @@ pub mod StateLaws
 pub mod EntryLaws
 pub mod FollowLaws
 pub mod LeftLaws
+pub mod KnownLaws
+pub mod GroupLaws
 pub mod StatedLaws

@@ -31,7 +31,7 @@ free_of true false e = refl
 free_of false taken e = cc
 
 -- a member that is taken is one less that is not
-untaken-set : (taken : List Bool) (member : ℕ) → get_or taken member true ≡ false → untaken (set taken member true) + 1 ≡ untaken taken
+pub untaken-set : (taken : List Bool) (member : ℕ) → get_or taken member true ≡ false → untaken (set taken member true) + 1 ≡ untaken taken
 untaken-set [] member free = cc
 untaken-set (true ∷ taken) zero free = cc
 untaken-set (false ∷ taken) zero free = grind (arith, common_steps)
@@ -93,7 +93,7 @@ module _ (archive : LinkArchive) where
   pass_keeps p [] = refl
   pass_keeps p (e ∷ es) = pass_keeps (entry_visited archive p e) es ∙ visit_keeps p e
 
-  -- rows are only added, and if none is, nothing key_changed
+  -- rows are only added, and if none is, nothing changed
   grows_by : (p : ArchivePass) (e : IndexEntry) (is : Bool) → takes_member archive p e ≡ is → length p.rows ≤ length (entry_visited archive p e).rows
   grows_by p e true is = rw (visited p e is) (omega (arith, rows_after p e))
   grows_by p e false is = rw (not_visited p e is) (omega arith)
@@ -136,6 +136,10 @@ module _ (archive : LinkArchive) where
       let next = index_passed archive p es in
       choose (next.keys.asked == p.keys.asked) next (passes_made n archive es next) (passes_made m archive es next)
       (λ differs. passes_enough n m es next (omega (arith, fewer p es differs, below)) (omega (arith, fewer p es differs, other)))
+
+  pub searched_as : (es : List IndexEntry) (p : ArchivePass) (n : ℕ) → untaken p.taken < n → passes_made n archive es p ≡ archive_searched archive es p
+  unfolding archive_searched
+  searched_as es p n below = passes_enough n (suc (untaken p.taken)) es p below (omega arith)
 
   -- a pass, and then the others
   searched_step : (es : List IndexEntry) (p : ArchivePass) → archive_searched archive es p

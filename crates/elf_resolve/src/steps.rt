@@ -76,9 +76,7 @@ fn common_change(state: KeyState, size: u64) -> StateChange
         KeyState::Defined => StateChange::Stays,
         KeyState::Shared(symbol) => match symbol.kind {
             SharedKind::Function => StateChange::BecomesState(KeyState::Common(size)),
-            SharedKind::NoBits(other) => StateChange::BecomesState(KeyState::Common(size.max(
-                other,
-            ))),
+            SharedKind::NoBits(other) => StateChange::BecomesState(KeyState::Common(size.max(other))),
             _ => {
                 if symbol.weak {
                     StateChange::BecomesState(KeyState::Common(size))
@@ -120,7 +118,7 @@ fn shared_change(state: KeyState, symbol: SharedDefinition) -> StateChange
 }
 
 /// Returns whether a definition ends at a key in a state: then the key without the version is not
-/// key_changed either.
+/// changed either.
 pub fn ends_at(state: KeyState, role: SymbolRole) -> bool
     ensures { result ≡ ends_of state role }
 {
@@ -207,12 +205,7 @@ fn asks_after(before: KeyState, made: KeyState) -> bool
 }
 
 /// Returns the entry after a change of its state by a symbol of a row.
-fn key_changed(
-    entry: KeyEntry,
-    symbol: SymbolUse,
-    row: Option<u32>,
-    change: StateChange,
-) -> KeyEntry
+fn key_changed(entry: KeyEntry, symbol: SymbolUse, row: Option<u32>, change: StateChange) -> KeyEntry
     ensures { result ≡ changed_to entry symbol row change }
 {
     match change {
