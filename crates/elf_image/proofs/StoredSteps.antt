@@ -1,8 +1,7 @@
 -- The bytes of a copied object.
-use Rattle.std.proofs.Common.{◌≡◌, ℕ, ◌<◌, ◌≤◌, Bool, true, false, nat_lt, List, length, Option, None, Some, Result, Ok, Err, refl, sym, ap, ◌∙◌}
+use Rattle.std.proofs.Common.{◌≡◌, ℕ, ◌<◌, ◌≤◌, Bool, true, List, length, Option, Some, Ok, Err, refl}
 use Rattle.std.proofs.lemmas.Bool.{le-ltb, lt-ltb}
 use Rattle.elf_model.specs.ImageValues.{copied_bytes}
-use Rattle.elf_model.specs.declared.causes.Cause.{Cause}
 use Rattle.elf_model.specs.declared.causes.Cause.TheVariants.{Overflow}
 
 pub copied_over : (asked : Bool) (found : Option (List ℕ)) (bytes : List ℕ) (size : ℕ) → asked ≡ true → found ≡ Some bytes → size < length bytes → copied_bytes asked found size ≡ Err Overflow

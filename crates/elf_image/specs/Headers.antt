@@ -1,5 +1,5 @@
 -- The checks of headers, as the code returns their refusals.
-use Rattle.std.specs.Prelude.{ℕ, ◌≡◌, Option, None, Some}
+use Rattle.std.specs.Prelude.{ℕ, Option, None, Some}
 use Rattle.elf_model.specs.declared.causes.Cause.{Cause}
 use Rattle.elf_model.specs.declared.causes.Refusal.{Refusal}
 

@@ -1,8 +1,6 @@
 -- Items in ascending order, as they are given, and what they say of an image.
-use Rattle.std.specs.Prelude.{ℕ, zero, suc, ◌+◌, ◌-◌, ◌*◌, ◌/◌, ◌^◌, ◌==◌, ◌&&◌, nat_le, if◌then◌else◌, Bool, List, [], ◌∷◌, length, get_or, map, Option, None, Some, unwrap_or}
-use Rattle.std.specs.Ordering.{nat_cmp}
-use Rattle.elf_layout.specs.Lent.{KeysAscend}
-use Rattle.elf_model.specs.ImageItems.{ItemValues, bytes_for}
+use Rattle.std.specs.Prelude.{ℕ, zero, suc, ◌+◌, ◌-◌, ◌*◌, ◌/◌, ◌^◌, ◌==◌, ◌&&◌, nat_le, if◌then◌else◌, Bool, List, [], ◌∷◌, length, get_or, map, Option, unwrap_or}
+use Rattle.elf_model.specs.ImageItems.{ItemValues}
 use Rattle.elf_model.specs.Placing.{address_in}
 use Rattle.elf_image.specs.declared.image_items.CopyBytes.{CopyBytes}
 use Rattle.elf_image.specs.declared.image_items.CopyBytes.TheVariants.{Digits, Raw}

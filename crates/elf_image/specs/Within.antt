@@ -1,6 +1,6 @@
 -- What a walk may read: tables that lie within a source, and how much of them is left.
-use Rattle.std.specs.Prelude.{ℕ, if◌then◌else◌, ◌≡◌, ◌+◌, ◌-◌, ◌*◌, ◌^◌, ◌<◌, ◌≤◌, List, Option, None, Some, Result, Ok, Err, IfSome}
-use Rattle.elf_model.specs.Prelude.{p_filesz, p_offset, p_vaddr}
+use Rattle.std.specs.Prelude.{ℕ, if◌then◌else◌, ◌≡◌, ◌+◌, ◌-◌, ◌*◌, ◌^◌, ◌<◌, ◌≤◌, List, IfSome}
+use Rattle.elf_model.specs.Prelude.{p_filesz, p_offset}
 use Rattle.elf_table.specs.Prelude.{TableInBounds, TableRange}
 use Rattle.elf_image.specs.declared.changes.ImageFile.{ImageFile}
 use Rattle.elf_image.specs.declared.changes.Relocations.{Relocations}

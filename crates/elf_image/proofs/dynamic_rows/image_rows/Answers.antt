@@ -1,7 +1,7 @@
 -- One more entry is read, no later one than the table's last.
-use Rattle.std.proofs.Common.{◌≡◌, ℕ, ◌+◌, arith}
-use Rattle.elf_note.proofs.EntriesLeft.{given, ended}
-use Rattle.elf_note.proofs.EntriesLoop.{goes-next, goes-reads, goes-start}
+use Rattle.std.proofs.Common.{arith}
+use Rattle.elf_note.proofs.EntriesLeft.{given}
+use Rattle.elf_note.proofs.EntriesLoop.{goes-next, goes-start}
 use Rattle.elf_image.proofs.dynamic_rows.image_rows.Goals as goal
 
 pub entries-init : goal.entries-init

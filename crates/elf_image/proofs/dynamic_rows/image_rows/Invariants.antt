@@ -1,5 +1,5 @@
 -- The entries that were read are no more than those of the table.
-use Rattle.std.proofs.Common.{◌≡◌, ℕ, ◌+◌, ◌≤◌}
+use Rattle.std.proofs.Common.{◌≡◌, ◌+◌, ◌≤◌}
 use Rattle.elf_note.proofs.EntriesLoop.{GoesOver}
 use Rattle.elf_image.proofs.dynamic_rows.image_rows.Given as goal
 

@@ -1,7 +1,7 @@
 use Rattle.std.proofs.Common.{arith}
 use Rattle.std.proofs.lemmas.Cmp.{nat_cmp_total}
 use Rattle.elf_image.specs.Items.{item_rank_of}
-use Rattle.elf_layout.proofs.LentSteps.{all_rise, below_more}
+use Rattle.elf_layout.proofs.LentSteps.{below_more}
 use Rattle.elf_image.proofs.image_items.numbers_ascend.Goals as goal
 
 pub loop-i-preserved : goal.loop-i-preserved

@@ -1,5 +1,5 @@
 -- The first program header whose segment has the bytes in memory is the first one that is found.
-use Rattle.std.proofs.Common.{◌≡◌, ℕ, true, false, inl, inr, ap, sym, ◌∙◌, arith}
+use Rattle.std.proofs.Common.{◌≡◌, ℕ, inl, inr, ap, sym, ◌∙◌, arith}
 use Rattle.std.proofs.lemmas.Bool.{cases_eq}
 use Rattle.elf_model.specs.Image.{holder_of, holds_in_memory}
 use Rattle.elf_model.specs.Records.{e_phnum, segment_at}

@@ -1,4 +1,4 @@
-use Rattle.std.proofs.Common.{◌≡◌, ◌+◌, ◌≤◌, length, ◌∙◌, arith}
+use Rattle.std.proofs.Common.{◌∙◌, arith}
 use borrow.Rule.Slice.PartMut.{same_len_mid}
 use Rattle.elf_image.proofs.segment_image.write_segment_windows.Goals as goal
 

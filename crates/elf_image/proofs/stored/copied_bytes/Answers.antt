@@ -1,4 +1,4 @@
-use Rattle.std.proofs.Common.{◌≡◌, ◌<◌, ◌≤◌, ℕ, List, length, true, Some, sym, arith}
+use Rattle.std.proofs.Common.{◌≡◌, ◌<◌, ◌≤◌, length, true, Some, sym, arith}
 use Rattle.elf_model.specs.ImageItems.{bytes_for, is_looked_up}
 use Rattle.elf_model.specs.Prelude.{st_size}
 use Rattle.elf_image.specs.Items.{copies_of, copy_bytes, said_by}

@@ -1,4 +1,4 @@
-use Rattle.std.proofs.Common.{◌≡◌, ◌+◌, ◌<◌, ◌^◌, ℕ, length, min, refl, arith}
+use Rattle.std.proofs.Common.{◌≡◌, ◌+◌, length, min, refl, arith}
 use Rattle.elf_model.specs.Apply.{StoredBytes}
 use Rattle.elf_reloc.proofs.PassSteps.{stored-in, stored-none}
 use Rattle.elf_image.proofs.window.put_bytes.Goals as goal

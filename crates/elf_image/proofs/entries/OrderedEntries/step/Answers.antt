@@ -1,4 +1,4 @@
-use Rattle.std.proofs.Common.{◌≡◌, ℕ, arith}
+use Rattle.std.proofs.Common.{arith}
 use Rattle.elf_image.proofs.entries.OrderedEntries.step.Goals as goal
 
 pub returns-clause-alive : goal.returns-clause-alive

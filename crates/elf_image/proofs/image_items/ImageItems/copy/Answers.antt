@@ -1,7 +1,5 @@
-use Rattle.std.proofs.Common.{sym, ◌∙◌, ap, get_or, List, [], ℕ}
+use Rattle.std.proofs.Common.{sym, get_or, []}
 use Rattle.std.proofs.lemmas.List.{get_or_default}
-use Rattle.elf_model.specs.ImageItems.{bytes_for}
-use Rattle.elf_image.specs.Items.{GivenItems}
 use Rattle.elf_image.specs.declared.image_items.CopyBytes.TheVariants.{Raw}
 use Rattle.elf_image.specs.declared.image_items.CopyItem.{CopyItem}
 use Rattle.elf_image.proofs.ItemSteps.{copy_absent, copy_found}

@@ -1,6 +1,6 @@
-use Rattle.std.proofs.Common.{sym, ◌∙◌, ap, subst, ◌≡◌, ◌^◌, ◌<◌, Ok, Err, nat_cmp, arith}
+use Rattle.std.proofs.Common.{sym, ◌∙◌, ap, subst, ◌≡◌, Ok, Err, nat_cmp}
 use Rattle.elf_layout.specs.Prelude.{FindsKey}
-use Rattle.elf_image.specs.Items.{item_kind_number, number_of, item_rank, item_rank_of}
+use Rattle.elf_image.specs.Items.{item_kind_number, item_rank, item_rank_of}
 use Rattle.elf_image.proofs.ItemSteps.{number_absent, number_found}
 use Rattle.elf_image.proofs.image_items.ImageItems.number.Goals as goal
 

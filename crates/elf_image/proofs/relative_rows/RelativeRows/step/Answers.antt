@@ -1,4 +1,4 @@
-use Rattle.std.proofs.Common.{◌≡◌, ℕ, ◌+◌, ◌*◌, ◌^◌, arith}
+use Rattle.std.proofs.Common.{◌+◌, ◌*◌, ◌^◌, arith}
 use Rattle.elf_image.specs.Within.{RowsAlive}
 use Rattle.elf_image.proofs.AliveSteps.{later, ok-of}
 use Rattle.elf_image.proofs.relative_rows.RelativeRows.step.Goals as goal
