@@ -1,7 +1,7 @@
 -- A check does not depend on which rows a listing shows.
 use Rattle.std.proofs.Common.{◌≡◌, ℕ, ◌<◌, List, [], ◌∷◌, Option, None, Some, inl, inr, refl, ap, ap₂, ◌∙◌, arith}
 use Rattle.std.specs.Prelude.{zero, suc, ◌+◌, ◌++◌, ◌&&◌, if◌then◌else◌, length, option_map, Bool, true, false}
-use Rattle.elf_model.specs.Prelude.{IsBudgeted, IsStateOf, ListingStyle, MemberWalkState, archive_ceiling, archive_cost, archive_fault, first_refusal, listing, listing_cost, listing_report, refusal_line, style_ceiling}
+use Rattle.elf_model.specs.Prelude.{IsBudgeted, IsStateOf, ListingStyle, MemberWalkState, archive_ceiling, archive_cost, archive_fault, first_refusal, listing, listing_cost, listing_report, refusal_line, style_ceiling, tables_ceiling}
 use Rattle.elf_model.specs.Archive.{Broken, Ends, Member, NextMember, OneMember, archive_checks, before_members, behind, bytes_in, is_elf, lists_members, members_of, next_member}
 use Rattle.elf_model.specs.ArchiveCost.{header_cost, member_cost, members_cost}
 use Rattle.elf_model.specs.FileLists.{first_fault, member_fault, placed_after}
@@ -96,11 +96,11 @@ module _ (headers : ℕ) (style : ListingStyle) (parts : ℕ) where
 
   -- their upper bounds are the same
   ceiling_same : (size : ℕ) → style_ceiling size headers (unshown style) ≡ style_ceiling size headers style
-  unfolding style_ceiling
+  unfolding style_ceiling tables_ceiling
   ceiling_same size = refl
 
   archive_ceiling_same : (size : ℕ) → archive_ceiling size headers (unshown style) ≡ archive_ceiling size headers style
-  unfolding archive_ceiling style_ceiling
+  unfolding archive_ceiling style_ceiling tables_ceiling
   archive_ceiling_same size = refl
 
 -- THE CHECK OF A FILE by a listing that shows no row is that by one that shows all
