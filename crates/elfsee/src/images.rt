@@ -106,8 +106,7 @@ fn parse_wanted(asked: &CommandArgs<'_>) -> Result<Wanted, ExitLine> {
     }
 }
 
-/// Gathers the items of the arguments and of the lines of a text. If no segment is given, its
-/// argument is an item.
+/// Gathers the items of the arguments, `word` before the others, and of the lines of a text.
 fn gather<'a>(
     alloc: Global,
     word: Option<&'a str>,
@@ -124,7 +123,7 @@ fn gather<'a>(
     Ok(list)
 }
 
-/// Returns the first argument after the file's if it is an item: if no segment is given.
+/// Returns the argument in the place of the segment if it is an item: if no segment is given.
 fn first_item<'a>(asked: &CommandArgs<'a>) -> Option<&'a str> {
     if asked.missing { asked.image } else { None }
 }
