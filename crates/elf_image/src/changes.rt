@@ -3,8 +3,8 @@ ghost use Rattle.std.specs.Prelude.{◌≡◌, ◌+◌, ◌*◌, ◌^◌, ◌<�
 ghost use Rattle.elf_source.specs.Prelude.{KeepsSource};
 ghost use Rattle.elf_image.specs.Within.{RelocationsWithin};
 
-use crate::image_items::{CopyBytes, ImageItems};
 use crate::dynamic_rows::{ImageRows, image_rows, no_rows};
+use crate::image_items::{CopyBytes, ImageItems};
 use crate::place::{Place, holder};
 use crate::ranges::{EntryRanges, entry_ranges};
 use crate::tables::{ImageTables, MappedTable, image_tables};

@@ -5,12 +5,12 @@
 #![tactic(auto)]
 
 mod changes;
+mod dynamic_rows;
 mod dynamic_types;
 mod entries;
 mod entry;
 mod headers;
 mod image_items;
-mod dynamic_rows;
 mod item_list;
 mod items;
 mod marks;
