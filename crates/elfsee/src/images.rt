@@ -16,6 +16,7 @@ use elf_listing::show_stop;
 use elf_model::Format;
 use elf_source::{Counted, Out, Sink, Source, WriteSink};
 use elf_table::{Fault, HeaderStore, Loaded, RunFault};
+use std::alloc::Global;
 use std::io::{self, BufWriter, Stderr, Write};
 use std::os::unix::fs::FileExt;
 use std::rt::Files;
@@ -68,10 +69,26 @@ where
     let Ok(text) = str::from_utf8(&bytes) else {
         return Err(told(rt.alloc(), errors, LayoutFileFault::Read));
     };
-    let mut list = ItemList::new(rt.alloc());
-    if let Err(fault) = gather(&mut list, asked, text, end) {
-        return Err(refused_items(rt, errors, fault));
+    match gather(rt.alloc(), first_item(asked), &asked.items, text, end) {
+        Ok(list) => write_listed(rt, asked, wanted, list, errors),
+        Err(fault) => Err(refused_items(rt, errors, fault)),
     }
+}
+
+/// Sorts the items of a list, and writes what is wanted by them.
+///
+/// # Errors
+/// Two items of one type have the same index or address; otherwise as for [`write_with`].
+fn write_listed<R: Files + Print + AllocGlobal>(
+    rt: &R,
+    asked: &CommandArgs<'_>,
+    wanted: Wanted,
+    mut list: ItemList<'_>,
+    errors: Stderr,
+) -> Result<ExitLine, ExitLine>
+where
+    R::File: FileExt,
+{
     match list.lend() {
         Ok(items) => write_with(rt, asked, wanted, &items),
         Err(fault) => Err(refused_items(rt, errors, fault)),
@@ -89,21 +106,26 @@ fn parse_wanted(asked: &CommandArgs<'_>) -> Result<Wanted, ExitLine> {
     }
 }
 
-/// Gathers the items of the arguments and of the lines of a text. If no segment is given, its
-/// argument is an item.
+/// Gathers the items of the arguments, `word` before the others, and of the lines of a text.
 fn gather<'a>(
-    list: &mut ItemList<'a>,
-    asked: &CommandArgs<'a>,
+    alloc: Global,
+    word: Option<&'a str>,
+    words: &[&'a str],
     text: &'a str,
     end: TextEnd,
-) -> Result<(), ItemListFault> {
-    if asked.missing {
-        if let Some(word) = asked.image {
-            list.push_words(&[word])?;
-        }
+) -> Result<ItemList<'a>, ItemListFault> {
+    let mut list = ItemList::new(alloc);
+    if let Some(word) = word {
+        list.push_words(&[word])?;
     }
-    list.push_words(&asked.items)?;
-    list.push_lines(text, end)
+    list.push_words(words)?;
+    list.push_lines(text, end)?;
+    Ok(list)
+}
+
+/// Returns the argument in the place of the segment if it is an item: if no segment is given.
+fn first_item<'a>(asked: &CommandArgs<'a>) -> Option<&'a str> {
+    if asked.missing { asked.image } else { None }
 }
 
 /// Returns how the program ends if the items have a fault.
