@@ -65,7 +65,7 @@ _elfsee() {
         else
             case $word in
             --) ended=1 before= ;;
-            --headers | --max-headers | --names | --max-name-len | --max-read | --max-tries | --only | -o | --name | -n | --name-list | --at | --address | --layout | --segment | --require | --library-path | --default | --root | --sysroot | --cache | --files0-from) skip=1 ;;
+            --headers | --max-headers | --names | --max-name-len | --max-read | --max-write | --max-tries | --only | -o | --name | -n | --name-list | --at | --address | --layout | --segment | --require | --library-path | --default | --root | --sysroot | --cache | --files0-from) skip=1 ;;
             -*) ;;
             *) if [[ $command ]]; then files=$((files + 1)); else command=$word; fi ;;
             esac
@@ -78,7 +78,7 @@ _elfsee() {
             mapfile -t COMPREPLY < <(compgen -W "$parts" -- "$current")
             return
             ;;
-        --headers | --max-headers | --names | --max-name-len | --max-read | --max-tries | --name | -n | --segment | --require | --library-path | --default) return ;;
+        --headers | --max-headers | --names | --max-name-len | --max-read | --max-write | --max-tries | --name | -n | --segment | --require | --library-path | --default) return ;;
         --name-list | --layout | --root | --sysroot | --cache | --files0-from)
             _elfsee_files
             return

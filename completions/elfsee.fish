@@ -27,7 +27,7 @@ function __elfsee_plain_words
             set -a plain $word
         else if test "$word" = --
             set ended 1
-        else if contains -- $word --headers --max-headers --names --max-name-len --max-read --max-tries --only --name --name-list --at --address --layout --segment --require --library-path --default --root --sysroot --cache --files0-from
+        else if contains -- $word --headers --max-headers --names --max-name-len --max-read --max-write --max-tries --only --name --name-list --at --address --layout --segment --require --library-path --default --root --sysroot --cache --files0-from
             set skip 1
         else if not string match -q -- '-*' $word
             set -a plain $word
