@@ -16,7 +16,9 @@ SYMTAB, RELA, DYNAMIC, NOTE, REL, DYNSYM, RELR = 2, 4, 6, 7, 9, 11, 19
 RELOCATIONS = {RELA: 24, REL: 16, RELR: 8}
 VERDEF, VERNEED, VERSYM = 0x6ffffffd, 0x6ffffffe, 0x6fffffff
 P_LOAD, P_DYNAMIC, P_NOTE = 1, 2, 4
-T_STRTAB, T_STRSZ, WITH_STRINGS = 5, 10, (1, 14, 15, 29)
+T_STRTAB, T_SYMTAB, T_STRSZ, WITH_STRINGS = 5, 6, 10, (1, 14, 15, 29)
+# The tags of a table of relocation entries: its address, its size, and what says which entries it has.
+LOCATED = [((36, 35, 37), {8: RELR}), ((17, 18, 19), {16: REL}), ((7, 8, 9), {24: RELA}), ((23, 2, 20), {7: RELA, 17: REL})]
 X86_64, NUMBERS, BASE, HIDDEN = 62, 1024, 1, 0x8000
 PARTS = ("header", "sections", "segments", "symbols", "relocs", "notes", "dynamic", "versions")
 MAGIC = b"\x7fELF"
@@ -174,7 +176,7 @@ class Listing:
         phoff, = struct.unpack_from("<Q", self.content, 32)
         phnum, = struct.unpack_from("<H", self.content, 56)
         self.segments = [Segment(self.content, phoff + 56 * index) for index in range(phnum)]
-        if self.wish.by_segments and {"segments", "notes", "dynamic"} & set(self.wish.parts):
+        if self.wish.by_segments and {"segments", "relocs", "notes", "dynamic"} & set(self.wish.parts):
             check_overlaps(self.segments)
 
     def header_row(self):
@@ -227,6 +229,9 @@ class Listing:
                 yield versions.put(row, symbol, place) if versions else row
 
     def rows_of_relocs(self):
+        if not self.headers and (self.wish.by_segments or self.wish.gnu):
+            check_overlaps(self.segments)
+            yield from self.rows_by_dynamic_entries()
         for index, header in enumerate(self.headers):
             if header.size and (header.type == RELA or self.wish.gnu and header.type in RELOCATIONS):
                 header.check_rows(RELOCATIONS[header.type])
@@ -261,6 +266,49 @@ class Listing:
                 refuse_where(address > (1 << 64) - 8, at, "relr")
                 yield Row(self.relocation(index, address, "RELR", 0, None), (b"", True))
             behind = behind + 504 if word % 2 else word + 8
+
+    def rows_by_dynamic_entries(self):
+        """The rows of the tables that the entries of the first program header of dynamic entries locate."""
+        index, header = next(((index, each) for index, each in enumerate(self.segments) if each.type == P_DYNAMIC), (0, None))
+        first = {tag: (at, value) for at, tag, value in reversed(entries_of(self.content, header))} if header else {}
+        for tags, types in LOCATED:
+            (at, address), size, row = first.get(tags[0], (None, None)), first.get(tags[1]), first.get(tags[2])
+            if at is None or size and size[1] == 0:
+                continue
+            refuse_where(size is None, at, "unmapped")
+            refuse_where(row is None, at, "entry-size")
+            refuse_where(row[1] not in types, row[0], "entry-size")
+            kind = types[row[1]]
+            refuse_where(size[1] % RELOCATIONS[kind], size[0], "size-not-whole")
+            table = Strings(self.mapped(address, size[1], at), size[1])
+            if kind == RELR:
+                yield from self.rows_of_relr(index, table)
+            else:
+                yield from self.rows_of_located(index, table, kind, self.located_symbols(first))
+
+    def rows_of_located(self, index, table, kind, symbols):
+        for at in range(table.offset, table.offset + table.size, RELOCATIONS[kind]):
+            offset, number, symbol = struct.unpack_from("<Q2I", self.content, at)
+            name = self.named("type of an R line", number, "#%d") if self.machine == X86_64 else "#%d" % number
+            addend = struct.unpack_from("<q", self.content, at + 16)[0] if kind == RELA else None
+            row = self.relocation(index, offset, name, symbol, addend)
+            refuse_where(symbol and symbols is None, at, "bad-link")
+            refuse_where(symbol and symbol >= symbols[0].size // 24, at, "symbol-index")
+            place = symbols[0].offset + 24 * symbol if symbol else at
+            start, = struct.unpack_from("<I", self.content, place)
+            yield Row(row, name_at(self.content, symbols[1], start, place, self.cap) if symbol else (b"", True))
+
+    def located_symbols(self, first):
+        """The symbols, up to the end of their segment, and their strings, if dynamic entries locate both."""
+        if not {T_SYMTAB, T_STRTAB, T_STRSZ} <= set(first):
+            return None
+        (at, address), (strings_at, strings) = first[T_SYMTAB], first[T_STRTAB]
+        for segment in self.segments:
+            if segment.type == P_LOAD and segment.vaddr <= address < segment.vaddr + segment.filesz:
+                refuse_where(segment.offset + segment.filesz > len(self.content), segment.at, "table-outside")
+                rest = Strings(segment.offset + address - segment.vaddr, segment.filesz - (address - segment.vaddr))
+                return rest, Strings(self.mapped(strings, first[T_STRSZ][1], strings_at), first[T_STRSZ][1])
+        raise Refused(at, "unmapped")
 
     @staticmethod
     def relocation(index, offset, kind, symbol, addend):
@@ -302,12 +350,15 @@ class Listing:
         """The strings that dynamic entries locate, requested at one of them."""
         first = {tag: value for _, tag, value in reversed(rows)}
         refuse_where(T_STRTAB not in first or T_STRSZ not in first, at, "unmapped")
-        address, size = first[T_STRTAB], first[T_STRSZ]
+        return Strings(self.mapped(first[T_STRTAB], first[T_STRSZ], at), first[T_STRSZ])
+
+    def mapped(self, address, size, at):
+        """Where the first segment that has so many bytes at an address has them in the file, requested at an entry."""
         for segment in self.segments:
             if segment.type == P_LOAD and segment.vaddr <= address and address + size <= segment.vaddr + segment.filesz:
                 offset = segment.offset + address - segment.vaddr
                 refuse_where(offset + size > len(self.content), segment.at, "table-outside")
-                return Strings(offset, size)
+                return offset
         raise Refused(at, "unmapped")
 
     # Versions.
