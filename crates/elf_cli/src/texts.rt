@@ -10,7 +10,6 @@ Examples:
   elfsee needs /bin/ls
   elfsee check /usr/lib
   elfsee traits --require relro=full,stack=nx /usr/bin
-  elfsee list --name main --members /usr/lib
   elfsee explain table-outside
 
 'elfsee help COMMAND' prints the options of a command, and the columns of its
