@@ -31,7 +31,7 @@ free_of true false e = refl
 free_of false taken e = cc
 
 -- a member that is taken is one less that is not
-untaken-set : (taken : List Bool) (member : ℕ) → get_or taken member true ≡ false → untaken (set taken member true) + 1 ≡ untaken taken
+pub untaken-set : (taken : List Bool) (member : ℕ) → get_or taken member true ≡ false → untaken (set taken member true) + 1 ≡ untaken taken
 untaken-set [] member free = cc
 untaken-set (true ∷ taken) zero free = cc
 untaken-set (false ∷ taken) zero free = grind (arith, common_steps)
