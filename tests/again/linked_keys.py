@@ -82,9 +82,9 @@ class Keys:
             return
         if not symbol.is_weak:
             key.is_strong = True
-        if symbol.sort == REFERENCE:
-            key.is_gone = key.is_gone or symbol.is_gone
-            key.is_asked = key.is_asked or not symbol.is_gone
+        key.is_gone = key.is_gone or symbol.is_gone
+        if symbol.sort == REFERENCE and not symbol.is_gone:
+            key.is_asked = True
             if symbol.is_weak and key.weak_reference is None:
                 key.weak_reference = row
             elif not symbol.is_weak and key.reference is None:

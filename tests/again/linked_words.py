@@ -10,6 +10,9 @@ STATIC, DYNAMIC = ("static", "Bstatic", "dn", "non_shared"), ("Bdynamic", "dy", 
 PASSED = ("o", "z", "h", "m", "I", "soname", "rpath", "rpath-link", "dynamic-linker", "Map", "plugin", "version-script", "hash-style")
 REFUSED = ("r", "T", "wrap", "defsym", "start-lib", "just-symbols", "R")
 SCRIPT_BYTES = 4096
+# The beginnings of long options that may have one hyphen, and begin with the letter of another option.
+LONG = ("eh-frame-hdr", "export-dynamic", "emit-relocs", "embedded-relocs", "enable-", "end-group", "error-", "exclude-libs",
+        "ld-generated-", "unique", "unresolved-symbols", "undefined-version", "littleendian")
 
 
 class BadWord(Exception):
@@ -84,7 +87,7 @@ class Words:
                 value = words.pop(0) if words else b""
             elif name.startswith(long + "="):
                 value = word[word.index(b"=") + 1:]
-            elif word.startswith(b"-" + letter.encode()) and not word.startswith(b"--"):
+            elif word.startswith(b"-" + letter.encode()) and not word.startswith(b"--") and not name.startswith(LONG):
                 value = word[2:] or (words.pop(0) if words else b"")
             if value is not None:
                 self.ask(letter, value)

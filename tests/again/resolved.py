@@ -291,7 +291,7 @@ class Link:
 
 
 def column(number):
-    return b"    -" if number is None else b"%5d" % number
+    return b"-    " if number is None else b"%5d" % number
 
 
 def answer(words, most=65279):

@@ -39,6 +39,8 @@ pub enum CommandName {
     Traits,
     /// Prints the libraries that programs need.
     Needs,
+    /// Prints where a linker takes symbols from.
+    Resolve,
     /// Lists an archive.
     Archive,
     /// Prints what causes and states mean.
@@ -119,6 +121,16 @@ pub struct CommandArgs<'a> {
     pub unused: bool,
     /// Whether only lines are written that make the status 1.
     pub problems: bool,
+    /// How many names of symbols are allowed.
+    pub keys: Option<u64>,
+    /// How many bytes of them are allowed.
+    pub key_bytes: Option<u64>,
+    /// How many entries of indexes of archives are allowed.
+    pub index: Option<u64>,
+    /// How many files and members are allowed.
+    pub rows: Option<u64>,
+    /// The arguments of a linker.
+    pub words: Vec<&'a str>,
 }
 
 impl CommandArgs<'_> {
@@ -242,6 +254,11 @@ fn read<'a>(
         symbols: options.is_set("symbols"),
         unused: options.is_set("unused"),
         problems: options.is_set("problems"),
+        keys: options.number("keys"),
+        key_bytes: options.number("key-bytes"),
+        index: options.number("index"),
+        rows: options.number("rows"),
+        words: options.values(alloc, "WORDS")?,
     })
 }
 

@@ -24,6 +24,8 @@ pub(crate) const VERSION: u16 = 1024;
 
 pub(crate) const BYTES: u16 = 2048;
 
+pub(crate) const RESOLVE: u16 = 4096;
+
 /// Those that read the file that an argument names.
 pub(crate) const ONE_FILE: u16 = SHOW | FIND | APPLY | BYTES | ARCHIVE;
 

@@ -102,4 +102,8 @@ pub mod BoundSymbols
 pub mod LoaderCache
 pub mod NeededVersions
 pub mod LibraryFiles
+pub mod LinkSteps
+pub mod LinkKeys
+pub mod LinkObjects
+pub mod LinkPasses
 pub mod Prelude

@@ -16,6 +16,7 @@ mod fault_rows;
 mod formats;
 mod gnu_hash_laws;
 mod hash_laws;
+mod link_states;
 mod listing_laws;
 mod loader_laws;
 mod located_laws;
@@ -41,6 +42,10 @@ mod versions;
 pub use causes::{Cause, Refusal};
 pub use fault_rows::FaultRow;
 pub use formats::{Format, LinePlace, TableState};
+pub use link_states::{
+    FurtherDefinition, IndexEntry, KeyEntry, KeyState, LinkRow, RowKind, RowReason,
+    SharedDefinition, SharedKind, StateChange, SymbolRole, SymbolUse,
+};
 pub use missing::{LayoutAddress, MissingAddress, OverflowedValue};
 pub use place_filters::{PlaceFilter, PlaceRange, RowPlace};
 pub use relocation_types::{Formula, RelocationBase, RelocationType, ValueRange};

@@ -1,0 +1,4 @@
+pub mod KeyTables
+pub mod RowTables
+pub mod Symbols
+pub mod Passing

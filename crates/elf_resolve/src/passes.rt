@@ -1,0 +1,196 @@
+//! The members of an archive that its index asks for.
+ghost use Rattle.std.specs.Prelude.{◌≡◌, ℕ, IfOk, OnOk, Bool};
+ghost use Rattle.elf_model.specs.LinkObjects.{LinkObject};
+ghost use Rattle.elf_model.specs.LinkPasses.{archive_searched, asks_for as asks_by, entry_visited, index_passed, is_new as is_new_of, is_taken as is_taken_of, key_of_entry as key_of, member_row as row_of};
+ghost use Rattle.elf_model.specs.declared.link_states.IndexEntry.{IndexEntry as ModelEntry};
+ghost use Rattle.elf_resolve.specs.Passing.{TookObject, archive_of, pass_of};
+
+use crate::rows::RowTable;
+use crate::table::{KeyTable, LinkStop};
+use elf_model::{IndexEntry, KeyState, LinkRow, RowKind, RowReason};
+
+/// What the files of a link make: its keys and its rows.
+#[derive(Drop)]
+pub struct Link<'a> {
+    /// The keys.
+    pub keys: KeyTable<'a>,
+    /// The rows.
+    pub rows: RowTable,
+}
+
+/// An archive among the inputs of a link.
+#[derive(Clone, Copy)]
+pub struct ArchiveInput {
+    /// The index of the input.
+    pub input: u32,
+    /// The row of the archive.
+    pub row: u32,
+}
+
+/// The objects that are the members of an archive.
+pub trait Objects {
+    /// The members as objects.
+    ghost objects: { Self → ℕ → LinkObject };
+
+    /// Whether the first symbol of an entry's name is a definition, not weak and no function.
+    ghost definitions: { Self → ModelEntry → Bool };
+
+    /// Takes the groups and the symbols of a member, which has the row `row`.
+    ///
+    /// # Errors
+    /// Returns a `LinkStop` if the member can't be read, or there is no room for a key.
+    fn take<'a>(&mut self, member: u32, row: u32, keys: &mut KeyTable<'a>) -> Result<(), LinkStop>
+        ensures takes { OnOk result (TookObject (objects self.old member) keys.old keys.new row) }
+        ensures same { objects self.new ≡ objects self.old }
+        ensures same_definitions { definitions self.new ≡ definitions self.old };
+
+    /// Returns whether the first symbol of an entry's name in the entry's member is a definition, not
+    /// weak and no function.
+    ///
+    /// # Errors
+    /// Returns a `LinkStop` if the member can't be read.
+    fn defines<'a>(&mut self, entry: IndexEntry, keys: &KeyTable<'a>) -> Result<bool, LinkStop>
+        ensures defines { IfOk result (λ is_defined. is_defined ≡ definitions self.old entry) }
+        ensures same { objects self.new ≡ objects self.old }
+        ensures same_definitions { definitions self.new ≡ definitions self.old };
+}
+
+/// Returns whether no symbol has a key in this state.
+fn is_new(state: KeyState) -> bool
+    ensures { result ≡ is_new_of state }
+{
+    matches!(state, KeyState::New)
+}
+
+/// Returns the key of an entry: of a name with a default version, that without the version if no
+/// symbol has the other.
+fn key_of_entry<'a>(keys: &KeyTable<'a>, entry: IndexEntry) -> u32
+    ensures { result ≡ key_of keys.now.keys entry }
+{
+    if is_new(keys.entry(entry.key).state) {
+        entry.default_key
+    } else {
+        entry.key
+    }
+}
+
+/// Returns whether a member is taken, or there is none of this index.
+fn is_taken(taken: &[bool], member: u32) -> bool
+    ensures { result ≡ is_taken_of taken.now member }
+{
+    match taken.get(member as usize) {
+        Some(is_taken) => *is_taken,
+        None => true,
+    }
+}
+
+/// Returns whether an entry's key takes members of the archive.
+///
+/// # Errors
+/// Returns a `LinkStop` if the member can't be read.
+#[tactic(auto, unfolding(elf_model::specs::LinkPasses::asks_for))]
+fn asks_for<'a, M: Objects>(
+    keys: &KeyTable<'a>,
+    entry: IndexEntry,
+    members: &mut M,
+) -> Result<bool, LinkStop>
+    ensures asks { IfOk result (λ asks. asks ≡ asks_by (M.definitions members.old) keys.now.keys entry) }
+    ensures same { M.objects members.new ≡ M.objects members.old }
+    ensures same_definitions { M.definitions members.new ≡ M.definitions members.old }
+{
+    let known = keys.entry(key_of_entry(keys, entry));
+    match known.state {
+        KeyState::Undefined => Ok(!known.is_gone),
+        KeyState::Common(_) => members.defines(entry, keys),
+        _ => Ok(false),
+    }
+}
+
+/// Returns the row of a member that is taken for an entry's key.
+fn member_row<'a>(archive: ArchiveInput, keys: &KeyTable<'a>, entry: IndexEntry) -> LinkRow
+    ensures { result ≡ row_of archive.input archive.row keys.now.keys entry }
+{
+    let key = key_of_entry(keys, entry);
+    LinkRow {
+        kind: RowKind::Member,
+        input: archive.input,
+        archive: Some(archive.row),
+        member: Some(entry.member),
+        reason: Some(RowReason { key, row: keys.entry(key).row }),
+    }
+}
+
+/// Takes the member of an entry, if the entry's key asks for it.
+///
+/// # Errors
+/// Returns a `LinkStop` if the member can't be taken.
+pub fn visit_entry<'a, M: Objects>(
+    link: &mut Link<'a>,
+    archive: ArchiveInput,
+    taken: &mut [bool],
+    entry: IndexEntry,
+    members: &mut M,
+) -> Result<(), LinkStop>
+    ensures visits { OnOk result (pass_of link.new taken.new ≡ entry_visited (archive_of archive (M.objects members.old) (M.definitions members.old)) (pass_of link.old taken.old) entry) }
+    ensures same { M.objects members.new ≡ M.objects members.old }
+    ensures same_definitions { M.definitions members.new ≡ M.definitions members.old }
+{
+    if is_taken(taken, entry.member) {
+        return Ok(());
+    }
+    if !asks_for(&link.keys, entry, members)? {
+        return Ok(());
+    }
+    let row = member_row(archive, &link.keys, entry);
+    let Some(index) = link.rows.add(row) else {
+        return Err(LinkStop::TooManyRows);
+    };
+    members.take(entry.member, index, &mut link.keys)?;
+    taken[entry.member as usize] = true;
+    Ok(())
+}
+
+/// Makes a pass over the index of an archive.
+///
+/// # Errors
+/// Returns a `LinkStop` if a member can't be taken.
+pub fn pass_index<'a, M: Objects>(
+    link: &mut Link<'a>,
+    archive: ArchiveInput,
+    taken: &mut [bool],
+    entries: &[IndexEntry],
+    members: &mut M,
+) -> Result<(), LinkStop>
+    ensures passes { OnOk result (pass_of link.new taken.new ≡ index_passed (archive_of archive (M.objects members.old) (M.definitions members.old)) (pass_of link.old taken.old) entries.now) }
+    ensures same { M.objects members.new ≡ M.objects members.old }
+    ensures same_definitions { M.definitions members.new ≡ M.definitions members.old }
+{
+    for i in 0..entries.len() {
+        visit_entry(link, archive, taken, entries[i], members)?;
+    }
+    Ok(())
+}
+
+/// Makes passes over the index of an archive until one asks for no key that was not asked for before.
+///
+/// # Errors
+/// Returns a `LinkStop` if a member can't be taken.
+pub fn search_archive<'a, M: Objects>(
+    link: &mut Link<'a>,
+    archive: ArchiveInput,
+    taken: &mut [bool],
+    entries: &[IndexEntry],
+    members: &mut M,
+) -> Result<(), LinkStop>
+    ensures searches { OnOk result (pass_of link.new taken.new ≡ archive_searched (archive_of archive (M.objects members.old) (M.definitions members.old)) entries.now (pass_of link.old taken.old)) }
+    ensures same { M.objects members.new ≡ M.objects members.old }
+    ensures same_definitions { M.definitions members.new ≡ M.definitions members.old }
+{
+    loop {
+        let before = link.keys.asked();
+        pass_index(link, archive, taken, entries, members)?;
+        if link.keys.asked() == before {
+            return Ok(());
+        }
+    }
+}

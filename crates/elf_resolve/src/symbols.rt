@@ -1,0 +1,65 @@
+//! The symbols of a file.
+ghost use Rattle.std.specs.Prelude.{◌≡◌, OnOk, map};
+ghost use Rattle.elf_resolve.specs.Symbols.{TookSymbol, TookSymbols, UsedName, symbol_of};
+
+use crate::steps::{ends_at, prepared};
+use crate::table::{KeyFault, KeyTable, NEW_KEY};
+use elf_model::SymbolUse;
+
+/// A symbol of a file.
+#[derive(Clone, Copy)]
+pub struct Symbol<'a> {
+    /// Its name, with its version as `NAME@VERSION` if it has one.
+    pub name: &'a [u8],
+    /// The name without the version, if that is the default one.
+    pub default_name: Option<&'a [u8]>,
+    /// How it uses its keys.
+    pub symbol: SymbolUse,
+}
+
+impl<'a> KeyTable<'a> {
+    /// Uses a name by a symbol of a row.
+    ///
+    /// # Errors
+    /// Returns a `KeyFault` if there is no room.
+    pub fn use_name(&mut self, name: &[u8], symbol: SymbolUse, row: Option<u32>) -> Result<(), KeyFault>
+        ensures { OnOk result (UsedName self.old self.new name.now symbol row) }
+    {
+        let index = self.enter(name)?;
+        self.use_key(index, symbol, row)
+    }
+
+    /// Takes a symbol of a row.
+    ///
+    /// # Errors
+    /// Returns a `KeyFault` if there is no room.
+    pub fn take(&mut self, symbol: Symbol, row: Option<u32>) -> Result<(), KeyFault>
+        ensures { OnOk result (TookSymbol self.old self.new (symbol_of symbol.entry) row) }
+    {
+        let entry = match self.find(symbol.name) {
+            None => NEW_KEY,
+            Some(index) => self.entry(index),
+        };
+        self.use_name(symbol.name, symbol.symbol, row)?;
+        let Some(name) = symbol.default_name else {
+            return Ok(());
+        };
+        if ends_at(prepared(entry, symbol.symbol).state, symbol.symbol.role) {
+            return Ok(());
+        }
+        self.use_name(name, symbol.symbol, row)
+    }
+
+    /// Takes the symbols of a file in order.
+    ///
+    /// # Errors
+    /// Returns a `KeyFault` if there is no room.
+    pub fn take_symbols(&mut self, symbols: &[Symbol], row: Option<u32>) -> Result<(), KeyFault>
+        ensures { OnOk result (TookSymbols self.old self.new (map symbol_of symbols.now) row) }
+    {
+        for i in 0..symbols.len() {
+            self.take(symbols[i], row)?;
+        }
+        Ok(())
+    }
+}

@@ -1,0 +1,266 @@
+//! The table of keys.
+ghost use Rattle.std.specs.Prelude.{◌≡◌, ◌+◌, ◌<◌, ◌≤◌, IfOk, length, [], get_or};
+ghost use Rattle.elf_model.specs.LinkKeys.{entry_of, key_in, no_keys};
+ghost use Rattle.elf_resolve.specs.KeyTables.{Enters, KeptGroup, UsesKey};
+
+use crate::steps::{is_further, used};
+use elf_model::{FurtherDefinition, KeyEntry, KeyState, SymbolUse};
+use std::alloc::{AllocError, Global};
+use std::collections::HashMap;
+use std::hash::RandomState;
+use std::marker::Model;
+
+/// Why a key can't be entered or used.
+#[derive(Clone, Copy)]
+pub enum KeyFault {
+    /// There are as many keys as the table has room for.
+    TooManyKeys,
+    /// The names have no room for another one.
+    TooManyBytes,
+    /// There are as many further definitions as the table has room for.
+    TooManyFurther,
+}
+
+/// Why a link can't be resolved.
+#[derive(Clone, Copy)]
+pub enum LinkStop {
+    /// There is no room for a key, or a further definition.
+    Full(KeyFault),
+    /// There are as many rows as there is room for.
+    TooManyRows,
+    /// A file can't be read, or is refused.
+    Unreadable,
+}
+
+/// A key that no symbol has.
+pub const NEW_KEY: KeyEntry = KeyEntry {
+    state: KeyState::New,
+    row: None,
+    reference: None,
+    weak_reference: None,
+    absolute: None,
+    is_met: false,
+    is_own: false,
+    is_asked: false,
+    is_gone: false,
+    is_restricted: false,
+    is_group: false,
+    is_link_once: false,
+};
+
+/// The keys of a link, each with an index, in the order in which they were entered.
+#[derive(Drop)]
+pub struct KeyTable<'a> {
+    places: HashMap<&'a [u8], u32, RandomState>,
+    names: Vec<&'a [u8]>,
+    entries: Vec<KeyEntry>,
+    order: Vec<u32>,
+    asked: usize,
+    further: Vec<FurtherDefinition>,
+    rest: &'a mut [u8],
+    most: usize,
+    most_further: usize,
+}
+
+impl<'a> Model for KeyTable<'a> {
+    ghost use Rattle.std.specs.Prelude.{map, length, vec_capacity};
+    ghost use Rattle.std.specs.HashMap.{spare};
+    ghost use Rattle.elf_resolve.specs.KeyTables.{Holds, Table};
+
+    ghost Value = { Table };
+
+    ghost view = { λ t. record {
+      keys = record {
+        names = map (λ n. n.now) t.names.items;
+        entries = t.entries.items;
+        order = t.order.items;
+        asked = t.asked;
+        further = t.further.items;
+      };
+      most = t.most;
+      room = length t.rest.now;
+      most_further = t.most_further;
+    } };
+
+    ghost invariant = { λ t. Holds t.places.entries (map (λ n. n.now) t.names.items) t.entries.items (length t.names.items) (length t.order.items) t.asked
+        t.most (vec_capacity t.names) (vec_capacity t.entries) (vec_capacity t.order) (spare t.places)
+        (length t.further.items) t.most_further (vec_capacity t.further) };
+}
+
+impl<'a> KeyTable<'a> {
+    /// Creates a table without keys, with room for `most` keys, whose names have their bytes in
+    /// `bytes`, and for `most_further` further definitions.
+    ///
+    /// # Errors
+    /// Returns `AllocError` if out of memory.
+    pub fn new(
+        alloc: Global,
+        hasher: RandomState,
+        most: u32,
+        most_further: u32,
+        bytes: &'a mut [u8],
+    ) -> Result<KeyTable<'a>, AllocError>
+        ensures { IfOk result (λ table. table ≡ record {
+          keys = no_keys;
+          most = most;
+          room = length bytes.old;
+          most_further = most_further;
+        }) }
+    {
+        let most = most as usize;
+        let most_further = most_further as usize;
+        Ok(KeyTable {
+            places: HashMap::with_capacity_and_hasher(alloc, most, hasher)?,
+            names: Vec::with_capacity(alloc, most)?,
+            entries: Vec::with_capacity(alloc, most)?,
+            order: Vec::with_capacity(alloc, most)?,
+            asked: 0,
+            further: Vec::with_capacity(alloc, most_further)?,
+            rest: bytes,
+            most,
+            most_further,
+        })
+    }
+
+    /// Returns the index of a name, if it is a key.
+    pub fn find(&self, name: &[u8]) -> Option<u32>
+        ensures { result ≡ key_in self.now.keys.names name.now }
+    {
+        self.places.get(name).copied()
+    }
+
+    /// Returns the index of a name, which is entered if it is new.
+    ///
+    /// # Errors
+    /// Returns a `KeyFault` if it is new and there is no room: nothing changes.
+    pub fn enter(&mut self, name: &[u8]) -> Result<u32, KeyFault>
+        ensures { Enters self.old self.new name.now result }
+    {
+        if let Some(index) = self.find(name) {
+            return Ok(index);
+        }
+        if self.names.len() >= self.most {
+            return Err(KeyFault::TooManyKeys);
+        }
+        if name.len() > self.rest.len() {
+            return Err(KeyFault::TooManyBytes);
+        }
+        let index = self.names.len() as u32;
+        let kept = keep(&mut self.rest, name);
+        let inserted: Result<_, _> = self.places.insert(kept, index);
+        inserted.unwrap();
+        self.names.push(kept).unwrap();
+        self.entries.push(NEW_KEY).unwrap();
+        Ok(index)
+    }
+
+    /// Returns how many keys there are.
+    pub fn len(&self) -> usize
+        ensures { result ≡ length self.now.keys.names }
+    {
+        self.names.len()
+    }
+
+    /// Returns the name of a key, or the empty name if there is none of this index.
+    pub fn name(&self, index: u32) -> &[u8]
+        ensures { result.now ≡ get_or self.now.keys.names index [] }
+    {
+        match self.names.get(index as usize) {
+            Some(name) => name,
+            None => &[],
+        }
+    }
+
+    /// Returns what is known of a key.
+    pub fn entry(&self, index: u32) -> KeyEntry
+        ensures { result ≡ entry_of self.now.keys index }
+    {
+        match self.entries.get(index as usize) {
+            Some(entry) => *entry,
+            None => NEW_KEY,
+        }
+    }
+
+    /// Returns how many keys have been asked for.
+    pub fn asked(&self) -> usize
+        ensures { result ≡ self.now.keys.asked }
+    {
+        self.asked
+    }
+
+    /// Returns the indexes of the keys that symbols or arguments have named, in the order in which
+    /// they were first named.
+    pub fn order(&self) -> &[u32]
+        ensures { result.now ≡ self.now.keys.order }
+    {
+        &self.order
+    }
+
+    /// Returns the further definitions of keys that were defined already.
+    pub fn further(&self) -> &[FurtherDefinition]
+        ensures { result.now ≡ self.now.keys.further }
+    {
+        &self.further
+    }
+
+    /// Uses a key by a symbol of a row.
+    ///
+    /// # Errors
+    /// Returns [`KeyFault::TooManyFurther`] if the key is defined once more and there is no room:
+    /// nothing changes.
+    #[tactic(auto, unfolding(elf_model::specs::LinkKeys::key_used))]
+    pub fn use_key(&mut self, index: u32, symbol: SymbolUse, row: Option<u32>) -> Result<(), KeyFault>
+        requires { index < length self.old.keys.names }
+        ensures { UsesKey self.old self.new index symbol row result }
+    {
+        let place = index as usize;
+        let entry = self.entries[place];
+        if is_further(entry, symbol) {
+            if self.further.len() >= self.most_further {
+                return Err(KeyFault::TooManyFurther);
+            }
+            self.further.push(FurtherDefinition { key: index, row }).unwrap();
+        }
+        if !entry.is_met {
+            self.order.push(index).unwrap();
+        }
+        let after = used(entry, symbol, row);
+        if after.is_asked && !entry.is_asked {
+            self.asked += 1;
+        }
+        self.entries[place] = after;
+        Ok(())
+    }
+
+    /// Keeps a section group of a signature, or a link-once section of a name, unless one is kept:
+    /// then it returns `true`, and this one is dropped.
+    ///
+    /// # Errors
+    /// Returns a `KeyFault` if the name is new and there is no room: nothing changes.
+    pub fn drop_group(&mut self, signature: &[u8], is_link_once: bool) -> Result<bool, KeyFault>
+        ensures { IfOk result (λ dropped. KeptGroup self.old self.new signature.now is_link_once dropped) }
+    {
+        let index = self.enter(signature)?;
+        let place = index as usize;
+        let entry = self.entries[place];
+        if is_link_once {
+            self.entries[place] = KeyEntry { is_link_once: true, ..entry };
+            return Ok(entry.is_link_once);
+        }
+        self.entries[place] = KeyEntry { is_group: true, ..entry };
+        Ok(entry.is_group)
+    }
+}
+
+/// Keeps a name at the start of the bytes that are left.
+fn keep<'a>(rest: &mut &'a mut [u8], name: &[u8]) -> &'a [u8]
+    requires { length name.now ≤ length rest.old.now }
+    ensures kept { result.now ≡ name.now }
+    ensures left { length rest.new.now + length name.now ≡ length rest.old.now }
+{
+    let Some(kept) = rest.split_off_mut(..name.len()) else {
+        return &[];
+    };
+    kept.copy_from_slice(name);
+    kept
+}
