@@ -47,7 +47,7 @@ def definitions():
     found = {}
     for path in glob.glob(os.path.join(TOP, "crates", "elf_*", "specs", "*.antt")):
         crate = path.split(os.sep)[-3]
-        if crate in ("elf_capi", "elf_memory", "elf_archive"):
+        if crate in ("elf_capi", "elf_archive"):
             text = re.sub(r"^ *--[^\n]*\n", "", read(path), flags=re.M)
             for each in re.split(r"\n\n+", text):
                 if name := re.match(r"(?:abbrev |unfoldable )?(?:pub )?(?:record )?([A-Z]\w*)\b", each):

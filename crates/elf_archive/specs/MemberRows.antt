@@ -4,7 +4,7 @@ use Rattle.elf_model.specs.Prelude.{DisplayedName, FileRange, Member, MemberWalk
 use Rattle.elf_model.specs.declared.causes.Cause.{Cause}
 use Rattle.elf_model.specs.declared.causes.Refusal.{Refusal}
 use Rattle.elf_model.specs.Archive.{Ends, Broken}
-use Rattle.elf_memory.specs.declared.name.ByteRange.{ByteRange}
+use Rattle.elf_table.specs.declared.byte_range.ByteRange.{ByteRange}
 use Rattle.elf_archive.specs.declared.rows.MemberRow.{MemberRow}
 use Rattle.elf_archive.specs.declared.rows.MemberPosition.{MemberPosition}
 use Rattle.elf_archive.specs.declared.rows.MemberName.{MemberName}

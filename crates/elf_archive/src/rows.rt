@@ -15,10 +15,9 @@ use crate::fields::{
 use crate::magic_strings::magic;
 use crate::member::FileRange;
 use crate::name_fronts::{name_front, name_length};
-use elf_memory::{ByteRange, bytes_of, chunk_at};
 use elf_record::{Cause, Refusal};
 use elf_source::{Counted, MemorySource};
-use elf_table::Fault;
+use elf_table::{ByteRange, Fault, bytes_of, chunk_at};
 
 /// The maximum number of bytes of a name that a row has.
 const NAME_CAP: u16 = 4096;

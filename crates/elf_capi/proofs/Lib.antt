@@ -1,3 +1,7 @@
+pub mod CheckedLaws
+pub mod FoundNames
+pub mod NoteSteps
+pub mod RowsInPlace
 pub mod HashedLaws
 pub mod ListedLaws
 pub mod RecordLaws

@@ -6,7 +6,7 @@ use Rattle.elf_model.specs.declared.causes.Refusal.{Refusal}
 use Rattle.elf_model.proofs.DynamicLaws.{counted_is_listed}
 use Rattle.elf_table.specs.Tables.{TableRange as Table, StringTableRange}
 use Rattle.elf_capi.specs.Prelude.{IsDynamicTable, ListsWithin, ReadsListed, ReadsRows, all_listed, holds, rows_from_first}
-use Rattle.elf_memory.specs.Checked.{load_refused}
+use Rattle.elf_capi.specs.Checked.{load_refused}
 use Rattle.elf_capi.specs.declared.rows.RowPosition.{RowPosition}
 use Rattle.elf_capi.specs.declared.kind.RowKind.TheVariants.{Dynamic}
 

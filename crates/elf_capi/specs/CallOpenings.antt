@@ -4,7 +4,7 @@ use Rattle.elf_model.specs.declared.causes.Refusal.{Refusal}
 use Rattle.elf_capi.specs.TableOpenings.{ReadsSectionNames, ReadsRows}
 use Rattle.elf_capi.specs.VersionRecords.{ReadsRecords}
 use Rattle.elf_capi.specs.declared.kind.RowKind.{RowKind}
-use Rattle.elf_memory.specs.declared.name.ByteRange.{ByteRange}
+use Rattle.elf_table.specs.declared.byte_range.ByteRange.{ByteRange}
 use Rattle.elf_capi.specs.declared.records.VersionRecordPosition.{VersionRecordPosition}
 use Rattle.elf_capi.specs.declared.rows.RowPosition.{RowPosition}
 use Rattle.elf_capi.specs.Limits.{AreInRange, headers_of}

@@ -21,3 +21,5 @@ pub use Rattle.elf_capi.specs.TableOpenings.{ReadsRows, holds}
 pub use Rattle.elf_capi.specs.Told.{IsStatus, status_from}
 pub use Rattle.elf_capi.specs.VersionRecords.{AreRecords, GoesOnTo, IsVersionWord, StepsRecord, bytes_within, first_kind, kind_number, record_names, records_left, stand_as, standing_in, starting}
 pub use Rattle.elf_capi.specs.Within.{OpensAlways, OpensEntries, ReadsBudgeted, ReturnsEntries, StepsBudgeted}
+pub use Rattle.elf_capi.specs.Names.{FindsName, bytes_in_range, name_size}
+pub use Rattle.elf_capi.specs.NoteRows.{IsNoteAt}

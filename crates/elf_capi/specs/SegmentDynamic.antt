@@ -4,7 +4,7 @@ use Rattle.elf_model.specs.Prelude.{PT_DYNAMIC, e_phnum, p_type, segment_at}
 use Rattle.elf_model.specs.declared.causes.Refusal.{Refusal}
 use Rattle.elf_table.specs.Prelude.{TableRange as Table, dynamic_table_at, strings}
 use Rattle.elf_table.specs.declared.fault.Fault.TheVariants.{Refused}
-use Rattle.elf_memory.specs.Checked.{first_refused}
+use Rattle.elf_capi.specs.Checked.{first_refused}
 use Rattle.elf_capi.specs.ListedEntries.{all_listed}
 use Rattle.elf_capi.specs.Rows.{rows_from_first}
 use Rattle.elf_capi.specs.declared.rows.RowPosition.{RowPosition}

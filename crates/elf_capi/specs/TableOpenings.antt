@@ -11,8 +11,8 @@ use Rattle.elf_capi.specs.Rows.{rows_from_first}
 use Rattle.elf_capi.specs.VersionRecords.{version_words}
 use Rattle.elf_capi.specs.declared.kind.RowKind.{RowKind}
 use Rattle.elf_capi.specs.declared.kind.RowKind.TheVariants.{Symbols, Relocations, Dynamic, VersionWords}
-use Rattle.elf_memory.specs.Checked.{load_refused}
-use Rattle.elf_memory.specs.declared.name.ByteRange.{ByteRange}
+use Rattle.elf_capi.specs.Checked.{load_refused}
+use Rattle.elf_table.specs.declared.byte_range.ByteRange.{ByteRange}
 use Rattle.elf_capi.specs.declared.rows.RowPosition.{RowPosition}
 
 -- a section whose header is at an offset holds rows of a kind, by its type

@@ -6,7 +6,7 @@ use Rattle.elf_model.specs.declared.causes.Refusal.{Refusal}
 use Rattle.elf_model.specs.declared.versions.VersionKind.{VersionKind}
 use Rattle.elf_table.specs.Prelude.{RefusedBy, StringTableRange, names_at, strings}
 use Rattle.elf_table.specs.declared.fault.Fault.{Fault}
-use Rattle.elf_memory.specs.Checked.{load_refused}
+use Rattle.elf_capi.specs.Checked.{load_refused}
 use Rattle.elf_note.specs.declared.record_position.RecordPosition.{RecordPosition}
 use Rattle.elf_capi.specs.declared.record_row.RecordRow.{RecordRow}
 use Rattle.elf_capi.specs.declared.records.VersionRecordPosition.{VersionRecordPosition}

@@ -1,7 +1,8 @@
-//! What the calls of the library do, in caller-provided memory and in the numbers of C: the limits,
-//! items and listings that a caller asks for, the rows of tables of a file in memory, field by
-//! field, positions in tables as plain numbers, and [`CallEnd`], how a call ended. No number that a
-//! caller sets can do harm: each step checks them.
+//! What the calls of the library do, in caller-provided memory and in the numbers of C, without a
+//! copy of the file: its headers, the notes of a table, the ranges of a section's bytes and of the
+//! bytes at an address, names in string tables, the rows of tables field by field, lookups, and the
+//! listings that a caller asks for; [`CallEnd`] is how a call ended. Callers may set the numbers of
+//! any argument as they like, also those of positions and items: each call checks them.
 #![tactic(auto)]
 
 mod applied;
@@ -9,13 +10,17 @@ mod asked;
 mod call_status;
 mod caller_listing;
 mod causes;
+mod checked;
+mod contents;
 mod counts;
 mod dynamic_table;
 mod end;
+mod file_headers;
 mod file_source;
 mod found;
 mod hashed_call;
 mod hashed_symbols;
+mod header;
 mod items;
 mod kind;
 mod lent_layout;
@@ -24,8 +29,13 @@ mod limits;
 mod listing;
 mod loader_lookup;
 mod lookup_call;
+mod mapped_bytes;
+mod memory_file;
 mod missing;
+mod name;
 mod name_list;
+mod note_tables;
+mod notes;
 mod placement;
 mod query;
 mod record_row;
@@ -33,6 +43,7 @@ mod record_rows;
 mod record_tables;
 mod records;
 mod resolved;
+mod room;
 mod row_status;
 mod rows;
 mod section_names;
@@ -47,11 +58,13 @@ pub use applied::{ApplyInput, write_section};
 pub use asked::{caller_listing_of, named_listing_of};
 pub use call_status::{CallStatus, report_status};
 pub use caller_listing::CallerListing;
+pub use contents::section_bytes;
 pub use counts::short;
 pub use end::CallEnd;
 pub use found::LookupFields;
 pub use hashed_call::open_hashed;
 pub use hashed_symbols::hashed_rows;
+pub use header::{read_header, read_section, read_segment};
 pub use items::{ApplyCall, CallerItem, layout_from};
 pub use kind::RowKind;
 pub use lent_layout::CallerLayout;
@@ -59,13 +72,18 @@ pub use limits::{CallerLimits, caps_of, checked_limits};
 pub use listing::{CallOutcome, write_listing};
 pub use loader_lookup::{report_resolved, resolve_in};
 pub use lookup_call::{look_in, report_found};
+pub use mapped_bytes::find_mapped;
 pub use missing::CallerMissing;
+pub use name::find_name;
+pub use note_tables::{section_notes, segment_notes};
+pub use notes::{Note, NotePosition, next_note};
 pub use placement::place_section;
 pub use query::Query;
 pub use record_row::RecordRow;
 pub use record_tables::records_in;
 pub use records::{VersionRecordPosition, next_record};
 pub use resolved::Resolved;
+pub use room::slots_for;
 pub use row_status::{report_opened, report_row};
 pub use rows::RowPosition;
 pub use section_names::names_in;

@@ -4,9 +4,9 @@ ghost use Rattle.std.proofs.Common.{rules};
 ghost use Rattle.elf_record.specs.Prelude.{IsDyn, IsRela, IsSym};
 
 use crate::table_row::TableRow;
-use elf_memory::chunk_at;
 use elf_record::sizes::{DYNAMIC_BYTES, RELOCATION_BYTES, SYMBOL_BYTES};
 use elf_record::{Dyn, Rela, Sym};
+use elf_table::chunk_at;
 
 impl TableRow for Sym {
     const BYTES: u64 = SYMBOL_BYTES;

@@ -3,10 +3,10 @@ ghost use Rattle.std.specs.Prelude.{◌≡◌, ℕ, List};
 ghost use Rattle.elf_record.specs.Shdr.{IsShdr};
 ghost use Rattle.elf_capi.specs.VersionRecords.{ReadsRecords, first_kind, starting};
 
+use crate::memory_file::MemoryFile;
 use crate::record_row::kind_number;
 use crate::records::VersionRecordPosition;
 use crate::section_tables::record_names;
-use elf_memory::MemoryFile;
 use elf_note::record_bytes;
 use elf_record::gnu_numbers::{SHT_GNU_VERDEF, SHT_GNU_VERNEED};
 use elf_record::{Refusal, Shdr, VersionKind};

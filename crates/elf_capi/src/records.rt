@@ -6,12 +6,11 @@ ghost use Rattle.elf_note.specs.declared.record_position.RecordPosition.{RecordP
 ghost use Rattle.elf_capi.specs.VersionRecords.{GoesOnTo, StepsRecord, bytes_within, standing_in};
 
 use crate::record_row::{RecordRow, kind_number};
-use elf_memory::chunk_at;
 use elf_note::{RecordPosition, VersionCursor};
 use elf_record::sizes::VERSION_NEED_BYTES;
 use elf_record::{Refusal, Verneed, VersionKind};
 use elf_source::{Counted, MemorySource};
-use elf_table::{Fault, Table};
+use elf_table::{Fault, Table, chunk_at};
 
 /// A position in a walk over the records of a table of definitions or needs: plain numbers, which a
 /// caller may store anywhere and copy. Each step checks them again, so that no numbers are invalid.

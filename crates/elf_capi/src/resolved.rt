@@ -4,9 +4,8 @@ ghost use Rattle.elf_capi.specs.Resolved.{HasSymbol, SameSymbol, ReturnsFoundVer
 
 use crate::found::no_symbol;
 use elf_loader::{FoundSymbol, FoundVersion, VersionName};
-use elf_memory::ByteRange;
 use elf_record::{Sym, version_number};
-use elf_table::NameEnd;
+use elf_table::{ByteRange, NameEnd};
 
 /// What a loader's lookup found; all 0 if it found nothing, except the number of symbols tried.
 #[repr(C)]

@@ -1,9 +1,9 @@
 //! The string table of the section names.
 ghost use Rattle.elf_capi.specs.TableOpenings.{ReadsSectionNames};
 
-use elf_memory::{ByteRange, MemoryFile};
+use crate::memory_file::MemoryFile;
 use elf_record::Refusal;
-use elf_table::Limits;
+use elf_table::{ByteRange, Limits};
 
 /// Locates the string table of the section names of a file in memory; returns `None` if there is
 /// none (gABI 4, ELF Header).

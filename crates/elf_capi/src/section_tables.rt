@@ -5,7 +5,7 @@ ghost use Rattle.elf_table.specs.Prelude.{IsOfCheck, TableInBounds};
 ghost use Rattle.elf_capi.specs.DynamicTables.{IsDynamicTable};
 ghost use Rattle.elf_capi.specs.VersionRecords.{FindsRecords};
 
-use elf_memory::MemoryFile;
+use crate::memory_file::MemoryFile;
 use elf_record::sizes::DYNAMIC_BYTES;
 use elf_table::{Fault, Names, Table};
 

@@ -6,8 +6,8 @@ ghost use Rattle.elf_capi.specs.Rows.{rows_from_first};
 ghost use Rattle.elf_capi.specs.SegmentDynamic.{FindsEntries, ReadsSegmentDynamic};
 
 use crate::dynamic_table::{listed_rows, listed_within};
+use crate::header::find_segment;
 use crate::rows::RowPosition;
-use elf_memory::find_segment;
 use elf_record::Refusal;
 use elf_record::numbers::PT_DYNAMIC;
 use elf_record::sizes::DYNAMIC_BYTES;
@@ -17,7 +17,7 @@ use elf_table::{Fault, Names, Table, checked_rows};
 /// including the first DT_NULL.
 ///
 /// Returns `None` if it has no such segment, or one of another type than DYNAMIC. The position has
-/// no string table: [`find_mapped`](elf_memory::find_mapped) locates the one whose address and size
+/// no string table: [`find_mapped`](crate::mapped_bytes::find_mapped) locates the one whose address and size
 /// the entries have (gABI 5, Dynamic Section).
 ///
 /// # Errors

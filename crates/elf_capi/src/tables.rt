@@ -10,9 +10,9 @@ ghost use Rattle.elf_capi.specs.TableOpenings.{OpensTable, ReadsRows, linked_nam
 use crate::dynamic_table::{listed_rows, listed_within};
 use crate::kind::{RowKind, holds};
 use crate::limits::{CallerLimits, checked_limits};
+use crate::memory_file::MemoryFile;
 use crate::rows::RowPosition;
 use crate::section_tables::dynamic_entries;
-use elf_memory::MemoryFile;
 use elf_record::Refusal;
 use elf_table::{Fault, Limits, Names, Table};
 

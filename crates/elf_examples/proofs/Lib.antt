@@ -8,3 +8,5 @@ pub mod OnTraits
 pub mod OnApplyExamples
 pub mod OnBytesExamples
 pub mod OnTables
+pub mod OnGnuExamples
+pub mod OnBindings

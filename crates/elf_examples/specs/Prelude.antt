@@ -3,3 +3,9 @@ unfoldable pub use Rattle.elf_examples.specs.ExamplesFields.{places_as_bytes}
 unfoldable pub use Rattle.elf_examples.specs.ExamplesNotes.{counting, note_head}
 pub use Rattle.elf_examples.specs.ListedBudgets.{spent_at}
 pub use Rattle.elf_examples.specs.ListedMembers.{BudgetsThatEndArchives}
+unfoldable pub use Rattle.elf_examples.specs.ExamplesGnuHash.{gnu_table_of}
+unfoldable pub use Rattle.elf_examples.specs.ExamplesWanted.{long_version}
+unfoldable pub use Rattle.elf_examples.specs.ListedChoices.{named_listed, rows_named}
+unfoldable pub use Rattle.elf_examples.specs.ListedRelative.{relative_words, relocations_listed, style_with, three_types}
+unfoldable pub use Rattle.elf_examples.specs.ListedSuffixes.{asked_within, symbols_listed, with_versions}
+unfoldable pub use Rattle.elf_examples.specs.ListedVersions.{parts_listed, versions_listed}

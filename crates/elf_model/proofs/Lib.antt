@@ -30,6 +30,7 @@ pub mod NoteLaws
 pub mod NoteLoops
 pub mod NoteRowLaws
 pub mod Nuls
+pub mod OnLinks
 pub mod OnLiterals
 pub mod OnLoader
 mod OneRule

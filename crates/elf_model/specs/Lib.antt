@@ -106,4 +106,8 @@ pub mod LinkSteps
 pub mod LinkKeys
 pub mod LinkObjects
 pub mod LinkPasses
+pub mod LinkInputs
+pub mod LinkLines
+pub mod LinkSymbols
+pub mod LinkArchives
 pub mod Prelude

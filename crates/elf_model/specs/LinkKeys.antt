@@ -30,6 +30,7 @@ new_key = record {
   is_restricted = false;
   is_group = false;
   is_link_once = false;
+  is_section = false;
 }
 
 -- THE KEYS OF A LINK: their names, and what is known of each; the indexes of those that a symbol or

@@ -20,9 +20,16 @@ pub record ObjectSymbol : Type 0 where
   pub symbol : LinkSymbol
   pub section : Option ℕ
 
--- AN OBJECT: its groups in the order of its sections, and its symbols
+-- a section whose name is an identifier of C, and its index: a linker makes symbols of its start and
+-- its end
+pub record NamedSection : Type 0 where
+  pub name : List ℕ
+  pub index : ℕ
+
+-- AN OBJECT: its groups in the order of its sections, its sections with such names, and its symbols
 pub record LinkObject : Type 0 where
   pub groups : List SectionGroup
+  pub sections : List NamedSection
   pub symbols : List ObjectSymbol
 
 -- one of that signature is kept; groups and link-once sections do not count for each other
@@ -54,6 +61,24 @@ abbrev pub groups_taken : DroppedSections → List SectionGroup → DroppedSecti
 groups_taken before [] = before
 groups_taken before (group ∷ groups) = groups_taken (group_taken before group) groups
 
+-- a section that is not dropped is noted at the key of its name
+abbrev pub is_dropped : List ℕ → Option ℕ → Bool
+is_dropped sections None = false
+is_dropped sections (Some section) = list_any (λ other. other == section) sections
+
+unfoldable pub name_noted : LinkKeys → List ℕ → LinkKeys
+name_noted keys name =
+    let now = entered keys name in
+    let index = index_of keys name in
+    with_entry now index (record (entry_of now index) { is_section = true })
+
+abbrev pub section_noted : (dropped : List ℕ) → LinkKeys → NamedSection → LinkKeys
+section_noted dropped keys section = if is_dropped dropped (Some section.index) then keys else name_noted keys section.name
+
+abbrev pub sections_noted : (dropped : List ℕ) → LinkKeys → List NamedSection → LinkKeys
+sections_noted dropped keys [] = keys
+sections_noted dropped keys (section ∷ sections) = sections_noted dropped (section_noted dropped keys section) sections
+
 -- a definition in a dropped section is a reference with its binding
 abbrev pub reference_role : SymbolRole → SymbolRole
 reference_role WeakDefinition = WeakReference
@@ -67,15 +92,11 @@ dropped_symbol s = record {
   symbol = record { role = reference_role s.symbol.role; restricted = s.symbol.restricted; dropped = true; absolute = None };
 }
 
-abbrev pub is_dropped : List ℕ → Option ℕ → Bool
-is_dropped sections None = false
-is_dropped sections (Some section) = list_any (λ other. other == section) sections
-
 unfoldable pub symbol_without : (sections : List ℕ) → ObjectSymbol → LinkSymbol
 symbol_without sections s = if is_dropped sections s.section then dropped_symbol s.symbol else s.symbol
 
--- AN OBJECT TAKEN, of a row: its groups, then its symbols
+-- AN OBJECT TAKEN, of a row: its groups, the names of its sections, and its symbols
 unfoldable pub object_taken : (row : Option ℕ) → LinkKeys → LinkObject → LinkKeys
 object_taken row keys object =
     let groups = groups_taken (record { keys = keys; sections = [] }) object.groups in
-    symbols_taken row groups.keys (map (symbol_without groups.sections) object.symbols)
+    symbols_taken row (sections_noted groups.sections groups.keys object.sections) (map (symbol_without groups.sections) object.symbols)

@@ -1,5 +1,5 @@
 -- The members of an archive that a linker takes by the archive's index.
-use Rattle.std.specs.Prelude.{ℕ, zero, suc, ◌==◌, ◌&&◌, ◌||◌, not, if◌then◌else◌, Bool, true, false, List, [], ◌∷◌, ◌++◌, length, get_or, Option, None, Some}
+use Rattle.std.specs.Prelude.{ℕ, zero, suc, ◌==◌, ◌&&◌, ◌||◌, not, if◌then◌else◌, Bool, true, false, List, [], ◌∷◌, ◌++◌, codes, drop, length, get_or, Option, None, Some}
 use Rattle.std.specs.List.{count_by}
 use Rattle.std.proofs.Math.ListN.{set}
 use Rattle.elf_model.specs.LinkKeys.{LinkKeys, entry_of}
@@ -10,13 +10,17 @@ use Rattle.elf_model.specs.declared.link_states.KeyState.TheVariants.{New, Undef
 use Rattle.elf_model.specs.declared.link_states.LinkRow.{LinkRow}
 use Rattle.elf_model.specs.declared.link_states.RowKind.TheVariants.{Member}
 
--- AN ARCHIVE of a link: the input that it is and its row; its members as objects; and whether the
--- first symbol of an entry's name in the entry's member is a definition, not weak and no function
+-- THE MEMBERS of an archive: each as an object; and whether the first symbol of a name in a member is
+-- a definition, not weak and no function
+pub record ArchiveMembers : Type 0 where
+  pub objects : ℕ → LinkObject
+  pub defines : (member : ℕ) → (name : List ℕ) → Bool
+
+-- AN ARCHIVE of a link: the input that it is, its row, and its members
 pub record LinkArchive : Type 0 where
   pub input : ℕ
   pub row : ℕ
-  pub objects : ℕ → LinkObject
-  pub defines : IndexEntry → Bool
+  pub members : ArchiveMembers
 
 -- A LINK over an archive: its keys, its rows, and which members of the archive are taken
 pub record ArchivePass : Type 0 where
@@ -40,17 +44,26 @@ takes_members Undefined is_gone defines = not is_gone
 takes_members (Common size) is_gone defines = defines
 takes_members _ is_gone defines = false
 
+-- the name of an entry as it is in the index: with two signs before a default version
+abbrev pub name_with_default : (name default_name : List ℕ) → List ℕ
+name_with_default name default_name = default_name ++ codes "@" ++ drop (length default_name) name
+
+unfoldable pub index_name : LinkKeys → IndexEntry → List ℕ
+index_name keys entry =
+    let name = get_or keys.names entry.key [] in
+    if entry.default_key == entry.key then name else name_with_default name (get_or keys.names entry.default_key [])
+
 -- AN ENTRY TAKES ITS MEMBER: its key takes members, and this one is not taken yet
-unfoldable pub asks_for : (defines : IndexEntry → Bool) → LinkKeys → IndexEntry → Bool
-asks_for defines keys entry =
+unfoldable pub asks_for : ArchiveMembers → LinkKeys → IndexEntry → Bool
+asks_for members keys entry =
     let known = entry_of keys (key_of_entry keys entry) in
-    takes_members known.state known.is_gone (defines entry)
+    takes_members known.state known.is_gone (members.defines entry.member (index_name keys entry))
 
 abbrev pub is_taken : List Bool → ℕ → Bool
 is_taken taken member = get_or taken member true
 
 unfoldable pub takes_member : LinkArchive → ArchivePass → IndexEntry → Bool
-takes_member archive pass entry = asks_for archive.defines pass.keys entry && not (is_taken pass.taken entry.member)
+takes_member archive pass entry = asks_for archive.members pass.keys entry && not (is_taken pass.taken entry.member)
 
 -- the row of a member that is taken for a key
 abbrev pub member_row : (input row : ℕ) → LinkKeys → IndexEntry → LinkRow
@@ -67,7 +80,7 @@ member_row input row keys entry =
 -- a member taken: its row, and its symbols
 unfoldable pub member_taken : LinkArchive → ArchivePass → IndexEntry → ArchivePass
 member_taken archive pass entry = record {
-  keys = object_taken (Some (length pass.rows)) pass.keys (archive.objects entry.member);
+  keys = object_taken (Some (length pass.rows)) pass.keys (archive.members.objects entry.member);
   rows = pass.rows ++ member_row archive.input archive.row pass.keys entry ∷ [];
   taken = set pass.taken entry.member true;
 }

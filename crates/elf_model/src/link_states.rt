@@ -1,4 +1,5 @@
 //! The states of the symbols of a link, and what a symbol of a file does to them.
+use crate::causes::Cause;
 
 /// What a definition of a shared library is, besides its name.
 #[derive(Clone, Copy)]
@@ -111,6 +112,8 @@ pub struct KeyEntry {
     pub is_group: bool,
     /// Whether a link-once section of this name is kept.
     pub is_link_once: bool,
+    /// Whether an object has a section of this name that is not dropped.
+    pub is_section: bool,
 }
 
 /// An entry of the index of an archive: the indexes of the keys of its name, and the member that has
@@ -177,4 +180,38 @@ pub struct LinkRow {
     pub member: Option<u32>,
     /// For a member that is taken for a key, why.
     pub reason: Option<RowReason>,
+}
+
+/// Why a file of a link is refused.
+#[derive(Clone, Copy)]
+pub enum LinkCause {
+    /// As any file is.
+    Refused(Cause),
+    /// The file type is not one that a linker takes (gABI 4, ELF Header).
+    FileType,
+    /// The machine is not x86-64.
+    Machine,
+    /// The file is a text that is no linker script of the words that are known, or a longer one.
+    Script,
+    /// The object has intermediate code instead of machine code.
+    Lto,
+    /// The archive has members and no index.
+    NoIndex,
+    /// The archive's index ends before its last name.
+    IndexCut,
+    /// An entry of the archive's index has an offset where there is no member.
+    IndexMember,
+    /// There are more keys, or bytes of their names, than are allowed.
+    TooManyKeys,
+    /// There are more rows, or further definitions, than are allowed.
+    TooManyRows,
+}
+
+/// A refusal of a file of a link: its cause, and the file offset that it points to.
+#[derive(Clone, Copy)]
+pub struct LinkRefusal {
+    /// The file offset, in bytes, from the first byte of the file that was opened.
+    pub at: u64,
+    /// Why the file is refused.
+    pub cause: LinkCause,
 }

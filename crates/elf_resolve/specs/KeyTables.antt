@@ -4,7 +4,7 @@ use Rattle.std.specs.Borrow.{Bor}
 use Rattle.std.specs.List.{count_by}
 use Rattle.std.specs.Map.{lookup}
 use Rattle.elf_model.specs.LinkKeys.{LinkKeys, entered, entry_of, index_of, is_further, key_in, key_used}
-use Rattle.elf_model.specs.LinkObjects.{is_kept, signature_kept}
+use Rattle.elf_model.specs.LinkObjects.{is_kept, name_noted, signature_kept}
 use Rattle.elf_model.specs.declared.link_states.KeyEntry.{KeyEntry}
 use Rattle.elf_model.specs.declared.link_states.SymbolUse.{SymbolUse}
 use Rattle.elf_resolve.specs.declared.table.KeyFault.{KeyFault}
@@ -86,5 +86,11 @@ UsesKey old new index symbol row (Err fault) = NotUsed old new index symbol faul
 pub record KeptGroup (old new : Table) (signature : List ℕ) (is_link_once dropped : Bool) : Type 0 where
   pub keys : new.keys ≡ signature_kept (entered old.keys signature) (index_of old.keys signature) is_link_once
   pub dropped_is : dropped ≡ is_kept is_link_once (entry_of (entered old.keys signature) (index_of old.keys signature))
+  pub most : new.most ≡ old.most
+  pub most_further : new.most_further ≡ old.most_further
+
+-- A SECTION NOTED at the key of its name
+pub record NotedSection (old new : Table) (name : List ℕ) : Type 0 where
+  pub keys : new.keys ≡ name_noted old.keys name
   pub most : new.most ≡ old.most
   pub most_further : new.most_further ≡ old.most_further

@@ -1,8 +1,7 @@
 -- What passes over the index of an archive do.
 use Rattle.std.specs.Prelude.{ℕ, ◌≡◌, List, Bool, Some}
 use Rattle.elf_model.specs.LinkObjects.{LinkObject, object_taken}
-use Rattle.elf_model.specs.LinkPasses.{ArchivePass, LinkArchive}
-use Rattle.elf_model.specs.declared.link_states.IndexEntry.{IndexEntry}
+use Rattle.elf_model.specs.LinkPasses.{ArchiveMembers, ArchivePass, LinkArchive}
 use Rattle.elf_resolve.specs.KeyTables.{Table}
 use Rattle.elf_resolve.specs.declared.passes.ArchiveInput.{ArchiveInput}
 use Rattle.elf_resolve.specs.declared.passes.Link.{Link}
@@ -12,8 +11,8 @@ abbrev pub pass_of : Link → List Bool → ArchivePass
 pass_of link taken = record { keys = link.keys.keys; rows = link.rows.rows; taken = taken }
 
 -- an archive by its members
-abbrev pub archive_of : ArchiveInput → (ℕ → LinkObject) → (IndexEntry → Bool) → LinkArchive
-archive_of archive objects defines = record { input = archive.input; row = archive.row; objects = objects; defines = defines }
+abbrev pub archive_of : ArchiveInput → ArchiveMembers → LinkArchive
+archive_of archive members = record { input = archive.input; row = archive.row; members = members }
 
 -- an object was taken, of a row
 pub record TookObject (object : LinkObject) (old new : Table) (row : ℕ) : Type 0 where

@@ -4,12 +4,14 @@
 //! A caller reads the files: it is an [`Objects`], whose objects are taken one symbol after another.
 #![tactic(auto)]
 
+mod examples;
 mod passes;
 mod rows;
 mod steps;
 mod symbols;
 mod table;
 
+pub use examples::{small_files, small_links};
 pub use passes::{ArchiveInput, Link, Objects, pass_index, search_archive, visit_entry};
 pub use rows::RowTable;
 pub use symbols::Symbol;

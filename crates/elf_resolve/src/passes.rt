@@ -1,8 +1,6 @@
 //! The members of an archive that its index asks for.
-ghost use Rattle.std.specs.Prelude.{◌≡◌, ℕ, IfOk, OnOk, Bool};
-ghost use Rattle.elf_model.specs.LinkObjects.{LinkObject};
-ghost use Rattle.elf_model.specs.LinkPasses.{archive_searched, asks_for as asks_by, entry_visited, index_passed, is_new as is_new_of, is_taken as is_taken_of, key_of_entry as key_of, member_row as row_of};
-ghost use Rattle.elf_model.specs.declared.link_states.IndexEntry.{IndexEntry as ModelEntry};
+ghost use Rattle.std.specs.Prelude.{◌≡◌, IfOk, OnOk};
+ghost use Rattle.elf_model.specs.LinkPasses.{ArchiveMembers, archive_searched, asks_for as asks_by, entry_visited, index_name, index_passed, is_new as is_new_of, is_taken as is_taken_of, key_of_entry as key_of, member_row as row_of};
 ghost use Rattle.elf_resolve.specs.Passing.{TookObject, archive_of, pass_of};
 
 use crate::rows::RowTable;
@@ -29,20 +27,15 @@ pub struct ArchiveInput {
 
 /// The objects that are the members of an archive.
 pub trait Objects {
-    /// The members as objects.
-    ghost objects: { Self → ℕ → LinkObject };
-
-    /// Whether the first symbol of an entry's name is a definition, not weak and no function.
-    ghost definitions: { Self → ModelEntry → Bool };
+    ghost members: { Self → ArchiveMembers };
 
     /// Takes the groups and the symbols of a member, which has the row `row`.
     ///
     /// # Errors
     /// Returns a `LinkStop` if the member can't be read, or there is no room for a key.
     fn take<'a>(&mut self, member: u32, row: u32, keys: &mut KeyTable<'a>) -> Result<(), LinkStop>
-        ensures takes { OnOk result (TookObject (objects self.old member) keys.old keys.new row) }
-        ensures same { objects self.new ≡ objects self.old }
-        ensures same_definitions { definitions self.new ≡ definitions self.old };
+        ensures takes { OnOk result (TookObject ((members self.old).objects member) keys.old keys.new row) }
+        ensures same { members self.new ≡ members self.old };
 
     /// Returns whether the first symbol of an entry's name in the entry's member is a definition, not
     /// weak and no function.
@@ -50,9 +43,8 @@ pub trait Objects {
     /// # Errors
     /// Returns a `LinkStop` if the member can't be read.
     fn defines<'a>(&mut self, entry: IndexEntry, keys: &KeyTable<'a>) -> Result<bool, LinkStop>
-        ensures defines { IfOk result (λ is_defined. is_defined ≡ definitions self.old entry) }
-        ensures same { objects self.new ≡ objects self.old }
-        ensures same_definitions { definitions self.new ≡ definitions self.old };
+        ensures defines { IfOk result (λ is_defined. is_defined ≡ (members self.old).defines entry.member (index_name keys.now.keys entry)) }
+        ensures same { members self.new ≡ members self.old };
 }
 
 /// Returns whether no symbol has a key in this state.
@@ -94,9 +86,8 @@ fn asks_for<'a, M: Objects>(
     entry: IndexEntry,
     members: &mut M,
 ) -> Result<bool, LinkStop>
-    ensures asks { IfOk result (λ asks. asks ≡ asks_by (M.definitions members.old) keys.now.keys entry) }
-    ensures same { M.objects members.new ≡ M.objects members.old }
-    ensures same_definitions { M.definitions members.new ≡ M.definitions members.old }
+    ensures asks { IfOk result (λ asks. asks ≡ asks_by (M.members members.old) keys.now.keys entry) }
+    ensures same { M.members members.new ≡ M.members members.old }
 {
     let known = keys.entry(key_of_entry(keys, entry));
     match known.state {
@@ -131,9 +122,8 @@ pub fn visit_entry<'a, M: Objects>(
     entry: IndexEntry,
     members: &mut M,
 ) -> Result<(), LinkStop>
-    ensures visits { OnOk result (pass_of link.new taken.new ≡ entry_visited (archive_of archive (M.objects members.old) (M.definitions members.old)) (pass_of link.old taken.old) entry) }
-    ensures same { M.objects members.new ≡ M.objects members.old }
-    ensures same_definitions { M.definitions members.new ≡ M.definitions members.old }
+    ensures visits { OnOk result (pass_of link.new taken.new ≡ entry_visited (archive_of archive (M.members members.old)) (pass_of link.old taken.old) entry) }
+    ensures same { M.members members.new ≡ M.members members.old }
 {
     if is_taken(taken, entry.member) {
         return Ok(());
@@ -161,9 +151,8 @@ pub fn pass_index<'a, M: Objects>(
     entries: &[IndexEntry],
     members: &mut M,
 ) -> Result<(), LinkStop>
-    ensures passes { OnOk result (pass_of link.new taken.new ≡ index_passed (archive_of archive (M.objects members.old) (M.definitions members.old)) (pass_of link.old taken.old) entries.now) }
-    ensures same { M.objects members.new ≡ M.objects members.old }
-    ensures same_definitions { M.definitions members.new ≡ M.definitions members.old }
+    ensures passes { OnOk result (pass_of link.new taken.new ≡ index_passed (archive_of archive (M.members members.old)) (pass_of link.old taken.old) entries.now) }
+    ensures same { M.members members.new ≡ M.members members.old }
 {
     for i in 0..entries.len() {
         visit_entry(link, archive, taken, entries[i], members)?;
@@ -182,9 +171,8 @@ pub fn search_archive<'a, M: Objects>(
     entries: &[IndexEntry],
     members: &mut M,
 ) -> Result<(), LinkStop>
-    ensures searches { OnOk result (pass_of link.new taken.new ≡ archive_searched (archive_of archive (M.objects members.old) (M.definitions members.old)) entries.now (pass_of link.old taken.old)) }
-    ensures same { M.objects members.new ≡ M.objects members.old }
-    ensures same_definitions { M.definitions members.new ≡ M.definitions members.old }
+    ensures searches { OnOk result (pass_of link.new taken.new ≡ archive_searched (archive_of archive (M.members members.old)) entries.now (pass_of link.old taken.old)) }
+    ensures same { M.members members.new ≡ M.members members.old }
 {
     loop {
         let before = link.keys.asked();

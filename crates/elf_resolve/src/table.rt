@@ -1,7 +1,7 @@
 //! The table of keys.
-ghost use Rattle.std.specs.Prelude.{◌≡◌, ◌+◌, ◌<◌, ◌≤◌, IfOk, length, [], get_or};
+ghost use Rattle.std.specs.Prelude.{◌≡◌, ◌+◌, ◌<◌, ◌≤◌, IfOk, OnOk, length, [], get_or};
 ghost use Rattle.elf_model.specs.LinkKeys.{entry_of, key_in, no_keys};
-ghost use Rattle.elf_resolve.specs.KeyTables.{Enters, KeptGroup, UsesKey};
+ghost use Rattle.elf_resolve.specs.KeyTables.{Enters, KeptGroup, NotedSection, UsesKey};
 
 use crate::steps::{is_further, used};
 use elf_model::{FurtherDefinition, KeyEntry, KeyState, SymbolUse};
@@ -46,6 +46,7 @@ pub const NEW_KEY: KeyEntry = KeyEntry {
     is_restricted: false,
     is_group: false,
     is_link_once: false,
+    is_section: false,
 };
 
 /// The keys of a link, each with an index, in the order in which they were entered.
@@ -229,6 +230,20 @@ impl<'a> KeyTable<'a> {
             self.asked += 1;
         }
         self.entries[place] = after;
+        Ok(())
+    }
+
+    /// Notes that an object has a section of a name that is not dropped.
+    ///
+    /// # Errors
+    /// Returns a `KeyFault` if the name is new and there is no room: nothing changes.
+    pub fn note_section(&mut self, name: &[u8]) -> Result<(), KeyFault>
+        ensures { OnOk result (NotedSection self.old self.new name.now) }
+    {
+        let index = self.enter(name)?;
+        let place = index as usize;
+        let entry = self.entries[place];
+        self.entries[place] = KeyEntry { is_section: true, ..entry };
         Ok(())
     }
 

@@ -5,6 +5,7 @@
 #![tactic(auto)]
 
 mod buffers;
+mod byte_range;
 mod checks;
 mod cursor;
 mod fault;
@@ -37,6 +38,7 @@ mod table;
 mod window;
 
 pub use buffers::TABLE_BUFFER_BYTES;
+pub use byte_range::{ByteRange, bytes_of, chunk_at};
 pub use checks::{
     checked_bytes, checked_rows, checked_strings, checked_table, has_no_bytes, holds_symbols,
 };

@@ -1,9 +1,9 @@
 //! The export that locates a section's bytes in a file in memory.
-ghost use Rattle.elf_memory.specs.SectionBytes.{ReadsSectionBytes};
+ghost use Rattle.elf_capi.specs.SectionBytes.{ReadsSectionBytes};
 ghost use Rattle.elf_capi.specs.Ends.{ReturnsRead};
 
-use elf_capi::{CallEnd, report_row};
-use elf_memory::{ByteRange, section_bytes};
+use elf_capi::{CallEnd, report_row, section_bytes};
+use elf_table::ByteRange;
 
 /// Locates the bytes of a section in a file in memory. No other section header is read (gABI 4,
 /// Section Header).

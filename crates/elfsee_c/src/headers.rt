@@ -1,9 +1,8 @@
 //! The exports that read the headers of a file in memory.
-ghost use Rattle.elf_memory.specs.Headers.{ReadsHeader, ReadsSection, ReadsSegment};
+ghost use Rattle.elf_capi.specs.Headers.{ReadsHeader, ReadsSection, ReadsSegment};
 ghost use Rattle.elf_capi.specs.Ends.{ReturnsRead};
 
-use elf_capi::{CallEnd, report_row};
-use elf_memory::{read_header, read_section, read_segment};
+use elf_capi::{CallEnd, read_header, read_section, read_segment, report_row};
 use elf_record::{Ehdr, Phdr, Shdr};
 
 /// Reads the file header of a file in memory (gABI 4, ELF Header).

@@ -1,9 +1,9 @@
 //! The exports that use the program headers of a file in memory, and no section headers.
-ghost use Rattle.elf_memory.specs.MappedBytes.{ReadsMapped};
+ghost use Rattle.elf_capi.specs.MappedBytes.{ReadsMapped};
 ghost use Rattle.elf_capi.specs.Prelude.{ReadsSegmentDynamic, ReturnsRead};
 
-use elf_capi::{CallEnd, RowPosition, report_row, segment_dynamic};
-use elf_memory::{ByteRange, find_mapped};
+use elf_capi::{CallEnd, RowPosition, find_mapped, report_row, segment_dynamic};
+use elf_table::ByteRange;
 
 /// Checks the dynamic entries of a segment, and sets `rows` before the first: up to and including
 /// the first DT_NULL, without a string table (gABI 5, Dynamic Section).

@@ -1,10 +1,12 @@
 //! The exports that locate names in string tables.
 ghost use Rattle.std.specs.Prelude.{length};
-ghost use Rattle.elf_memory.specs.Names.{FindsName};
+ghost use Rattle.elf_capi.specs.Names.{FindsName};
 ghost use Rattle.elf_capi.specs.Prelude.{OpensNames, ReturnsOpened, ReturnsRead};
 
-use elf_capi::{CallEnd, CallerLimits, checked_limits, names_in, report_opened, report_row};
-use elf_memory::{ByteRange, find_name};
+use elf_capi::{
+    CallEnd, CallerLimits, checked_limits, find_name, names_in, report_opened, report_row,
+};
+use elf_table::ByteRange;
 
 /// Finds where the name at an offset in a string table lies, without its NUL. The string table is
 /// the bytes of `strings`, as far as they lie within the file (gABI 4, String Table). The name at 0

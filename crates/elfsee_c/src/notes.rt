@@ -1,9 +1,8 @@
 //! The exports that iterate over the notes of a file in memory.
-ghost use Rattle.elf_memory.specs.NoteRows.{ReadsSectionNotes, ReadsSegmentNotes, TakesNote};
+ghost use Rattle.elf_capi.specs.NoteRows.{ReadsSectionNotes, ReadsSegmentNotes, TakesNote};
 ghost use Rattle.elf_capi.specs.Ends.{ReturnsRead};
 
-use elf_capi::{CallEnd, report_row};
-use elf_memory::{Note, NotePosition, next_note, section_notes, segment_notes};
+use elf_capi::{CallEnd, Note, NotePosition, next_note, report_row, section_notes, segment_notes};
 
 /// Checks that the notes of a section lie within the file, and sets `notes` before the first. No
 /// other section header is read (gABI 5, Note Section).

@@ -1,9 +1,9 @@
 //! The export that returns how much room a file's headers need.
 ghost use Rattle.std.specs.Prelude.{◌≡◌, ◌*◌, ◌≤◌, ℕ};
 ghost use Rattle.elf_model.specs.Checks.{first_refusal, before_headers};
-ghost use Rattle.elf_memory.specs.Rooms.{slots_for};
+ghost use Rattle.elf_capi.specs.Rooms.{slots_for};
 
-use elf_memory::slots_for;
+use elf_capi::slots_for;
 
 /// How many bytes of room a header takes.
 const HEADER_BYTES: u64 = 64;

@@ -3,7 +3,7 @@ use Rattle.std.proofs.Common.{◌≡◌, ◌<◌, List, ℕ, None, Some, sym, su
 use Rattle.elf_model.specs.Prelude.{e_shnum, section_at}
 use Rattle.elf_model.specs.declared.versions.VersionKind.{VersionKind}
 use Rattle.elf_capi.specs.Prelude.{AreRecords, first_kind}
-use Rattle.elf_memory.specs.Checked.{load_refused}
+use Rattle.elf_capi.specs.Checked.{load_refused}
 use Rattle.elf_capi.proofs.RecordTables.{are_records}
 use Rattle.elf_capi.proofs.record_tables.records_in.Goals as goal
 

@@ -1,2 +1,0 @@
-pub mod OnExamples
-pub mod OnBindings

@@ -1,4 +1,0 @@
-pub mod CheckedLaws
-pub mod FoundNames
-pub mod NoteSteps
-pub mod RowsInPlace

@@ -1,9 +1,0 @@
-pub mod Checked
-pub mod Headers
-pub mod InPlace
-pub mod MappedBytes
-pub mod Names
-pub mod NoteRows
-pub mod Rooms
-pub mod SectionBytes
-pub mod Prelude
