@@ -1,11 +1,7 @@
 -- The members of an archive as objects.
-use Rattle.std.specs.Prelude.{ℕ, Bool, false, []}
-use Rattle.elf_model.specs.LinkObjects.{LinkObject}
-use Rattle.elf_model.specs.declared.link_states.IndexEntry.{IndexEntry}
+use Rattle.std.specs.Prelude.{false, []}
+use Rattle.elf_model.specs.LinkPasses.{ArchiveMembers}
 
 -- nothing is said of them yet
-abbrev pub unknown_objects : {A : Type 0} → A → ℕ → LinkObject
-unknown_objects members member = record { groups = []; symbols = [] }
-
-abbrev pub unknown_definitions : {A : Type 0} → A → IndexEntry → Bool
-unknown_definitions members entry = false
+abbrev pub unknown_members : {A : Type 0} → A → ArchiveMembers
+unknown_members members = record { objects = λ member. record { groups = []; sections = []; symbols = [] }; defines = λ member name. false }

@@ -1,13 +1,13 @@
 //! The index of an archive: of each name that a member defines, the member.
+ghost use Rattle.std.specs.Prelude.{◌<◌, IfSome};
 
-use crate::archives::{ArchiveTables, member_at};
-use crate::link_faults::{LinkCause, LinkFault, full, refused};
-use crate::string_buffer::{HeldText, StringBuffer, split_version};
-use elf_archive::{FileRange, MEMBER_HEADER_BYTES, read_member_header};
-use elf_model::IndexEntry;
+use crate::archives::{ArchiveTables, member_at, members_from, read_header_at};
+use crate::link_faults::{LinkFault, full, refused};
+use crate::string_buffer::{HeldText, StringBuffer, part_of, split_version};
+use elf_archive::MEMBER_HEADER_BYTES;
+use elf_model::{IndexEntry, LinkCause};
 use elf_resolve::KeyTable;
 use elf_source::{Counted, Source};
-use elf_table::{Cursor, Names, Table, fill};
 
 /// The file offset of the first member's header, in bytes.
 const FIRST_AT: u64 = 8;
@@ -18,13 +18,15 @@ const INDEX_32: &[u8; 16] = b"/               ";
 /// The name field of an index of offsets of 64 bits.
 const INDEX_64: &[u8; 16] = b"/SYM64/         ";
 
-/// Where the parts of an index are.
+/// The parts of an index in a buffer: the offsets of the members' headers, of `width` bytes each, and
+/// the names, each with a NUL after it; and the file offset of the first offset.
 #[derive(Clone, Copy)]
 struct IndexParts {
-    /// The offsets of the members' headers.
-    offsets: Table,
-    /// The names, each with a NUL after it.
-    names: Names,
+    at: u64,
+    width: usize,
+    count: u64,
+    offsets: HeldText,
+    names: HeldText,
 }
 
 /// Reads the index of an archive whose members, from `first` on, are the last ones, and adds its
@@ -32,8 +34,8 @@ struct IndexParts {
 ///
 /// # Errors
 /// `NoIndex` at 8 if there are members and the first is no index, `IndexCut` there if it ends before
-/// its entries, `IndexMember` at an offset of no member; there is no room for the strings, a key or
-/// an entry.
+/// its entries, `IndexMember` at an offset of no member; there is no room for the index, a key or an
+/// entry.
 pub(crate) fn read_index<S: Source>(
     src: &mut Counted<S>,
     tables: &mut ArchiveTables,
@@ -41,75 +43,96 @@ pub(crate) fn read_index<S: Source>(
     strings: &mut StringBuffer,
     keys: &mut KeyTable<'_>,
 ) -> Result<(), LinkFault> {
-    if tables.members.len() == first {
+    if tables.members.len() <= first {
         return Ok(());
     }
-    let parts = index_parts(src)?;
-    strings.clear();
-    let names = strings.read(src, parts.names, FIRST_AT)?;
-    let mut cursor = Cursor::new(parts.offsets);
+    strings.forget_after(0);
+    let parts = index_parts(src, strings)?;
     let mut next = 0;
-    while let Some(row) = cursor.next(src)? {
-        let Some(member) = member_at(&tables.members[first..], big_endian(row.bytes)) else {
-            return refused(row.at, LinkCause::IndexMember);
+    for index in 0..parts.count {
+        let name = entry_name(strings, parts.names, next)?;
+        next = next.saturating_add(name.size).saturating_add(1);
+        let at = parts.place(index);
+        let offset = parts.offset(strings, index);
+        let Some(member) = member_at(members_from(&tables.members, first), offset) else {
+            return refused(at, LinkCause::IndexMember);
         };
-        let name = entry_name(strings, names, next)?;
-        next += name.size as u64 + 1;
-        let entry = entry_of(strings, name, member, row.at, keys)?;
-        tables.add_entry(entry, row.at)?;
+        let entry = entry_of(strings, name, member, at, keys)?;
+        tables.add_entry(entry, at)?;
     }
     Ok(())
 }
 
-/// Finds the parts of an index, which is the first member.
-///
-/// # Errors
-/// `NoIndex` at 8 if that is no index, `IndexCut` there if it ends within its count or its offsets.
-fn index_parts<S: Source>(src: &mut Counted<S>) -> Result<IndexParts, LinkFault> {
-    let mut header = [0; MEMBER_HEADER_BYTES];
-    let extent = read_member_header(src, FIRST_AT, &mut header)?;
-    let field = &header[..16];
-    if field == INDEX_32.as_slice() {
-        return parts_in::<S, 4>(src, extent);
+impl IndexParts {
+    /// Returns the file offset of the offset of an entry.
+    fn place(&self, index: u64) -> u64 {
+        self.at
+            .saturating_add(index.saturating_mul(self.width as u64))
     }
-    if field == INDEX_64.as_slice() {
-        return parts_in::<S, 8>(src, extent);
+
+    /// Returns the offset of an entry's member.
+    fn offset(&self, strings: &StringBuffer, index: u64) -> u64 {
+        let start = (index as usize).saturating_mul(self.width);
+        big_endian(part_of(strings.bytes(self.offsets), start, self.width))
     }
-    refused(FIRST_AT, LinkCause::NoIndex)
 }
 
-/// Finds the parts of an index whose numbers have `N` bytes.
+/// Reads an index, which is the first member, and finds its parts.
 ///
 /// # Errors
-/// `IndexCut` at 8 if it ends within its count or its offsets.
-fn parts_in<S: Source, const N: usize>(
+/// `NoIndex` at 8 if that is no index, `IndexCut` there if it ends within its count or its offsets;
+/// there is no room for it.
+fn index_parts<S: Source>(
     src: &mut Counted<S>,
-    extent: FileRange,
+    strings: &mut StringBuffer,
 ) -> Result<IndexParts, LinkFault> {
-    let width = N as u64;
-    if extent.size < width {
+    let mut header = [0; MEMBER_HEADER_BYTES];
+    let extent = read_header_at(src, FIRST_AT, &mut header)?;
+    let Some(width) = index_width(&header) else {
+        return refused(FIRST_AT, LinkCause::NoIndex);
+    };
+    let index = strings.read(src, extent.at, extent.size, FIRST_AT)?;
+    if index.size < width {
         return refused(FIRST_AT, LinkCause::IndexCut);
     }
-    let mut bytes = [0; N];
-    fill(src, extent.at, &mut bytes)?;
-    let count = big_endian(&bytes);
-    let left = extent.size - width;
-    if count > left / width {
+    let count = big_endian(part_of(strings.bytes(index), 0, width));
+    let left = index.size - width;
+    if count > (left / width) as u64 {
         return refused(FIRST_AT, LinkCause::IndexCut);
     }
-    let start = extent.at + width;
-    let size = count * width;
+    let start = index.start.saturating_add(width);
+    let size = (count as usize).saturating_mul(width);
     Ok(IndexParts {
-        offsets: Table::new(start, count, width),
-        names: Names::new(start + size, left - size),
+        at: extent.at.saturating_add(width as u64),
+        width,
+        count,
+        offsets: HeldText { start, size },
+        names: HeldText {
+            start: start.saturating_add(size),
+            size: left.saturating_sub(size),
+        },
     })
 }
 
-/// Returns the number that some bytes are, the most significant first.
+/// Returns how many bytes the numbers of an index have, by the header of the first member, or `None`
+/// if that is no index.
+fn index_width(header: &[u8; MEMBER_HEADER_BYTES]) -> Option<usize>
+    ensures { IfSome result (λ width. 0 < width) }
+{
+    if header.starts_with(INDEX_32) {
+        return Some(4);
+    }
+    if header.starts_with(INDEX_64) {
+        return Some(8);
+    }
+    None
+}
+
+/// Returns the number that some bytes are, the most significant first, modulo 2^64.
 fn big_endian(bytes: &[u8]) -> u64 {
     let mut number: u64 = 0;
     for byte in bytes {
-        number = number << 8 | u64::from(*byte);
+        number = number.wrapping_mul(256) | u64::from(*byte);
     }
     number
 }
@@ -118,11 +141,15 @@ fn big_endian(bytes: &[u8]) -> u64 {
 ///
 /// # Errors
 /// `IndexCut` at 8 if the names end before it does.
-fn entry_name(strings: &StringBuffer, names: HeldText, index: u64) -> Result<HeldText, LinkFault> {
-    if index >= names.size as u64 {
+fn entry_name(
+    strings: &StringBuffer,
+    names: HeldText,
+    index: usize,
+) -> Result<HeldText, LinkFault> {
+    if index >= names.size {
         return refused(FIRST_AT, LinkCause::IndexCut);
     }
-    match strings.name(names, index, FIRST_AT) {
+    match strings.name(names, index as u64, FIRST_AT) {
         Ok(name) => Ok(name),
         Err(_) => refused(FIRST_AT, LinkCause::IndexCut),
     }

@@ -1,11 +1,13 @@
 //! The archives of a link: their members, and the entries of their indexes.
+ghost use Rattle.std.specs.Prelude.{◌+◌, ◌^◌, ◌<◌, ◌≤◌, IfOk};
 
-use crate::link_faults::{LinkCause, LinkFault, refused};
+use crate::link_faults::{LinkFault, file_refused, refused};
 use elf_archive::{
     FileRange, MEMBER_HEADER_BYTES, is_name_table, padded_end, read_archive_magic,
     read_member_header,
 };
-use elf_model::IndexEntry;
+use elf_model::{IndexEntry, LinkCause};
+use elf_record::Cause;
 use elf_source::{Counted, Source};
 use std::alloc::{AllocError, Global};
 
@@ -70,9 +72,12 @@ impl ArchiveTables {
         read_archive_magic(src)?;
         let mut at = MAGIC_BYTES;
         let mut names = None;
-        while at < src.length() {
+        for _ in 0..src.length() {
+            if at >= src.length() {
+                break;
+            }
             let mut header = [0; MEMBER_HEADER_BYTES];
-            let extent = read_member_header(src, at, &mut header)?;
+            let extent = read_header_at(src, at, &mut header)?;
             if names.is_none() && is_name_table(&header) {
                 names = Some(extent);
             }
@@ -108,21 +113,50 @@ impl ArchiveTables {
     }
 }
 
+/// Reads the header of the member at an offset, and returns its data.
+///
+/// # Errors
+/// `MemberCut` there if there is none, or it does not lie within the file; those of reading it.
+pub(crate) fn read_header_at<S: Source>(
+    src: &mut Counted<S>,
+    at: u64,
+    header: &mut [u8; MEMBER_HEADER_BYTES],
+) -> Result<FileRange, LinkFault>
+    ensures { IfOk result (λ extent.
+        (at + 60 ≤ extent.at) × (extent.at + extent.size < 2 ^ 63)) }
+{
+    let length = src.length();
+    if length >= 1 << 63 || at >= length {
+        return file_refused(at, Cause::MemberCut);
+    }
+    Ok(read_member_header(src, at, header)?)
+}
+
+/// Returns the members from an index on.
+pub(crate) fn members_from(members: &[u64], first: usize) -> &[u64] {
+    match members.split_at_checked(first) {
+        Some((_, rest)) => rest,
+        None => &[],
+    }
+}
+
 /// Returns the index of the member whose header is at an offset, of members in the order of their
 /// offsets.
 pub(crate) fn member_at(members: &[u64], offset: u64) -> Option<u32> {
     let mut low = 0;
     let mut high = members.len();
-    while low < high {
+    for _ in 0..64 {
+        if low >= high {
+            break;
+        }
         let middle = low + (high - low) / 2;
-        if members[middle] < offset {
-            low = middle + 1;
-        } else {
-            high = middle;
+        match members.get(middle) {
+            Some(at) if *at < offset => low = middle + 1,
+            _ => high = middle,
         }
     }
     match members.get(low) {
-        Some(found) if *found == offset => Some(low as u32),
+        Some(at) if *at == offset => u32::try_from(low).ok(),
         _ => None,
     }
 }
@@ -132,12 +166,14 @@ impl ArchiveTables {
     pub(crate) fn row_of_entry(&self, entry: usize) -> Option<u32> {
         let mut low = 0;
         let mut high = self.archives.len();
-        while low < high {
+        for _ in 0..64 {
+            if low >= high {
+                break;
+            }
             let middle = low + (high - low) / 2;
-            if self.archives[middle].entries.1 <= entry {
-                low = middle + 1;
-            } else {
-                high = middle;
+            match self.archives.get(middle) {
+                Some(archive) if archive.entries.1 <= entry => low = middle + 1,
+                _ => high = middle,
             }
         }
         match self.archives.get(low) {

@@ -26,10 +26,22 @@ impl KeyChains {
 
     /// Adds a number to the list of a key; numbers are added in descending order.
     pub(crate) fn add(&mut self, key: u32, number: usize) {
-        if (key as usize) < self.heads.len() && number < self.nexts.len() {
-            self.nexts[number] = self.heads[key as usize];
-            self.heads[key as usize] = number as u32;
-        }
+        let Ok(own) = u32::try_from(number) else {
+            return;
+        };
+        let (Some(head), Some(next)) = (
+            self.heads.get_mut(key as usize),
+            self.nexts.get_mut(number),
+        ) else {
+            return;
+        };
+        *next = *head;
+        *head = own;
+    }
+
+    /// Returns how many numbers a list can have.
+    pub(crate) fn most(&self) -> usize {
+        self.nexts.len()
     }
 
     /// Returns the first number of a key.

@@ -105,7 +105,7 @@ impl Resolver<'_> {
         }
         match bounded_section(name) {
             Some(section) => match self.link.keys.find(section) {
-                Some(section) => self.room.sections[section as usize],
+                Some(section) => self.link.keys.entry(section).is_section,
                 None => false,
             },
             None => false,

@@ -22,7 +22,7 @@ mod section_marks;
 mod string_buffer;
 
 pub use lines::{LinkLines, show_link};
-pub use link_faults::{LinkCause, LinkFault, LinkRefusal, link_cause_word};
+pub use link_faults::{LinkFault, link_cause_word};
 pub use link_files::{InputKind, LinkFiles, LinkInput, LinkPlan, LinkStep, OpenFault};
 pub use linker_names::LinkOutput;
 pub use resolver::{LinkEnd, Resolver};

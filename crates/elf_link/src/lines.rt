@@ -1,14 +1,14 @@
 //! The lines of a link.
 
 use crate::key_states::FoundState;
-use crate::link_faults::{LinkRefusal, link_cause_word};
+use crate::link_faults::link_cause_word;
 use crate::link_files::LinkFiles;
 use crate::resolver::Resolver;
 use elf_format::{
     Columns, Json, LineBuf, LinePrefix, Render, begin, begin_named, put_closing, put_decimal,
     put_hex_field, put_name_or_decimal, put_text, show_named,
 };
-use elf_model::{Format, KeyEntry, KeyState, LinkRow, RowKind};
+use elf_model::{Format, KeyEntry, KeyState, LinkRefusal, LinkRow, RowKind};
 use elf_source::{Out, OutFault, Sink};
 
 /// How lines are written.
@@ -71,12 +71,13 @@ fn show_rows<F: LinkFiles, W: Sink, R: Render>(
 ) -> Result<u8, OutFault> {
     let mut status = 0;
     for (index, row) in link.link.rows.rows().iter().enumerate() {
-        let word = row_word(link, index as u32, row);
+        let index = u32::try_from(index).unwrap_or(u32::MAX);
+        let word = row_word(link, index, row);
         if matches!(row.kind, RowKind::Missing) {
             status = 1;
         }
         if !problems || word == "missing" || word == "refused" {
-            show_row::<F, W, R>(link, files, index as u32, word, out)?;
+            show_row::<F, W, R>(link, files, index, word, out)?;
         }
     }
     Ok(status)
@@ -112,7 +113,9 @@ fn show_row<F: LinkFiles, W: Sink, R: Render>(
     word: &'static str,
     out: &mut Out<W>,
 ) -> Result<(), OutFault> {
-    let row = link.link.rows.rows()[index as usize];
+    let Some(row) = link.link.rows.rows().get(index as usize).copied() else {
+        return Ok(());
+    };
     let mut front = LinePrefix::new();
     begin_named::<R>(&mut front, b"I", b"path");
     let line = &mut front.line;
@@ -252,14 +255,17 @@ fn show_further<W: Sink, R: Render>(
     out: &mut Out<W>,
 ) -> Result<(), OutFault> {
     let mut next = link.further.first(key);
-    while let Some(place) = next {
+    for _ in 0..link.further.most() {
+        let Some(place) = next else {
+            break;
+        };
+        let row = match link.link.keys.further().get(place) {
+            Some(further) => further.row,
+            None => None,
+        };
         let mut front = LinePrefix::new();
         begin_named::<R>(&mut front, b"M", b"name");
-        put_index::<R>(
-            &mut front.line,
-            b"index",
-            link.link.keys.further()[place].row,
-        );
+        put_index::<R>(&mut front.line, b"index", row);
         show_named(&mut front, name, false, out)?;
         next = link.further.after(place);
     }
@@ -277,12 +283,18 @@ fn show_offers<W: Sink, R: Render>(
     out: &mut Out<W>,
 ) -> Result<(), OutFault> {
     let mut next = link.offers.first(key);
-    while let Some(place) = next {
-        let entry = link.tables.entries[place / 2];
+    for _ in 0..link.offers.most() {
+        let Some(place) = next else {
+            break;
+        };
+        let member = match link.tables.entries.get(place / 2) {
+            Some(entry) => Some(entry.member),
+            None => None,
+        };
         let mut front = LinePrefix::new();
         begin_named::<R>(&mut front, b"O", b"name");
         put_index::<R>(&mut front.line, b"index", link.tables.row_of_entry(place / 2));
-        put_index::<R>(&mut front.line, b"member", Some(entry.member));
+        put_index::<R>(&mut front.line, b"member", member);
         show_named(&mut front, name, false, out)?;
         next = link.offers.after(place);
     }

@@ -1,43 +1,10 @@
 //! Why a link is refused, or its files cannot be read.
 
 use elf_format::cause_word;
+use elf_model::{LinkCause, LinkRefusal};
 use elf_record::Cause;
 use elf_resolve::KeyFault;
 use elf_table::Fault;
-
-/// The reason why a file of a link is refused.
-#[derive(Clone, Copy)]
-pub enum LinkCause {
-    /// One that a file has by itself.
-    File(Cause),
-    /// The file is neither a relocatable file nor a shared library.
-    Type,
-    /// The file is for another machine than x86-64.
-    Machine,
-    /// The object has intermediate code alone, for a plugin of the linker.
-    Lto,
-    /// The file is neither an ELF file nor an archive, nor a linker script of inputs alone.
-    Script,
-    /// The index of an archive ends before its entries do.
-    IndexCut,
-    /// An entry of the index of an archive gives an offset at which no member begins.
-    IndexMember,
-    /// An archive has members and no index.
-    NoIndex,
-    /// There are more names than there is room for, or they have more bytes.
-    TooManyKeys,
-    /// There are more files, members or entries of indexes than there is room for.
-    TooManyRows,
-}
-
-/// The refusal of a link: its cause, and the offset in the file that was opened.
-#[derive(Clone, Copy)]
-pub struct LinkRefusal {
-    /// The file offset, in bytes.
-    pub at: u64,
-    /// The cause.
-    pub cause: LinkCause,
-}
 
 /// Why a link stops before its end.
 #[derive(Clone, Copy)]
@@ -55,7 +22,7 @@ impl From<Fault> for LinkFault {
         match fault {
             Fault::Refused(refusal) => LinkFault::Refused(LinkRefusal {
                 at: refusal.at,
-                cause: LinkCause::File(refusal.cause),
+                cause: LinkCause::Refused(refusal.cause),
             }),
             Fault::Source { .. } => LinkFault::Read,
         }
@@ -69,7 +36,7 @@ pub(crate) fn refused<T>(at: u64, cause: LinkCause) -> Result<T, LinkFault> {
 
 /// Returns the refusal for a cause that a file has by itself.
 pub(crate) fn file_refused<T>(at: u64, cause: Cause) -> Result<T, LinkFault> {
-    refused(at, LinkCause::File(cause))
+    refused(at, LinkCause::Refused(cause))
 }
 
 /// Returns the refusal for lack of room for a name, which is at a file offset.
@@ -95,8 +62,8 @@ pub(crate) fn in_member(fault: LinkFault, start: u64) -> LinkFault {
 /// Returns the word for a cause in a line.
 pub fn link_cause_word(cause: LinkCause) -> &'static str {
     match cause {
-        LinkCause::File(cause) => cause_word(cause),
-        LinkCause::Type => "type",
+        LinkCause::Refused(cause) => cause_word(cause),
+        LinkCause::FileType => "type",
         LinkCause::Machine => "machine",
         LinkCause::Lto => "lto",
         LinkCause::Script => "script",

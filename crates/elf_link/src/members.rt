@@ -1,20 +1,20 @@
 //! The members of an archive, as objects of a link.
-ghost use Rattle.elf_link.specs.Members.{unknown_definitions, unknown_objects};
+ghost use Rattle.elf_link.specs.Members.{unknown_members};
 
-use crate::archives::LinkArchive;
-use crate::link_faults::{LinkFault, in_member};
+use crate::archives::{LinkArchive, read_header_at};
+use crate::link_faults::{LinkFault, file_refused, in_member};
 use crate::member_names::MemberNames;
-use crate::object::{SymbolRows, load_headers, read_tables, take_object};
-use crate::object_symbols::{counts, is_common, is_function};
+use crate::object::{load_headers, read_tables, take_object};
+use crate::object_symbols::{global_in, is_data_definition};
 use crate::room::LinkRoom;
-use crate::string_buffer::split_version;
-use elf_archive::{FileRange, MEMBER_HEADER_BYTES, read_member_header};
-use elf_model::IndexEntry;
-use elf_record::Sym;
-use elf_record::numbers::{ET_REL, SHN_UNDEF, SHT_SYMTAB, STB_WEAK};
+use crate::string_buffer::{HeldText, StringBuffer, split_version};
+use elf_archive::{FileRange, MEMBER_HEADER_BYTES};
+use elf_model::{IndexEntry, LinkCause};
+use elf_record::numbers::{ET_REL, SHT_SYMTAB};
+use elf_record::{Cause, Sym};
 use elf_resolve::{KeyTable, LinkStop, Objects};
 use elf_source::{Counted, RangeSource, Source};
-use elf_table::{Cursor, SectionView};
+use elf_table::SectionView;
 
 /// The name fields of the members that are no files.
 const NO_FILES: [[u8; 16]; 3] = [*b"/               ", *b"//              ", *b"/SYM64/         "];
@@ -39,21 +39,15 @@ pub(crate) struct ArchiveMembers<'r, S: Source> {
 }
 
 impl<S: Source> ArchiveMembers<'_, S> {
-    /// Reads the header of a member.
+    /// Returns the file offset of the header of a member.
     ///
     /// # Errors
-    /// Those of the header.
-    fn extent(
-        &mut self,
-        member: u32,
-        header: &mut [u8; MEMBER_HEADER_BYTES],
-    ) -> Result<FileRange, LinkFault> {
-        self.src.widen();
-        Ok(read_member_header(
-            self.src,
-            self.members[member as usize],
-            header,
-        )?)
+    /// There is no such member.
+    fn place(&self, member: u32) -> Result<u64, LinkFault> {
+        match self.members.get(member as usize) {
+            Some(at) => Ok(*at),
+            None => file_refused(0, Cause::MemberCut),
+        }
     }
 
     /// Returns whether a member is a file: neither an index nor the table of names.
@@ -61,10 +55,11 @@ impl<S: Source> ArchiveMembers<'_, S> {
     /// # Errors
     /// Those of its header.
     pub(crate) fn is_file(&mut self, member: u32) -> Result<bool, LinkFault> {
+        let at = self.place(member)?;
+        self.src.widen();
         let mut header = [0; MEMBER_HEADER_BYTES];
-        self.extent(member, &mut header)?;
-        let field = &header[..16];
-        Ok(!NO_FILES.iter().any(|name| field == name.as_slice()))
+        read_header_at(self.src, at, &mut header)?;
+        Ok(!NO_FILES.iter().any(|name| header.starts_with(name)))
     }
 
     /// Takes a member.
@@ -77,12 +72,10 @@ impl<S: Source> ArchiveMembers<'_, S> {
         row: u32,
         keys: &mut KeyTable<'_>,
     ) -> Result<(), LinkFault> {
-        let mut header = [0; MEMBER_HEADER_BYTES];
-        let extent = self.extent(member, &mut header)?;
-        let at = self.members[member as usize];
-        self.names
-            .read(self.src, self.archive.names, &header, at, row)?;
-        self.src.narrow(extent.at, extent.size);
+        let at = self.place(member)?;
+        self.src.widen();
+        let extent = self.names.read(self.src, self.archive.names, at, row)?;
+        narrow_to(self.src, extent)?;
         let taken = take_object(self.src, self.room, keys, row, ET_REL);
         self.src.widen();
         match taken {
@@ -95,15 +88,17 @@ impl<S: Source> ArchiveMembers<'_, S> {
     /// not weak and no function.
     ///
     /// # Errors
-    /// Those of the member's header, its tables and its symbols.
+    /// Those of the member's header; it cannot be read, or there is no room for its tables.
     fn member_defines(
         &mut self,
         entry: IndexEntry,
         keys: &KeyTable<'_>,
     ) -> Result<bool, LinkFault> {
+        let at = self.place(entry.member)?;
+        self.src.widen();
         let mut header = [0; MEMBER_HEADER_BYTES];
-        let extent = self.extent(entry.member, &mut header)?;
-        self.src.narrow(extent.at, extent.size);
+        let extent = read_header_at(self.src, at, &mut header)?;
+        narrow_to(self.src, extent)?;
         let found = defines(self.src, self.room, entry, keys);
         self.src.widen();
         match found {
@@ -113,10 +108,25 @@ impl<S: Source> ArchiveMembers<'_, S> {
     }
 }
 
-impl<S: Source> Objects for ArchiveMembers<'_, S> {
-    ghost objects = { unknown_objects };
+/// Sets the range of a source of all bytes of a file to the data of a member.
+///
+/// # Errors
+/// `MemberCut` at the data if they do not lie within the file.
+fn narrow_to<S: Source>(
+    src: &mut Counted<RangeSource<S>>,
+    extent: FileRange,
+) -> Result<(), LinkFault> {
+    src.widen();
+    let length = src.length();
+    if extent.at > length || extent.size > length - extent.at {
+        return file_refused(extent.at, Cause::MemberCut);
+    }
+    src.narrow(extent.at, extent.size);
+    Ok(())
+}
 
-    ghost definitions = { unknown_definitions };
+impl<S: Source> Objects for ArchiveMembers<'_, S> {
+    ghost members = { unknown_members };
 
     fn take<'a>(
         &mut self,
@@ -146,11 +156,40 @@ impl<S: Source> Objects for ArchiveMembers<'_, S> {
 }
 
 /// Returns whether the first symbol of an entry's name in an object is a definition, not weak and no
+/// function. An object that is refused has no such symbol.
+///
+/// # Errors
+/// The object cannot be read, or there is no room for its names.
+fn defines<S: Source>(
+    src: &mut Counted<S>,
+    room: &mut LinkRoom,
+    entry: IndexEntry,
+    keys: &KeyTable<'_>,
+) -> Result<bool, LinkFault> {
+    match find_definition(src, room, entry, keys) {
+        Ok(found) => Ok(found),
+        Err(fault) if is_of_object(&fault) => Ok(false),
+        Err(fault) => Err(fault),
+    }
+}
+
+/// Returns `true` if a fault is one of the object itself.
+fn is_of_object(fault: &LinkFault) -> bool {
+    match fault {
+        LinkFault::Refused(refusal) => !matches!(
+            refusal.cause,
+            LinkCause::Refused(Cause::Budget) | LinkCause::TooManyKeys
+        ),
+        LinkFault::Read | LinkFault::Open => false,
+    }
+}
+
+/// Returns whether the first symbol of an entry's name in an object is a definition, not weak and no
 /// function.
 ///
 /// # Errors
-/// Those of its headers, its symbol table and its symbols.
-fn defines<S: Source>(
+/// Those of its headers and its symbol table.
+fn find_definition<S: Source>(
     src: &mut Counted<S>,
     room: &mut LinkRoom,
     entry: IndexEntry,
@@ -166,48 +205,49 @@ fn defines<S: Source>(
     let Some(symbols) = object.symbols else {
         return Ok(false);
     };
-    let mut cursor = Cursor::new(symbols.global_rows());
-    while let Some(next) = cursor.next(src)? {
-        let symbol = Sym::decode(next.bytes.first_chunk().unwrap());
-        if counts(&symbol) && is_named(&symbols, &symbol, next.at, room, entry, keys)? {
-            return Ok(is_data(&symbol));
+    let rows = room.strings.bytes(symbols.rows);
+    for index in symbols.first..symbols.count {
+        if let Some(symbol) = global_in(rows, index) {
+            if is_named(&symbol, symbols.names, &room.strings, entry, keys) {
+                return Ok(is_data_definition(&symbol));
+            }
         }
     }
     Ok(false)
 }
 
-/// Returns whether a symbol has the name of an entry.
-///
-/// # Errors
-/// Those of its name.
+/// Returns whether a symbol has the name of an entry; one without a valid name has not.
 fn is_named(
-    symbols: &SymbolRows,
     symbol: &Sym,
-    at: u64,
-    room: &LinkRoom,
+    names: HeldText,
+    strings: &StringBuffer,
     entry: IndexEntry,
     keys: &KeyTable<'_>,
-) -> Result<bool, LinkFault> {
-    let name = room
-        .strings
-        .name(symbols.names, u64::from(symbol.st_name), at)?;
-    let text = room.strings.bytes(name);
-    if entry.key == entry.default_key {
-        return Ok(text == keys.name(entry.key));
-    }
-    let Some((base, version)) = split_version(text, name) else {
-        return Ok(false);
+) -> bool {
+    let Ok(name) = strings.name(names, u64::from(symbol.st_name), 0) else {
+        return false;
     };
-    let base = room.strings.bytes(base);
-    let version = room.strings.bytes(version);
-    Ok(base == keys.name(entry.default_key)
-        && &keys.name(entry.key)[base.len() + 1..] == version)
+    let text = strings.bytes(name);
+    if entry.key == entry.default_key {
+        return text == keys.name(entry.key);
+    }
+    match split_version(text, name) {
+        Some((base, version)) => {
+            let base = strings.bytes(base);
+            base == keys.name(entry.default_key)
+                && version_of(keys.name(entry.key), base.len()) == strings.bytes(version)
+        }
+        None => false,
+    }
 }
 
-/// Returns `true` if a symbol is a definition, not weak and no function.
-fn is_data(symbol: &Sym) -> bool {
-    symbol.binding() != STB_WEAK
-        && !is_function(symbol)
-        && symbol.st_shndx != SHN_UNDEF
-        && !is_common(symbol.st_shndx)
+/// Returns the version of a name `NAME@VERSION` of which NAME has `size` bytes.
+fn version_of(name: &[u8], size: usize) -> &[u8] {
+    match name.split_at_checked(size) {
+        Some((_, rest)) => match rest.split_first() {
+            Some((_, version)) => version,
+            None => b"",
+        },
+        None => b"",
+    }
 }

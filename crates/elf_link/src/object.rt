@@ -1,15 +1,18 @@
 //! An object of a link: its headers, its symbol table and its string tables.
+ghost use Rattle.std.specs.Prelude.{◌≡◌, ◌<◌, IfOk};
 
-use crate::link_faults::{LinkCause, LinkFault, refused};
+use crate::link_faults::{LinkFault, refused};
 use crate::object_symbols::take_symbols;
 use crate::room::LinkRoom;
 use crate::section_groups::{drop_groups, note_sections};
 use crate::section_marks::SectionMarks;
-use crate::string_buffer::{HeldText, StringBuffer};
+use crate::string_buffer::{HeldText, StringBuffer, part_of};
+use elf_model::LinkCause;
+use elf_record::Sym;
 use elf_record::numbers::{EM_X86_64, SHT_SYMTAB};
 use elf_resolve::KeyTable;
 use elf_source::{Counted, Source};
-use elf_table::{HeaderStore, Loaded, SectionView, Table, header, load};
+use elf_table::{HeaderStore, Loaded, Names, SectionView, Table, header, load};
 
 /// The offset of the type in a file header, in bytes (gABI 4, ELF Header).
 const TYPE_AT: u64 = 16;
@@ -17,18 +20,25 @@ const TYPE_AT: u64 = 16;
 /// The offset of the machine in a file header, in bytes.
 const MACHINE_AT: u64 = 18;
 
-/// The size of a symbol in bytes.
-const SYMBOL_BYTES: u64 = 24;
+/// The offset of the index of the section of the section names in a file header, in bytes.
+const NAMES_AT: u64 = 62;
 
-/// The symbol table of a file, with its names in a buffer.
+/// The size of a symbol in bytes.
+const SYMBOL_BYTES: usize = 24;
+
+/// The symbol table of a file, with its symbols and their names in a buffer.
 #[derive(Clone, Copy)]
 pub(crate) struct SymbolRows {
     /// The index of its section.
     pub section: u16,
-    /// All symbols.
-    pub table: Table,
+    /// Its file offset in bytes.
+    pub at: u64,
+    /// How many symbols it has.
+    pub count: u64,
     /// The index of the first symbol that is not local.
     pub first: u64,
+    /// The symbols.
+    pub rows: HeldText,
     /// The names.
     pub names: HeldText,
 }
@@ -48,12 +58,10 @@ pub(crate) struct LinkObject<'v> {
 /// Where names of keys are kept while an object is taken.
 #[derive(Drop)]
 pub(crate) struct ObjectRoom<'r> {
-    /// The string tables.
+    /// The tables.
     pub strings: &'r mut StringBuffer,
-    /// The marks of sections.
+    /// Which sections are dropped.
     pub marks: &'r mut SectionMarks,
-    /// Which keys are names of sections.
-    pub names: &'r mut Vec<bool>,
 }
 
 /// Takes the section groups and the symbols of an object, which has the row `row`.
@@ -72,7 +80,6 @@ pub(crate) fn take_object<S: Source>(
         headers,
         strings,
         marks,
-        sections,
     } = room;
     let mut store = headers.store();
     let loaded = load_headers(src, &mut store, wanted)?;
@@ -81,54 +88,51 @@ pub(crate) fn take_object<S: Source>(
         store: &store,
     };
     let object = read_tables(src, view, SHT_SYMTAB, strings)?;
-    let mut held = ObjectRoom {
-        strings,
-        marks,
-        names: sections,
-    };
+    let mut held = ObjectRoom { strings, marks };
     held.marks.clear(object.view.sections());
     drop_groups(src, &object, &mut held, keys)?;
     note_sections(&object, &mut held, keys)?;
-    take_symbols(src, &object, &mut held, keys, row)
+    take_symbols(&object, &mut held, keys, row)
 }
 
 /// Loads the section headers of a file for x86-64 of a type.
 ///
 /// # Errors
-/// Those of loading; `Machine` at 18 and `Type` at 16.
+/// Those of the header, `FileType` at 16 and `Machine` at 18; those of loading.
 pub(crate) fn load_headers<S: Source>(
     src: &mut Counted<S>,
     store: &mut HeaderStore,
     wanted: u16,
-) -> Result<Loaded, LinkFault> {
+) -> Result<Loaded, LinkFault>
+    ensures { IfOk result (λ loaded. store.new.loaded ≡ loaded.header.e_shnum) }
+{
     let head = header(src)?;
-    let loaded = load(src, store, &head)?;
+    if head.e_type != wanted {
+        return refused(TYPE_AT, LinkCause::FileType);
+    }
     if head.e_machine != EM_X86_64 {
         return refused(MACHINE_AT, LinkCause::Machine);
     }
-    if head.e_type != wanted {
-        return refused(TYPE_AT, LinkCause::Type);
-    }
-    Ok(loaded)
+    Ok(load(src, store, &head)?)
 }
 
-/// Reads the string tables of the first symbol table of a type, and of the names of sections.
+/// Reads the symbols of the first symbol table of a type and their names, and the names of sections.
 ///
 /// # Errors
-/// Those of the tables; there is no room for the strings.
+/// Those of the tables; there is no room for them.
 pub(crate) fn read_tables<'v, S: Source>(
     src: &mut Counted<S>,
     view: SectionView<'v>,
     kind: u32,
     strings: &mut StringBuffer,
 ) -> Result<LinkObject<'v>, LinkFault> {
-    strings.clear();
+    strings.forget_after(0);
     let symbols = match view.first(kind) {
-        Some(section) => Some(read_symbol_names(src, &view, section, strings)?),
+        Some(section) => Some(read_symbols(src, &view, section, strings)?),
         None => None,
     };
     let sections = match view.names() {
-        Some(names) => Some(strings.read(src, names, names_place(&view))?),
+        Some(names) => Some(read_names(src, names, NAMES_AT, strings)?),
         None => None,
     };
     Ok(LinkObject {
@@ -138,40 +142,69 @@ pub(crate) fn read_tables<'v, S: Source>(
     })
 }
 
-/// Returns the file offset of the header of the section of the section names.
-fn names_place(view: &SectionView<'_>) -> u64 {
-    view.place(view.loaded.header().e_shstrndx)
-}
-
-/// Reads the string table of a symbol table.
+/// Reads a string table.
 ///
 /// # Errors
-/// Those of the tables; there is no room for the strings.
-fn read_symbol_names<S: Source>(
+/// There is no room for it; those of reading it.
+pub(crate) fn read_names<S: Source>(
+    src: &mut Counted<S>,
+    names: Names,
+    place: u64,
+    strings: &mut StringBuffer,
+) -> Result<HeldText, LinkFault> {
+    strings.read(src, names.at(), names.size(), place)
+}
+
+/// Reads a table of symbols.
+///
+/// # Errors
+/// There is no room for it; those of reading it.
+pub(crate) fn read_rows<S: Source>(
+    src: &mut Counted<S>,
+    table: Table,
+    strings: &mut StringBuffer,
+) -> Result<HeldText, LinkFault> {
+    let size = table.len().saturating_mul(SYMBOL_BYTES as u64);
+    strings.read(src, table.at(), size, table.at())
+}
+
+/// Reads a symbol table and the names of its symbols.
+///
+/// # Errors
+/// Those of the tables; there is no room for them.
+fn read_symbols<S: Source>(
     src: &mut Counted<S>,
     view: &SectionView<'_>,
     section: u16,
     strings: &mut StringBuffer,
-) -> Result<SymbolRows, LinkFault> {
+) -> Result<SymbolRows, LinkFault>
+    requires { section < view.now.store.now.loaded }
+{
     let (table, names) = view.symbols(section)?;
-    let header = view.section(section);
-    let names = strings.read(src, names, view.place(section))?;
+    let first = u64::from(view.section(section).sh_info);
+    let rows = read_rows(src, table, strings)?;
+    let names = read_names(src, names, table.at(), strings)?;
     Ok(SymbolRows {
         section,
-        table,
-        first: u64::from(header.sh_info),
+        at: table.at(),
+        count: table.len(),
+        first,
+        rows,
         names,
     })
 }
 
+/// Returns the symbol of an index in the bytes of a table, if there is one.
+pub(crate) fn symbol_in(rows: &[u8], index: u64) -> Option<Sym> {
+    let index = usize::try_from(index).ok()?;
+    let row = part_of(rows, index.saturating_mul(SYMBOL_BYTES), SYMBOL_BYTES);
+    Some(Sym::decode(row.first_chunk()?))
+}
+
 impl SymbolRows {
-    /// Returns the symbols that are not local, which come last (gABI 4, Symbol Table).
-    pub(crate) fn global_rows(&self) -> Table {
-        let local = self.first.min(self.table.len());
-        Table::new(
-            self.table.at() + SYMBOL_BYTES * local,
-            self.table.len() - local,
-            SYMBOL_BYTES,
-        )
+    /// Returns the file offset of the symbol of an index.
+    pub(crate) fn place(&self, index: u64) -> u64 {
+        self.at
+            .saturating_add(index.saturating_mul(SYMBOL_BYTES as u64))
     }
 }

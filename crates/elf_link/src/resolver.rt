@@ -3,14 +3,14 @@
 use crate::archive_index::read_index;
 use crate::archives::{ArchiveTables, LinkArchive};
 use crate::key_chains::KeyChains;
-use crate::link_faults::{LinkCause, LinkFault, LinkRefusal, full, refused};
+use crate::link_faults::{LinkFault, full, refused};
 use crate::link_files::{InputKind, LinkFiles, LinkInput, LinkPlan, LinkStep, OpenFault};
 use crate::linker_names::LinkOutput;
 use crate::member_names::MemberNames;
 use crate::members::ArchiveMembers;
 use crate::object::take_object;
 use crate::room::{LinkCaps, LinkRoom};
-use elf_model::{LinkRow, RowKind, SymbolRole, SymbolUse};
+use elf_model::{LinkCause, LinkRefusal, LinkRow, RowKind, SymbolRole, SymbolUse};
 use elf_record::numbers::ET_REL;
 use elf_resolve::{ArchiveInput, KeyTable, Link, LinkStop, RowTable, search_archive};
 use elf_source::{Counted, RangeSource, Source};
@@ -90,7 +90,7 @@ impl<'a> Resolver<'a> {
             },
             tables: ArchiveTables::new(alloc, caps.index, caps.rows)?,
             names: MemberNames::new(alloc, caps.rows)?,
-            offers: KeyChains::new(alloc, caps.keys, 2 * caps.index as usize)?,
+            offers: KeyChains::new(alloc, caps.keys, (caps.index as usize).saturating_mul(2))?,
             further: KeyChains::new(alloc, caps.keys, caps.index as usize)?,
             room: LinkRoom::new(alloc, caps)?,
             output,
@@ -150,8 +150,11 @@ impl<'a> Resolver<'a> {
             self.ask(name.as_bytes())?;
         }
         let mut place = 0;
-        while place < plan.steps.len() {
-            place = self.take_step(files, plan, place)?;
+        for _ in 0..u64::MAX {
+            let Some(step) = plan.steps.get(place) else {
+                break;
+            };
+            place = self.take_step(files, plan, *step, place)?;
         }
         Ok(())
     }
@@ -164,34 +167,34 @@ impl<'a> Resolver<'a> {
         &mut self,
         files: &mut F,
         plan: &LinkPlan,
+        step: LinkStep,
         place: usize,
     ) -> Result<usize, LinkFault> {
-        match plan.steps[place] {
+        let next = place.saturating_add(1);
+        match step {
             LinkStep::Open => {
-                let _ = self.groups.push(OpenGroup {
-                    first: place + 1,
-                    asked: self.link.keys.asked(),
-                });
-                Ok(place + 1)
+                let asked = self.link.keys.asked();
+                let _ = self.groups.push(OpenGroup { first: next, asked });
+                Ok(next)
             }
-            LinkStep::Close => Ok(self.close_group(place)),
+            LinkStep::Close => Ok(self.close_group(next)),
             LinkStep::Input(input) => {
                 self.row = None;
                 self.visit(files, plan, input)?;
-                Ok(place + 1)
+                Ok(next)
             }
         }
     }
 
     /// Ends a round of the group that began last. Returns its first step if a key was asked for in
     /// it, and otherwise the next step.
-    fn close_group(&mut self, place: usize) -> usize {
+    fn close_group(&mut self, next: usize) -> usize {
         let Some(group) = self.groups.pop() else {
-            return place + 1;
+            return next;
         };
         let asked = self.link.keys.asked();
         if asked == group.asked {
-            return place + 1;
+            return next;
         }
         let _ = self.groups.push(OpenGroup {
             first: group.first,
@@ -213,10 +216,20 @@ impl<'a> Resolver<'a> {
         let Some(known) = plan.inputs.get(input as usize) else {
             return Ok(());
         };
-        match self.states[input as usize] {
-            InputState::New => self.take_input(files, *known, input),
-            InputState::Done => Ok(()),
-            InputState::Archive(archive) => self.search_again(files, archive),
+        match self.states.get(input as usize) {
+            Some(InputState::New) => self.take_input(files, *known, input),
+            Some(InputState::Archive(archive)) => {
+                let archive = *archive;
+                self.search_again(files, archive)
+            }
+            Some(InputState::Done) | None => Ok(()),
+        }
+    }
+
+    /// Sets what is done at an input once more.
+    fn set_state(&mut self, input: u32, state: InputState) {
+        if let Some(place) = self.states.get_mut(input as usize) {
+            *place = state;
         }
     }
 
@@ -230,7 +243,7 @@ impl<'a> Resolver<'a> {
         input: LinkInput,
         index: u32,
     ) -> Result<(), LinkFault> {
-        self.states[index as usize] = InputState::Done;
+        self.set_state(index, InputState::Done);
         match input.kind {
             InputKind::Missing => {
                 self.add_row(RowKind::Missing, index)?;
@@ -342,7 +355,8 @@ impl<'a> Resolver<'a> {
         if is_whole {
             return self.take_whole(src, archive);
         }
-        self.states[input as usize] = InputState::Archive(self.tables.archives.len());
+        let index = self.tables.archives.len();
+        self.set_state(input, InputState::Archive(index));
         let _ = self.tables.archives.push(archive);
         self.search(src, archive)
     }
@@ -356,7 +370,9 @@ impl<'a> Resolver<'a> {
         files: &mut F,
         archive: usize,
     ) -> Result<(), LinkFault> {
-        let archive = self.tables.archives[archive];
+        let Some(archive) = self.tables.archives.get(archive).copied() else {
+            return Ok(());
+        };
         let mut src = self.open(files, archive.input)?;
         let taken = self.search(&mut src, archive);
         self.close(&src);
@@ -383,7 +399,7 @@ impl<'a> Resolver<'a> {
             room: &mut self.room,
             names: &mut self.names,
             archive,
-            members: &members[archive.members.0..archive.members.1],
+            members: range_of(members, archive.members),
             fault: None,
             asked: None,
         };
@@ -394,8 +410,8 @@ impl<'a> Resolver<'a> {
         let found = search_archive(
             &mut self.link,
             input,
-            &mut taken[archive.members.0..archive.members.1],
-            &entries[archive.entries.0..archive.entries.1],
+            range_of_mut(taken, archive.members),
+            range_of(entries, archive.entries),
             &mut objects,
         );
         let (fault, asked) = (objects.fault, objects.asked);
@@ -427,7 +443,7 @@ impl<'a> Resolver<'a> {
             let row = member_row(archive, member);
             self.row = self.link.rows.add(row);
         } else {
-            self.row = Some(self.link.rows.len() - 1);
+            self.row = self.link.rows.len().checked_sub(1);
         }
         Err(fault)
     }
@@ -441,14 +457,14 @@ impl<'a> Resolver<'a> {
         src: &mut Counted<RangeSource<S>>,
         archive: LinkArchive,
     ) -> Result<(), LinkFault> {
-        for member in archive.members.0..archive.members.1 {
-            let number = (member - archive.members.0) as u32;
+        let count = range_of(&self.tables.members, archive.members).len();
+        for number in 0..u32::try_from(count).unwrap_or(u32::MAX) {
             let mut objects = ArchiveMembers {
                 src,
                 room: &mut self.room,
                 names: &mut self.names,
                 archive,
-                members: &self.tables.members[archive.members.0..archive.members.1],
+                members: range_of(&self.tables.members, archive.members),
                 fault: None,
                 asked: None,
             };
@@ -466,18 +482,38 @@ impl<'a> Resolver<'a> {
 
     /// Lists by their keys the entries of indexes, and the further definitions.
     fn chain_entries(&mut self) {
-        let entries = &self.tables.entries;
-        for place in (0..entries.len()).rev() {
-            let entry = entries[place];
+        for (place, entry) in self.tables.entries.iter().enumerate().rev() {
+            let place = place.saturating_mul(2);
             if entry.default_key != entry.key {
-                self.offers.add(entry.default_key, 2 * place + 1);
+                self.offers.add(entry.default_key, place.saturating_add(1));
             }
-            self.offers.add(entry.key, 2 * place);
+            self.offers.add(entry.key, place);
         }
-        let further = self.link.keys.further();
-        for place in (0..further.len()).rev() {
-            self.further.add(further[place].key, place);
+        for (place, further) in self.link.keys.further().iter().enumerate().rev() {
+            self.further.add(further.key, place);
         }
+    }
+}
+
+/// Returns the elements from an index to another; none if there are not so many.
+fn range_of<T>(elements: &[T], range: (usize, usize)) -> &[T] {
+    match elements.split_at_checked(range.1) {
+        Some((front, _)) => match front.split_at_checked(range.0) {
+            Some((_, part)) => part,
+            None => &[],
+        },
+        None => &[],
+    }
+}
+
+/// Returns the elements from an index to another, to be changed; none if there are not so many.
+fn range_of_mut(elements: &mut [bool], range: (usize, usize)) -> &mut [bool] {
+    match elements.split_at_mut_checked(range.1) {
+        Some((front, _)) => match front.split_at_mut_checked(range.0) {
+            Some((_, part)) => part,
+            None => &mut [],
+        },
+        None => &mut [],
     }
 }
 

@@ -23,13 +23,12 @@ pub struct LinkCaps {
 }
 
 /// Memory for reading one file: its section headers, its string tables, and which of its sections
-/// are dropped; and which keys are names of sections.
+/// are dropped.
 #[derive(Drop)]
 pub struct LinkRoom {
     pub(crate) headers: HeaderBuffer,
     pub(crate) strings: StringBuffer,
     pub(crate) marks: SectionMarks,
-    pub(crate) sections: Vec<bool>,
 }
 
 impl LinkRoom {
@@ -42,7 +41,6 @@ impl LinkRoom {
             headers: HeaderBuffer::new(alloc, caps.headers)?,
             strings: StringBuffer::new(alloc, caps.key_bytes)?,
             marks: SectionMarks::new(alloc, caps.headers)?,
-            sections: vec![in alloc; false; caps.keys as usize]?,
         })
     }
 }

@@ -1,12 +1,14 @@
-//! The string tables of a file, read whole.
+//! The tables of a file, read whole.
 
-use crate::link_faults::{LinkCause, LinkFault, file_refused, refused};
+use crate::link_faults::{LinkFault, file_refused, refused};
+use elf_model::LinkCause;
 use elf_record::Cause;
 use elf_source::{Counted, READ_BYTES, Source};
-use elf_table::{Names, fill, find_nul};
+use elf_table::{fill, find_nul};
+use memchr::memchr;
 use std::alloc::{AllocError, Global};
 
-/// A string table, or a name, in a buffer.
+/// A table, or a name, in a buffer.
 #[derive(Clone, Copy)]
 pub(crate) struct HeldText {
     /// The index of its first byte.
@@ -15,7 +17,10 @@ pub(crate) struct HeldText {
     pub size: usize,
 }
 
-/// Memory for the string tables of one file. It is allocated once.
+/// An empty text.
+pub(crate) const NO_TEXT: HeldText = HeldText { start: 0, size: 0 };
+
+/// Memory for the tables of one file. It is allocated once.
 #[derive(Drop)]
 pub(crate) struct StringBuffer {
     bytes: Vec<u8>,
@@ -32,41 +37,40 @@ impl StringBuffer {
         Ok(StringBuffer { bytes, used: 0 })
     }
 
-    /// Forgets all tables.
-    pub(crate) fn clear(&mut self) {
-        self.used = 0;
+    /// Returns how many bytes have tables.
+    pub(crate) fn used(&self) -> usize {
+        self.used
     }
 
-    /// Reads a string table, each byte once.
+    /// Forgets the tables after the first `used` bytes.
+    pub(crate) fn forget_after(&mut self, used: usize) {
+        self.used = used.min(self.used);
+    }
+
+    /// Reads `size` bytes at a file offset, each once.
     ///
     /// # Errors
-    /// `TooManyKeys` at `at` if there is no room for it; otherwise a read fault, or a refusal for
-    /// lack of budget, at its offset.
+    /// `TooManyKeys` at `place` if there is no room for them; those of [`read_all`].
     pub(crate) fn read<S: Source>(
         &mut self,
         src: &mut Counted<S>,
-        table: Names,
         at: u64,
+        size: u64,
+        place: u64,
     ) -> Result<HeldText, LinkFault> {
         let start = self.used;
-        if table.size() > (self.bytes.len() - start) as u64 {
-            return refused(at, LinkCause::TooManyKeys);
-        }
-        let size = table.size() as usize;
-        let mut done = 0;
-        while done < size {
-            let count = READ_BYTES.min(size - done);
-            let place = start + done;
-            fill(src, table.at() + done as u64, &mut self.bytes[place..place + count])?;
-            done += count;
-        }
-        self.used = start + size;
+        let Some(room) = room_after(&mut self.bytes, start, size) else {
+            return refused(place, LinkCause::TooManyKeys);
+        };
+        let size = room.len();
+        read_all(src, at, room)?;
+        self.used = start.saturating_add(size);
         Ok(HeldText { start, size })
     }
 
-    /// Returns the bytes of a name.
-    pub(crate) fn bytes(&self, name: HeldText) -> &[u8] {
-        &self.bytes[name.start..name.start + name.size]
+    /// Returns the bytes of a text; none if it is not in the buffer.
+    pub(crate) fn bytes(&self, text: HeldText) -> &[u8] {
+        part_of(&self.bytes, text.start, text.size)
     }
 
     /// Returns the name at an index of a table (gABI 4, String Table). An empty table has the empty
@@ -77,14 +81,20 @@ impl StringBuffer {
     /// the table ends before the name.
     pub(crate) fn name(&self, table: HeldText, index: u64, at: u64) -> Result<HeldText, LinkFault> {
         if table.size == 0 && index == 0 {
-            return Ok(table);
+            return Ok(NO_TEXT);
         }
-        if index >= table.size as u64 {
+        let Ok(index) = usize::try_from(index) else {
+            return file_refused(at, Cause::NameOutside);
+        };
+        let rest = after(self.bytes(table), index);
+        if rest.is_empty() {
             return file_refused(at, Cause::NameOutside);
         }
-        let start = table.start + index as usize;
-        match find_nul(&self.bytes[start..table.start + table.size]) {
-            Some(size) => Ok(HeldText { start, size }),
+        match find_nul(rest) {
+            Some(size) => Ok(HeldText {
+                start: table.start.saturating_add(index),
+                size,
+            }),
             None => file_refused(at, Cause::NameUnended),
         }
     }
@@ -100,24 +110,104 @@ impl StringBuffer {
         at: u64,
     ) -> Result<HeldText, LinkFault> {
         let start = self.used;
-        let size = name.size + version.size + 1;
-        if size > self.bytes.len() - start {
+        let between = start.saturating_add(name.size);
+        let next = between.saturating_add(1);
+        let size = next.saturating_sub(start).saturating_add(version.size);
+        let is_copied = self.copy(name, start) && self.put(between, b'@') && self.copy(version, next);
+        if !is_copied {
             return refused(at, LinkCause::TooManyKeys);
         }
-        let between = start + name.size;
-        self.bytes
-            .copy_within(name.start..name.start + name.size, start);
-        self.bytes[between] = b'@';
-        self.bytes
-            .copy_within(version.start..version.start + version.size, between + 1);
         Ok(HeldText { start, size })
+    }
+
+    /// Copies a text to an index; returns `false` if it does not fit.
+    fn copy(&mut self, text: HeldText, start: usize) -> bool {
+        let length = self.bytes.len();
+        let end = text.start.saturating_add(text.size);
+        if end > length || start > length || text.size > length - start || text.start > end {
+            return false;
+        }
+        self.bytes.copy_within(text.start..end, start);
+        true
+    }
+
+    /// Writes a byte at an index; returns `false` if it does not fit.
+    fn put(&mut self, index: usize, byte: u8) -> bool {
+        match self.bytes.get_mut(index) {
+            Some(place) => {
+                *place = byte;
+                true
+            }
+            None => false,
+        }
     }
 }
 
-/// Returns the parts of a name `NAME@@VERSION`, if it is one.
+/// Returns `size` bytes from an index on, if there are so many.
+fn room_after(bytes: &mut [u8], start: usize, size: u64) -> Option<&mut [u8]> {
+    let size = usize::try_from(size).ok()?;
+    let (_, rest) = bytes.split_at_mut_checked(start)?;
+    let (room, _) = rest.split_at_mut_checked(size)?;
+    Some(room)
+}
+
+/// Returns `size` bytes from an index on; none if there are fewer.
+pub(crate) fn part_of(bytes: &[u8], start: usize, size: usize) -> &[u8] {
+    match after(bytes, start).split_at_checked(size) {
+        Some((part, _)) => part,
+        None => b"",
+    }
+}
+
+/// Returns the bytes from an index on; none past the end.
+fn after(bytes: &[u8], start: usize) -> &[u8] {
+    match bytes.split_at_checked(start) {
+        Some((_, rest)) => rest,
+        None => b"",
+    }
+}
+
+/// Fills `out` with the bytes at a file offset, in reads of at most 4,096 bytes.
+///
+/// # Errors
+/// `TableOutside` at a read that is not within the file; otherwise a read fault, or a refusal for
+/// lack of budget, at its offset.
+pub(crate) fn read_all<S: Source>(
+    src: &mut Counted<S>,
+    at: u64,
+    out: &mut [u8],
+) -> Result<(), LinkFault> {
+    let mut place = at;
+    for piece in out.chunks_mut(READ_BYTES) {
+        let count = piece.len() as u64;
+        read_piece(src, place, piece)?;
+        place = place.saturating_add(count);
+    }
+    Ok(())
+}
+
+/// Fills `out`, at most 4,096 bytes, with the bytes at a file offset.
+///
+/// # Errors
+/// Those of [`read_all`].
+fn read_piece<S: Source>(
+    src: &mut Counted<S>,
+    at: u64,
+    out: &mut [u8],
+) -> Result<(), LinkFault> {
+    let length = src.length();
+    if out.len() > READ_BYTES || at > length || out.len() as u64 > length - at {
+        return file_refused(at, Cause::TableOutside);
+    }
+    Ok(fill(src, at, out)?)
+}
+
+/// Returns the parts of a name `NAME@@VERSION`, if it is one: the first `@` is not its first byte,
+/// and another follows.
 pub(crate) fn split_version(bytes: &[u8], name: HeldText) -> Option<(HeldText, HeldText)> {
-    let place = find_mark(bytes)?;
-    if place == 0 {
+    let place = memchr(b'@', bytes)?;
+    let version = place.saturating_add(2);
+    if place == 0 || after(bytes, place).get(1) != Some(&b'@') {
         return None;
     }
     let base = HeldText {
@@ -125,18 +215,8 @@ pub(crate) fn split_version(bytes: &[u8], name: HeldText) -> Option<(HeldText, H
         size: place,
     };
     let version = HeldText {
-        start: name.start + place + 2,
-        size: name.size - place - 2,
+        start: name.start.saturating_add(version),
+        size: name.size.saturating_sub(version),
     };
     Some((base, version))
-}
-
-/// Returns the index of the first `@@` in some bytes.
-fn find_mark(bytes: &[u8]) -> Option<usize> {
-    for place in 1..bytes.len() {
-        if bytes[place] == b'@' && bytes[place - 1] == b'@' {
-            return Some(place - 1);
-        }
-    }
-    None
 }
