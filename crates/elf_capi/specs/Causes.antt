@@ -1,6 +1,6 @@
 -- The causes of refusals as numbers.
 use Rattle.std.specs.Prelude.{ℕ}
-use Rattle.elf_model.specs.declared.causes.Cause.TheVariants.{BadClass, BadData, BadLink, BadVersion, Budget, EntrySize, ExtendedNumbering, HashCycle, HashIndex, HashShape, LoadOverlap, MemberCut, NameOutside, NameUnended, NoHash, NotArchive, NotElf, NotRel, NotStrings, NoteCut, Overflow, PlaceOutside, Relr, Short, SizeNotWhole, SymbolIndex, TableOutside, Thin, TooLong, TooManyHeaders, Undefined, Unmapped, Unplaced, Unsupported, VersionCut, VersionIndex}
+use Rattle.elf_model.specs.declared.causes.Cause.TheVariants.{BadClass, BadData, BadLink, BadVersion, Budget, EntrySize, ExtendedNumbering, HashCycle, HashIndex, HashShape, LoadAlign, LoadOverlap, MemberCut, NameOutside, NameUnended, NoHash, NotArchive, NotElf, NotImage, NotRel, NotStrings, NoteCut, Overflow, PlaceOutside, Relr, Repeat, Short, SizeNotWhole, SymbolIndex, TableOutside, TableWritten, Thin, TooLong, TooManyHeaders, Undefined, Unmapped, Unplaced, Unsupported, VersionCut, VersionIndex}
 use Rattle.elf_model.specs.declared.causes.Cause.{Cause}
 
 -- the number of a cause, starting at 1; 0 is none
@@ -41,3 +41,7 @@ cause_number NotArchive = 35
 cause_number MemberCut = 36
 cause_number LoadOverlap = 37
 cause_number Relr = 38
+cause_number NotImage = 39
+cause_number LoadAlign = 40
+cause_number Repeat = 41
+cause_number TableWritten = 42

@@ -45,5 +45,9 @@ pub(crate) fn cause_number(cause: Cause) -> u32
         Cause::MemberCut => 36,
         Cause::LoadOverlap => 37,
         Cause::Relr => 38,
+        Cause::NotImage => 39,
+        Cause::LoadAlign => 40,
+        Cause::Repeat => 41,
+        Cause::TableWritten => 42,
     }
 }

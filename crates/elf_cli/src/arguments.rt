@@ -5,12 +5,12 @@ ghost use Rattle.elf_cli.specs.Described.{argument_row};
 
 use crate::arg_specs::{ArgKind, ArgSpec};
 use crate::command_sets::{
-    APPLY, ARCHIVE, BYTES, CHECK, EXPLAIN, FIND, LINES, LIST, LISTING, MANY_FILES, NEEDS, ONE_FILE,
-    READING, RESOLVE, SAMPLE, SELECTING, SHOW, TRAITS,
+    APPLY, ARCHIVE, BYTES, CHECK, EXPLAIN, FIND, IMAGE, LINES, LIST, LISTING, MANY_FILES, NEEDS,
+    ONE_FILE, READING, RESOLVE, SAMPLE, SELECTING, SHOW, TRAITS,
 };
 use clap::builder::ValueParser;
 
-static ARGUMENTS: [ArgSpec; 46] = [
+static ARGUMENTS: [ArgSpec; 51] = [
     ArgSpec {
         name: "headers",
         short: None,
@@ -314,7 +314,33 @@ static ARGUMENTS: [ArgSpec; 46] = [
         kind: ArgKind::Value("LIST"),
         help: "Also take the items in the file LIST, one per\n\
             line, any number of them",
-        commands: APPLY,
+        commands: APPLY | IMAGE,
+    },
+    ArgSpec {
+        name: "max-write",
+        short: None,
+        alias: None,
+        kind: ArgKind::Number(ValueParser::Unsigned(0, 9_223_372_036_854_775_807)),
+        help: "Write at most N bytes:\n\
+            0 to 9223372036854775807 [default: 4294967296]",
+        commands: IMAGE,
+    },
+    ArgSpec {
+        name: "leave",
+        short: None,
+        alias: None,
+        kind: ArgKind::Flag,
+        help: "Let an entry that lacks an item change nothing",
+        commands: IMAGE,
+    },
+    ArgSpec {
+        name: "missing",
+        short: None,
+        alias: None,
+        kind: ArgKind::Flag,
+        help: "Print the entries that lack an item, of the whole\n\
+            file: no SEGMENT is given then",
+        commands: IMAGE,
     },
     ArgSpec {
         name: "explain",
@@ -384,6 +410,24 @@ static ARGUMENTS: [ArgSpec; 46] = [
         help: "The section to write: its index, or its name if that\n\
             begins with a dot or a letter",
         commands: BYTES,
+    },
+    ArgSpec {
+        name: "SEGMENT",
+        short: None,
+        alias: None,
+        kind: ArgKind::Optional,
+        help: "The index of the LOAD program header to write:\n\
+            0 to 65535",
+        commands: IMAGE,
+    },
+    ArgSpec {
+        name: "ITEM",
+        short: None,
+        alias: None,
+        kind: ArgKind::Any,
+        help: "What the loader would decide: base=ADDR,\n\
+            sym:INDEX=ADDR and others, as below",
+        commands: IMAGE,
     },
     ArgSpec {
         name: "ITEM",

@@ -2,7 +2,7 @@
 use crate::explain::Explanation;
 
 /// What each cause means, in the order of the manual page.
-static CAUSES: [Explanation; 38] = [
+static CAUSES: [Explanation; 42] = [
     Explanation {
         word: "short",
         text: "    The file is shorter than a file header, 64 bytes. The offset is its size.
@@ -319,6 +319,43 @@ static CAUSES: [Explanation; 38] = [
     What to do: place the sections within 2 GiB of each other; or build with
     -mcmodel=large, or with -fPIC and a got: or plt: item. ld says: relocation
     truncated to fit.
+",
+    },
+    Explanation {
+        word: "not-image",
+        text: "    The file is no program and no shared library: e_type, at 10, is neither 2
+    nor 3; or it is not for x86-64: e_machine, at 12, is not 62. (gABI 4, ELF
+    Header)
+    What to do: link it: image takes what a loader loads. For an object file
+    (.o) use apply.
+",
+    },
+    Explanation {
+        word: "load-align",
+        text: "    A program header of type LOAD has a p_vaddr and a p_offset that do not
+    differ by a multiple of 4,096: no page of the file is at the address of a
+    page. The offset is that of the program header. (gABI 5, Program Loading)
+    What to do: the headers are damaged, or the file is for another system:
+    link it again.
+",
+    },
+    Explanation {
+        word: "repeat",
+        text: "    A dynamic entry has the tag of one before it, and relocations depend on
+    it. Loaders differ in which of the two they use. The offset is that of the
+    second. (gABI 5, Dynamic Section)
+    What to do: a tool added an entry twice, or the file is hostile: link it
+    again.
+",
+    },
+    Explanation {
+        word: "table-written",
+        text: "    The relocation would change a segment that has relocations or symbols, or
+    the dynamic entries: what a loader reads next could be another. The offset
+    is that of the entry, or of the word of a table of relative relocations.
+    (gABI 5, Dynamic Section)
+    What to do: such a file is hostile, or was made to be loaded in another
+    way: do not load it.
 ",
     },
     Explanation {

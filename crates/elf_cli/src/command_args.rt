@@ -31,6 +31,8 @@ pub enum CommandName {
     Apply,
     /// Writes the bytes of a section or of a program header.
     Bytes,
+    /// Writes a segment as a loader leaves it.
+    Image,
     /// Checks many files.
     Check,
     /// Lists many files.
@@ -121,6 +123,16 @@ pub struct CommandArgs<'a> {
     pub unused: bool,
     /// Whether only lines are written that make the status 1.
     pub problems: bool,
+    /// The program header whose segment is written as a loader leaves it.
+    pub image: Option<&'a str>,
+    /// The index of that program header, if it is given by a number.
+    pub image_index: Option<u64>,
+    /// How many bytes of a segment may be written.
+    pub max_write: Option<u64>,
+    /// Whether the entries that lack an item are printed, in place of the segment.
+    pub missing: bool,
+    /// Whether an entry that lacks an item changes nothing.
+    pub leave: bool,
     /// How many names of symbols are allowed.
     pub keys: Option<u64>,
     /// How many bytes of them are allowed.
@@ -254,6 +266,11 @@ fn read<'a>(
         symbols: options.is_set("symbols"),
         unused: options.is_set("unused"),
         problems: options.is_set("problems"),
+        image: options.text("SEGMENT"),
+        image_index: options.place("SEGMENT"),
+        max_write: options.number("max-write"),
+        missing: options.is_set("missing"),
+        leave: options.is_set("leave"),
         keys: options.number("keys"),
         key_bytes: options.number("key-bytes"),
         index: options.number("index"),

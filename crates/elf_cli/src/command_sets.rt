@@ -24,10 +24,12 @@ pub(crate) const VERSION: u16 = 1024;
 
 pub(crate) const BYTES: u16 = 2048;
 
-pub(crate) const RESOLVE: u16 = 4096;
+pub(crate) const IMAGE: u16 = 4096;
+
+pub(crate) const RESOLVE: u16 = 8192;
 
 /// Those that read the file that an argument names.
-pub(crate) const ONE_FILE: u16 = SHOW | FIND | APPLY | BYTES | ARCHIVE;
+pub(crate) const ONE_FILE: u16 = SHOW | FIND | APPLY | BYTES | IMAGE | ARCHIVE;
 
 /// Those that read many files.
 pub(crate) const MANY_FILES: u16 = CHECK | LIST | TRAITS | NEEDS;

@@ -8,18 +8,18 @@ ghost use Rattle.elf_cli.specs.Args.{command_named};
 use crate::builder::{CommandSpec, clap_command_of, new_command, with_command};
 use crate::command_args::CommandName;
 use crate::command_sets::{
-    APPLY, ARCHIVE, BYTES, CHECK, EXPLAIN, FIND, LIST, NEEDS, RESOLVE, SAMPLE, SHOW, TRAITS,
-    VERSION,
+    APPLY, ARCHIVE, BYTES, CHECK, EXPLAIN, FIND, IMAGE, LIST, NEEDS, RESOLVE, SAMPLE, SHOW,
+    TRAITS, VERSION,
 };
 use crate::texts::{
-    ABOUT, CHECKED, COPIED, EXPLAINED, FOUND, HARDENED, ITEMS, LISTED, MEMBERS, MORE, NEEDED,
-    RESOLVED, SAMPLED, SHOWN,
+    ABOUT, CHECKED, COPIED, EXPLAINED, FOUND, HARDENED, IMAGED, ITEMS, LISTED, MEMBERS, MORE,
+    NEEDED, RESOLVED, SAMPLED, SHOWN,
 };
 use clap::Command;
 use std::alloc::{AllocError, Global};
 
 // In the order of `CommandName`, which is that of help.
-static COMMANDS: [CommandSpec; 13] = [
+static COMMANDS: [CommandSpec; 14] = [
     CommandSpec {
         name: "show",
         command: CommandName::Show,
@@ -59,6 +59,14 @@ static COMMANDS: [CommandSpec; 13] = [
         bit: BYTES,
         about: "Write the bytes of a section or of a segment",
         more: COPIED,
+    },
+    CommandSpec {
+        name: "image",
+        command: CommandName::Image,
+        alias: None,
+        bit: IMAGE,
+        about: "Write a segment's bytes as a loader leaves them",
+        more: IMAGED,
     },
     CommandSpec {
         name: "check",

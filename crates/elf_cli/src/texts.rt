@@ -53,6 +53,33 @@ Examples:
 Output: the bytes, or a line
   !  place cause";
 
+pub(crate) const IMAGED: &str = "\
+The segment's bytes in memory, after a loader has relocated the file:
+  base=ADDR          the load address: what is added to each address of the file
+  sym:INDEX=ADDR     the address that dynamic symbol INDEX is bound to
+  call:INDEX=ADDR    that for calls, if it is another one
+  mod:INDEX=N        the module id of the object that it is bound in
+  dtp:INDEX=N        its value in that object
+  tp:INDEX=N         its offset from the thread pointer
+  ires:ADDR=VALUE    the answer of the resolver at ADDR of the file
+  copy:INDEX=HEX     the bytes of an object that the program copies
+  desc=ADDR          the first word of a static TLS descriptor
+With INDEX 0 mod: and tp: are of the file itself. ADDR and VALUE are 0x and 1 to
+16 hexadecimal digits, N the same or a decimal number.
+
+An entry that lacks an item is refused, or with --leave changes nothing. With
+--missing or --leave an item is also lacking for a symbol that is weak or that
+the file defines, since another object may define it.
+
+Examples:
+  elfsee image libexample.so 2 base=0x7f0000000000 sym:1=0x7f0000400010
+  elfsee image --missing libexample.so base=0x7f0000000000
+
+Output: the segment's bytes, or a line
+  !  place cause
+With --missing:
+  M  place address type symbol cause";
+
 pub(crate) const FOUND: &str = "\
 The answer is the first match in the file's SysV hash chain; a loader may
 choose differently.

@@ -157,6 +157,7 @@ fn takes_file(command: CommandName) -> bool
         | CommandName::Find
         | CommandName::Apply
         | CommandName::Bytes
+        | CommandName::Image
         | CommandName::Archive => true,
         _ => false,
     }

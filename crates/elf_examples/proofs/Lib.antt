@@ -10,3 +10,4 @@ pub mod OnBytesExamples
 pub mod OnTables
 pub mod OnGnuExamples
 pub mod OnBindings
+pub mod OnImages

@@ -51,6 +51,9 @@ pub mod ListedRelocations
 pub mod ListedVersions
 pub mod ListedChoices
 pub mod ListedRelative
+pub mod ListedLocated
+pub mod ExamplesImage
+pub mod ExamplesImageTypes
 pub mod ListedSuffixes
 pub mod LoaderWords
 pub mod ExamplesLoader

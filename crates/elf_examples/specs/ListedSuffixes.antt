@@ -197,8 +197,8 @@ SuffixesAreCounted =
     × (listing_cost (with_bytes 0x418 (little 4 3) versioned_library) 8 (with_versions 63 Columns EveryRow) SYMBOLS ≡ 64 + 8 * 64 + 6 * (24 + 64))
 
 -- their upper bound with one header: 120 bytes have room for seven rows of 16 bytes, each with a
--- version, six definitions, seven needs
+-- version, six definitions, seven needs; and with five tables as dynamic entries locate
 abbrev pub CeilingWithVersions : Type 0
 CeilingWithVersions =
     style_ceiling 120 1 (with_versions 63 Columns EveryRow)
-    ≡ 64 + (64 + 56 + 64 + 120 + 7 * (32 + 64)) + (7 * (2 + 64) + 6 * 28 + 7 * 16)
+    ≡ 64 + (64 + 56 + 64 + 120 + 7 * (32 + 64)) + (7 * (2 + 64) + 6 * 28 + 7 * 16) + 5 * (120 + 7 * (32 + 64))

@@ -14,6 +14,7 @@ mod fields;
 mod hexadecimal;
 mod interpreter_rows;
 mod lack_rows;
+mod lacking_rows;
 mod location_rows;
 mod lookup_rows;
 mod member_rows;
@@ -55,6 +56,7 @@ pub use fields::{
 };
 pub use interpreter_rows::show_interpreter;
 pub use lack_rows::show_missing;
+pub use lacking_rows::show_lacking;
 pub use location_rows::{show_member_location, show_path_location};
 pub use lookup_rows::show_steps;
 pub use member_rows::member_prefix;

@@ -164,7 +164,7 @@ pub fn cause_word(cause: Cause) -> &'static str
 }
 
 /// The words for the causes, in the order of `Cause`.
-const CAUSE_WORDS: [&str; 36] = [
+const CAUSE_WORDS: [&str; 40] = [
     "short",
     "not-elf",
     "class",
@@ -201,6 +201,10 @@ const CAUSE_WORDS: [&str; 36] = [
     "version-index",
     "load-overlap",
     "relr",
+    "not-image",
+    "load-align",
+    "repeat",
+    "table-written",
 ];
 
 /// Returns what a cause means, in plain words.
@@ -213,7 +217,7 @@ fn cause_meaning(cause: Cause) -> &'static str
 }
 
 /// What the causes mean, in the order of `Cause`.
-const CAUSE_MEANINGS: [&str; 36] = [
+const CAUSE_MEANINGS: [&str; 40] = [
     "the file is shorter than a file header",
     "not an ELF file",
     "not a 64-bit file",
@@ -250,6 +254,10 @@ const CAUSE_MEANINGS: [&str; 36] = [
     "no record names the version",
     "a LOAD segment begins on a page of the previous one, or below it",
     "no address precedes the word, or its addresses end past 2^64",
+    "not a program or a shared library for x86-64",
+    "a LOAD segment is not in whole pages at its address",
+    "a second dynamic entry with the tag",
+    "a relocation would change the tables of relocations",
 ];
 
 /// Returns the name of an object file type.

@@ -111,6 +111,18 @@ entries_are file at table found place count l = record {
   versym = l.versym ∙ listed_is file _ at table place count;
   verdef = l.verdef ∙ listed_is file _ at table place count;
   verneed = l.verneed ∙ listed_is file _ at table place count;
+  relr = l.relr ∙ listed_is file _ at table place count;
+  relrsz = l.relrsz ∙ listed_is file _ at table place count;
+  relrent = l.relrent ∙ listed_is file _ at table place count;
+  rel = l.rel ∙ listed_is file _ at table place count;
+  relsz = l.relsz ∙ listed_is file _ at table place count;
+  relent = l.relent ∙ listed_is file _ at table place count;
+  rela = l.rela ∙ listed_is file _ at table place count;
+  relasz = l.relasz ∙ listed_is file _ at table place count;
+  relaent = l.relaent ∙ listed_is file _ at table place count;
+  jmprel = l.jmprel ∙ listed_is file _ at table place count;
+  pltrelsz = l.pltrelsz ∙ listed_is file _ at table place count;
+  pltrel = l.pltrel ∙ listed_is file _ at table place count;
 }
 
 module _ (file : List ℕ) (table : TableRange) (at n before next : ℕ) (old new : DynamicTags) (less : before ≡ suc n) (there : next ≡ at + 16) (t : TakesEntry file at old new)
@@ -129,6 +141,18 @@ module _ (file : List ℕ) (table : TableRange) (at n before next : ℕ) (old ne
     versym = taken _ _ _ t.versym e.versym;
     verdef = taken _ _ _ t.verdef e.verdef;
     verneed = taken _ _ _ t.verneed e.verneed;
+    relr = taken _ _ _ t.relr e.relr;
+    relrsz = taken _ _ _ t.relrsz e.relrsz;
+    relrent = taken _ _ _ t.relrent e.relrent;
+    rel = taken _ _ _ t.rel e.rel;
+    relsz = taken _ _ _ t.relsz e.relsz;
+    relent = taken _ _ _ t.relent e.relent;
+    rela = taken _ _ _ t.rela e.rela;
+    relasz = taken _ _ _ t.relasz e.relasz;
+    relaent = taken _ _ _ t.relaent e.relaent;
+    jmprel = taken _ _ _ t.jmprel e.jmprel;
+    pltrelsz = taken _ _ _ t.pltrelsz e.pltrelsz;
+    pltrel = taken _ _ _ t.pltrel e.pltrel;
   }
 
 module _ (file : List ℕ) (table : TableRange) (at n : ℕ) (found : DynamicTags) (none : n ≡ 0)
@@ -143,6 +167,18 @@ module _ (file : List ℕ) (table : TableRange) (at n : ℕ) (found : DynamicTag
     versym = sym (entry_end file _ at n found.versym none) ∙ e.versym;
     verdef = sym (entry_end file _ at n found.verdef none) ∙ e.verdef;
     verneed = sym (entry_end file _ at n found.verneed none) ∙ e.verneed;
+    relr = sym (entry_end file _ at n found.relr none) ∙ e.relr;
+    relrsz = sym (entry_end file _ at n found.relrsz none) ∙ e.relrsz;
+    relrent = sym (entry_end file _ at n found.relrent none) ∙ e.relrent;
+    rel = sym (entry_end file _ at n found.rel none) ∙ e.rel;
+    relsz = sym (entry_end file _ at n found.relsz none) ∙ e.relsz;
+    relent = sym (entry_end file _ at n found.relent none) ∙ e.relent;
+    rela = sym (entry_end file _ at n found.rela none) ∙ e.rela;
+    relasz = sym (entry_end file _ at n found.relasz none) ∙ e.relasz;
+    relaent = sym (entry_end file _ at n found.relaent none) ∙ e.relaent;
+    jmprel = sym (entry_end file _ at n found.jmprel none) ∙ e.jmprel;
+    pltrelsz = sym (entry_end file _ at n found.pltrelsz none) ∙ e.pltrelsz;
+    pltrel = sym (entry_end file _ at n found.pltrel none) ∙ e.pltrel;
   }
 
 -- an entry that is added is at an offset that is given in other terms

@@ -8,6 +8,7 @@ pub mod SearchedTableLaws
 pub mod SysvSteps
 pub mod WalkLaws
 pub mod EntryLaws
+pub mod RelocationTableLaws
 pub mod FoundLaws
 pub mod LoadedLaws
 pub mod LoadingLaws

@@ -1,6 +1,7 @@
--- The first of dynamic entries with each of the tags that locate a lookup's tables.
+-- The first of dynamic entries with each of the tags that locate a lookup's tables and the
+-- relocations.
 use Rattle.std.specs.Prelude.{ℕ, zero, suc, ◌≡◌, ◌+◌, ◌==◌, true, false, List, Option, None, Some, option_map}
-use Rattle.elf_model.specs.Prelude.{DT_GNU_HASH, DT_HASH, DT_STRSZ, DT_STRTAB, DT_SYMTAB, DT_VERDEF, DT_VERNEED, DT_VERSYM, DYNAMIC_SIZE, d_tag, d_un, dynamic_count, tagged_row}
+use Rattle.elf_model.specs.Prelude.{DT_GNU_HASH, DT_HASH, DT_JMPREL, DT_PLTREL, DT_PLTRELSZ, DT_REL, DT_RELA, DT_RELAENT, DT_RELASZ, DT_RELENT, DT_RELR, DT_RELRENT, DT_RELRSZ, DT_RELSZ, DT_STRSZ, DT_STRTAB, DT_SYMTAB, DT_VERDEF, DT_VERNEED, DT_VERSYM, DYNAMIC_SIZE, d_tag, d_un, dynamic_count, tagged_row}
 use Rattle.elf_table.specs.Tables.{TableRange}
 use Rattle.elf_hash.specs.declared.dyn_entry.DynamicTags.{DynamicTags}
 use Rattle.elf_hash.specs.declared.dyn_entry.DynEntry.{DynEntry}
@@ -37,10 +38,22 @@ pub record EachTag (P : Option DynEntry → ℕ → Type 0) (found : DynamicTags
   pub versym : P found.versym DT_VERSYM
   pub verdef : P found.verdef DT_VERDEF
   pub verneed : P found.verneed DT_VERNEED
+  pub relr : P found.relr DT_RELR
+  pub relrsz : P found.relrsz DT_RELRSZ
+  pub relrent : P found.relrent DT_RELRENT
+  pub rel : P found.rel DT_REL
+  pub relsz : P found.relsz DT_RELSZ
+  pub relent : P found.relent DT_RELENT
+  pub rela : P found.rela DT_RELA
+  pub relasz : P found.relasz DT_RELASZ
+  pub relaent : P found.relaent DT_RELAENT
+  pub jmprel : P found.jmprel DT_JMPREL
+  pub pltrelsz : P found.pltrelsz DT_PLTRELSZ
+  pub pltrel : P found.pltrel DT_PLTREL
 
 -- no entry
 abbrev pub no_entries : DynamicTags
-no_entries = record { hash = None; gnu_hash = None; symtab = None; strtab = None; strsz = None; versym = None; verdef = None; verneed = None }
+no_entries = record { hash = None; gnu_hash = None; symtab = None; strtab = None; strsz = None; versym = None; verdef = None; verneed = None; relr = None; relrsz = None; relrent = None; rel = None; relsz = None; relent = None; rela = None; relasz = None; relaent = None; jmprel = None; pltrelsz = None; pltrel = None }
 
 -- the entry at an offset is added after others
 pub record TakesEntry (file : List ℕ) (at : ℕ) (old new : DynamicTags) : Type 0 where
@@ -52,6 +65,18 @@ pub record TakesEntry (file : List ℕ) (at : ℕ) (old new : DynamicTags) : Typ
   pub versym : new.versym ≡ first_entry old.versym (entry_here file at DT_VERSYM)
   pub verdef : new.verdef ≡ first_entry old.verdef (entry_here file at DT_VERDEF)
   pub verneed : new.verneed ≡ first_entry old.verneed (entry_here file at DT_VERNEED)
+  pub relr : new.relr ≡ first_entry old.relr (entry_here file at DT_RELR)
+  pub relrsz : new.relrsz ≡ first_entry old.relrsz (entry_here file at DT_RELRSZ)
+  pub relrent : new.relrent ≡ first_entry old.relrent (entry_here file at DT_RELRENT)
+  pub rel : new.rel ≡ first_entry old.rel (entry_here file at DT_REL)
+  pub relsz : new.relsz ≡ first_entry old.relsz (entry_here file at DT_RELSZ)
+  pub relent : new.relent ≡ first_entry old.relent (entry_here file at DT_RELENT)
+  pub rela : new.rela ≡ first_entry old.rela (entry_here file at DT_RELA)
+  pub relasz : new.relasz ≡ first_entry old.relasz (entry_here file at DT_RELASZ)
+  pub relaent : new.relaent ≡ first_entry old.relaent (entry_here file at DT_RELAENT)
+  pub jmprel : new.jmprel ≡ first_entry old.jmprel (entry_here file at DT_JMPREL)
+  pub pltrelsz : new.pltrelsz ≡ first_entry old.pltrelsz (entry_here file at DT_PLTRELSZ)
+  pub pltrel : new.pltrel ≡ first_entry old.pltrel (entry_here file at DT_PLTREL)
 
 -- they are the first listed entries of a table
 abbrev pub AreListed : List ℕ → TableRange → DynamicTags → Type 0

@@ -2,6 +2,7 @@ pub mod Counts
 pub mod Extents
 pub mod HashStyles
 pub mod Lookups
+pub mod RelocationTables
 pub mod Results
 pub mod SearchedTables
 pub mod Tables

@@ -9,6 +9,7 @@ pub use Rattle.elf_hash.specs.HashStyles.{hash_style_of}
 pub use Rattle.elf_hash.specs.Loading.{LoadsSegments, segments_load_cost}
 pub use Rattle.elf_hash.specs.LookupTablesFound.{FindsLookupTables, IsLookupTables, LookupTablesInBounds}
 pub use Rattle.elf_hash.specs.Lookups.{AnswersSysvLookup, GivesLookup, LooksBySysv, looked_after, lookup_in, step_bytes, symbol_bytes}
+pub use Rattle.elf_hash.specs.RelocationTables.{AreTableEntries, FindsSymbols, IsEntryOf, LocatedInBounds, located_by}
 pub use Rattle.elf_hash.specs.Results.{RefusesAs, ReturnsAs}
 pub use Rattle.elf_hash.specs.SearchedTables.{HasCounts, HashTableInBounds, IsPlaceIn, IsTable, ReturnsExcluded, counts_bytes, place_of_table, walked_in}
 pub use Rattle.elf_hash.specs.Segments.{AreRowsSymbols, ReturnsHash, TellSymbols, entries_asked, rows_records, scope_by_entries, version_rows}

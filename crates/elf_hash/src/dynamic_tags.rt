@@ -1,4 +1,4 @@
-//! The dynamic entries that locate a lookup's tables.
+//! The dynamic entries that locate a lookup's tables and the relocations.
 ghost use Rattle.std.specs.Prelude.{◌≡◌, ℕ, List, IfErr, IfOk};
 ghost use Rattle.elf_record.specs.Dyn.{IsDyn};
 ghost use Rattle.elf_table.specs.Prelude.{CallDid, IsOfRead, TableInBounds, fault_of_result, size_of};
@@ -7,13 +7,19 @@ ghost use Rattle.elf_hash.specs.Entries.{AreListed, TakesEntry, entry_here, firs
 use crate::dyn_entry::{DynEntry, DynamicTags};
 use elf_note::{dynamic_rows, entry_in};
 use elf_record::Dyn;
-use elf_record::gnu_numbers::{DT_GNU_HASH, DT_VERDEF, DT_VERNEED, DT_VERSYM};
-use elf_record::numbers::{DT_HASH, DT_STRSZ, DT_STRTAB, DT_SYMTAB};
+use elf_record::gnu_numbers::{
+    DT_GNU_HASH, DT_RELR, DT_RELRENT, DT_RELRSZ, DT_VERDEF, DT_VERNEED, DT_VERSYM,
+};
+use elf_record::numbers::{
+    DT_HASH, DT_JMPREL, DT_PLTREL, DT_PLTRELSZ, DT_REL, DT_RELA, DT_RELAENT, DT_RELASZ, DT_RELENT,
+    DT_RELSZ, DT_STRSZ, DT_STRTAB, DT_SYMTAB,
+};
 use elf_source::{Counted, Source};
 use elf_table::{Fault, Table};
 
 /// Iterates over the dynamic entries of a table, whose rows have 16 bytes, up to and including the
-/// first DT_NULL, and returns the first entry with each of the tags that locate a lookup's tables.
+/// first DT_NULL, and returns the first entry with each of the tags that locate a lookup's tables
+/// and the relocations.
 /// It reads each byte of the table at most once.
 ///
 /// # Errors
@@ -47,6 +53,18 @@ fn nothing() -> DynamicTags
         versym: None,
         verdef: None,
         verneed: None,
+        relr: None,
+        relrsz: None,
+        relrent: None,
+        rel: None,
+        relsz: None,
+        relent: None,
+        rela: None,
+        relasz: None,
+        relaent: None,
+        jmprel: None,
+        pltrelsz: None,
+        pltrel: None,
     }
 }
 
@@ -63,6 +81,18 @@ fn with_entry(found: &DynamicTags, at: u64, entry: &Dyn) -> DynamicTags
         versym: first_of(found.versym, DT_VERSYM, at, entry),
         verdef: first_of(found.verdef, DT_VERDEF, at, entry),
         verneed: first_of(found.verneed, DT_VERNEED, at, entry),
+        relr: first_of(found.relr, DT_RELR, at, entry),
+        relrsz: first_of(found.relrsz, DT_RELRSZ, at, entry),
+        relrent: first_of(found.relrent, DT_RELRENT, at, entry),
+        rel: first_of(found.rel, DT_REL, at, entry),
+        relsz: first_of(found.relsz, DT_RELSZ, at, entry),
+        relent: first_of(found.relent, DT_RELENT, at, entry),
+        rela: first_of(found.rela, DT_RELA, at, entry),
+        relasz: first_of(found.relasz, DT_RELASZ, at, entry),
+        relaent: first_of(found.relaent, DT_RELAENT, at, entry),
+        jmprel: first_of(found.jmprel, DT_JMPREL, at, entry),
+        pltrelsz: first_of(found.pltrelsz, DT_PLTRELSZ, at, entry),
+        pltrel: first_of(found.pltrel, DT_PLTREL, at, entry),
     }
 }
 

@@ -52,7 +52,7 @@ pub(crate) fn segment_symbols(
 }
 
 /// Returns the entries that locate symbols and their strings, and hold the size of these.
-fn symbol_entries(found: &DynamicTags) -> Option<(DynEntry, DynEntry, DynEntry)>
+pub(crate) fn symbol_entries(found: &DynamicTags) -> Option<(DynEntry, DynEntry, DynEntry)>
     ensures { TellSymbols found.now result }
 {
     let Some(symtab) = found.symtab else {
@@ -68,7 +68,7 @@ fn symbol_entries(found: &DynamicTags) -> Option<(DynEntry, DynEntry, DynEntry)>
 }
 
 /// Returns as many rows of `entry` bytes as fit into a range.
-fn rows_in(bytes: Table, entry: u64) -> Table
+pub(crate) fn rows_in(bytes: Table, entry: u64) -> Table
     requires bytes { bytes.entry ≡ 1 }
     requires entry { (0 < entry) × (entry ≤ 4096) }
     ensures { result ≡ record { at = bytes.at; count = bytes.count / entry; entry = entry } }

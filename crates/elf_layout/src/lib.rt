@@ -19,5 +19,5 @@ pub use items::{Items, LayoutFileFault};
 pub use layout::{Item, Layout, LayoutFault};
 pub use lent::{LentName, LentSection, SortedNames, SortedSections, is_name};
 pub use named::{ITEM_NAME_BYTES, NamedAddress};
-pub use spelled::item;
+pub use spelled::{address_of, behind, item, number, parted};
 pub use texts::{TextEnd, read_text};

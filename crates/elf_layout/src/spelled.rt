@@ -30,7 +30,7 @@ pub fn item(word: &str) -> Option<Item<'_>>
 }
 
 /// Returns what is before and after the last `=`.
-fn parted(word: &str) -> Option<(&str, &str)>
+pub fn parted(word: &str) -> Option<(&str, &str)>
     ensures parts { IfSome result (λ parts. IsSplitAtEquals word.now parts.0.now parts.1.now) }
     ensures none { IsNone result → (key text : List ℕ) → IsSplitAtEquals word.now key text → ⊥ }
 {
@@ -38,7 +38,7 @@ fn parted(word: &str) -> Option<(&str, &str)>
 }
 
 /// Returns what follows a text that the argument begins with.
-fn behind<'a>(word: &'a str, front: &str) -> Option<&'a str>
+pub fn behind<'a>(word: &'a str, front: &str) -> Option<&'a str>
     ensures rest { IfSome result (λ rest. word.now ≡ front.now ++ rest.now) }
     ensures none { IsNone result → (rest : List ℕ) → word.now ≢ front.now ++ rest }
 {
@@ -46,7 +46,7 @@ fn behind<'a>(word: &'a str, front: &str) -> Option<&'a str>
 }
 
 /// Parses an address.
-fn address_of(text: &str) -> Option<u64>
+pub fn address_of(text: &str) -> Option<u64>
     ensures address { IfSome result (IsAddress text.now) }
     ensures none { IsNone result → (address : ℕ) → IsAddress text.now address → ⊥ }
 {
@@ -54,7 +54,7 @@ fn address_of(text: &str) -> Option<u64>
 }
 
 /// Parses a number of 1 to `most` digits.
-fn number(digits: &str, radix: u32, most: usize) -> Option<u64>
+pub fn number(digits: &str, radix: u32, most: usize) -> Option<u64>
     requires { (2 ≤ radix) × (radix ≤ 36) × (radix ^ most ≤ 2 ^ 64) }
     ensures number { IfSome result (IsNumber radix most digits.now) }
     ensures none { IsNone result → IsNumeral radix digits.now → length digits.now ≤ most → ⊥ }

@@ -1,8 +1,8 @@
 -- What is left for the members after a member is reduced by what that may cost.
-use Rattle.std.proofs.Common.{◌≡◌, ℕ, ◌+◌, ◌-◌, ◌*◌, ◌/◌, ◌≤◌, if◌then◌else◌, Bool, true, false, ap, arith}
+use Rattle.std.proofs.Common.{◌≡◌, ℕ, ◌+◌, ◌-◌, ◌*◌, ◌/◌, ◌≤◌, if◌then◌else◌, Bool, true, false, refl, ap, arith}
 use Rattle.std.proofs.Math.Nat.{mul-le-mul_left, mul-le-mul_right, mul-add, add-mul}
-use Rattle.elf_model.specs.Prelude.{ListingStyle, allowance, archive_ceiling, data_most, long_name_bytes, name_bytes, style_ceiling, suffixes_most}
-use Rattle.elf_model.proofs.CostLemmas.{style_ceiling-is}
+use Rattle.elf_model.specs.Prelude.{ListingStyle, allowance, archive_ceiling, cost_where, data_ceiling, data_most, follows_dynamic, located_most, long_name_bytes, name_bytes, style_ceiling, suffixes_most}
+use Rattle.elf_model.proofs.CostLemmas.{tables_ceiling-is}
 use Rattle.elf_model.proofs.TableBounds.{most_bound}
 
 -- an empty file has no data
@@ -11,7 +11,12 @@ no_data true cap = omega arith
 no_data false cap = omega arith
 
 -- a ceiling is that of an empty file, and what the data may cost
-pub ceiling_is : (size headers : ℕ) (style : ListingStyle) → style_ceiling size headers style ≡ style_ceiling 0 headers style + headers * data_most size style
+none_located : (follows : Bool) (cap : ℕ) → cost_where follows (located_most 0 cap) ≡ 0
+none_located true cap = omega arith
+none_located false cap = refl
+
+pub ceiling_is : (size headers : ℕ) (style : ListingStyle) → style_ceiling size headers style ≡ style_ceiling 0 headers style + data_ceiling size headers style
+unfolding style_ceiling
 ceiling_is size headers style =
     let bare : ℕ = 120 + name_bytes style.cap in
     let more : ℕ = most_bound style.versions size style.cap in
@@ -19,7 +24,7 @@ ceiling_is size headers style =
     let none : headers * (bare + most_bound style.versions 0 style.cap) ≡ headers * bare =
     ap (λ k. headers * k) (omega (arith, no_data style.versions style.cap)) in
     let same : headers * data_most size style ≡ headers * more = ap (λ k. headers * k) (omega arith) in
-    omega (arith, split, none, same, style_ceiling-is size headers style, style_ceiling-is 0 headers style)
+    omega (arith, split, none, same, none_located (follows_dynamic style) style.cap, tables_ceiling-is size headers style, tables_ceiling-is 0 headers style)
 
 -- the data of a part and of the rest cost no more than all
 each_within : (part rest all each : ℕ) → part + rest ≤ all → (part + part / 16 * each) + (rest + rest / 16 * each) ≤ all + all / 16 * each
@@ -48,6 +53,11 @@ data_within part rest all style within =
     let more = more_within style.versions part rest all style.cap within in
     omega (arith, plain, more)
 
+located_parts : (follows : Bool) (part rest all cap : ℕ) → part + rest ≤ all
+    → cost_where follows (located_most part cap) + cost_where follows (located_most rest cap) ≤ cost_where follows (located_most all cap)
+located_parts true part rest all cap within = omega (arith, each_within part rest all (32 + name_bytes cap) within)
+located_parts false part rest all cap within = omega arith
+
 -- a member takes what it may cost of an allowance
 pub allowed : (room rest size headers : ℕ) (style : ListingStyle) → 60 + size + rest ≤ room
     → (60 + long_name_bytes style.cap) + (4 + style_ceiling size headers style) + allowance rest headers style ≤ allowance room headers style
@@ -60,7 +70,8 @@ allowed room rest size headers style within =
     let filled : headers * (data_most size style + data_most rest style) ≤ headers * data_most room style = mul-le-mul_left headers less in
     let both : headers * (data_most size style + data_most rest style) ≡ headers * data_most size style + headers * data_most rest style =
     mul-add headers (data_most size style) (data_most rest style) in
-    omega (arith, product, split, filled, both, ceiling_is size headers style)
+    let located = located_parts (follows_dynamic style) size rest room style.cap (omega arith) in
+    omega (arith, product, split, filled, both, located, ceiling_is size headers style)
 
 -- a member's header takes no more
 pub header_allowed : (room headers : ℕ) (style : ListingStyle) → 60 ≤ room → 60 + long_name_bytes style.cap ≤ allowance room headers style
@@ -75,4 +86,5 @@ allowance_within size headers style =
     let product : (size - 8) / 60 * bare ≤ size / 60 * bare = mul-le-mul_right bare few in
     let less : data_most (size - 8) style ≤ data_most size style = omega (arith, data_within (size - 8) 0 size style (omega arith)) in
     let filled : headers * data_most (size - 8) style ≤ headers * data_most size style = mul-le-mul_left headers less in
-    omega (arith, product, filled, ceiling_is size headers style)
+    let located = located_parts (follows_dynamic style) (size - 8) 0 size style.cap (omega arith) in
+    omega (arith, product, filled, located, ceiling_is size headers style)

@@ -1,6 +1,6 @@
 -- Which refusals are budget refusals.
 use Rattle.std.proofs.Common.{◌≡◌, inl, inr, ◌⊎◌, refl}
-use Rattle.elf_model.specs.declared.causes.Cause.TheVariants.{BadClass, BadData, BadLink, BadVersion, Budget, EntrySize, ExtendedNumbering, HashCycle, HashIndex, HashShape, LoadOverlap, MemberCut, NameOutside, NameUnended, NoHash, NotArchive, NotElf, NotRel, NotStrings, NoteCut, Overflow, PlaceOutside, Relr, Short, SizeNotWhole, SymbolIndex, TableOutside, Thin, TooLong, TooManyHeaders, Undefined, Unmapped, Unplaced, Unsupported, VersionCut, VersionIndex}
+use Rattle.elf_model.specs.declared.causes.Cause.TheVariants.{BadClass, BadData, BadLink, BadVersion, Budget, EntrySize, ExtendedNumbering, HashCycle, HashIndex, HashShape, LoadAlign, LoadOverlap, MemberCut, NameOutside, NameUnended, NoHash, NotArchive, NotElf, NotImage, NotRel, NotStrings, NoteCut, Overflow, PlaceOutside, Relr, Repeat, Short, SizeNotWhole, SymbolIndex, TableOutside, TableWritten, Thin, TooLong, TooManyHeaders, Undefined, Unmapped, Unplaced, Unsupported, VersionCut, VersionIndex}
 use Rattle.elf_model.specs.declared.causes.Cause.{Cause}
 
 -- whether a refusal is a budget refusal
@@ -41,3 +41,7 @@ is_budget_fault VersionCut = inr (λ e. cc)
 is_budget_fault VersionIndex = inr (λ e. cc)
 is_budget_fault LoadOverlap = inr (λ e. cc)
 is_budget_fault Relr = inr (λ e. cc)
+is_budget_fault NotImage = inr (λ e. cc)
+is_budget_fault LoadAlign = inr (λ e. cc)
+is_budget_fault Repeat = inr (λ e. cc)
+is_budget_fault TableWritten = inr (λ e. cc)

@@ -2,7 +2,7 @@
 use Rattle.std.proofs.Common.{◌≡◌, ℕ, if◌then◌else◌, ◌+◌, ◌*◌, ◌/◌, ◌≤◌, ◌==◌, ◌&&◌, ◌||◌, not, Bool, true, false, List, ◌++◌, length, refl, ap, ◌∙◌, arith}
 use Rattle.std.proofs.Math.Nat.{mul-le-mul_left, mul-le-mul_right, mul-add}
 use Rattle.std.proofs.lemmas.Bool.{ltb-false, eqb-true}
-use Rattle.elf_model.specs.Prelude.{CostIsWithinCeiling, HeaderTable, ListingStyle, SuffixesAreWithinMost, TableHeaders, after_header as asked_after, by_sections, by_segments, ceiling, cost_where, e_phnum, e_shnum, e_shstrndx, early_checks, either_kind, entries_kind, file_sections, file_segments, gnu_relocations, has, has_tables, header_checks, header_field, is_loadable, is_symbol_table, kinds_cost, known_parts, listing_cost, name_bytes, needs_segments, pass, relative_relocations, relocation_type, relocations, relocations_with_versions, section_kinds, sections_cost, segment_kinds, segments_cost, sh_link, sh_size, sh_type, style_ceiling, suffixed_symbols, suffixes_most, sum_over, symbols, table_checks_of, table_cost, table_headers, tables_cost, viewed}
+use Rattle.elf_model.specs.Prelude.{CostIsWithinCeiling, HeaderTable, ListingStyle, SuffixesAreWithinMost, TableHeaders, after_header as asked_after, by_sections, by_segments, ceiling, cost_where, e_phnum, e_shnum, e_shstrndx, early_checks, either_kind, entries_kind, file_sections, file_segments, follows_dynamic, gnu_relocations, has, has_tables, header_checks, header_field, is_loadable, is_symbol_table, kinds_cost, known_parts, listing_cost, located_cost, located_most, name_bytes, needs_segments, pass, relative_relocations, relocation_type, relocations, relocations_with_versions, section_kinds, sections_cost, segment_kinds, segments_cost, sh_link, sh_size, sh_type, style_ceiling, suffixed_symbols, suffixes_most, sum_over, symbols, table_checks_of, table_cost, table_headers, tables_ceiling, tables_cost, viewed}
 use Rattle.elf_model.specs.TableKinds.{relocations_kind}
 use Rattle.elf_model.proofs.CheckSteps.{all_pass, pass-behind}
 use Rattle.elf_model.proofs.KindLists.{section_kinds-le, segment_kinds-le}
@@ -118,7 +118,7 @@ headers_some gnu versions file h = rw (h, table_headers) refl
 
 -- if there are no sections, all tables are those of the program headers
 without_sections : (file : List ℕ) (style : ListingStyle) (parts headers : ℕ) → (e_shnum file == 0) ≡ true → e_phnum file ≤ headers
-    → sections_cost file style.cap parts + segments_cost file parts + tables_cost file style parts
+    → sections_cost file style.cap parts + segments_cost file style parts + tables_cost file style parts
     ≤ headers * (120 + name_bytes style.cap + most_bound style.versions (length file) style.cap)
 unfolding sections_cost segments_cost tables_cost
 without_sections file style parts headers z p =
@@ -128,7 +128,7 @@ without_sections file style parts headers z p =
     let tables = sum_over-le (λ i. kinds_cost segment_kinds (file_segments file) i (length file) cap parts) bound 0 (e_phnum file)
     (λ i. segment_kinds-le (file_segments file) i (length file) cap parts) in
     let same = ap (tables_by file cap parts) (headers_none style.gnu style.versions file z) in
-    let a = cost_where-le (needs_segments file parts) (56 * e_phnum file) in
+    let a = cost_where-le (needs_segments file style parts) (56 * e_phnum file) in
     let c = cost_where-le (has parts 2 && not (e_shstrndx file == 0)) (e_shnum file * name_bytes cap) in
     let d : e_shnum file * name_bytes cap ≡ 0 * name_bytes cap = ap (λ (k : ℕ). k * name_bytes cap) n in
     let all = headers_within 56 (name_bytes cap) bound (e_phnum file) headers _ p (omega arith) tables in
@@ -138,7 +138,7 @@ without_sections file style parts headers z p =
 
 -- if there are sections, they are those of the section headers
 with_sections : (file : List ℕ) (style : ListingStyle) (parts headers : ℕ) → (e_shnum file == 0) ≡ false → e_shnum file ≤ headers → e_phnum file ≤ headers
-    → sections_cost file style.cap parts + segments_cost file parts + tables_cost file style parts
+    → sections_cost file style.cap parts + segments_cost file style parts + tables_cost file style parts
     ≤ headers * (120 + name_bytes style.cap + most_bound style.versions (length file) style.cap)
 unfolding sections_cost segments_cost tables_cost
 with_sections file style parts headers z s p =
@@ -148,7 +148,7 @@ with_sections file style parts headers z s p =
     let tables = sum_over-le (λ i. kinds_cost (section_kinds style.gnu style.versions) (file_sections file) i (length file) cap parts) bound 0 (e_shnum file)
     (λ i. section_kinds-le (file_sections file) i (length file) cap style.gnu style.versions parts) in
     let same = ap (tables_by file cap parts) (headers_some style.gnu style.versions file z) in
-    let a = cost_where-le (needs_segments file parts) (56 * e_phnum file) in
+    let a = cost_where-le (needs_segments file style parts) (56 * e_phnum file) in
     let c = cost_where-le (has parts 2 && not (e_shstrndx file == 0)) (e_shnum file * n) in
     let m : e_shnum file * (64 + n + bound) ≤ headers * (64 + n + bound) = mul-le-mul_right (64 + n + bound) s in
     let e : e_shnum file * (64 + n + bound) ≡ e_shnum file * 64 + e_shnum file * n + e_shnum file * bound =
@@ -159,18 +159,18 @@ with_sections file style parts headers z s p =
 
 -- what is read after the file header is within the ceiling
 after_header : (file : List ℕ) (style : ListingStyle) (parts headers : ℕ) (none : Bool) → (e_shnum file == 0) ≡ none → is_loadable file headers ≡ true
-    → sections_cost file style.cap parts + segments_cost file parts + tables_cost file style parts
+    → sections_cost file style.cap parts + segments_cost file style parts + tables_cost file style parts
     ≤ headers * (120 + name_bytes style.cap + most_bound style.versions (length file) style.cap)
 after_header file style parts headers true z h = without_sections file style parts headers z (loadable-within file headers h).1
 after_header file style parts headers false z h =
     let l = loadable-within file headers h in
     with_sections file style parts headers z l.0 l.1
 
--- the ceiling of a style, by that of the tables of each header
-pub style_ceiling-is : (size headers : ℕ) (style : ListingStyle)
-    → style_ceiling size headers style ≡ 64 + headers * (120 + name_bytes style.cap + most_bound style.versions size style.cap)
-unfolding style_ceiling ceiling
-style_ceiling-is size headers style = by_cases style.versions
+-- the ceiling of the tables of a style, by that of the tables of each header
+pub tables_ceiling-is : (size headers : ℕ) (style : ListingStyle)
+    → tables_ceiling size headers style ≡ 64 + headers * (120 + name_bytes style.cap + most_bound style.versions size style.cap)
+unfolding tables_ceiling ceiling
+tables_ceiling-is size headers style = by_cases style.versions
   where
     by_cases : (versions : Bool) → (if versions then ceiling size headers style.cap + headers * suffixes_most size style.cap else ceiling size headers style.cap)
         ≡ 64 + headers * (120 + name_bytes style.cap + most_bound versions size style.cap)
@@ -189,14 +189,32 @@ style_ceiling-is size headers style = by_cases style.versions
         ap (λ (k : ℕ). headers * k) (omega arith) in
         omega (arith, same)
 
+-- what dynamic entries locate is within its own, if the style follows them
+located_within : (none follows asked : Bool) (most : ℕ) → cost_where (none && (follows && asked)) most ≤ cost_where follows most
+located_within true true true most = omega arith
+located_within true true false most = omega arith
+located_within true false asked most = omega arith
+located_within false follows asked most = omega arith
+
+-- the same of two conditions
+both_within : (passes : Bool) (one other a b : ℕ) → cost_where passes one ≤ a → other ≤ b → cost_where passes (one + other) ≤ a + b
+both_within true one other a b h g = omega (arith, h, g)
+both_within false one other a b h g = omega arith
+
 -- what a listing reads is within it
 after_within : (file : List ℕ) (headers : ℕ) (style : ListingStyle) (parts : ℕ) → 64 + asked_after file headers style parts ≤ style_ceiling (length file) headers style
+unfolding style_ceiling located_cost
 after_within file headers style parts =
-    let within = cost_where-within (has_tables parts && is_loadable file headers)
-    (sections_cost file style.cap parts + segments_cost file parts + tables_cost file style parts)
-    (headers * (120 + name_bytes style.cap + most_bound style.versions (length file) style.cap))
+    let passes : Bool = has_tables parts && is_loadable file headers in
+    let tables : ℕ = sections_cost file style.cap parts + segments_cost file style parts + tables_cost file style parts in
+    let within = cost_where-within passes tables (headers * (120 + name_bytes style.cap + most_bound style.versions (length file) style.cap))
     (λ h. after_header file style parts headers (e_shnum file == 0) refl (and-second (has_tables parts) (is_loadable file headers) h)) in
-    omega (arith, within, style_ceiling-is (length file) headers style)
+    let most : ℕ = located_most (length file) style.cap in
+    let located = located_within (e_shnum file == 0) (follows_dynamic style) (has parts 16) most in
+    let both = both_within passes tables (located_cost file style parts) _ _ within located in
+    let order : sections_cost file style.cap parts + segments_cost file style parts + located_cost file style parts + tables_cost file style parts ≡ tables + located_cost file style parts = omega arith in
+    let same = ap (cost_where passes) order in
+    omega (arith, both, same, tables_ceiling-is (length file) headers style)
 
 pub suffixes_within_most : SuffixesAreWithinMost
 suffixes_within_most gnu headers i size cap parts = suffixed_kinds-le headers i size cap gnu parts

@@ -1,6 +1,6 @@
 -- The row at an offset by headers that were copied from a file is that by the file's.
 use Rattle.std.proofs.Common.{◌≡◌, ℕ, ◌<◌, List, Option, None, Some, refl, ap, sym, ◌∙◌, arith}
-use Rattle.elf_model.specs.Prelude.{HeaderTable, PROGRAM_HEADER_SIZE, SECTION_HEADER_SIZE, e_shnum, entry_number, field, file_sections, first_that, header_field, held_headers, is_in_section, is_in_segment, p_offset, p_type, row_in_segments, row_in_tables, section_at, section_entry_size, segment_at, segment_entry_size, sh_offset, sh_type, slice, table_segments}
+use Rattle.elf_model.specs.Prelude.{HeaderTable, ListingStyle, PROGRAM_HEADER_SIZE, SECTION_HEADER_SIZE, e_shnum, entry_number, field, file_sections, first_that, header_field, held_headers, is_in_section, is_in_segment, p_offset, p_type, row_in_segments, row_in_tables, section_at, section_entry_size, segment_at, segment_entry_size, sh_offset, sh_type, slice, table_segments}
 use Rattle.elf_model.specs.declared.fault_rows.FaultRow.{FaultRow}
 use Rattle.elf_model.specs.declared.fault_rows.FaultRow.TheVariants.{NoRow, Section, Segment}
 use Rattle.elf_model.proofs.HeldHeaders.{AreHeld, first_that-equal, offset_held, p_filesz_held, p_offset_held, p_type_held, size_held, type_held}
@@ -66,15 +66,15 @@ tables_row sections some all at same =
     by_found (Some i) = refl
 
 -- THE ROW by headers in bytes of their own
-pub row_held : (file : List ℕ) (parts : ℕ) (section segment : ℕ → List ℕ) (at : ℕ)
+pub row_held : (file : List ℕ) (style : ListingStyle) (parts : ℕ) (section segment : ℕ → List ℕ) (at : ℕ)
     → ((i : ℕ) → i < e_shnum file → section i ≡ slice file (section_at file i) SECTION_HEADER_SIZE)
-    → ((i : ℕ) → i < (table_segments file parts).count → segment i ≡ slice file (segment_at file i) PROGRAM_HEADER_SIZE)
-    → row_in_tables (held_headers (e_shnum file) section) (held_headers (table_segments file parts).count segment) at
-    ≡ row_in_tables (file_sections file) (table_segments file parts) at
-row_held file parts section segment at sections segments =
+    → ((i : ℕ) → i < (table_segments file style parts).count → segment i ≡ slice file (segment_at file i) PROGRAM_HEADER_SIZE)
+    → row_in_tables (held_headers (e_shnum file) section) (held_headers (table_segments file style parts).count segment) at
+    ≡ row_in_tables (file_sections file) (table_segments file style parts) at
+row_held file style parts section segment at sections segments =
     sections_row (file_sections file) section at
     (λ i place size below within. ap (λ bytes. field bytes place size) (sections i below) ∙ field-slice file (section_at file i) 64 place size within)
-    (held_headers (table_segments file parts).count segment)
-    ∙ tables_row (file_sections file) (held_headers (table_segments file parts).count segment) (table_segments file parts) at
-    (segments_row (table_segments file parts) segment at
+    (held_headers (table_segments file style parts).count segment)
+    ∙ tables_row (file_sections file) (held_headers (table_segments file style parts).count segment) (table_segments file style parts) at
+    (segments_row (table_segments file style parts) segment at
     (λ i place size below within. ap (λ bytes. field bytes place size) (segments i below) ∙ field-slice file (segment_at file i) 56 place size within))

@@ -1,7 +1,7 @@
 -- The kinds of tables, in the order of the definition's lists, are lawful.
 use Rattle.std.proofs.Common.{◌≡◌, ℕ, ◌<◌, ◌≤◌, ◌==◌, Bool, true, false, List, refl}
 use Rattle.elf_model.specs.Prelude.{HeaderTable, ListingStyle, RowFilter, TableHeaders, by_sections, by_segments, e_shnum, gnu_relocations, held_headers, kinds_cost, listing_cost, p_type, section_kinds, segment_kinds, sh_type, table_headers, viewed}
-use Rattle.elf_model.specs.Cost.{tables_cost}
+use Rattle.elf_model.specs.Cost.{located_cost, segments_cost, tables_cost}
 use Rattle.elf_model.specs.SymbolFilterLaws.{SelectionsHideNoFault}
 use Rattle.elf_model.specs.declared.place_filters.PlaceFilter.{PlaceFilter}
 use Rattle.elf_model.specs.declared.symbol_filters.SymbolFilter.{SymbolFilter}
@@ -62,6 +62,6 @@ kinds_same gnu versions file style rows filter place = by_sections_or_segments (
     by_sections_or_segments false = kinds-same sh_type 64 (most_bound versions) (section_kinds gnu versions) (section_kinds_lawful gnu versions) file style rows filter place
 
 pub selections_hide_no_fault : SelectionsHideNoFault
-unfolding listing_cost tables_cost
+unfolding listing_cost tables_cost segments_cost located_cost
 selections_hide_no_fault file headers style parts rows filter place =
     (hides_no_fault file headers style parts rows filter place (kinds_same style.gnu style.versions (viewed style file) style rows filter place), refl)

@@ -33,6 +33,9 @@ pub mod Nuls
 pub mod OnLinks
 pub mod OnLiterals
 pub mod OnLoader
+pub mod OnImage
+mod ImageValues
+mod ImageLaws
 mod OneRule
 pub mod OverlapLemmas
 pub mod PatchLaws

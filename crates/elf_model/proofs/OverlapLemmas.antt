@@ -123,10 +123,10 @@ where_both true true checks s n = refl
 where_both true false checks s n = cc
 where_both false b checks s n = cc
 
-view_asked : (file : List ℕ) (style : ListingStyle) (parts : ℕ) → style.by_segments ≡ true → needs_segments file parts ≡ true
+view_asked : (file : List ℕ) (style : ListingStyle) (parts : ℕ) → style.by_segments ≡ true → needs_segments file style parts ≡ true
     → view_checks file style parts ≡ overlap_checks file
 unfolding view_checks
-view_asked file style parts b n = where_both style.by_segments (needs_segments file parts) (overlap_checks file) b n
+view_asked file style parts b n = where_both style.by_segments (needs_segments file style parts) (overlap_checks file) b n
 
 pub overlap_second : OverlapIsListedSecond
 unfolding listing loaded_items

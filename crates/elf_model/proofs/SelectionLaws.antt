@@ -1,6 +1,6 @@
 -- The first fault of a listing, whatever rows are shown.
 use Rattle.std.proofs.Common.{◌≡◌, ℕ, zero, suc, ◌+◌, ◌*◌, ◌%◌, ◌^◌, ◌==◌, ◌/◌, ◌&&◌, ◌||◌, not, nat_lt, if◌then◌else◌, Bool, true, false, List, [], ◌∷◌, ◌++◌, Option, None, Some, Result, Ok, Err, refl, sym, ap, ap₂, ◌∙◌}
-use Rattle.elf_model.specs.Prelude.{Check, DisplayedName, EveryRow, Fault, HEADER, HeaderTable, LAST_ADDRESS, Line, LinePrefix, ListingItem, ListingStyle, NoSuffix, NoteRow, RELR_BITS, RowFilter, SECTIONS, SEGMENTS, Suffix, TableKind, VERSYM_SIZE, VisitedRecord, after_refusal, all_checks, bit_row, bitmap_base, chooses, chosen_row, d_tag, d_un, dynamic_at, dynamic_count, dynamic_prefix, dynamic_row, e_machine, e_phnum, e_shnum, each, either_kind, entry_at, entry_count, fault_of, first_refusal, guarded, has, has_symbols, has_tables, header_checks, header_row, is_bitmap, is_string_tag, kinds_rows, known_parts, linked_at, listing, load_checks, load_items, loaded_items, mapped_strings, name_index, named_at, no_name, note_align, note_row, note_rows, notes_rows, number_in, numbered_row, or_refusal, p_align, p_filesz, p_offset, padded_size, place_of_dynamic, place_of_header, place_of_record, place_of_relr, place_of_section, place_of_segment, place_of_version, placed_choice, r_sym, refused_row, relative_relocations, relocation_choice, relocation_prefix, relocation_row, relocation_row_with_version, relocation_size, relocations, relocations_with_versions, relr_prefix, relr_row, relr_rows, relr_word, section_at, section_dynamic, section_name, section_notes, section_prefix, section_row, section_versions, segment_at, segment_dynamic, segment_notes, segment_row, sh_addralign, sh_link, sh_offset, sh_size, shown as shown_name, shows_place, slice, st_name, strings_of, suffixed_relocation_rows, suffixed_row, suffixed_symbol_rows, suffixed_symbols, suffixes_refusal, symbol_choice, symbol_named, symbol_prefix, symbol_row, symbol_row_with_version, symbol_suffix, symbol_version_prefix, symbol_version_row, symbol_version_rows, symbol_versions, symbols, table_headers, table_items, table_rows, value_name, version_definitions, version_named, version_needs, version_prefix, version_row, version_strings, versioned_count, versioned_symbols, versions_rows, versym, view_checks, viewed, walk_rows, walked, word_rows}
+use Rattle.elf_model.specs.Prelude.{Check, DisplayedName, EveryRow, Fault, HEADER, HeaderTable, LAST_ADDRESS, Line, LinePrefix, ListingItem, ListingStyle, LocatedSymbols, LocatedTable, NoSuffix, NoteRow, RELR_BITS, RowFilter, SECTIONS, SEGMENTS, Suffix, TableKind, VERSYM_SIZE, VisitedRecord, after_refusal, all_checks, bit_row, bitmap_base, chooses, chosen_row, d_tag, d_un, dynamic_at, dynamic_count, dynamic_prefix, dynamic_relocations, dynamic_row, dynamic_segment_index, e_machine, e_phnum, e_shnum, each, either_kind, entries_rows, entry_at, entry_count, fault_of, first_refusal, first_segment_relocations, form_rows, guarded, has, has_symbols, has_tables, header_checks, header_row, is_bitmap, is_string_tag, kinds_rows, known_parts, linked_at, listing, load_checks, load_items, loaded_items, located_items, located_row, located_rows, located_symbols, located_table, locates_relocations, mapped_strings, named_among, name_index, named_at, no_name, note_align, note_row, note_rows, notes_rows, number_in, numbered_row, or_refusal, overlap_checks, p_align, p_filesz, p_offset, padded_size, place_of_dynamic, place_of_header, place_of_record, place_of_relr, place_of_section, place_of_segment, place_of_version, placed_choice, r_sym, refused_row, relative_relocations, relocation_choice, relocation_prefix, relocation_row, relocation_row_with_version, relocation_size, relocation_table_rows, relocations, relocations_with_versions, relr_prefix, relr_row, relr_rows, relr_rows_at, relr_word, section_at, section_dynamic, section_name, section_notes, section_prefix, section_row, section_versions, segment_at, segment_dynamic, segment_notes, segment_relocations, segment_dynamic_checks, segment_row, sh_addralign, sh_link, sh_offset, sh_size, shown as shown_name, shows_place, slice, st_name, strings_of, suffixed_relocation_rows, suffixed_row, suffixed_symbol_rows, suffixed_symbols, suffixes_refusal, symbol_choice, symbol_named, symbol_prefix, symbol_row, symbol_row_with_version, symbol_suffix, symbol_version_prefix, symbol_version_row, symbol_version_rows, symbol_versions, symbols, table_headers, table_items, table_rows, value_name, version_definitions, version_named, version_needs, version_prefix, version_row, version_strings, versioned_count, versioned_symbols, versions_rows, versym, view_checks, viewed, walk_rows, walked, word_rows}
 use Rattle.elf_model.specs.TableKinds.{dynamic_rows}
 use Rattle.elf_model.specs.VersionRows.{visited_rows}
 use Rattle.elf_model.specs.Versions.{flags_word, hash_word, number_word}
@@ -9,6 +9,10 @@ use Rattle.elf_model.specs.declared.causes.Cause.TheVariants.{Relr, VersionCut, 
 use Rattle.elf_model.specs.SymbolFilterLaws.{EverySymbolIsShown, NarrowedChooses}
 use Rattle.elf_model.specs.declared.causes.Cause.{Cause}
 use Rattle.elf_model.specs.declared.causes.Refusal.{Refusal}
+use Rattle.elf_model.specs.declared.relocation_tables.RelocationForm.{RelocationForm}
+use Rattle.elf_model.specs.declared.relocation_tables.RelocationForm.TheVariants.{Relative, WithAddends, WithoutAddends}
+use Rattle.elf_model.specs.declared.relocation_tables.RelocationTable.{RelocationTable}
+use Rattle.elf_model.specs.declared.relocation_tables.RelocationTable.TheVariants.{Jmprel, Rel, Rela, Relr as RelrTable}
 use Rattle.elf_model.specs.declared.place_filters.PlaceFilter.{PlaceFilter}
 use Rattle.elf_model.specs.declared.symbol_filters.SymbolFilter.{SymbolFilter}
 
@@ -360,6 +364,68 @@ module _ (file : List ℕ) (style : ListingStyle) (rows : RowFilter) (filter : S
       let at : ℕ = segment_at file index in
       line_fault (shows_place place (place_of_segment file at)) (shows_place style.place (place_of_segment file at)) _
 
+  -- what dynamic entries locate
+  located_row_same : (addends : Bool) (segment : ℕ) (symbols : Option LocatedSymbols) (table_at index : ℕ)
+      → SameFault (located_row addends file selected segment symbols table_at index) (located_row addends file style segment symbols table_at index)
+  unfolding located_row
+  located_row_same addends segment symbols table_at index =
+      let rela_at : ℕ = table_at + relocation_size addends * index in
+      let named = named_among file style.cap symbols rela_at (r_sym file rela_at) in
+      chosen_fault (relocation_choice addends file selected rela_at) (relocation_choice addends file style rela_at) (relocation_prefix addends style.format style.gnu (e_machine file) file rela_at segment) named.0 named.1
+
+  entries_rows_same : (addends : Bool) (segment : ℕ) (table : LocatedTable) (symbols : Result (Option LocatedSymbols) Refusal)
+      → SameFault (entries_rows addends file selected segment table symbols) (entries_rows addends file style segment table symbols)
+  unfolding entries_rows
+  entries_rows_same addends segment table (Err refusal) = alike
+  entries_rows_same addends segment table (Ok symbols) =
+      each_fault (located_row addends file selected segment symbols table.place) (located_row addends file style segment symbols table.place) (located_row_same addends segment symbols table.place) 0 table.count
+
+  words_same : (segment table_at index : ℕ) → SameFault (relr_rows_at file selected segment table_at index) (relr_rows_at file style segment table_at index)
+  words_same segment table_at index =
+      let word_at : ℕ = table_at + 8 * index in
+      word_same segment word_at (bitmap_base file table_at index) (relr_word file word_at)
+
+  form_same : (form : RelocationForm) (segment : ℕ) (table : LocatedTable) (symbols : Result (Option LocatedSymbols) Refusal)
+      → SameFault (form_rows form file selected segment table symbols) (form_rows form file style segment table symbols)
+  unfolding form_rows
+  form_same Relative segment table symbols =
+      each_fault (relr_rows_at file selected segment table.place) (relr_rows_at file style segment table.place) (words_same segment table.place) 0 table.count
+  form_same WithoutAddends segment table symbols = entries_rows_same false segment table symbols
+  form_same WithAddends segment table symbols = entries_rows_same true segment table symbols
+
+  located_same : (segment : ℕ) (table : Result (Option LocatedTable) Refusal) (symbols : Result (Option LocatedSymbols) Refusal)
+      → SameFault (located_rows file selected segment table symbols) (located_rows file style segment table symbols)
+  unfolding located_rows
+  located_same segment (Err refusal) symbols = alike
+  located_same segment (Ok None) symbols = alike
+  located_same segment (Ok (Some table)) symbols = form_same table.form segment table symbols
+
+  one_table_same : (segment at : ℕ) (table : RelocationTable) → SameFault (relocation_table_rows file selected segment at table) (relocation_table_rows file style segment at table)
+  unfolding relocation_table_rows
+  one_table_same segment at table = located_same segment (located_table file at table) (located_symbols file at)
+
+  four_same : (segment at : ℕ) → SameFault (segment_relocations file selected segment at) (segment_relocations file style segment at)
+  unfolding segment_relocations
+  four_same segment at =
+      appended (appended (appended (one_table_same segment at RelrTable) (one_table_same segment at Rel)) (one_table_same segment at Rela)) (one_table_same segment at Jmprel)
+
+  first_same : (segment : Option ℕ) → SameFault (first_segment_relocations file selected segment) (first_segment_relocations file style segment)
+  unfolding first_segment_relocations
+  first_same None = alike
+  first_same (Some segment) = guarded_fault (segment_dynamic_checks file (segment_at file segment)) (four_same segment (segment_at file segment))
+
+  relocations_located_same : SameFault (dynamic_relocations file selected) (dynamic_relocations file style)
+  unfolding dynamic_relocations
+  relocations_located_same = guarded_fault (overlap_checks file) (first_same (dynamic_segment_index file))
+
+  if_same : (asked : Bool) → {a b : List ListingItem} → SameFault a b → SameFault (if asked then a else []) (if asked then b else [])
+  if_same true items = items
+  if_same false items = alike
+
+  items_located_same : (parts : ℕ) → SameFault (located_items file selected parts) (located_items file style parts)
+  unfolding located_items
+  items_located_same parts = if_same (locates_relocations file style parts) relocations_located_same
+
   header_same : SameFault (header_row selected file) (header_row style file)
   header_same = line_fault (shows_place place place_of_header) (shows_place style.place place_of_header) _
 
@@ -368,8 +434,10 @@ module _ (file : List ℕ) (style : ListingStyle) (rows : RowFilter) (filter : S
   tables_same same parts =
       let tables = table_headers style.gnu style.versions file in
       appended
+      (appended
       (appended (where_fault (has parts SECTIONS) (each_fault (section_row file selected) (section_row file style) section_same 0 (e_shnum file)))
       (where_fault (has parts SEGMENTS) (each_fault (segment_row file selected) (segment_row file style) segment_same 0 (e_phnum file))))
+      (items_located_same parts))
       (kinds_same tables.kinds tables.headers parts same)
 
   loads_same : AreSame (table_headers style.gnu style.versions file).kinds → (headers parts : ℕ) → SameFault (load_items file headers selected parts) (load_items file headers style parts)

@@ -2,11 +2,11 @@
 use Rattle.std.proofs.Common.{◌≡◌, ℕ, suc, zero, ◌+◌, ◌*◌, ◌/◌, ◌%◌, ◌<◌, ◌≤◌, ◌==◌, not, Bool, true, false, List, [], ◌∷◌, length, refl, ap, ◌∙◌, arith}
 use Rattle.std.proofs.Math.Nat.{mul-le-mul_right, mul-add}
 use Rattle.std.proofs.lemmas.Bool.{eqb-true}
-use Rattle.elf_model.specs.Prelude.{AnyRowsAreWithinCeiling, AnySegmentsAreWithinCeiling, ListingStyle, PROGRAM_HEADER_SIZE, PlacesDecideNothing, RowsCostWhatTheFileCosts, SECTION_HEADER_SIZE, SegmentsCostWhatTheFileCosts, TablesCostKindByKind, ceiling, cost_where, e_phnum, e_shnum, field, file_sections, file_segments, has, held_headers, is_outside, kind_by_kind, kinds_cost, name_bytes, section_at, section_kinds, segment_at, segment_kinds, sh_entsize, sh_offset, sh_size, slice, sum_over, table_cost, tables_cost}
+use Rattle.elf_model.specs.Prelude.{AnyRowsAreWithinCeiling, AnySegmentsAreWithinCeiling, ListingStyle, PROGRAM_HEADER_SIZE, PlacesDecideNothing, RowsCostWhatTheFileCosts, SECTION_HEADER_SIZE, SegmentsCostWhatTheFileCosts, TablesCostKindByKind, ceiling, cost_where, e_phnum, e_shnum, field, file_sections, file_segments, has, held_headers, is_outside, kind_by_kind, kinds_cost, name_bytes, section_at, section_kinds, segment_at, segment_kinds, sh_entsize, sh_offset, sh_size, slice, style_ceiling, sum_over, table_cost, tables_cost}
 use Rattle.elf_model.proofs.HeldHeaders.{AreHeld, table-pass}
 use Rattle.elf_model.proofs.KindLists.{section_kinds-held, section_kinds-le, segment_kinds-held, segment_kinds-le}
 use Rattle.elf_model.proofs.Slices.{field-slice}
-use Rattle.elf_model.proofs.CostLemmas.{style_ceiling-is, tables_by, headers_some}
+use Rattle.elf_model.proofs.CostLemmas.{tables_ceiling-is, tables_by, headers_some}
 use Rattle.elf_model.proofs.SumLemmas.{headers_within, sum_over-le}
 use Rattle.elf_model.proofs.TableBounds.{most_bound, table_bound}
 
@@ -82,7 +82,7 @@ by_kind (kind ∷ kinds) headers size cap parts count =
     omega arith
 
 pub any_rows : AnyRowsAreWithinCeiling
-unfolding ceiling
+unfolding ceiling style_ceiling
 any_rows table style size headers parts sections segments s p =
     let cap : ℕ = style.cap in
     let n : ℕ = name_bytes cap in
@@ -94,7 +94,7 @@ any_rows table style size headers parts sections segments s p =
     mul-add sections (64 + n) bound ∙ ap (λ k. k + sections * bound) (mul-add sections 64 n) in
     let h : headers * (120 + n + bound) ≡ headers * 56 + headers * (64 + n + bound) =
     ap (λ k. headers * k) (omega arith) ∙ mul-add headers 56 (64 + n + bound) in
-    omega (arith, tables, m, e, h, mul-le-mul_right 56 p, style_ceiling-is size headers style)
+    omega (arith, tables, m, e, h, mul-le-mul_right 56 p, tables_ceiling-is size headers style)
 
 pub any_segments : AnySegmentsAreWithinCeiling
 unfolding ceiling

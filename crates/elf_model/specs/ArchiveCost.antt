@@ -4,11 +4,11 @@ use Rattle.std.specs.List.{list_any}
 use Rattle.elf_model.specs.Archive.{Member, Ends, Broken, OneMember, MemberWalkState, MAGIC_SIZE, MEMBER_HEADER_SIZE, archive_checks, archive_items, before_members, behind, bsd_name_length, bytes_in, is_elf, is_refused, lists_members, long_offset, members_of, name_field, next_member}
 use Rattle.elf_model.specs.Budget.{IsCut, IsReport}
 use Rattle.elf_model.specs.Checks.{pass}
-use Rattle.elf_model.specs.Cost.{cost_where, listing_cost, style_ceiling, suffixes_most}
+use Rattle.elf_model.specs.Cost.{cost_where, listing_cost, located_most, style_ceiling, suffixes_most}
 use Rattle.elf_model.specs.Lines.{refusal_line}
 use Rattle.elf_model.specs.Names.{name_bytes, pad64}
 use Rattle.elf_model.specs.Records.{ELF_MAGIC_SIZE}
-use Rattle.elf_model.specs.Style.{ListingStyle}
+use Rattle.elf_model.specs.Style.{ListingStyle, follows_dynamic}
 use Rattle.elf_model.specs.declared.causes.Refusal.{Refusal}
 
 -- the bytes that a name costs at most that is not in its field: cap + 2 rounded up to pieces of 64
@@ -55,11 +55,17 @@ abbrev pub data_most : ℕ → ListingStyle → ℕ
 data_most size style =
     size + size / 16 * (32 + name_bytes style.cap) + (if style.versions then suffixes_most size style.cap else 0)
 
+-- what this many bytes of a file may cost, with this many headers: the tables of each, and once what
+-- dynamic entries locate
+abbrev pub data_ceiling : (size headers : ℕ) → ListingStyle → ℕ
+data_ceiling size headers style =
+    headers * data_most size style + cost_where (follows_dynamic style) (located_most size style.cap)
+
 -- what members in this many bytes may cost: for each 60 bytes a header, a name elsewhere, the four
 -- bytes that mark an ELF file and what an empty file may cost, and what the data may
 abbrev pub allowance : (room headers : ℕ) → ListingStyle → ℕ
 allowance room headers style =
-    room / MEMBER_HEADER_SIZE * (64 + long_name_bytes style.cap + style_ceiling 0 headers style) + headers * data_most room style
+    room / MEMBER_HEADER_SIZE * (64 + long_name_bytes style.cap + style_ceiling 0 headers style) + data_ceiling room headers style
 
 -- the upper bound of the listing of an archive of this many bytes: for each 60 bytes a member's
 -- header, a name elsewhere, the four bytes that mark an ELF file, and what an empty file may cost;

@@ -1,7 +1,7 @@
 -- The word of each cause in a listing, and in a table what it means.
 use Rattle.std.specs.Prelude.{ℕ, List, codes}
 use Rattle.elf_model.specs.declared.causes.Cause.{Cause}
-use Rattle.elf_model.specs.declared.causes.Cause.TheVariants.{Short, NotElf, BadClass, BadData, BadVersion, ExtendedNumbering, TooManyHeaders, EntrySize, TableOutside, BadLink, NotStrings, SizeNotWhole, NameOutside, NameUnended, NoteCut, NoHash, HashShape, HashIndex, HashCycle, Unsupported, Overflow, NotRel, Unplaced, Undefined, PlaceOutside, SymbolIndex, TooLong, Budget, Unmapped, Thin, NotArchive, MemberCut, VersionCut, VersionIndex, LoadOverlap, Relr}
+use Rattle.elf_model.specs.declared.causes.Cause.TheVariants.{Short, NotElf, BadClass, BadData, BadVersion, ExtendedNumbering, TooManyHeaders, EntrySize, TableOutside, BadLink, NotStrings, SizeNotWhole, NameOutside, NameUnended, NoteCut, NoHash, HashShape, HashIndex, HashCycle, Unsupported, Overflow, NotRel, Unplaced, Undefined, PlaceOutside, SymbolIndex, TooLong, Budget, Unmapped, Thin, NotArchive, MemberCut, VersionCut, VersionIndex, LoadOverlap, Relr, NotImage, LoadAlign, Repeat, TableWritten}
 
 -- a cause's word
 unfoldable pub cause_word : Cause → List ℕ
@@ -41,6 +41,10 @@ cause_word VersionCut = codes "version-cut"
 cause_word VersionIndex = codes "version-index"
 cause_word LoadOverlap = codes "load-overlap"
 cause_word Relr = codes "relr"
+cause_word NotImage = codes "not-image"
+cause_word LoadAlign = codes "load-align"
+cause_word Repeat = codes "repeat"
+cause_word TableWritten = codes "table-written"
 
 -- what a cause means, in plain words
 unfoldable pub cause_meaning : Cause → List ℕ
@@ -80,3 +84,7 @@ cause_meaning VersionCut = codes "the table of versions ends before the record"
 cause_meaning VersionIndex = codes "no record names the version"
 cause_meaning LoadOverlap = codes "a LOAD segment begins on a page of the previous one, or below it"
 cause_meaning Relr = codes "no address precedes the word, or its addresses end past 2^64"
+cause_meaning NotImage = codes "not a program or a shared library for x86-64"
+cause_meaning LoadAlign = codes "a LOAD segment is not in whole pages at its address"
+cause_meaning Repeat = codes "a second dynamic entry with the tag"
+cause_meaning TableWritten = codes "a relocation would change the tables of relocations"

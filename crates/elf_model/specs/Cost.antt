@@ -4,8 +4,8 @@ use Rattle.elf_model.specs.Records.{FILE_HEADER_SIZE, SECTION_HEADER_SIZE, PROGR
 use Rattle.elf_model.specs.Names.{name_bytes}
 use Rattle.elf_model.specs.Checks.{pass, before_headers}
 use Rattle.elf_model.specs.HeaderTables.{HeaderTable, TableKind}
-use Rattle.elf_model.specs.Listing.{has, has_tables, known_parts, SECTIONS, SEGMENTS, NOTES, DYNAMIC}
-use Rattle.elf_model.specs.Style.{ListingStyle, standard, viewed}
+use Rattle.elf_model.specs.Listing.{has, has_tables, known_parts, SECTIONS, SEGMENTS, RELOCS, NOTES, DYNAMIC}
+use Rattle.elf_model.specs.Style.{ListingStyle, follows_dynamic, standard, viewed}
 use Rattle.elf_model.specs.TableKinds.{table_headers}
 use Rattle.elf_model.specs.Tables.{REL_SIZE}
 use Rattle.elf_model.specs.Versions.{VERSYM_SIZE, DEFINITION_SIZE, DEFINED_NAME_SIZE, NEED_SIZE}
@@ -43,13 +43,30 @@ sections_cost file cap parts =
     SECTION_HEADER_SIZE * e_shnum file
     + cost_where (has parts SECTIONS && not (e_shstrndx file == 0)) (e_shnum file * name_bytes cap)
 
+-- parts of a listing of a style are found by the program headers: notes and dynamic entries, and what
+-- these locate if the style follows them
+abbrev pub lies_in_segments : ListingStyle → ℕ → Bool
+lies_in_segments style parts = has parts NOTES || (has parts DYNAMIC || (follows_dynamic style && has parts RELOCS))
+
 -- the program headers are read: if they are listed, or if they describe tables that are
-abbrev pub needs_segments : List ℕ → ℕ → Bool
-needs_segments file parts = has parts SEGMENTS || (e_shnum file == 0 && (has parts NOTES || has parts DYNAMIC))
+abbrev pub needs_segments : List ℕ → ListingStyle → ℕ → Bool
+needs_segments file style parts = has parts SEGMENTS || (e_shnum file == 0 && lies_in_segments style parts)
 
 -- the program headers, if they are read
-unfoldable pub segments_cost : List ℕ → ℕ → ℕ
-segments_cost file parts = cost_where (needs_segments file parts) (PROGRAM_HEADER_SIZE * e_phnum file)
+unfoldable pub segments_cost : List ℕ → ListingStyle → ℕ → ℕ
+segments_cost file style parts = cost_where (needs_segments file style parts) (PROGRAM_HEADER_SIZE * e_phnum file)
+
+-- a file's relocations are found by its dynamic entries
+abbrev pub locates_relocations : List ℕ → ListingStyle → ℕ → Bool
+locates_relocations file style parts = e_shnum file == 0 && (follows_dynamic style && has parts RELOCS)
+
+-- the upper bound of what they read in a file of this many bytes: the dynamic entries and four tables,
+-- each with a symbol and its name for each 16 bytes
+abbrev pub located_most : (size cap : ℕ) → ℕ
+located_most size cap = 5 * (size + size / 16 * (32 + name_bytes cap))
+
+unfoldable pub located_cost : List ℕ → ListingStyle → ℕ → ℕ
+located_cost file style parts = cost_where (locates_relocations file style parts) (located_most (length file) style.cap)
 
 -- the tables of all headers that describe tables, if the parts have them
 unfoldable pub tables_cost : List ℕ → ListingStyle → ℕ → ℕ
@@ -61,7 +78,7 @@ tables_cost file style parts =
 abbrev pub after_header : List ℕ → ℕ → ListingStyle → ℕ → ℕ
 after_header file headers style parts =
     cost_where (has_tables parts && is_loadable file headers)
-    (sections_cost file style.cap parts + segments_cost file parts + tables_cost file style parts)
+    (sections_cost file style.cap parts + segments_cost file style parts + located_cost file style parts + tables_cost file style parts)
 
 -- HOW MANY BYTES THE LISTING OF A FILE READS at most: the file header, and what is read after it
 -- for the parts that the style knows
@@ -88,8 +105,13 @@ suffixes_most size cap =
     size / REL_SIZE * (VERSYM_SIZE + name_bytes cap)
     + (size / DEFINITION_SIZE * (DEFINITION_SIZE + DEFINED_NAME_SIZE) + size / NEED_SIZE * NEED_SIZE)
 
--- the upper bound of a listing of a style: more if versions follow the names of symbols
-unfoldable pub style_ceiling : (size headers : ℕ) → ListingStyle → ℕ
-style_ceiling size headers style =
+-- the upper bound of the tables of a listing of a style: more if versions follow the names of symbols
+unfoldable pub tables_ceiling : (size headers : ℕ) → ListingStyle → ℕ
+tables_ceiling size headers style =
     if style.versions then ceiling size headers style.cap + headers * suffixes_most size style.cap
     else ceiling size headers style.cap
+
+-- the upper bound of a listing of a style: more if it follows dynamic entries
+unfoldable pub style_ceiling : (size headers : ℕ) → ListingStyle → ℕ
+style_ceiling size headers style =
+    tables_ceiling size headers style + cost_where (follows_dynamic style) (located_most size style.cap)

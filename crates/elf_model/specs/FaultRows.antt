@@ -8,6 +8,7 @@ use Rattle.elf_model.specs.HeaderTables.{HeaderTable, file_sections, header_fiel
 use Rattle.elf_model.specs.Numbers.{PT_DYNAMIC, PT_NOTE, SHT_DYNAMIC, SHT_DYNSYM, SHT_GNU_VERDEF, SHT_GNU_VERNEED, SHT_GNU_VERSYM, SHT_NOTE, SHT_REL, SHT_RELA, SHT_RELR, SHT_SYMTAB}
 use Rattle.elf_model.specs.PlaceFilters.{range_has, range_if}
 use Rattle.elf_model.specs.Records.{FILE_HEADER_SIZE, PROGRAM_HEADER_SIZE, SECTION_HEADER_SIZE, e_phnum, e_shnum, p_filesz, p_offset, p_type, segment_at, sh_offset, sh_size, sh_type}
+use Rattle.elf_model.specs.Style.{ListingStyle}
 use Rattle.elf_model.specs.Tables.{DYNAMIC_SIZE, RELA_SIZE, RELR_SIZE, REL_SIZE, SYMBOL_SIZE}
 use Rattle.elf_model.specs.Versions.{VERSYM_SIZE}
 use Rattle.elf_model.specs.declared.fault_rows.FaultRow.{FaultRow}
@@ -90,14 +91,14 @@ row_among e sections segments at =
     ]
 
 -- the program headers in which tables are found: those of a file without section headers, if the
--- parts need them
-abbrev pub table_segments : List ℕ → (parts : ℕ) → HeaderTable
-table_segments file parts = record {
-  count = if e_shnum file == 0 && needs_segments file parts then e_phnum file else 0;
+-- parts of a style need them
+abbrev pub table_segments : List ℕ → ListingStyle → (parts : ℕ) → HeaderTable
+table_segments file style parts = record {
+  count = if e_shnum file == 0 && needs_segments file style parts then e_phnum file else 0;
   bytes = λ i. file;
   at = segment_at file;
 }
 
--- THE ROW at an offset of a file, of these parts of its listing
-abbrev pub fault_row : List ℕ → (parts at : ℕ) → FaultRow
-fault_row file parts at = row_among (counts_in file) (file_sections file) (table_segments file parts) at
+-- THE ROW at an offset of a file, of these parts of its listing in a style
+abbrev pub fault_row : List ℕ → ListingStyle → (parts at : ℕ) → FaultRow
+fault_row file style parts at = row_among (counts_in file) (file_sections file) (table_segments file style parts) at

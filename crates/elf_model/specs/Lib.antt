@@ -78,6 +78,7 @@ pub mod SysvWalk
 pub mod SysvWalkLaws
 pub mod Loader
 pub mod LoaderScope
+pub mod DynamicRelocations
 pub mod LoaderFind
 pub mod LoaderAnswer
 pub mod LoaderLaws
@@ -88,6 +89,7 @@ pub mod FileLists
 pub mod Versions
 pub mod VersionLaws
 pub mod FixturesVersions
+pub mod FixturesImage
 pub mod Properties
 pub mod TraitNumbers
 pub mod Pieces
@@ -102,6 +104,12 @@ pub mod BoundSymbols
 pub mod LoaderCache
 pub mod NeededVersions
 pub mod LibraryFiles
+pub mod ImageItems
+pub mod ImageValues
+pub mod Image
+pub mod ImageMissing
+pub mod ImageCost
+pub mod ImageLaws
 pub mod LinkSteps
 pub mod LinkKeys
 pub mod LinkObjects

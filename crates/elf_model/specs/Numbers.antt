@@ -101,6 +101,45 @@ DT_SYMTAB = 6
 abbrev pub DT_STRSZ : ℕ
 DT_STRSZ = 10
 
+-- those of the tables of relocations: of calls by the procedure linkage table their size, the type of
+-- the entries and the address; of entries with addends, without addends, and of relative relocations
+-- the address, the size of the table and that of an entry
+abbrev pub DT_PLTRELSZ : ℕ
+DT_PLTRELSZ = 2
+
+abbrev pub DT_PLTREL : ℕ
+DT_PLTREL = 20
+
+abbrev pub DT_JMPREL : ℕ
+DT_JMPREL = 23
+
+abbrev pub DT_RELA : ℕ
+DT_RELA = 7
+
+abbrev pub DT_RELASZ : ℕ
+DT_RELASZ = 8
+
+abbrev pub DT_RELAENT : ℕ
+DT_RELAENT = 9
+
+abbrev pub DT_REL : ℕ
+DT_REL = 17
+
+abbrev pub DT_RELSZ : ℕ
+DT_RELSZ = 18
+
+abbrev pub DT_RELENT : ℕ
+DT_RELENT = 19
+
+abbrev pub DT_RELR : ℕ
+DT_RELR = 36
+
+abbrev pub DT_RELRSZ : ℕ
+DT_RELRSZ = 35
+
+abbrev pub DT_RELRENT : ℕ
+DT_RELRENT = 37
+
 abbrev pub DT_SONAME : ℕ
 DT_SONAME = 14
 
@@ -109,6 +148,10 @@ DT_RPATH = 15
 
 abbrev pub DT_RUNPATH : ℕ
 DT_RUNPATH = 29
+
+-- how many entries with addends are relative, the first ones (a GNU tag)
+abbrev pub DT_RELACOUNT : ℕ
+DT_RELACOUNT = 0x6ffffff9
 
 -- GNU dynamic array tags: the GNU hash table, and indices, definitions and needs of symbol versions
 abbrev pub DT_GNU_HASH : ℕ
@@ -145,6 +188,9 @@ abbrev pub SHN_COMMON : ℕ
 SHN_COMMON = 0xfff2
 
 -- symbol bindings (gABI 4, Symbol Binding), and one GNU binding
+abbrev pub STB_LOCAL : ℕ
+STB_LOCAL = 0
+
 abbrev pub STB_GLOBAL : ℕ
 STB_GLOBAL = 1
 
@@ -193,6 +239,13 @@ STV_PROTECTED = 3
 -- the relocation type of x86-64 that stores nothing (x86-64 psABI, Relocation Types)
 abbrev pub R_X86_64_NONE : ℕ
 R_X86_64_NONE = 0
+
+-- those of relative relocations, and of values that a function returns
+abbrev pub R_X86_64_RELATIVE : ℕ
+R_X86_64_RELATIVE = 8
+
+abbrev pub R_X86_64_IRELATIVE : ℕ
+R_X86_64_IRELATIVE = 37
 
 -- the marks of extended numbering: the program headers' number, and the section of the section
 -- names

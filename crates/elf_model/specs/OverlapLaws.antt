@@ -25,7 +25,7 @@ abbrev pub OverlapIsListedSecond : Type 0
 OverlapIsListedSecond =
     (file : List ℕ) → (headers : ℕ) → (style : ListingStyle) → (parts : ℕ) → (refusal : Refusal)
     → first_refusal (header_checks file) ≡ None → first_refusal (load_checks (viewed style file) headers) ≡ None
-    → style.by_segments ≡ true → needs_segments (viewed style file) (known_parts style parts) ≡ true
+    → style.by_segments ≡ true → needs_segments (viewed style file) style (known_parts style parts) ≡ true
     → first_refusal (overlap_checks (viewed style file)) ≡ Some refusal
     → has parts HEADER ≡ true → has_tables (known_parts style parts) ≡ true
     → listing_report file headers style parts ≡ lines_of (header_row style file) ++ listing_refusal_line file style parts refusal

@@ -9,7 +9,7 @@ use Rattle.elf_model.specs.Records.{e_phnum, p_type, p_vaddr, p_memsz, segment_a
 use Rattle.elf_model.specs.declared.causes.Cause.TheVariants.{LoadOverlap}
 
 -- the smallest page of the system, in bytes
-abbrev PAGE_SIZE : ℕ
+abbrev pub PAGE_SIZE : ℕ
 PAGE_SIZE = 4096
 
 -- a LOAD segment takes up memory

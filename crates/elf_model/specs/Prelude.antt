@@ -7,7 +7,7 @@ pub use Rattle.elf_model.specs.ApplyLaws.{AllInside, AppliedKeepsLength, BytePat
 unfoldable pub use Rattle.elf_model.specs.ApplyLaws.{byte_after, byte_with, clipped}
 unfoldable pub use Rattle.elf_model.specs.Apply.{and_patches, applied, apply_checks, change_of, changes_of, entry_changes, entry_checks, held_bytes, named_value, patched, patches_of, places_from, put, section_changes, where_based}
 pub use Rattle.elf_model.specs.Archive.{ARCHIVE_MAGIC, FileRange, Member, MemberWalkState, Members, NextMember, OneMember, THIN_MAGIC, archive, archive_checks, archive_length_checks, are_all, before_members, before_some, behind, bytes_in, end_items, is_decimal, is_elf, is_name_table, is_refused, line_before, lists_members, long_of, member_items, member_line, member_listing, member_named, name_field, names_behind, newline_in, padded_end, told, with_member}
-pub use Rattle.elf_model.specs.ArchiveCost.{IsArchiveBudgeted, allowance, any_refused, data_most, long_name_bytes}
+pub use Rattle.elf_model.specs.ArchiveCost.{IsArchiveBudgeted, allowance, any_refused, data_ceiling, data_most, long_name_bytes}
 unfoldable pub use Rattle.elf_model.specs.ArchiveCost.{archive_ceiling, archive_cost, header_cost, is_elsewhere, member_cost, members_cost}
 pub use Rattle.elf_model.specs.ArchiveLaws.{ArchiveCostIsWithinCeiling, DataLieInTheFile}
 unfoldable pub use Rattle.elf_model.specs.Archive.{archive_items, bsd_name, bsd_name_length, data_after, long_name, long_offset, member_data, member_name, member_prefix, member_size, members_from, members_items, members_of, name_in_data, next_member, padded_number, parse_padded_decimal, parsed_member_name, parsed_member_size, short_name, trimmed, walk_items, without_slash}
@@ -30,12 +30,14 @@ pub use Rattle.elf_model.specs.Checks.{Check, HeaderCounts, before_headers, coun
 pub use Rattle.elf_model.specs.Choice.{EveryRow, NoSuffix, RowFilter, RowsOf, Suffix, Suffixed, chooses, is_named, is_whole, suits, wanted_text}
 pub use Rattle.elf_model.specs.ChoiceLaws.{CutNamesAreNone, NamesAloneAreChosen, NamesAreChosen, NamesFitEveryVersion, OrderChoosesNothing, VersionsAreChosen, has_sign, has_sign_first, has_version}
 unfoldable pub use Rattle.elf_model.specs.Choice.{most_bytes}
-pub use Rattle.elf_model.specs.Cost.{after_header, cost, cost_where, needs_segments, suffixes_most}
+pub use Rattle.elf_model.specs.Cost.{after_header, cost, cost_where, lies_in_segments, located_most, locates_relocations, needs_segments, suffixes_most}
 pub use Rattle.elf_model.specs.CostLaws.{AnyRowsAreWithinCeiling, AnySegmentsAreWithinCeiling, CostIsWithinCeiling, LastCostIsAdded, PlacesDecideNothing, RowsCostWhatTheFileCosts, SegmentsCostWhatTheFileCosts, SumsGrow, TablesCostKindByKind}
 unfoldable pub use Rattle.elf_model.specs.CostLaws.{kind_by_kind}
-unfoldable pub use Rattle.elf_model.specs.Cost.{ceiling, is_loadable, kinds_cost, listing_cost, sections_cost, segments_cost, style_ceiling, sum_over, table_cost, tables_cost}
+unfoldable pub use Rattle.elf_model.specs.Cost.{ceiling, is_loadable, kinds_cost, listing_cost, located_cost, sections_cost, segments_cost, style_ceiling, sum_over, table_cost, tables_ceiling, tables_cost}
 pub use Rattle.elf_model.specs.Dynamic.{CountedIsListed, IsFirstValue, IsListed, ListedIsCounted, NoValueHasNoTag, ValueIsFirst, dynamic_at, listed_value}
 unfoldable pub use Rattle.elf_model.specs.Dynamic.{dynamic_count, dynamic_value}
+pub use Rattle.elf_model.specs.DynamicRelocations.{LocatedSymbols, LocatedTable, TableTags, form_by, form_if, form_size, tags_of}
+unfoldable pub use Rattle.elf_model.specs.DynamicRelocations.{dynamic_relocations, entries_rows, first_segment_relocations, form_rows, located_row, located_rows, located_symbols, located_table, named_among, relocation_table_rows, segment_relocations, symbols_by, symbols_mapped, table_by, table_mapped, table_of_rows}
 pub use Rattle.elf_model.specs.Explain.{ITEM_NAME_SIZE, MissingEntry, lack_with}
 pub use Rattle.elf_model.specs.ExplainLine.{explanation, item_text, where_named}
 unfoldable pub use Rattle.elf_model.specs.ExplainLine.{entry_item_text, entry_text, help_text, items_text, missing_line, place_text, type_prefix}
@@ -108,7 +110,7 @@ unfoldable pub use Rattle.elf_model.specs.NeededVersions.{define_version, needed
 pub use Rattle.elf_model.specs.NoteLaws.{BeforeNulExactly, CutIsWalked, FitsOrIsCut, FittingIsWalked, IsAligned, IsNoteInTable, NoteShownCutExactly, NoteShownWholeExactly, OneListAtMost, RowsAligned, RowsStand, WalkedFits, WalkedIsCut}
 pub use Rattle.elf_model.specs.Notes.{AllPadded, CutAt, EndsInSpelling, EndsInZeros, IsNoteEncoding, NextNote, Note, NoteRow, NoteScan, Notes, OneNote, Padded, alignment_gap, are_zeros, before_nul, bytes_to_alignment, capped, descriptor_start, escaped_size, first_end, first_note, note_align, padded_size, with_note}
 unfoldable pub use Rattle.elf_model.specs.Notes.{next_note, note_rows, note_shown, walk_from, walked}
-pub use Rattle.elf_model.specs.Numbers.{DT_GNU_HASH, DT_HASH, DT_NULL, DT_RPATH, DT_RUNPATH, DT_SONAME, DT_STRSZ, DT_STRTAB, DT_SYMTAB, DT_VERDEF, DT_VERNEED, DT_VERSYM, EM_X86_64, ET_REL, PT_DYNAMIC, PT_NOTE, R_X86_64_NONE, SHN_ABS, SHN_COMMON, SHN_LORESERVE, SHN_UNDEF, SHT_DYNAMIC, SHT_DYNSYM, SHT_GNU_HASH, SHT_GNU_VERDEF, SHT_GNU_VERNEED, SHT_GNU_VERSYM, SHT_HASH, SHT_NOTE, SHT_REL, SHT_RELA, SHT_RELR, SHT_STRTAB, STB_GLOBAL, STB_GNU_UNIQUE, STB_WEAK, STT_COMMON, STT_FUNC, STT_GNU_IFUNC, STT_NOTYPE, STT_OBJECT, STT_TLS, STV_DEFAULT, STV_PROTECTED}
+pub use Rattle.elf_model.specs.Numbers.{DT_GNU_HASH, DT_HASH, DT_JMPREL, DT_NULL, DT_PLTREL, DT_PLTRELSZ, DT_REL, DT_RELA, DT_RELAENT, DT_RELASZ, DT_RELENT, DT_RELR, DT_RELRENT, DT_RELRSZ, DT_RELSZ, DT_RPATH, DT_RUNPATH, DT_SONAME, DT_STRSZ, DT_STRTAB, DT_SYMTAB, DT_VERDEF, DT_VERNEED, DT_VERSYM, EM_X86_64, ET_REL, PT_DYNAMIC, PT_NOTE, R_X86_64_NONE, SHN_ABS, SHN_COMMON, SHN_LORESERVE, SHN_UNDEF, SHT_DYNAMIC, SHT_DYNSYM, SHT_GNU_HASH, SHT_GNU_VERDEF, SHT_GNU_VERNEED, SHT_GNU_VERSYM, SHT_HASH, SHT_NOTE, SHT_REL, SHT_RELA, SHT_RELR, SHT_STRTAB, STB_GLOBAL, STB_GNU_UNIQUE, STB_WEAK, STT_COMMON, STT_FUNC, STT_GNU_IFUNC, STT_NOTYPE, STT_OBJECT, STT_TLS, STV_DEFAULT, STV_PROTECTED}
 pub use Rattle.elf_model.specs.OverlapLaws.{NoPageIsShared, OverlapIsListedElsewhere, OverlapIsListedSecond}
 pub use Rattle.elf_model.specs.Overlaps.{first_page, page_behind, takes_memory}
 unfoldable pub use Rattle.elf_model.specs.Overlaps.{loads_from, overlap_checks, overlaps_from}
@@ -126,15 +128,15 @@ unfoldable pub use Rattle.elf_model.specs.Properties.{features_in, first_listing
 pub use Rattle.elf_model.specs.RecordLaws.{FieldsOfSlices, LinesOfSlices}
 pub use Rattle.elf_model.specs.Records.{ELF_MAGIC_SIZE, FILE_HEADER_SIZE, PROGRAM_HEADER_SIZE, SECTION_HEADER_SIZE, d_tag, d_un, e_entry, e_flags, e_machine, e_phentsize, e_phnum, e_phoff, e_shentsize, e_shnum, e_shoff, e_shstrndx, e_type, has_elf_magic, n_descsz, n_namesz, n_type, p_align, p_filesz, p_flags, p_memsz, p_offset, p_paddr, p_type, p_vaddr, r_addend, r_info, r_offset, r_sym, r_type, relr_word, section_at, segment_at, sh_addr, sh_addralign, sh_entsize, sh_flags, sh_info, sh_link, sh_name, sh_offset, sh_size, sh_type, st_info, st_name, st_other, st_shndx, st_size, st_type, st_value, twos_complement, vd_aux, versym, vn_aux, vn_file, vn_next, vna_name}
 pub use Rattle.elf_model.specs.Report.{items, report, report_fault, listing_refusal_line, listing_report}
-unfoldable pub use Rattle.elf_model.specs.Report.{kinds_rows, listing, load_items, loaded_items, table_items, table_rows, view_checks, listing_fault_row}
-pub use Rattle.elf_model.specs.RelativeRelocations.{LAST_ADDRESS, RELR_BITS, base_after, is_bitmap}
+unfoldable pub use Rattle.elf_model.specs.Report.{kinds_rows, listing, load_items, loaded_items, located_items, table_items, table_rows, view_checks, listing_fault_row}
+pub use Rattle.elf_model.specs.RelativeRelocations.{LAST_ADDRESS, RELR_BITS, base_after, is_bitmap, relr_rows_at}
 unfoldable pub use Rattle.elf_model.specs.RelativeRelocations.{bit_row, bitmap_base, relr_row, relr_rows, word_rows}
 pub use Rattle.elf_model.specs.RowPlaces.{is_address, is_in_memory_type, place_of_dynamic, place_of_header, place_of_record, place_of_relocation, place_of_relr, place_of_section, place_of_segment, place_of_symbol}
-pub use Rattle.elf_model.specs.Rows.{chosen_row, is_string_tag, named_row, no_name, placed_choice, refused_row, relocation_choice, symbol_choice, value_name}
+pub use Rattle.elf_model.specs.Rows.{chosen_row, entry_row, is_string_tag, named_row, no_name, placed_choice, refused_row, relocation_choice, symbol_choice, value_name}
 unfoldable pub use Rattle.elf_model.specs.Rows.{dynamic_row, note_row, notes_rows, relocation_row, section_name, section_row, segment_row, symbol_named, symbol_row, walk_rows}
 pub use Rattle.elf_model.specs.Searches.{NulFound}
 pub use Rattle.elf_model.specs.ShownNames.{shown_as}
-pub use Rattle.elf_model.specs.Style.{ListingStyle, looked_at, standard, viewed, without_sections}
+pub use Rattle.elf_model.specs.Style.{ListingStyle, follows_dynamic, looked_at, standard, viewed, without_sections}
 pub use Rattle.elf_model.specs.StyleLaws.{ViewIsAsLong, ViewIsCheckedAlike, ViewIsItsOwnView, ViewIsSeenInSlices, ViewIsTheFileAfterTheHeader, ViewIsTheFileElsewhere, ViewTellsOfNone}
 unfoldable pub use Rattle.elf_model.specs.Style.{tells_of_sections, without_sections_from}
 pub use Rattle.elf_model.specs.SuffixLaws.{SuffixesAreWithinMost, UndefinedHaveNoDefault, UnversionedEntriesArePlain, UnversionedSymbolsArePlain}

@@ -7,7 +7,7 @@ use Rattle.elf_model.specs.Records.{relr_word, sh_offset}
 use Rattle.elf_model.specs.RowPlaces.{place_of_relr}
 use Rattle.elf_model.specs.Rows.{chosen_row, no_name, placed_choice, refused_row}
 use Rattle.elf_model.specs.Style.{ListingStyle}
-use Rattle.elf_model.specs.Tables.{RELR_SIZE, entry_at}
+use Rattle.elf_model.specs.Tables.{RELR_SIZE}
 use Rattle.elf_model.specs.declared.causes.Cause.TheVariants.{Relr}
 
 -- a bitmap has a bit for each of this many words of 8 bytes, after its lowest bit
@@ -55,8 +55,12 @@ word_rows file style section word_at base word =
     ])
     else relr_row file style section word_at word
 
+-- those of the word of an index, of the table at an offset, which a header of an index describes
+abbrev pub relr_rows_at : List ℕ → ListingStyle → (header table_at index : ℕ) → List ListingItem
+relr_rows_at file style header table_at index =
+    let word_at = table_at + RELR_SIZE * index in
+    word_rows file style header word_at (bitmap_base file table_at index) (relr_word file word_at)
+
 -- THE ROWS OF THE WORD OF AN INDEX, of the table that the section header at an offset describes
 unfoldable pub relr_rows : List ℕ → ListingStyle → (section at index : ℕ) → List ListingItem
-relr_rows file style section at index =
-    let word_at = entry_at file at RELR_SIZE index in
-    word_rows file style section word_at (bitmap_base file (sh_offset file at) index) (relr_word file word_at)
+relr_rows file style section at index = relr_rows_at file style section (sh_offset file at) index

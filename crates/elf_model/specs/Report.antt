@@ -2,7 +2,8 @@
 use Rattle.std.specs.Prelude.{ℕ, ◌&&◌, true, false, List, [], ◌∷◌, ◌++◌, Option, if◌then◌else◌}
 use Rattle.elf_model.specs.Records.{e_shnum, e_phnum}
 use Rattle.elf_model.specs.Checks.{Check, header_checks, load_checks, pass}
-use Rattle.elf_model.specs.Cost.{needs_segments}
+use Rattle.elf_model.specs.Cost.{locates_relocations, needs_segments}
+use Rattle.elf_model.specs.DynamicRelocations.{dynamic_relocations}
 use Rattle.elf_model.specs.FaultRows.{fault_row}
 use Rattle.elf_model.specs.HeaderTables.{HeaderTable, TableKind}
 use Rattle.elf_model.specs.Lines.{refusal_line_in}
@@ -29,17 +30,23 @@ kinds_rows (kind ∷ kinds) headers file style parts =
     where_asked parts kind.part (each (λ i. table_rows kind file style i (headers.at i)) 0 headers.count)
     ++ kinds_rows kinds headers file style parts
 
--- the section headers, the program headers, and the tables kind by kind, if the parts have them
+-- what dynamic entries locate, in a file without section headers, if a style follows them
+unfoldable pub located_items : List ℕ → ListingStyle → ℕ → List ListingItem
+located_items file style parts = if locates_relocations file style parts then dynamic_relocations file style else []
+
+-- the section headers, the program headers, what dynamic entries locate, and the tables kind by kind,
+-- if the parts have them
 unfoldable pub table_items : List ℕ → ListingStyle → ℕ → List ListingItem
 table_items file style parts =
     where_asked parts SECTIONS (each (section_row file style) 0 (e_shnum file))
     ++ where_asked parts SEGMENTS (each (segment_row file style) 0 (e_phnum file))
+    ++ located_items file style parts
     ++ kinds_rows (table_headers style.gnu style.versions file).kinds (table_headers style.gnu style.versions file).headers file style parts
 
 -- if a style finds tables by the program headers and the parts need these, LOAD segments do not
 -- overlap
 unfoldable pub view_checks : List ℕ → ListingStyle → ℕ → List Check
-view_checks file style parts = if style.by_segments && needs_segments file parts then overlap_checks file else []
+view_checks file style parts = if style.by_segments && needs_segments file style parts then overlap_checks file else []
 
 -- the tables of a loaded file, after the checks of its segments
 unfoldable pub loaded_items : List ℕ → ListingStyle → ℕ → List ListingItem
@@ -65,7 +72,7 @@ listing file headers style parts =
 -- header fails
 unfoldable pub listing_fault_row : List ℕ → ListingStyle → ℕ → ℕ → FaultRow
 listing_fault_row file style parts at =
-    if pass (header_checks file) then fault_row (viewed style file) (known_parts style parts) at else NoRow
+    if pass (header_checks file) then fault_row (viewed style file) style (known_parts style parts) at else NoRow
 
 -- the line of a refusal that ends the listing of a file: in a table it says which row of the file
 -- that the style lists is at fault, if the checks of the file header pass

@@ -99,13 +99,18 @@ symbol_named file cap header_at rela_at symbol =
 abbrev pub relocation_choice : (addends : Bool) → List ℕ → ListingStyle → ℕ → RowFilter
 relocation_choice addends file style rela_at = placed_choice style (place_of_relocation addends file rela_at) style.choice
 
+-- the row of the relocation entry at an offset, of the table that a header of an index describes: by
+-- the offset of a fault of its symbol's name, and that name as shown
+abbrev pub entry_row : (addends : Bool) → List ℕ → ListingStyle → (header rela_at : ℕ) → ℕ × Result DisplayedName Cause → List ListingItem
+entry_row addends file style header rela_at symbol =
+    chosen_row (relocation_choice addends file style rela_at)
+    (relocation_prefix addends style.format style.gnu (e_machine file) file rela_at header) symbol.0 symbol.1
+
 -- the row of a relocation entry with the name of its symbol
 unfoldable pub relocation_row : (addends : Bool) → List ℕ → ListingStyle → ℕ → ℕ → ℕ → List ListingItem
 relocation_row addends file style section at index =
     let rela_at = entry_at file at (relocation_size addends) index in
-    let symbol = symbol_named file style.cap at rela_at (r_sym file rela_at) in
-    chosen_row (relocation_choice addends file style rela_at)
-    (relocation_prefix addends style.format style.gnu (e_machine file) file rela_at section) symbol.0 symbol.1
+    entry_row addends file style section rela_at (symbol_named file style.cap at rela_at (r_sym file rela_at))
 
 -- the row of a note of an alignment: its record has its padding
 unfoldable pub note_row : ListingStyle → (index a : ℕ) → NoteRow → List ListingItem

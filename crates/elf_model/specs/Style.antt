@@ -50,3 +50,7 @@ looked_at by_segments file = elim by_segments [ true ↦ without_sections file |
 -- the file whose tables a style lists
 abbrev pub viewed : ListingStyle → List ℕ → List ℕ
 viewed style file = looked_at style.by_segments file
+
+-- a style lists what dynamic entries locate, in a file whose header locates no section headers
+abbrev pub follows_dynamic : ListingStyle → Bool
+follows_dynamic style = style.gnu || style.by_segments

@@ -80,6 +80,16 @@ pub enum Cause {
     /// A word of relative relocations gives an address above 2^64 - 8, or no address precedes a
     /// bitmap (gABI 4, Relative Relocation Table).
     Relr,
+    /// The file is not a program or a shared library for x86-64.
+    NotImage,
+    /// The addresses and the offsets of a LOAD segment differ by no whole pages (gABI 5, Program
+    /// Loading).
+    LoadAlign,
+    /// A dynamic entry that relocations depend on has a tag that one before it has.
+    Repeat,
+    /// A relocation changes a segment that has the tables that relocations are read from, or the
+    /// dynamic entries.
+    TableWritten,
 }
 
 /// A refusal: its cause, and the file offset that it points to.

@@ -12,10 +12,12 @@ mod causes;
 mod choice_laws;
 mod cost_laws;
 mod dynamic;
+mod dynamic_types;
 mod fault_rows;
 mod formats;
 mod gnu_hash_laws;
 mod hash_laws;
+mod image_laws;
 mod link_states;
 mod listing_laws;
 mod loader_laws;
@@ -26,6 +28,7 @@ mod notes;
 mod overlap_laws;
 mod place_filters;
 mod record_laws;
+mod relocation_tables;
 mod relocation_types;
 mod states;
 mod style_laws;
@@ -40,6 +43,7 @@ mod version_laws;
 mod versions;
 
 pub use causes::{Cause, Refusal};
+pub use dynamic_types::DynamicType;
 pub use fault_rows::FaultRow;
 pub use formats::{Format, LinePlace, TableState};
 pub use link_states::{
@@ -48,6 +52,7 @@ pub use link_states::{
 };
 pub use missing::{LayoutAddress, MissingAddress, OverflowedValue};
 pub use place_filters::{PlaceFilter, PlaceRange, RowPlace};
+pub use relocation_tables::{RelocationForm, RelocationTable};
 pub use relocation_types::{Formula, RelocationBase, RelocationType, ValueRange};
 pub use states::{BindingState, FileMagic, FileStatus, VersionState};
 pub use symbol_filters::SymbolFilter;

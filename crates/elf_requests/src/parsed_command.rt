@@ -24,6 +24,8 @@ pub enum ParsedCommand<'a> {
     Resolve(CommandArgs<'a>),
     /// List the members of an archive.
     Archive(CommandArgs<'a>),
+    /// Write a segment as a loader leaves it, or print what its image lacks.
+    Image(CommandArgs<'a>),
     /// Print what causes and states mean.
     Explain(CommandArgs<'a>),
     /// Print the version of the program.

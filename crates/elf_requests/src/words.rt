@@ -99,6 +99,7 @@ fn made_of<'a>(
         CommandName::Find => lookup_command(&args),
         CommandName::Apply => section_of(&args, layout),
         CommandName::Bytes => bytes_command(&args),
+        CommandName::Image => Ok(ParsedCommand::Image(args)),
         CommandName::Check => Ok(ParsedCommand::Check(args)),
         CommandName::List => Ok(ParsedCommand::List(args)),
         CommandName::Traits => Ok(ParsedCommand::Traits(TraitsRequest { args, required })),

@@ -4,3 +4,4 @@ pub mod Symbols
 pub mod Passing
 pub mod ExamplesLinks
 pub mod ExamplesFiles
+pub mod LinkMembers

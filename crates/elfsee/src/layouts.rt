@@ -61,7 +61,7 @@ where
 ///
 /// # Errors
 /// The file cannot be read, is too large, or out of memory for it.
-fn read_list<R: Files + AllocGlobal>(
+pub fn read_list<R: Files + AllocGlobal>(
     rt: &R,
     path: &str,
     text: &mut Vec<u8>,
@@ -141,7 +141,7 @@ fn placed<'a>(
 
 /// Returns how the program ends if the items of a file have a fault. A message for the line is
 /// written to `errors`; if it cannot be, the status alone reports it.
-fn told(alloc: Global, errors: Stderr, fault: LayoutFileFault) -> ExitLine
+pub fn told(alloc: Global, errors: Stderr, fault: LayoutFileFault) -> ExitLine
     ensures { EndsItems fault result.0 result.1.now }
 {
     match fault {

@@ -3,7 +3,7 @@
 
 use crate::linker_scripts::{SCRIPT_BYTES, ScriptToken, ScriptTokens};
 use crate::linker_words::{LinkerWords, WordInput, WordState, WordStep};
-use elf_link::{InputKind, LinkFiles, LinkInput, LinkPlan, LinkStep, OpenFault};
+use elf_resolve::{InputKind, LinkFiles, LinkInput, LinkPlan, LinkStep, OpenFault};
 use elf_source::{FileReader, Source, StreamSource, opened_path};
 use std::alloc::{AllocError, Global};
 use std::fs;

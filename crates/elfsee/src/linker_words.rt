@@ -1,7 +1,7 @@
 //! The arguments of a linker: its inputs in their order, the directories that are searched for
 //! libraries, and the symbols that are asked for.
 
-use elf_link::LinkOutput;
+use elf_resolve::LinkOutput;
 use std::alloc::{AllocError, Global};
 
 /// The symbol at which a program begins, unless the arguments say otherwise.

@@ -2,6 +2,7 @@
 #![tactic(auto)]
 
 mod archives;
+mod images;
 mod layouts;
 mod lists;
 mod many;
@@ -35,6 +36,7 @@ use elf_record::Refusal;
 use elf_requests::{ParsedCommand, Request, Task, request, run};
 use elf_source::{Counted, MemorySource, Out, PageCache, Sink, Source, WriteSink};
 use elf_table::{HeaderStore, RunFault};
+use images::write_images;
 use layouts::apply_laid;
 use lists::list_files;
 use many::{check_many, report_traits};
@@ -103,6 +105,7 @@ where
         ParsedCommand::Needs(asked) => report_needs(rt, asked, terminal),
         ParsedCommand::Resolve(asked) => report_link(rt, asked, errors),
         ParsedCommand::Archive(archiving) => list_archive(rt, archiving),
+        ParsedCommand::Image(asked) => write_images(rt, asked, errors),
         ParsedCommand::Explain(asked) => report_explanations(rt, &asked.causes, errors),
         ParsedCommand::Version => report_version(rt),
     }

@@ -7,7 +7,7 @@ use elf_cli::{
     RunEnd, end_run, write_rest,
 };
 use elf_format::{LinePrefix, line_of, show_named};
-use elf_link::{
+use elf_resolve::{
     LinkCaps, LinkFault, LinkFiles, LinkLines, LinkPlan, Resolver, show_link,
 };
 use elf_model::Format;

@@ -80,6 +80,10 @@ fn cause_of(number: u32) -> Option<Cause>
         36 => Some(Cause::MemberCut),
         37 => Some(Cause::LoadOverlap),
         38 => Some(Cause::Relr),
+        39 => Some(Cause::NotImage),
+        40 => Some(Cause::LoadAlign),
+        41 => Some(Cause::Repeat),
+        42 => Some(Cause::TableWritten),
         _ => None,
     }
 }

@@ -132,6 +132,10 @@ class Cause(enum.IntEnum):
     MEMBER_CUT = 36
     LOAD_OVERLAP = 37
     RELR = 38
+    NOT_IMAGE = 39
+    LOAD_ALIGN = 40
+    REPEAT = 41
+    TABLE_WRITTEN = 42
 
 
 # ---------------------------------------------------------------------------

@@ -82,12 +82,20 @@ pub enum Cause {
     LoadOverlap,
     /// A word of relative relocations has no address before it, or its addresses end past 2^64.
     Relr,
+    /// The file is not a program or a shared library for x86-64.
+    NotImage,
+    /// The address and the offset of a LOAD segment do not differ by whole pages.
+    LoadAlign,
+    /// A dynamic entry that relocations depend on has the tag of one before it.
+    Repeat,
+    /// A relocation changes a segment with the tables of relocations, or the dynamic entries.
+    TableWritten,
 }
 
 use Cause::*;
 
 /// The causes by their numbers.
-const CAUSES: [Cause; 39] = [
+const CAUSES: [Cause; 43] = [
     Unknown,
     Short,
     NotElf,
@@ -127,6 +135,10 @@ const CAUSES: [Cause; 39] = [
     MemberCut,
     LoadOverlap,
     Relr,
+    NotImage,
+    LoadAlign,
+    Repeat,
+    TableWritten,
 ];
 
 impl Cause {

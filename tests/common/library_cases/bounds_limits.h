@@ -216,14 +216,14 @@ static void small_out(void) {
 /* 30 and 31 are no causes. */
 static int is_cause(uint32_t cause) {
     return (cause >= ELFSEE_SHORT && cause <= ELFSEE_UNMAPPED) ||
-           (cause >= ELFSEE_VERSION_CUT && cause <= ELFSEE_RELR);
+           (cause >= ELFSEE_VERSION_CUT && cause <= ELFSEE_TABLE_WRITTEN);
 }
 
 static void cause_words(void) {
     uint8_t word[40];
     int all = 1, none = 1;
     uint32_t cause;
-    for (cause = 1; cause <= ELFSEE_RELR; cause += 1) {
+    for (cause = 1; cause <= ELFSEE_TABLE_WRITTEN; cause += 1) {
         if (!is_cause(cause)) continue;
         size_t len = elfsee_cause_word(cause, word, sizeof word), less;
         all &= len > 0 && len <= 32;

@@ -1,0 +1,171 @@
+//! What a file's relocations depend on, and what they change.
+use crate::dynamic_rows::{ImageRows, image_rows, no_rows};
+use crate::image_items::{CopyBytes, ImageItems};
+use crate::place::{Place, holder};
+use crate::ranges::{EntryRanges, entry_ranges};
+use crate::tables::{ImageTables, MappedTable, image_tables};
+use elf_hash::DynEntry;
+use elf_record::Cause;
+use elf_record::numbers::PT_DYNAMIC;
+use elf_record::sizes::DYNAMIC_BYTES;
+use elf_reloc::Patch;
+use elf_source::{Counted, Source};
+use elf_table::{ExecutionView, Fault, Table};
+
+/// The bit of DT_FLAGS for text relocations (gABI 5, Dynamic Section).
+const DF_TEXTREL: u64 = 4;
+
+/// A file whose headers and tables are checked, with the items of its image.
+#[derive(Clone, Copy)]
+pub(crate) struct ImageFile<'a> {
+    pub(crate) view: ExecutionView<'a>,
+    pub(crate) items: &'a ImageItems<'a>,
+    /// The load address.
+    pub(crate) base: u64,
+    /// Whether an entry that lacks an item changes nothing, and a symbol that another object may
+    /// define lacks its item even if it is weak or defined here.
+    pub(crate) leaves: bool,
+    /// Whether segments that are not writable are relocated too.
+    pub(crate) writes_text: bool,
+    pub(crate) compact: Table,
+    pub(crate) ranges: EntryRanges,
+    /// The symbols, if there are any.
+    pub(crate) symbols: Option<Table>,
+    /// The address and the size of the dynamic entries.
+    pub(crate) dynamic: (u64, u64),
+    /// The segments that hold the first byte of a table.
+    pub(crate) table_segments: [Option<u16>; 4],
+}
+
+/// The bytes that a relocation stores.
+#[derive(Clone, Copy)]
+pub(crate) enum StoredBytes<'a> {
+    /// The word of 8 bytes that is there in the file, plus the base.
+    Based,
+    /// The bytes of a value.
+    Value(Patch),
+    /// Two words of 8 bytes.
+    Pair(u64, u64),
+    /// The bytes of a copied object.
+    Copied(CopyBytes<'a>),
+}
+
+/// What a relocation changes: its place, the number of bytes there that it may change, and the
+/// bytes that it stores from the place on.
+#[derive(Clone, Copy)]
+pub(crate) struct ImageChange<'a> {
+    pub(crate) place: Place,
+    pub(crate) width: u64,
+    pub(crate) bytes: StoredBytes<'a>,
+}
+
+/// The result for an entry.
+#[derive(Clone, Copy)]
+pub(crate) enum EntryResult<'a> {
+    /// It changes nothing.
+    Nothing,
+    /// It stores bytes.
+    Stores(ImageChange<'a>),
+    /// It lacks an item.
+    Lacks(Cause),
+}
+
+impl ImageFile<'_> {
+    /// Returns `true` if a segment holds the first byte of a table that says how the file is
+    /// relocated.
+    pub(crate) fn has_table(&self, segment: u16) -> bool {
+        for holder in &self.table_segments {
+            if *holder == Some(segment) {
+                return true;
+            }
+        }
+        false
+    }
+
+    /// Returns `true` if `width` bytes at an address meet the dynamic entries.
+    pub(crate) fn meets_dynamic(&self, address: u64, width: u64) -> bool {
+        let (dynamic, size) = self.dynamic;
+        u128::from(address) < u128::from(dynamic) + u128::from(size)
+            && u128::from(dynamic) < u128::from(address) + u128::from(width)
+    }
+}
+
+/// Reads the dynamic entries of the first DYNAMIC program header, checks the tables that they
+/// locate, and returns the file with the items of its image. Its headers are checked.
+///
+/// # Errors
+/// Returns the first check that fails: those of [`ExecutionView::dynamic`], of [`image_rows`], of
+/// [`image_tables`] and of [`entry_ranges`]. Otherwise returns a fault of a read, or the refusal
+/// `Budget`, at a dynamic entry's offset.
+pub(crate) fn image_file<'a, S: Source>(
+    src: &mut Counted<S>,
+    view: ExecutionView<'a>,
+    items: &'a ImageItems<'a>,
+    leaves: bool,
+) -> Result<ImageFile<'a>, Fault> {
+    let (rows, address) = dynamic_entries(src, &view)?;
+    let tables = image_tables(&view, &rows)?;
+    let ranges = entry_ranges(&tables, &rows)?;
+    Ok(ImageFile {
+        view,
+        items,
+        base: items.base(),
+        leaves,
+        writes_text: has_text_relocations(&rows),
+        compact: tables.compact.rows,
+        ranges,
+        symbols: tables.symbols,
+        dynamic: (address, DYNAMIC_BYTES * rows.count),
+        table_segments: table_segments(&view, &tables, rows.symbols),
+    })
+}
+
+/// Returns the dynamic entries of the first DYNAMIC program header that say how the file is
+/// relocated, and the segment's address; none if there is no such header.
+fn dynamic_entries<S: Source>(
+    src: &mut Counted<S>,
+    view: &ExecutionView<'_>,
+) -> Result<(ImageRows, u64), Fault> {
+    let Some(segment) = view.first_segment(PT_DYNAMIC) else {
+        return Ok((no_rows(), 0));
+    };
+    let table = view.dynamic(segment)?;
+    let rows = image_rows(src, table)?;
+    Ok((rows, view.segment(segment).p_vaddr))
+}
+
+/// Returns `true` if the file has text relocations: by DT_TEXTREL, or by the flag of DT_FLAGS (gABI
+/// 5, Dynamic Section).
+fn has_text_relocations(rows: &ImageRows) -> bool {
+    let flags = match rows.flags {
+        Some(row) => row.value,
+        None => 0,
+    };
+    rows.text.is_some() || flags & DF_TEXTREL == DF_TEXTREL
+}
+
+/// Returns the segments that hold the first byte of a table with rows, or of the symbols.
+fn table_segments(
+    view: &ExecutionView<'_>,
+    tables: &ImageTables,
+    symbols: Option<DynEntry>,
+) -> [Option<u16>; 4] {
+    let symbols = match symbols {
+        Some(row) => holder(view, row.value, 1),
+        None => None,
+    };
+    [
+        table_segment(view, &tables.compact),
+        table_segment(view, &tables.addends),
+        table_segment(view, &tables.calls),
+        symbols,
+    ]
+}
+
+/// Returns the segment that holds the first byte of a table, if that has rows.
+fn table_segment(view: &ExecutionView<'_>, table: &MappedTable) -> Option<u16> {
+    if table.rows.is_empty() {
+        return None;
+    }
+    holder(view, table.address, 1)
+}

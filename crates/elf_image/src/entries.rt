@@ -1,0 +1,153 @@
+//! The relocation entries in the order in which a loader applies them.
+use crate::ranges::EntryRanges;
+use elf_record::gnu_numbers::R_X86_64_IRELATIVE;
+use elf_record::numbers::R_X86_64_RELATIVE;
+use elf_record::sizes::RELOCATION_BYTES;
+use elf_record::{Cause, Rela};
+use elf_source::{Counted, Source};
+use elf_table::{Cursor, Fault, Table, refused};
+
+/// A part of the order: the entries of a table that are of R_X86_64_IRELATIVE, or those that are
+/// not.
+#[derive(Clone, Copy)]
+struct EntryPart {
+    table: Table,
+    indirect: bool,
+    /// Whether it is the second table.
+    second: bool,
+}
+
+/// An entry in its order.
+#[derive(Clone, Copy)]
+pub(crate) struct OrderedEntry {
+    pub(crate) entry: Rela,
+    /// Its offset in the file.
+    pub(crate) at: u64,
+}
+
+/// A cursor over the entries of two ranges in the order in which a loader applies them: in each
+/// range those that are not of R_X86_64_IRELATIVE, and then the others.
+#[derive(Drop)]
+pub(crate) struct OrderedEntries {
+    ranges: EntryRanges,
+    cursor: Cursor,
+    part: EntryPart,
+    /// How many parts were begun, of four.
+    begun: u8,
+    /// Whether the first table has an entry of R_X86_64_IRELATIVE, and whether the second has.
+    indirect: (bool, bool),
+}
+
+impl OrderedEntries {
+    /// Creates a cursor before the first entry.
+    pub(crate) fn new(ranges: EntryRanges) -> OrderedEntries {
+        let table = Table::new(0, 0, RELOCATION_BYTES);
+        OrderedEntries {
+            ranges,
+            cursor: Cursor::new(table),
+            part: EntryPart {
+                table,
+                indirect: false,
+                second: false,
+            },
+            begun: 0,
+            indirect: (false, false),
+        }
+    }
+
+    /// Returns the next entry, or `None` after the last.
+    ///
+    /// # Errors
+    /// Returns `Unsupported` at one of the first entries that is not of R_X86_64_RELATIVE, as it
+    /// should be. Otherwise returns a fault of the read, or the refusal `Budget`.
+    pub(crate) fn next<S: Source>(
+        &mut self,
+        src: &mut Counted<S>,
+    ) -> Result<Option<OrderedEntry>, Fault> {
+        'steps: loop {
+            if !self.cursor.advance(src)? {
+                if self.begun == 4 {
+                    return Ok(None);
+                }
+                self.begin_part();
+            } else if let Some(entry) = self.taken()? {
+                return Ok(Some(entry));
+            }
+        }
+    }
+
+    /// Begins the next part; one without entries of its type has no rows.
+    fn begin_part(&mut self) {
+        self.part = self.part_of(self.begun);
+        self.begun += 1;
+        self.cursor = Cursor::new(self.part.table);
+    }
+
+    /// Returns the part of a number below 4.
+    fn part_of(&self, number: u8) -> EntryPart {
+        let joined = self.ranges.joined;
+        let (second, indirect) = match number {
+            0 => (false, false),
+            1 => (joined, !joined),
+            2 => (!joined, joined),
+            _ => (true, true),
+        };
+        let has_rows = if second {
+            self.indirect.1
+        } else {
+            self.indirect.0
+        };
+        let table = if second {
+            self.ranges.second
+        } else {
+            self.ranges.first
+        };
+        EntryPart {
+            table: if indirect && !has_rows {
+                Table::new(0, 0, RELOCATION_BYTES)
+            } else {
+                table
+            },
+            indirect,
+            second,
+        }
+    }
+
+    /// Returns `true` if the entry of an index in the part's table is one of those at the start of
+    /// the first range that should be of R_X86_64_RELATIVE.
+    fn is_relative(&self, index: u64) -> bool {
+        if !self.part.second {
+            return index < self.ranges.relative;
+        }
+        let before = u128::from(self.ranges.first.len());
+        self.ranges.joined && before + u128::from(index) < u128::from(self.ranges.relative)
+    }
+
+    /// Returns the entry that was read, if it belongs to the part.
+    fn taken(&mut self) -> Result<Option<OrderedEntry>, Fault> {
+        let row = self.cursor.row();
+        let at = row.at;
+        let index = row.index;
+        let entry = Rela::decode(row.whole());
+        if !self.part.indirect && self.is_relative(index) && entry.kind() != R_X86_64_RELATIVE {
+            return refused(at, Cause::Unsupported);
+        }
+        let is_indirect = entry.kind() == R_X86_64_IRELATIVE;
+        if is_indirect && !self.part.indirect {
+            self.note_indirect();
+        }
+        if is_indirect != self.part.indirect {
+            return Ok(None);
+        }
+        Ok(Some(OrderedEntry { entry, at }))
+    }
+
+    /// Notes that the table of the part has an entry of R_X86_64_IRELATIVE.
+    fn note_indirect(&mut self) {
+        if self.part.second {
+            self.indirect.1 = true;
+        } else {
+            self.indirect.0 = true;
+        }
+    }
+}

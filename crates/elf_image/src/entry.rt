@@ -1,0 +1,83 @@
+//! What a relocation entry changes.
+use crate::changes::{EntryResult, ImageChange, ImageFile, StoredBytes};
+use crate::dynamic_types::{changed_size, dynamic_type, is_thread_local, uses_no_symbol};
+use crate::place::{HeldRange, checked_place};
+use crate::stored::stored_bytes;
+use crate::symbols::{no_symbol, read_symbol};
+use elf_model::DynamicType;
+use elf_record::numbers::R_X86_64_NONE;
+use elf_record::{Cause, Rela, Sym};
+use elf_source::{Counted, Source};
+use elf_table::{Fault, refused};
+
+/// Returns what an entry changes. It is at the file offset `at`; `last` is the segment of the place
+/// before.
+///
+/// # Errors
+/// Returns the first check that fails, at `at`: `Unsupported`, `BadLink`, `SymbolIndex`,
+/// `PlaceOutside`, `TableWritten`, `Overflow`; `Undefined` and `Unplaced` for a missing item if
+/// these are all that there are. A fault of the read of the symbol, or the refusal `Budget`, points
+/// to the symbol.
+pub(crate) fn entry_result<'a, S: Source>(
+    src: &mut Counted<S>,
+    image: &ImageFile<'a>,
+    last: &mut Option<HeldRange>,
+    entry: &Rela,
+    at: u64,
+) -> Result<EntryResult<'a>, Fault> {
+    let kind = entry.kind();
+    if kind == R_X86_64_NONE {
+        return Ok(EntryResult::Nothing);
+    }
+    let Some(found) = dynamic_type(kind) else {
+        return refused(at, Cause::Unsupported);
+    };
+    let symbol = entry_symbol(src, image, found, entry.symbol(), at)?;
+    let width = changed_size(found, &symbol);
+    let place = checked_place(image, last, entry.r_offset, width, at)?;
+    match stored_bytes(image, found, entry, &symbol) {
+        Ok(bytes) => Ok(EntryResult::Stores(ImageChange {
+            place,
+            width,
+            bytes,
+        })),
+        Err(cause) => without_bytes(image, at, cause),
+    }
+}
+
+/// Reads the symbol of an index, if the type of the entry at `at` uses it.
+fn entry_symbol<S: Source>(
+    src: &mut Counted<S>,
+    image: &ImageFile<'_>,
+    found: DynamicType,
+    index: u32,
+    at: u64,
+) -> Result<Sym, Fault> {
+    if uses_no_symbol(found) {
+        return Ok(no_symbol());
+    }
+    if index == 0 {
+        if is_thread_local(found) {
+            return Ok(no_symbol());
+        }
+        return refused(at, Cause::Unsupported);
+    }
+    read_symbol(src, image.symbols, index, at)
+}
+
+/// Returns the result of an entry whose bytes are not known, for a cause.
+fn without_bytes<'a>(
+    image: &ImageFile<'a>,
+    at: u64,
+    cause: Cause,
+) -> Result<EntryResult<'a>, Fault> {
+    if image.leaves && is_lack(cause) {
+        return Ok(EntryResult::Lacks(cause));
+    }
+    refused(at, cause)
+}
+
+/// Returns `true` if a cause says that an item is missing.
+fn is_lack(cause: Cause) -> bool {
+    matches!(cause, Cause::Undefined | Cause::Unplaced)
+}

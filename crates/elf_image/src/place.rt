@@ -1,0 +1,116 @@
+//! The place of a relocation: the LOAD segment that holds it in memory.
+use crate::changes::ImageFile;
+use elf_record::numbers::PT_LOAD;
+use elf_record::{Cause, Phdr, SegmentFlags};
+use elf_table::{ExecutionView, Fault, refused};
+
+/// A place in memory: the program header of the segment that holds it, and its offset from the
+/// segment's address.
+#[derive(Clone, Copy)]
+pub(crate) struct Place {
+    pub(crate) segment: u16,
+    pub(crate) offset: u64,
+}
+
+/// A LOAD segment: the index of its program header, its addresses in memory, and what relocations
+/// may do to it.
+#[derive(Clone, Copy)]
+pub(crate) struct HeldRange {
+    segment: u16,
+    first: u64,
+    end: u128,
+    /// Whether relocations may change it.
+    permits: bool,
+    /// Whether it holds a table that says how the file is relocated.
+    has_table: bool,
+}
+
+impl HeldRange {
+    /// Returns `true` if the segment holds `width` bytes at an address in memory.
+    fn holds(&self, address: u64, width: u64) -> bool {
+        self.first <= address && u128::from(address) + u128::from(width) <= self.end
+    }
+}
+
+/// Returns the place of `width` bytes at an address. A refusal points to `at`. `last` is the
+/// segment of the place before, and then that of this one.
+///
+/// # Errors
+/// Returns `PlaceOutside` if no LOAD segment holds them in memory, or one that is not writable in a
+/// file without text relocations; `TableWritten` if the segment holds a table that says how the
+/// file is relocated, or the place meets the dynamic entries.
+pub(crate) fn checked_place(
+    image: &ImageFile<'_>,
+    last: &mut Option<HeldRange>,
+    address: u64,
+    width: u64,
+    at: u64,
+) -> Result<Place, Fault> {
+    let Some(range) = held_range(image, last, address, width) else {
+        return refused(at, Cause::PlaceOutside);
+    };
+    *last = Some(range);
+    if !range.permits {
+        return refused(at, Cause::PlaceOutside);
+    }
+    if range.has_table || image.meets_dynamic(address, width) {
+        return refused(at, Cause::TableWritten);
+    }
+    Ok(Place {
+        segment: range.segment,
+        offset: address - range.first,
+    })
+}
+
+/// Returns the LOAD segment that holds `width` bytes at an address in memory, if there is one: no
+/// other than `last` if that holds them.
+fn held_range(
+    image: &ImageFile<'_>,
+    last: &Option<HeldRange>,
+    address: u64,
+    width: u64,
+) -> Option<HeldRange> {
+    if let Some(range) = last {
+        if width > 0 && range.holds(address, width) {
+            return Some(*range);
+        }
+    }
+    Some(range_of(image, holder(&image.view, address, width)?))
+}
+
+/// Returns the LOAD segment of a program header.
+fn range_of(image: &ImageFile<'_>, segment: u16) -> HeldRange {
+    let header = image.view.segment(segment);
+    HeldRange {
+        segment,
+        first: header.p_vaddr,
+        end: u128::from(header.p_vaddr) + u128::from(header.p_memsz),
+        permits: image.writes_text || is_writable(&header),
+        has_table: image.has_table(segment),
+    }
+}
+
+/// Returns the index of the LOAD program header whose segment holds `width` bytes at an address in
+/// memory, if there is one.
+pub(crate) fn holder(view: &ExecutionView<'_>, address: u64, width: u64) -> Option<u16> {
+    for segment in 0..view.segments() {
+        if holds_place(&view.segment(segment), address, width) {
+            return Some(segment);
+        }
+    }
+    None
+}
+
+/// Returns `true` if the segment is a LOAD segment that holds `width` bytes at an address in
+/// memory.
+fn holds_place(header: &Phdr, address: u64, width: u64) -> bool {
+    let end = u128::from(header.p_vaddr) + u128::from(header.p_memsz);
+    header.p_type == PT_LOAD
+        && header.p_vaddr <= address
+        && u128::from(address) + u128::from(width) <= end
+}
+
+/// Returns `true` if a segment is writable.
+fn is_writable(header: &Phdr) -> bool {
+    header.p_flags & SegmentFlags::W.0 == SegmentFlags::W.0
+}

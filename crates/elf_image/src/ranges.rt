@@ -1,0 +1,71 @@
+//! The ranges of relocation entries, in the order of a loader.
+use crate::dynamic_rows::ImageRows;
+use crate::tables::{ImageTables, MappedTable};
+use elf_record::Cause;
+use elf_record::sizes::RELOCATION_BYTES;
+use elf_table::{Fault, Table, refused};
+
+/// The entries with addends in two tables: one range, if they are consecutive in memory, or two. In
+/// each range the entries of R_X86_64_IRELATIVE are applied after the others.
+#[derive(Clone, Copy)]
+pub(crate) struct EntryRanges {
+    /// The first table.
+    pub(crate) first: Table,
+    /// The second one.
+    pub(crate) second: Table,
+    /// Whether they are one range.
+    pub(crate) joined: bool,
+    /// How many entries at the start of the first range are R_X86_64_RELATIVE.
+    pub(crate) relative: u64,
+}
+
+/// Returns the ranges. Calls at the end of the other entries are a part of these; calls right after
+/// them are one range with them.
+///
+/// # Errors
+/// Returns `Unsupported` at DT_JMPREL if the calls end where the others end, and begin before them.
+pub(crate) fn entry_ranges(tables: &ImageTables, rows: &ImageRows) -> Result<EntryRanges, Fault> {
+    let relative = match rows.relative {
+        Some(row) => row.value,
+        None => 0,
+    };
+    let end = end_of(&tables.addends);
+    let begin = u128::from(tables.calls.address);
+    let mut ranges = EntryRanges {
+        first: tables.addends.rows,
+        second: tables.calls.rows,
+        joined: false,
+        relative,
+    };
+    if tables.addends.rows.is_empty() || tables.calls.rows.is_empty() {
+        return Ok(ranges);
+    }
+    ranges.joined = end == begin;
+    if end != end_of(&tables.calls) {
+        return Ok(ranges);
+    }
+    if tables.calls.rows.len() > tables.addends.rows.len() {
+        return refused(calls_row(rows), Cause::Unsupported);
+    }
+    ranges.joined = true;
+    ranges.first = front_of(&tables.addends.rows, tables.calls.rows.len());
+    Ok(ranges)
+}
+
+/// Returns the address at which a table of entries ends.
+fn end_of(table: &MappedTable) -> u128 {
+    u128::from(table.address) + u128::from(RELOCATION_BYTES) * u128::from(table.rows.len())
+}
+
+/// Returns the offset of DT_JMPREL.
+fn calls_row(rows: &ImageRows) -> u64 {
+    match rows.calls.address {
+        Some(row) => row.at,
+        None => 0,
+    }
+}
+
+/// Returns a table without its last rows, as many as `count`.
+fn front_of(table: &Table, count: u64) -> Table {
+    Table::new(table.at(), table.len() - count, RELOCATION_BYTES)
+}

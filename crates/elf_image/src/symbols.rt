@@ -1,0 +1,51 @@
+//! The dynamic symbol that an entry refers to.
+use elf_record::numbers::STB_LOCAL;
+use elf_record::{Cause, Sym};
+use elf_source::{Counted, Source};
+use elf_table::{Fault, Table, refused};
+
+/// The visibility of a symbol that other objects may refer to and define (gABI 4, Symbol
+/// Visibility).
+const STV_DEFAULT: u8 = 0;
+/// The visibility of a symbol that other objects may refer to.
+const STV_PROTECTED: u8 = 3;
+
+/// Returns symbol 0, which has no fields.
+pub(crate) fn no_symbol() -> Sym {
+    Sym {
+        st_value: 0,
+        st_size: 0,
+        st_name: 0,
+        st_shndx: 0,
+        st_info: 0,
+        st_other: 0,
+    }
+}
+
+/// Reads the symbol of an index, to which the entry at the file offset `at` refers.
+///
+/// # Errors
+/// Returns `BadLink` at `at` without a symbol table, `SymbolIndex` there if it has no symbol of the
+/// index. A fault of the read, or the refusal `Budget`, points to the symbol.
+pub(crate) fn read_symbol<S: Source>(
+    src: &mut Counted<S>,
+    symbols: Option<Table>,
+    index: u32,
+    at: u64,
+) -> Result<Sym, Fault> {
+    let Some(table) = symbols else {
+        return refused(at, Cause::BadLink);
+    };
+    let index = u64::from(index);
+    if index >= table.len() {
+        return refused(at, Cause::SymbolIndex);
+    }
+    table.symbol(src, index)
+}
+
+/// Returns `true` if a loader looks a symbol up in all objects: it is not local, and its visibility
+/// is DEFAULT or PROTECTED (gABI 4, Symbol Binding).
+pub(crate) fn is_looked_up(symbol: &Sym) -> bool {
+    let visibility = symbol.visibility();
+    symbol.binding() != STB_LOCAL && (visibility == STV_DEFAULT || visibility == STV_PROTECTED)
+}

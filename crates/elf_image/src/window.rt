@@ -1,0 +1,160 @@
+//! A window of a segment.
+use crate::changes::{ImageChange, StoredBytes};
+use crate::image_items::CopyBytes;
+use elf_source::{Counted, READ_BYTES, Source};
+use elf_table::{Fault, fill};
+
+/// The number of bytes before a window, and after it, that a word over its edge has there.
+const EDGE_BYTES: usize = 7;
+
+/// A range of a file that is the front of a segment, and the rest of which is zeros.
+#[derive(Clone, Copy)]
+pub(crate) struct SegmentBytes {
+    /// The segment's offset in the file.
+    pub(crate) at: u64,
+    /// How many bytes of it are in the file.
+    pub(crate) size: u64,
+}
+
+/// A window of a segment: its bytes, and those at its edges as they are in the file.
+#[derive(Drop)]
+pub(crate) struct ImageWindow<'w> {
+    /// The offset of the window in the segment.
+    low: u64,
+    bytes: &'w mut [u8],
+    before: [u8; EDGE_BYTES],
+    after: [u8; EDGE_BYTES],
+}
+
+impl<'w> ImageWindow<'w> {
+    /// Reads a window of a segment, at an offset of it.
+    ///
+    /// # Errors
+    /// Returns a fault of a read.
+    pub(crate) fn read<S: Source>(
+        src: &mut Counted<S>,
+        segment: SegmentBytes,
+        low: u64,
+        bytes: &'w mut [u8],
+    ) -> Result<ImageWindow<'w>, Fault> {
+        let mut before = [0; EDGE_BYTES];
+        let mut after = [0; EDGE_BYTES];
+        let edge = (EDGE_BYTES as u64).min(low) as usize;
+        let high = low + bytes.len() as u64;
+        read_part(
+            src,
+            segment,
+            low - edge as u64,
+            &mut before[EDGE_BYTES - edge..],
+        )?;
+        read_part(src, segment, low, bytes)?;
+        read_part(src, segment, high, &mut after)?;
+        Ok(ImageWindow {
+            low,
+            bytes,
+            before,
+            after,
+        })
+    }
+
+    /// Returns the bytes.
+    pub(crate) fn bytes(&self) -> &[u8] {
+        self.bytes
+    }
+
+    /// Stores the part of what a relocation stores in this segment that falls into the window. A
+    /// word to which the base is added has not been stored to before.
+    pub(crate) fn store(&mut self, change: &ImageChange<'_>, base: u64) {
+        let offset = change.place.offset;
+        match &change.bytes {
+            StoredBytes::Based => {
+                let word = self.word(offset);
+                self.put(offset, &word.wrapping_add(base).to_le_bytes());
+            }
+            StoredBytes::Value(patch) => self.put(offset, patch.bytes()),
+            StoredBytes::Pair(first, second) => {
+                self.put(offset, &first.to_le_bytes());
+                self.put(offset.saturating_add(8), &second.to_le_bytes());
+            }
+            StoredBytes::Copied(bytes) => self.put_copied(offset, bytes),
+        }
+    }
+
+    /// Returns the word at an offset of the segment, as it is in the file; 0 if it does not meet
+    /// the window.
+    fn word(&self, offset: u64) -> u64 {
+        let mut bytes = [0; 8];
+        for i in 0..8 {
+            bytes[i] = self.byte(offset.saturating_add(i as u64));
+        }
+        u64::from_le_bytes(bytes)
+    }
+
+    /// Returns the byte at an offset of the segment; 0 if it is more than 7 bytes away from the
+    /// window.
+    fn byte(&self, offset: u64) -> u8 {
+        let high = self.low + self.bytes.len() as u64;
+        if offset >= high {
+            return byte_in(&self.after, offset - high);
+        }
+        if offset >= self.low {
+            return self.bytes[(offset - self.low) as usize];
+        }
+        byte_in(
+            &self.before,
+            (offset + EDGE_BYTES as u64).wrapping_sub(self.low),
+        )
+    }
+
+    /// Stores the part of some bytes that falls into the window.
+    fn put(&mut self, offset: u64, bytes: &[u8]) {
+        let high = self.low + self.bytes.len() as u64;
+        let first = offset.max(self.low);
+        let end = offset.saturating_add(bytes.len() as u64).min(high);
+        if first < end {
+            let part = &bytes[(first - offset) as usize..(end - offset) as usize];
+            self.bytes[(first - self.low) as usize..(end - self.low) as usize].copy_from_slice(
+                part,
+            );
+        }
+    }
+
+    /// Stores the part of the bytes of a copied object that falls into the window.
+    fn put_copied(&mut self, offset: u64, bytes: &CopyBytes<'_>) {
+        for i in 0..bytes.len() {
+            self.put(offset.saturating_add(i as u64), &[bytes.byte(i)]);
+        }
+    }
+}
+
+/// Returns the byte of an index at an edge of a window, 0 for a larger one.
+fn byte_in(edge: &[u8; EDGE_BYTES], index: u64) -> u8 {
+    if index >= EDGE_BYTES as u64 {
+        return 0;
+    }
+    edge[index as usize]
+}
+
+/// Reads a part of a segment at an offset of it: the bytes in the file, then zeros.
+fn read_part<S: Source>(
+    src: &mut Counted<S>,
+    segment: SegmentBytes,
+    low: u64,
+    bytes: &mut [u8],
+) -> Result<(), Fault> {
+    let held = segment.size.saturating_sub(low).min(bytes.len() as u64) as usize;
+    read_bytes(src, segment.at.saturating_add(low), &mut bytes[..held])?;
+    bytes[held..].fill(0);
+    Ok(())
+}
+
+/// Reads the bytes at an offset of the file, as many as `bytes` has, at most 4,096 at once.
+fn read_bytes<S: Source>(src: &mut Counted<S>, at: u64, bytes: &mut [u8]) -> Result<(), Fault> {
+    let mut done = 0;
+    while done < bytes.len() {
+        let count = READ_BYTES.min(bytes.len() - done);
+        fill(src, at + done as u64, &mut bytes[done..done + count])?;
+        done += count;
+    }
+    Ok(())
+}

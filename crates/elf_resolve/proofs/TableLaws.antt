@@ -1,0 +1,67 @@
+-- Names that are entered in a table of keys, and keys that are used.
+use Rattle.std.proofs.Common.{◌≡◌, ℕ, ◌+◌, ◌<◌, Bool, true, false, cond, List, [], ◌∷◌, ◌++◌, length, map, Bor, refl, sym, ap, subst, ◌∙◌, arith}
+use Rattle.std.specs.Prelude.{None, Some, bytes_eq}
+use Rattle.std.specs.Map.{lookup}
+use Rattle.std.proofs.lemmas.Slice.Eq.{bytes_eq-Decides}
+use Rattle.elf_model.specs.LinkKeys.{LinkKeys, entered, entered_at, index_of, index_or, key_in, new_key}
+use Rattle.elf_model.specs.declared.link_states.KeyEntry.{KeyEntry}
+use Rattle.elf_resolve.specs.KeyTables.{Entered, Finds, NotEntered, Table, fresh, fresh_or}
+use Rattle.elf_resolve.proofs.ListLaws.{position_push_new, position_push_other}
+
+-- a name that is known
+pub known : (old : Table) (name : List ℕ) (index : ℕ) → key_in old.keys.names name ≡ Some index → Entered old old name index
+unfolding entered index_of fresh
+known old name index found = record {
+  keys = subst (λ o. old.keys ≡ entered_at o old.keys name) (sym found) refl;
+  index_is = subst (λ o. index ≡ index_or o (length old.keys.names)) (sym found) refl;
+  most = refl;
+  most_further = refl;
+  room = subst (λ o. old.room + length (fresh_or o name) ≡ old.room) (sym found) (omega arith);
+}
+
+-- a new name
+pub new_name : (old new : Table) (name : List ℕ) (index : ℕ) → key_in old.keys.names name ≡ None
+    → new.keys ≡ record old.keys { names = old.keys.names ++ name ∷ []; entries = old.keys.entries ++ new_key ∷ [] }
+    → index ≡ length old.keys.names → new.most ≡ old.most → new.most_further ≡ old.most_further → new.room + length name ≡ old.room → Entered old new name index
+unfolding entered index_of fresh
+new_name old new name index absent keys next most most_further room = record {
+  keys = subst (λ o. new.keys ≡ entered_at o old.keys name) (sym absent) keys;
+  index_is = subst (λ o. index ≡ index_or o (length old.keys.names)) (sym absent) next;
+  most = most;
+  most_further = most_further;
+  room = subst (λ o. new.room + length (fresh_or o name) ≡ old.room) (sym absent) room;
+}
+
+-- names and entries that are equal are those of equal keys
+pub keys_as : (keys : LinkKeys) (old names others : List (List ℕ)) (entries : List KeyEntry) → old ≡ keys.names → names ≡ others
+    → record { names = names; entries = entries; order = keys.order; asked = keys.asked; further = keys.further }
+    ≡ (let same : LinkKeys = record { names = others; entries = entries; order = keys.order; asked = keys.asked; further = keys.further } in same)
+keys_as keys old names others entries before same =
+    let by : List (List ℕ) → LinkKeys = λ n. record { names = n; entries = entries; order = keys.order; asked = keys.asked; further = keys.further } in ap by same
+
+-- a test that fails in one order fails in the other
+not_back : (xs ys : List ℕ) (back : Bool) → bytes_eq ys xs ≡ back → bytes_eq xs ys ≡ false → back ≡ false
+not_back xs ys false is apart = refl
+not_back xs ys true is apart = let yes : bytes_eq xs ys ≡ true = (bytes_eq-Decides xs ys).1 (sym ((bytes_eq-Decides ys xs).0 is)) in cc
+
+finds_by : (places others : List (Bor (List ℕ) × ℕ)) (names : List (List ℕ)) (name : List ℕ) (next : ℕ) → Finds places names → key_in names name ≡ None → next ≡ length names
+    → ((q : List ℕ) → lookup (λ k. bytes_eq q k.now) others ≡ cond (bytes_eq name q) (Some next) (lookup (λ k. bytes_eq q k.now) places))
+    → (q : List ℕ) (same : Bool) → bytes_eq name q ≡ same → lookup (λ k. bytes_eq q k.now) others ≡ key_in (names ++ name ∷ []) q
+finds_by places others names name next finds absent is_next updates q true same =
+    let is : name ≡ q = (bytes_eq-Decides name q).0 same in
+    updates q
+    ∙ ap (λ b. cond b (Some next) (lookup (λ k. bytes_eq q k.now) places)) same
+    ∙ ap Some is_next
+    ∙ sym (position_push_new (bytes_eq q) names name (subst (λ n. key_in names n ≡ None) is absent) ((bytes_eq-Decides q name).1 (sym is)))
+finds_by places others names name next finds absent is_next updates q false same =
+    updates q
+    ∙ ap (λ b. cond b (Some next) (lookup (λ k. bytes_eq q k.now) places)) same
+    ∙ finds q
+    ∙ sym (position_push_other (bytes_eq q) names name (not_back name q (bytes_eq q name) refl same))
+
+-- a map that has one more name at the next index finds it after the others
+pub finds_more : (places others : List (Bor (List ℕ) × ℕ)) (names : List (List ℕ)) (name : List ℕ) (next : ℕ) → Finds places names → key_in names name ≡ None → next ≡ length names
+    → ((q : List ℕ) → lookup (λ k. bytes_eq q k.now) others ≡ cond (bytes_eq name q) (Some next) (lookup (λ k. bytes_eq q k.now) places))
+    → Finds others (names ++ name ∷ [])
+finds_more places others names name next finds absent is_next updates q =
+    finds_by places others names name next finds absent is_next updates q (bytes_eq name q) refl

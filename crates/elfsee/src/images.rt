@@ -1,0 +1,237 @@
+//! Segments as a loader leaves them, and what their images lack.
+use crate::layouts::{read_list, told};
+use elf_cli::{
+    CANNOT_OPEN, CommandArgs, ExitLine, OUT_OF_MEMORY, allocate, allocate_pages, end_answer,
+    open_by_pages,
+};
+use elf_format::show_lacking;
+use elf_image::{ImageItems, ImageRequest, ItemList, ItemListFault, MissingEntries, write_image};
+use elf_layout::{LayoutFileFault, TextEnd};
+use elf_listing::show_stop;
+use elf_model::Format;
+use elf_source::{Counted, Out, Sink, Source, WriteSink};
+use elf_table::{HeaderStore, RunFault};
+use std::io::{self, BufWriter, Stderr, Write};
+use std::os::unix::fs::FileExt;
+use std::rt::Files;
+use std::str;
+
+/// How many bytes of a segment are held at once.
+const WINDOW_BYTES: usize = 1 << 20;
+/// How many bytes of a segment are written, unless the arguments say so.
+const MOST_BYTES: u64 = 1 << 32;
+/// The argument is not the index of a program header.
+const BAD_SEGMENT: ExitLine = (2, "elfsee: bad segment");
+/// The argument is not an item.
+const BAD_ITEM: ExitLine = (2, "elfsee: bad item");
+/// Two items of one type have the same index or address.
+const REPEAT: ExitLine = (2, "elfsee: layout-repeat");
+
+/// What is written of a file.
+#[derive(Clone, Copy)]
+enum Wanted {
+    /// The image of the segment of a program header.
+    Segment(u16),
+    /// The entries that lack an item.
+    Missing,
+}
+
+/// Writes a segment of the requested file as a loader leaves it, or the entries that lack an item.
+/// The items of a list are read and sorted before the file is opened.
+///
+/// # Errors
+/// Out of memory, the file or the list cannot be read, or an argument or a line is not an item, or
+/// repeats one.
+#[inline(never)]
+pub fn write_images<R: Files + Print + AllocGlobal>(
+    rt: &R,
+    asked: &CommandArgs<'_>,
+    errors: Stderr,
+) -> Result<ExitLine, ExitLine>
+where
+    R::File: FileExt,
+{
+    let wanted = wanted_of(asked)?;
+    let mut bytes = Vec::new(rt.alloc());
+    let end = match asked.layout {
+        None => TextEnd::Whole,
+        Some(list) => match read_list(rt, list, &mut bytes) {
+            Ok(end) => end,
+            Err(fault) => return Err(told(rt.alloc(), errors, fault)),
+        },
+    };
+    let Ok(text) = str::from_utf8(&bytes) else {
+        return Err(told(rt.alloc(), errors, LayoutFileFault::Read));
+    };
+    let mut list = ItemList::new(rt.alloc());
+    if let Err(fault) = gather(&mut list, asked, text, end) {
+        return Err(refused_items(rt, errors, fault));
+    }
+    match list.lend() {
+        Ok(items) => write_with(rt, asked, wanted, &items),
+        Err(fault) => Err(refused_items(rt, errors, fault)),
+    }
+}
+
+/// Returns what is written.
+fn wanted_of(asked: &CommandArgs<'_>) -> Result<Wanted, ExitLine> {
+    if asked.missing {
+        return Ok(Wanted::Missing);
+    }
+    match asked.image_index {
+        Some(index) if index <= 65_535 => Ok(Wanted::Segment(index as u16)),
+        _ => Err(BAD_SEGMENT),
+    }
+}
+
+/// Gathers the items of the arguments and of the lines of a text. If no segment is given, its
+/// argument is an item.
+fn gather<'a>(
+    list: &mut ItemList<'a>,
+    asked: &CommandArgs<'a>,
+    text: &'a str,
+    end: TextEnd,
+) -> Result<(), ItemListFault> {
+    if asked.missing {
+        if let Some(word) = asked.image {
+            list.push_words(&[word])?;
+        }
+    }
+    list.push_words(&asked.items)?;
+    list.push_lines(text, end)
+}
+
+/// Returns how the program ends if the items have a fault.
+fn refused_items<R: AllocGlobal>(rt: &R, errors: Stderr, fault: ItemListFault) -> ExitLine {
+    match fault {
+        ItemListFault::BadWord => BAD_ITEM,
+        ItemListFault::BadLine(line) => { told(rt.alloc(), errors, LayoutFileFault::BadItem(line)) }
+        ItemListFault::Repeat => REPEAT,
+        ItemListFault::Memory => OUT_OF_MEMORY,
+    }
+}
+
+/// Allocates the buffers, opens the file, and writes what is wanted of it.
+///
+/// # Errors
+/// Out of memory, or the file cannot be opened.
+fn write_with<R: Files + Print + AllocGlobal>(
+    rt: &R,
+    asked: &CommandArgs<'_>,
+    wanted: Wanted,
+    items: &ImageItems<'_>,
+) -> Result<ExitLine, ExitLine>
+where
+    R::File: FileExt,
+{
+    let Some(path) = asked.file else {
+        return Err(CANNOT_OPEN);
+    };
+    let limits = asked.caps.limits;
+    let (mut room, output) = match allocate(rt.alloc(), limits.headers, io::writer(rt)) {
+        Ok(buffers) => buffers,
+        Err(ending) => return Err(ending),
+    };
+    let pages = match allocate_pages(rt.alloc(), limits.budget) {
+        Ok(pages) => pages,
+        Err(ending) => return Err(ending),
+    };
+    let Ok(mut window) = vec![in rt.alloc(); 0u8; WINDOW_BYTES] else {
+        return Err(OUT_OF_MEMORY);
+    };
+    match open_by_pages(rt, path, pages) {
+        Ok(source) => {
+            let job = ImageJob {
+                wanted,
+                items,
+                leaves: asked.leave,
+                most: asked.max_write.unwrap_or(MOST_BYTES),
+                budget: limits.budget,
+            };
+            Ok(write_job(&job, source, room.store(), &mut window, output))
+        }
+        Err(ending) => Err(ending),
+    }
+}
+
+/// What is written of a file, by which items, and its limits.
+#[derive(Clone, Copy)]
+struct ImageJob<'a> {
+    wanted: Wanted,
+    items: &'a ImageItems<'a>,
+    leaves: bool,
+    most: u64,
+    budget: Option<u64>,
+}
+
+/// Writes what is wanted of a file, and the rest of the output. Returns how the program ends.
+#[inline(never)]
+fn write_job<S: Source + Drop, W: Write + Drop>(
+    job: &ImageJob<'_>,
+    source: S,
+    mut store: HeaderStore<'_>,
+    window: &mut [u8],
+    output: BufWriter<W>,
+) -> ExitLine {
+    let mut src = Counted::new(source);
+    src.limit(job.budget);
+    let mut out = Out::new(WriteSink::new(output));
+    let answer = match answer_job(job, &mut src, &mut store, window, &mut out) {
+        Ok(()) => Ok(0),
+        Err(stop) => Err(show_stop(stop, Format::Columns, &mut out)),
+    };
+    let (ending, _output) = end_answer(&answer, out.into_inner().into_inner());
+    ending
+}
+
+/// Writes what is wanted of a file.
+///
+/// # Errors
+/// A refusal of the file, or a fault of the source or of the output.
+fn answer_job<'a, S: Source, W: Sink>(
+    job: &'a ImageJob<'a>,
+    src: &mut Counted<S>,
+    store: &'a mut HeaderStore<'_>,
+    window: &mut [u8],
+    out: &mut Out<W>,
+) -> Result<(), RunFault> {
+    match job.wanted {
+        Wanted::Segment(segment) => {
+            let request = ImageRequest {
+                segment,
+                items: job.items,
+                leaves: job.leaves,
+                most: job.most,
+            };
+            write_image(src, store, &request, window, out)
+        }
+        Wanted::Missing => {
+            src.mask_section_headers(true);
+            write_missing(job, src, store, out)
+        }
+    }
+}
+
+/// Writes a line for each entry that lacks an item.
+///
+/// # Errors
+/// A refusal of the file, or a fault of the source or of the output.
+fn write_missing<'a, S: Source, W: Sink>(
+    job: &'a ImageJob<'a>,
+    src: &mut Counted<S>,
+    store: &'a mut HeaderStore<'_>,
+    out: &mut Out<W>,
+) -> Result<(), RunFault> {
+    let mut missing = MissingEntries::open(src, store, job.items)?;
+    'entries: while let Some(entry) = missing.next(src)? {
+        show_lacking(
+            entry.at,
+            entry.place,
+            entry.kind,
+            entry.symbol,
+            entry.cause,
+            out,
+        )?;
+    }
+    Ok(())
+}
