@@ -4,7 +4,7 @@
 import re
 import struct
 
-from applied import STRTAB, Header, Refused, load, refuse_where
+from applied import IDENT, STRTAB, Header, Refused, load, refuse_where
 from linked_keys import ABSOLUTE, BSS, COMMON, DEFINITION, FUNCTION, OTHER, REFERENCE, Symbol
 
 SYMTAB, NOBITS, DYNAMIC, DYNSYM, GROUP, SYMTAB_SHNDX = 2, 8, 6, 11, 17, 18
@@ -15,11 +15,14 @@ NEEDED, SONAME = 1, 14
 BASE, HIDDEN, NUMBERS = 1, 0x8000, 1024
 REL, DYN, X86_64 = 1, 3, 62
 MAGIC, THIN = b"!<arch>\n", b"!<thin>\n"
+IN_GROUP = 0x200
 LINKONCE, SLIM = b".gnu.linkonce.", b"__gnu_lto_slim"
 
 
 def text_at(content, strings, index, at):
     """The name at an index of a string table, or the refusal at what has the index."""
+    if index == 0 and strings.size == 0:
+        return b""
     refuse_where(index >= strings.size, at, "name-outside")
     end = content.find(b"\0", strings.offset + index, strings.offset + strings.size)
     refuse_where(end < 0, at, "name-unended")
@@ -37,31 +40,43 @@ def checked_strings(headers, index, at):
 class ElfFile:
     """An object or a shared library: its headers and the table of its symbols."""
 
-    def __init__(self, content, most, kinds):
-        self.content, self.headers = content, load(content, most)
+    def __init__(self, content, most, wanted):
+        self.content = content
+        load_identification(content)
         kind, machine = struct.unpack_from("<HH", content, 16)
+        refuse_where(kind != wanted, 0x10, "type")
         refuse_where(machine != X86_64, 0x12, "machine")
-        refuse_where(kind not in kinds, 0x10, "type")
-        self.is_shared = kind == DYN
-        self.table = next((header for header in self.headers if header.type == (DYNSYM if self.is_shared else SYMTAB)), None)
+        self.headers = load(content, most)
+        self.table = self.first(DYNSYM if kind == DYN else SYMTAB)
         self.strings = None
-        if self.table is not None:
-            self.table.check_rows()
-            self.strings = checked_strings(self.headers, self.table.link, self.table.at)
+        if self.table is not None and self.table.size:
+            self.strings = self.checked_symbols(self.table)
+
+    def first(self, kind):
+        """The first section of a type, or None."""
+        return next((header for header in self.headers if header.type == kind), None)
+
+    def checked_symbols(self, table):
+        """The strings of a table of symbols."""
+        table.check_rows()
+        return checked_strings(self.headers, table.link, table.at)
 
     def section_name(self, header):
         names, = struct.unpack_from("<H", self.content, 62)
         return text_at(self.content, self.headers[names], struct.unpack_from("<I", self.content, header.at)[0], header.at) if names else b""
 
     def symbols(self):
-        """The index, the place and the fields of each symbol from sh_info on that is not local and has a name."""
-        if self.table is None:
+        """The index, the place, the name and the fields of each symbol from sh_info on that is not local and has a name."""
+        if self.strings is None:
             return
         for index in range(self.table.info, self.table.size // 24):
             at = self.table.offset + 24 * index
             name, info, other, section, value, size = struct.unpack_from("<IBBHQQ", self.content, at)
-            if info >> 4 in (GLOBAL, WEAK, UNIQUE) and name:
-                yield index, at, name, info, other, section, value, size
+            if info >> 4 in (GLOBAL, WEAK, UNIQUE):
+                text = text_at(self.content, self.strings, name, at)
+                refuse_where(text == SLIM, at, "lto")
+                if text:
+                    yield index, text, info, other, section, value, size
 
     def nature(self, info, section, size):
         """The nature of a definition, by its type, its section and its size."""
@@ -76,105 +91,107 @@ class ElfFile:
         return OTHER
 
 
+def load_identification(content):
+    """The checks of the length and the identification of a file."""
+    refuse_where(len(content) < 64, len(content), "short")
+    for at, wanted, cause in IDENT:
+        refuse_where(content[at:at + len(wanted)] != wanted, at, cause)
+
+
 class Object(ElfFile):
     """An object: its symbols, of which `known` says what sections are dropped."""
 
-    def __init__(self, content, most, known):
-        super().__init__(content, most, (REL,))
-        self.sections, self.wide = set(), None
+    def __init__(self, content, most, known, has_groups=True):
+        super().__init__(content, most, REL)
+        self.dropped = self.sections = set()
+        if not has_groups:
+            return
         self.dropped = self.dropped_sections(known)
-        if self.table is not None:
-            self.wide = next((header for header in self.headers if header.type == SYMTAB_SHNDX
-                              and self.headers.index(self.table) == header.link), None)
-            if self.wide is not None:
-                self.wide.check_rows(4)
+        names = [(index, self.section_name(header)) for index, header in enumerate(self.headers)]
+        self.sections = {name for index, name in names if index not in self.dropped and re.fullmatch(rb"[A-Za-z0-9_]+", name)}
 
     def dropped_sections(self, known):
         """The sections of which an earlier file or group has the signature or the name."""
-        dropped, grouped = set(), set()
-        groups = {}
+        dropped = set()
         for index, header in enumerate(self.headers):
             if header.type == GROUP:
-                header.check_rows(4)
-                words = struct.unpack_from(f"<{header.size // 4}I", self.content, header.offset)
-                groups[index] = words
-                grouped.update(words[1:])
-        for index, header in enumerate(self.headers):
-            if header.type == GROUP:
-                words = groups[index]
+                words, mark = self.group(header)
                 if words and words[0] & 1:
-                    mark = (GROUP, self.signature(header))
+                    mark = (GROUP, mark())
                     if mark in known:
                         dropped.update(words[1:])
                     known.add(mark)
-            elif header.type and index not in grouped:
-                name = self.section_name(header)
-                if name.startswith(LINKONCE):
-                    if (LINKONCE, name) in known:
-                        dropped.add(index)
-                    known.add((LINKONCE, name))
-        for index, header in enumerate(self.headers):
-            if header.type and index not in dropped:
-                name = self.section_name(header)
-                if re.fullmatch(rb"[A-Za-z0-9_]+", name):
-                    self.sections.add(name)
+                continue
+            name = self.section_name(header)
+            if name.startswith(LINKONCE) and not header.flags & IN_GROUP:
+                if (LINKONCE, name) in known:
+                    dropped.add(index)
+                known.add((LINKONCE, name))
         return dropped
 
-    def signature(self, header):
-        refuse_where(header.link == 0 or header.link >= len(self.headers), header.at, "bad-link")
-        table = self.headers[header.link]
-        refuse_where(table.type != SYMTAB, header.at, "bad-link")
-        table.check_rows()
-        strings = checked_strings(self.headers, table.link, table.at)
+    def group(self, header):
+        """The words of a group, and a call for its signature."""
+        if header.size:
+            refuse_where(header.size % 4, header.at, "size-not-whole")
+            header.check_inside()
+        table = self.headers[header.link] if header.link < len(self.headers) else None
+        refuse_where(table is None or table.type not in (SYMTAB, DYNSYM), header.at, "bad-link")
+        strings = self.checked_symbols(table) if table.size else None
         refuse_where(header.info >= table.size // 24, header.at, "symbol-index")
-        at = table.offset + 24 * header.info
+        words = struct.unpack_from(f"<{header.size // 4}I", self.content, header.offset)
+        return words, lambda: self.signature(table.offset + 24 * header.info, strings)
+
+    def signature(self, at, strings):
         name, info, _, section = struct.unpack_from("<IBBH", self.content, at)
-        if name == 0 and info % 16 == 3:
-            refuse_where(section == 0 or section >= len(self.headers), at, "bad-link")
+        text = text_at(self.content, strings, name, at)
+        if not text and info % 16 == 3 and section < len(self.headers):
             return self.section_name(self.headers[section])
-        return text_at(self.content, strings, name, at)
+        return text
 
     def events(self):
         """The names of the keys and the symbol, for each that counts."""
-        for index, at, name, info, other, section, value, size in self.symbols():
-            text = text_at(self.content, self.strings, name, at)
-            refuse_where(text == SLIM, at, "lto")
-            place = section
-            if section == XINDEX:
-                refuse_where(self.wide is None or 4 * index >= self.wide.size, at, "extended-numbering")
-                place, = struct.unpack_from("<I", self.content, self.wide.offset + 4 * index)
-            is_gone = (section < 0xFF00 or section == XINDEX) and place in self.dropped
+        for _, text, info, other, section, value, size in self.symbols():
+            is_gone = 0 < section < 0xFF00 and section in self.dropped
             is_weak, is_default = info >> 4 == WEAK, other % 4 == 0
             if section == 0 or is_gone:
                 symbol = Symbol(REFERENCE, is_weak, is_default=is_default, is_gone=is_gone)
             elif section in COMMONS:
                 symbol = Symbol(COMMON, is_weak, size, is_default=is_default)
             else:
-                nature = self.nature(info, section, size)
-                symbol = Symbol(DEFINITION, is_weak, size, nature, value, is_default)
+                symbol = Symbol(DEFINITION, is_weak, size, ABSOLUTE if section == ABS else OTHER, value, is_default)
             yield keys_of(text, symbol.sort), symbol
 
     def first_of(self, wanted):
         """Whether the first symbol of a name is a definition, not weak and no function."""
-        for _, at, name, info, _, section, _, _ in self.symbols():
-            if text_at(self.content, self.strings, name, at) == wanted:
+        for index in range(self.table.info, self.table.size // 24) if self.strings else ():
+            at = self.table.offset + 24 * index
+            name, info, _, section = struct.unpack_from("<IBBH", self.content, at)
+            if info >> 4 in (GLOBAL, WEAK, UNIQUE) and whole(self.content, self.strings, name) == wanted:
                 return info >> 4 != WEAK and info % 16 not in (2, 10) and section != 0 and section not in COMMONS
         return False
 
 
+def whole(content, strings, index):
+    """A name, or None if it is malformed."""
+    try:
+        return text_at(content, strings, index, 0)
+    except Refused:
+        return None
+
+
 def keys_of(text, sort=DEFINITION):
     """The names of the keys that a name of an object or of an index is."""
-    name, at, version = text.partition(b"@@")
-    if not name or not at:
+    name, _, version = text.partition(b"@")
+    if not name or not version.startswith(b"@"):
         return [text]
-    return [name + b"@" + version] if sort == REFERENCE else [name + b"@" + version, name]
+    return [name + version] if sort == REFERENCE else [name + version, name]
 
 
 class SharedLibrary(ElfFile):
     """A shared library: its name, what it needs, and its symbols with their versions."""
 
     def __init__(self, content, most):
-        super().__init__(content, most, (DYN,))
+        super().__init__(content, most, DYN)
         self.soname, self.needed = None, []
         self.read_dynamic()
         self.versions = next((header for header in self.headers if header.type == VERSYM), None)
@@ -244,8 +261,7 @@ class SharedLibrary(ElfFile):
                 inner, led_by = inner + behind, there
 
     def events(self):
-        for index, at, name, info, _, section, value, size in self.symbols():
-            text = text_at(self.content, self.strings, name, at)
+        for index, text, info, _, section, value, size in self.symbols():
             nature = self.nature(info, section, size)
             sort = REFERENCE if section == 0 else DEFINITION
             yield self.names(index, text, sort, nature), Symbol(sort, info >> 4 == WEAK, size if nature == BSS else 0, nature, value)
@@ -302,9 +318,9 @@ class Archive:
         for index in range(count):
             at = width + width * index
             offset = int.from_bytes(data[at:at + width], "big")
-            refuse_where(offset not in numbers, first.start + at, "index-member")
             end = data.find(b"\0", place)
             refuse_where(end < 0, 8, "index-cut")
+            refuse_where(offset not in numbers, first.start + at, "index-member")
             self.entries.append((data[place:end], numbers[offset]))
             place = end + 1
 

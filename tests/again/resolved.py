@@ -204,22 +204,17 @@ class Link:
         self.take_member(opened, number, key)
 
     def defines(self, opened, number, text):
-        member = opened.archive.members[number]
+        """Whether the first symbol of a name in a member is a definition, not weak and no function: not of one that is refused."""
         try:
-            return Object(opened.archive.data(number), self.most, set()).first_of(text)
-        except Refused as refusal:
-            self.row(member.name(), opened.row.index, number)
-            raise Refused(refusal.args[0] + member.start, refusal.args[1]) from refusal
+            return Object(opened.archive.data(number), self.most, set(), False).first_of(text)
+        except Refused:
+            return False
 
     def take_member(self, opened, number, key):
         member = opened.archive.members[number]
-        try:
-            name = member.name()
-        except Refused:
-            opened.row.kind = "refused"
-            raise
-        row = self.row(name, opened.row.index, number)
+        row = self.row(b"", opened.row.index, number)
         row.reason = key and (key.row, key.name)
+        row.path = member.name()
         try:
             self.take_object(row, Object(opened.archive.data(number), self.most, self.known))
         except Refused as refusal:

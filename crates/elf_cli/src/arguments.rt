@@ -10,7 +10,7 @@ use crate::command_sets::{
 };
 use clap::builder::ValueParser;
 
-static ARGUMENTS: [ArgSpec; 51] = [
+static ARGUMENTS: [ArgSpec; 52] = [
     ArgSpec {
         name: "headers",
         short: None,
@@ -18,7 +18,16 @@ static ARGUMENTS: [ArgSpec; 51] = [
         kind: ArgKind::Count(ValueParser::Signed(1, 65279), "4096"),
         help: "Allow N section and N program headers,\n\
             1 to 65279",
-        commands: READING | RESOLVE,
+        commands: READING,
+    },
+    ArgSpec {
+        name: "headers",
+        short: None,
+        alias: Some("max-headers"),
+        kind: ArgKind::Count(ValueParser::Signed(1, 65279), "65279"),
+        help: "Allow N section and N program headers,\n\
+            1 to 65279",
+        commands: RESOLVE,
     },
     ArgSpec {
         name: "names",
