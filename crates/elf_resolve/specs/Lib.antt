@@ -7,3 +7,4 @@ pub mod KeyOrders
 pub mod LinkLaws
 pub mod ExamplesLinks
 pub mod ExamplesFiles
+pub mod LinkMembers

@@ -1,0 +1,170 @@
+//! The symbols of an object.
+
+use crate::link_faults::{LinkFault, full, refused};
+use crate::object::{LinkObject, ObjectRoom, symbol_in};
+use crate::string_buffer::{HeldText, StringBuffer, split_version};
+use elf_model::{LinkCause, SymbolRole, SymbolUse};
+use elf_record::Sym;
+use elf_record::numbers::{
+    SHN_ABS, SHN_COMMON, SHN_LORESERVE, SHN_UNDEF, STB_GLOBAL, STB_WEAK, STT_FUNC, STV_DEFAULT,
+};
+use crate::symbols::Symbol;
+use crate::table::KeyTable;
+
+/// The binding of a symbol that is one in all of a process, as GNU files have it.
+const STB_GNU_UNIQUE: u8 = 10;
+
+/// The type of a function that is found by a call, as GNU files have it.
+const STT_GNU_IFUNC: u8 = 10;
+
+/// The section index of a common of the large model (psABI, Special Section Indexes).
+const SHN_X86_64_LCOMMON: u16 = 0xff02;
+
+/// The symbol of an object with intermediate code alone.
+const LTO_MARK: &[u8] = b"__gnu_lto_slim";
+
+/// Takes the symbols of an object that are not local, in order.
+///
+/// # Errors
+/// The first fault of a symbol or its name; there is no room for a key.
+pub(crate) fn take_symbols(
+    object: &LinkObject<'_>,
+    room: &mut ObjectRoom<'_>,
+    keys: &mut KeyTable<'_>,
+    row: u32,
+) -> Result<(), LinkFault> {
+    let Some(symbols) = object.symbols else {
+        return Ok(());
+    };
+    for index in symbols.first..symbols.count {
+        let rows = room.strings.bytes(symbols.rows);
+        if let Some(symbol) = global_in(rows, index) {
+            let at = symbols.place(index);
+            take_symbol(&symbol, symbols.names, at, room, keys, row)?;
+        }
+    }
+    Ok(())
+}
+
+/// Returns the symbol of an index in the bytes of a table, if it is global, weak or unique.
+pub(crate) fn global_in(rows: &[u8], index: u64) -> Option<Sym> {
+    let symbol = symbol_in(rows, index)?;
+    match symbol.binding() {
+        STB_GLOBAL | STB_WEAK | STB_GNU_UNIQUE => Some(symbol),
+        _ => None,
+    }
+}
+
+/// Takes a symbol at a file offset, if it has a name.
+///
+/// # Errors
+/// Those of its name; there is no room for its keys.
+fn take_symbol(
+    symbol: &Sym,
+    names: HeldText,
+    at: u64,
+    room: &mut ObjectRoom<'_>,
+    keys: &mut KeyTable<'_>,
+    row: u32,
+) -> Result<(), LinkFault> {
+    let name = room.strings.name(names, u64::from(symbol.st_name), at)?;
+    if room.strings.bytes(name) == LTO_MARK {
+        return refused(at, LinkCause::Lto);
+    }
+    if name.size == 0 {
+        return Ok(());
+    }
+    let symbol = use_of(symbol, is_in_dropped(symbol, room));
+    let (name, default) = key_names(room.strings, name, symbol.role, at)?;
+    let default_name = default.map(|default| room.strings.bytes(default));
+    let name = room.strings.bytes(name);
+    let taken = keys.take(
+        Symbol {
+            name,
+            default_name,
+            symbol,
+        },
+        Some(row),
+    );
+    match taken {
+        Ok(()) => Ok(()),
+        Err(fault) => Err(full(at, fault)),
+    }
+}
+
+/// Returns `true` if a symbol is defined in a section that is dropped.
+fn is_in_dropped(symbol: &Sym, room: &ObjectRoom<'_>) -> bool {
+    let section = symbol.st_shndx;
+    section != SHN_UNDEF && section < SHN_LORESERVE && room.marks.is_dropped(u32::from(section))
+}
+
+/// Returns how a symbol uses its key; a definition in a dropped section is a reference.
+fn use_of(symbol: &Sym, dropped: bool) -> SymbolUse {
+    SymbolUse {
+        role: if dropped { reference_role(symbol) } else { role_of(symbol) },
+        restricted: symbol.visibility() != STV_DEFAULT,
+        dropped,
+        absolute: if symbol.st_shndx == SHN_ABS {
+            Some(symbol.st_value)
+        } else {
+            None
+        },
+    }
+}
+
+/// Returns what a reference is to its key.
+fn reference_role(symbol: &Sym) -> SymbolRole {
+    if symbol.binding() == STB_WEAK {
+        return SymbolRole::WeakReference;
+    }
+    SymbolRole::Reference
+}
+
+/// Returns what a symbol is to its key.
+fn role_of(symbol: &Sym) -> SymbolRole {
+    if symbol.st_shndx == SHN_UNDEF {
+        return reference_role(symbol);
+    }
+    if is_common(symbol) {
+        return SymbolRole::Common(symbol.st_size);
+    }
+    if symbol.binding() == STB_WEAK {
+        return SymbolRole::WeakDefinition;
+    }
+    SymbolRole::Definition
+}
+
+/// Returns `true` if a symbol is a common.
+fn is_common(symbol: &Sym) -> bool {
+    symbol.st_shndx == SHN_COMMON || symbol.st_shndx == SHN_X86_64_LCOMMON
+}
+
+/// Returns `true` if a symbol is a definition, not weak and no function.
+pub(crate) fn is_data_definition(symbol: &Sym) -> bool {
+    symbol.binding() != STB_WEAK
+        && symbol.st_shndx != SHN_UNDEF
+        && !is_common(symbol)
+        && symbol.kind() != STT_FUNC
+        && symbol.kind() != STT_GNU_IFUNC
+}
+
+/// Returns the names of the keys of a symbol: of `NAME@@VERSION` the name `NAME@VERSION` and, unless
+/// it is a reference, `NAME`; of any other name that name.
+///
+/// # Errors
+/// There is no room for a name.
+fn key_names(
+    strings: &mut StringBuffer,
+    name: HeldText,
+    role: SymbolRole,
+    at: u64,
+) -> Result<(HeldText, Option<HeldText>), LinkFault> {
+    let Some((base, version)) = split_version(strings.bytes(name), name) else {
+        return Ok((name, None));
+    };
+    let joined = strings.join(base, version, at)?;
+    match role {
+        SymbolRole::Reference | SymbolRole::WeakReference => Ok((joined, None)),
+        _ => Ok((joined, Some(base))),
+    }
+}

@@ -1,0 +1,46 @@
+//! The limits of a link, and the memory for one file at a time.
+
+use crate::section_marks::SectionMarks;
+use crate::string_buffer::StringBuffer;
+use elf_table::HeaderBuffer;
+use std::alloc::{AllocError, Global};
+
+/// How much of what a link allows.
+#[derive(Clone, Copy)]
+pub struct LinkCaps {
+    /// The most section headers of a file, and the most program headers.
+    pub headers: u16,
+    /// The most keys.
+    pub keys: u32,
+    /// The most bytes of all keys, and of the string tables of one file.
+    pub key_bytes: u32,
+    /// The most entries of all indexes of archives, and the most members of all archives.
+    pub index: u32,
+    /// The most rows.
+    pub rows: u32,
+    /// How many bytes of all files may be read.
+    pub budget: Option<u64>,
+}
+
+/// Memory for reading one file: its section headers, its string tables, and which of its sections
+/// are dropped.
+#[derive(Drop)]
+pub struct LinkRoom {
+    pub(crate) headers: HeaderBuffer,
+    pub(crate) strings: StringBuffer,
+    pub(crate) marks: SectionMarks,
+}
+
+impl LinkRoom {
+    /// Allocates the memory.
+    ///
+    /// # Errors
+    /// Out of memory.
+    pub fn new(alloc: Global, caps: &LinkCaps) -> Result<LinkRoom, AllocError> {
+        Ok(LinkRoom {
+            headers: HeaderBuffer::new(alloc, caps.headers)?,
+            strings: StringBuffer::new(alloc, caps.key_bytes)?,
+            marks: SectionMarks::new(alloc, caps.headers)?,
+        })
+    }
+}
