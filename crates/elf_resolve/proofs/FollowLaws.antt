@@ -320,7 +320,7 @@ follows_default row keys None symbol ends unrestricted own known = follows_itsel
 follows_default row keys (Some name) symbol true unrestricted own known = follows_itself keys known
 follows_default row keys (Some name) symbol false unrestricted own known = follows_name row keys name symbol unrestricted own known
 
-follows_symbol : (row : Option ℕ) (keys : LinkKeys) (s : LinkSymbol) → s.symbol.restricted ≡ false → IsOwn s.symbol.role → AskedAreKnown keys → Follows keys (symbol_taken row keys s)
+pub follows_symbol : (row : Option ℕ) (keys : LinkKeys) (s : LinkSymbol) → s.symbol.restricted ≡ false → IsOwn s.symbol.role → AskedAreKnown keys → Follows keys (symbol_taken row keys s)
 unfolding symbol_taken
 follows_symbol row keys s unrestricted own known =
     let first = follows_name row keys s.name s.symbol unrestricted own known in

@@ -41,7 +41,7 @@ module _ (archive : LinkArchive) (plain : (member : ℕ) → AreUnrestricted (ar
   unfolding entry_visited
   follows_visit p e known = visit_by p e (takes_member archive p e) known
 
-  follows_pass : (p : ArchivePass) (es : List IndexEntry) → AskedAreKnown p.keys → Follows p.keys (index_passed archive p es).keys
+  pub follows_pass : (p : ArchivePass) (es : List IndexEntry) → AskedAreKnown p.keys → Follows p.keys (index_passed archive p es).keys
   follows_pass p [] known = follows_itself p.keys known
   follows_pass p (e ∷ es) known =
       let first = follows_visit p e known in

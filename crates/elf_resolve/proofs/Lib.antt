@@ -8,4 +8,5 @@ pub mod StateLaws
 pub mod EntryLaws
 pub mod FollowLaws
 pub mod LeftLaws
+pub mod KnownLaws
 pub mod StatedLaws

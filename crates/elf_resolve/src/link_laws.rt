@@ -1,5 +1,5 @@
 //! The laws of links.
-ghost use Rattle.elf_resolve.specs.LinkLaws.{MembersAreAskedFor, NamesAreApart, NoneIsLeft, OrderMeansNothing, StateIsLargest};
+ghost use Rattle.elf_resolve.specs.LinkLaws.{AskedAreKnownInLinks, MembersAreAskedFor, NamesAreApart, NoneIsLeft, OrderMeansNothing, StateIsLargest};
 
 /// A member is taken only for an entry of the index whose key asked for it just before.
 #[tactic(auto, using(crate::proofs::PassLaws::searched_reaches))]
@@ -29,4 +29,10 @@ pub fn names_are_apart()
 #[tactic(auto, using(crate::proofs::LeftLaws::none_left))]
 pub fn none_is_left()
     ensures { NoneIsLeft }
+{}
+
+/// In a link of symbols of default visibility the keys that were asked for are known, as that needs.
+#[tactic(auto, using(crate::proofs::KnownLaws::known_links))]
+pub fn asked_are_known_in_links()
+    ensures { AskedAreKnownInLinks }
 {}
