@@ -1,14 +1,13 @@
 -- In links of inputs without restricted symbols, the keys that have been asked for are known.
-use Rattle.std.proofs.Common.{◌≡◌, ℕ, zero, suc, Bool, true, false, List, [], ◌∷◌, length, map, refl, sym, ap, ◌∙◌, arith}
+use Rattle.std.proofs.Common.{ℕ, zero, suc, Bool, true, false, List, [], ◌∷◌, length, map, refl}
 use Rattle.std.specs.Prelude.{Option, None, Some, ◌==◌, if◌then◌else◌}
 use Rattle.elf_model.specs.LinkInputs.{EnteredIndex, IndexSymbol, InputFile, LinkInputs, Linking, OpenArchive, again_at, archive_again, archive_opened, argument_symbol, default_entered, group_settled, index_entered, input_again, input_taken, inputs_again, inputs_taken, linked, members_taken, opened_at, rounds_made, symbol_entered, untaken_in, with_arguments, with_object, whole_row}
 use Rattle.elf_model.specs.LinkInputs.InputFile.{ObjectFile, SearchedFile, WholeFile, MissingFile}
 use Rattle.elf_model.specs.LinkInputs.LinkInputs.{NoInputs, Input, Group}
-use Rattle.elf_model.specs.LinkKeys.{LinkKeys, LinkSymbol, entered, no_keys, symbol_taken, symbols_taken}
+use Rattle.elf_model.specs.LinkKeys.{LinkKeys, entered, no_keys, symbol_taken, symbols_taken}
 use Rattle.elf_model.specs.LinkObjects.{LinkObject}
 use Rattle.elf_model.specs.LinkPasses.{ArchiveMembers, ArchivePass, LinkArchive, archive_searched, index_passed, passes_made, untaken}
 use Rattle.elf_model.specs.declared.link_states.IndexEntry.{IndexEntry}
-use Rattle.elf_model.specs.declared.link_states.SymbolRole.TheVariants.{Reference}
 use Rattle.elf_resolve.specs.KeyOrders.{AreUnrestricted, AreUnrestrictedIn, AskedAreKnown, IsUnrestricted}
 use Rattle.elf_resolve.proofs.FollowLaws.{follows_entered, follows_object, follows_symbol}
 use Rattle.elf_resolve.proofs.LeftLaws.{follows_pass}

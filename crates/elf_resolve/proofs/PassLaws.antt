@@ -137,6 +137,10 @@ module _ (archive : LinkArchive) where
       choose (next.keys.asked == p.keys.asked) next (passes_made n archive es next) (passes_made m archive es next)
       (λ differs. passes_enough n m es next (omega (arith, fewer p es differs, below)) (omega (arith, fewer p es differs, other)))
 
+  pub searched_as : (es : List IndexEntry) (p : ArchivePass) (n : ℕ) → untaken p.taken < n → passes_made n archive es p ≡ archive_searched archive es p
+  unfolding archive_searched
+  searched_as es p n below = passes_enough n (suc (untaken p.taken)) es p below (omega arith)
+
   -- a pass, and then the others
   searched_step : (es : List IndexEntry) (p : ArchivePass) → archive_searched archive es p
       ≡ (if (index_passed archive p es).keys.asked == p.keys.asked then index_passed archive p es else archive_searched archive es (index_passed archive p es))

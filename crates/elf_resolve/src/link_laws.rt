@@ -1,5 +1,5 @@
 //! The laws of links.
-ghost use Rattle.elf_resolve.specs.LinkLaws.{AskedAreKnownInLinks, MembersAreAskedFor, NamesAreApart, NoneIsLeft, OrderMeansNothing, StateIsLargest};
+ghost use Rattle.elf_resolve.specs.LinkLaws.{AskedAreKnownInLinks, MembersAreAskedFor, NamesAreApart, NoneIsLeft, OffersCameBefore, OrderMeansNothing, SearchIsLeast, StateIsLargest};
 
 /// A member is taken only for an entry of the index whose key asked for it just before.
 #[tactic(auto, using(crate::proofs::PassLaws::searched_reaches))]
@@ -35,4 +35,17 @@ pub fn none_is_left()
 #[tactic(auto, using(crate::proofs::KnownLaws::known_links))]
 pub fn asked_are_known_in_links()
     ensures { AskedAreKnownInLinks }
+{}
+
+/// More passes than there are members that are not taken change nothing.
+#[tactic(auto, using(crate::proofs::StatedLaws::search_is_least))]
+pub fn search_is_least()
+    ensures { SearchIsLeast }
+{}
+
+/// A member that is not taken is offered only for a key that was not undefined when its archive was
+/// searched.
+#[tactic(auto, using(crate::proofs::StatedLaws::offers_came_before))]
+pub fn offers_came_before()
+    ensures { OffersCameBefore }
 {}

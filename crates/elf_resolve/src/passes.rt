@@ -29,6 +29,7 @@ pub struct ArchiveInput {
 /// `known`.
 pub trait Objects {
     ghost members: { Self → ArchiveMembers };
+
     ghost known: { Self → Type 0 };
 
     /// Takes the groups and the symbols of a member, which has the row `row`.

@@ -1,4 +1,4 @@
-use Rattle.std.proofs.Common.{◌≡◌, sym, ◌∙◌}
+use Rattle.std.proofs.Common.{sym, ◌∙◌}
 use Rattle.elf_resolve.specs.Passing.{pass_of}
 use Rattle.elf_resolve.proofs.PassingLaws.{another, fewer_moved, last_pass}
 use Rattle.elf_resolve.proofs.passes.search_archive.Goals as goal

@@ -1,4 +1,4 @@
-use Rattle.std.proofs.Common.{◌≡◌, sym, ap, ◌∙◌}
+use Rattle.std.proofs.Common.{sym, ap, ◌∙◌}
 use Rattle.std.specs.Prelude.{Some}
 use Rattle.elf_model.specs.LinkKeys.{LinkKeys}
 use Rattle.elf_model.specs.LinkObjects.{object_taken}
