@@ -1,4 +1,8 @@
 //! What a file's relocations depend on, and what they change.
+ghost use Rattle.std.specs.Prelude.{◌≡◌, ◌+◌, ◌*◌, ◌^◌, ◌<◌, ◌≤◌, IfOk};
+ghost use Rattle.elf_source.specs.Prelude.{KeepsSource};
+ghost use Rattle.elf_image.specs.Within.{RelocationsWithin};
+
 use crate::dynamic_rows::{ImageRows, image_rows, no_rows};
 use crate::image_items::{CopyBytes, ImageItems};
 use crate::place::{Place, holder};
@@ -17,17 +21,26 @@ const DF_TEXTREL: u64 = 4;
 
 /// A file whose headers and tables are checked, with the items of its image.
 #[derive(Clone, Copy)]
-pub(crate) struct ImageFile<'a> {
-    pub(crate) view: ExecutionView<'a>,
+pub(crate) struct ImageFile<'v, 'a> {
+    pub(crate) view: ExecutionView<'v>,
     pub(crate) items: &'a ImageItems<'a>,
     /// The load address.
     pub(crate) base: u64,
     /// Whether an entry that lacks an item changes nothing, and a symbol that another object may
     /// define lacks its item even if it is weak or defined here.
     pub(crate) leaves: bool,
+    /// What its dynamic entries say.
+    pub(crate) told: Relocations,
+}
+
+/// What the dynamic entries of a file say of its relocations.
+#[derive(Clone, Copy)]
+pub(crate) struct Relocations {
     /// Whether segments that are not writable are relocated too.
     pub(crate) writes_text: bool,
+    /// Relative relocations.
     pub(crate) compact: Table,
+    /// Entries with addends.
     pub(crate) ranges: EntryRanges,
     /// The symbols, if there are any.
     pub(crate) symbols: Option<Table>,
@@ -70,7 +83,7 @@ pub(crate) enum EntryResult<'a> {
     Lacks(Cause),
 }
 
-impl ImageFile<'_> {
+impl Relocations {
     /// Returns `true` if a segment holds the first byte of a table that says how the file is
     /// relocated.
     pub(crate) fn has_table(&self, segment: u16) -> bool {
@@ -91,32 +104,32 @@ impl ImageFile<'_> {
 }
 
 /// Reads the dynamic entries of the first DYNAMIC program header, checks the tables that they
-/// locate, and returns the file with the items of its image. Its headers are checked.
+/// locate, and returns what they say. The file's headers are checked.
 ///
 /// # Errors
 /// Returns the first check that fails: those of [`ExecutionView::dynamic`], of [`image_rows`], of
 /// [`image_tables`] and of [`entry_ranges`]. Otherwise returns a fault of a read, or the refusal
 /// `Budget`, at a dynamic entry's offset.
-pub(crate) fn image_file<'a, S: Source>(
+pub(crate) fn told_relocations<S: Source>(
     src: &mut Counted<S>,
-    view: ExecutionView<'a>,
-    items: &'a ImageItems<'a>,
-    leaves: bool,
-) -> Result<ImageFile<'a>, Fault> {
-    let (rows, address) = dynamic_entries(src, &view)?;
-    let tables = image_tables(&view, &rows)?;
+    view: &ExecutionView<'_>,
+) -> Result<Relocations, Fault>
+    requires size { view.now.loaded.size ≡ src.old.seen.size }
+    ensures keeps { KeepsSource src.old.seen src.new.seen }
+    ensures within { IfOk result (RelocationsWithin src.old.seen.size) }
+{
+    let found = dynamic_entries(src, view)?;
+    let rows = found.0;
+    let tables = image_tables(view, &rows)?;
     let ranges = entry_ranges(&tables, &rows)?;
-    Ok(ImageFile {
-        view,
-        items,
-        base: items.base(),
-        leaves,
+    let table_segments = table_segments(view, &tables, rows.symbols);
+    Ok(Relocations {
         writes_text: has_text_relocations(&rows),
         compact: tables.compact.rows,
         ranges,
         symbols: tables.symbols,
-        dynamic: (address, DYNAMIC_BYTES * rows.count),
-        table_segments: table_segments(&view, &tables, rows.symbols),
+        dynamic: (found.1, DYNAMIC_BYTES * rows.count),
+        table_segments,
     })
 }
 
@@ -125,7 +138,11 @@ pub(crate) fn image_file<'a, S: Source>(
 fn dynamic_entries<S: Source>(
     src: &mut Counted<S>,
     view: &ExecutionView<'_>,
-) -> Result<(ImageRows, u64), Fault> {
+) -> Result<(ImageRows, u64), Fault>
+    requires size { view.now.loaded.size ≡ src.old.seen.size }
+    ensures keeps { KeepsSource src.old.seen src.new.seen }
+    ensures few { IfOk result (λ found. found.0.count < 2 ^ 60) }
+{
     let Some(segment) = view.first_segment(PT_DYNAMIC) else {
         return Ok((no_rows(), 0));
     };

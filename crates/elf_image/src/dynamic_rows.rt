@@ -1,4 +1,8 @@
 //! The dynamic entries that say how a file is relocated.
+ghost use Rattle.std.specs.Prelude.{◌≡◌, ◌+◌, ◌*◌, ◌^◌, ◌<◌, ◌≤◌, IfOk};
+ghost use Rattle.elf_source.specs.Prelude.{KeepsSource};
+ghost use Rattle.elf_table.specs.Prelude.{TableInBounds};
+
 use elf_hash::DynEntry;
 use elf_note::{dynamic_rows, entry_in};
 use elf_record::gnu_numbers::{DT_RELACOUNT, DT_RELR, DT_RELRENT, DT_RELRSZ};
@@ -8,7 +12,7 @@ use elf_record::numbers::{
 };
 use elf_record::{Cause, Dyn};
 use elf_source::{Counted, Source};
-use elf_table::{Fault, Table, refused};
+use elf_table::{Fault, Row, Table, refused};
 
 /// The entries that locate a table of relocations, with its size and that of an entry (gABI 5,
 /// Dynamic Section).
@@ -48,10 +52,13 @@ pub(crate) struct ImageRows {
 /// # Errors
 /// Returns `Repeat` at the first entry with one of the tags that an entry before it has; a fault of
 /// a read, or the refusal `Budget`, at an entry's offset.
-pub(crate) fn image_rows<S: Source>(
-    src: &mut Counted<S>,
-    table: Table,
-) -> Result<ImageRows, Fault> {
+pub(crate) fn image_rows<S: Source>(src: &mut Counted<S>, table: Table) -> Result<ImageRows, Fault>
+    requires rows { table.entry ≡ 16 }
+    requires within { TableInBounds src.old.seen.size table }
+    ensures keeps { KeepsSource src.old.seen src.new.seen }
+    ensures few { IfOk result (λ rows. rows.count < 2 ^ 60) }
+{
+    let _ = table.entry();
     let mut rows = no_rows();
     let mut cursor = dynamic_rows(table);
     'entries: while cursor.advance(src)? {
@@ -60,13 +67,15 @@ pub(crate) fn image_rows<S: Source>(
         if is_repeated(&rows, entry.d_tag.cast_unsigned()) {
             return refused(row.at, Cause::Repeat);
         }
-        rows = with_row(&rows, row.at, &entry);
+        rows = with_row(&rows, &row, &entry);
     }
     Ok(rows)
 }
 
 /// Returns no entries.
-pub(crate) fn no_rows() -> ImageRows {
+pub(crate) fn no_rows() -> ImageRows
+    ensures { result.count ≡ 0 }
+{
     let none = TableRows {
         address: None,
         size: None,
@@ -114,7 +123,11 @@ fn row_of(rows: &ImageRows, tag: u64) -> Option<DynEntry> {
 }
 
 /// Returns the entries, with one more after those that were read.
-fn with_row(rows: &ImageRows, at: u64, entry: &Dyn) -> ImageRows {
+fn with_row(rows: &ImageRows, row: &Row<'_>, entry: &Dyn) -> ImageRows
+    requires { row.now.index < 2 ^ 60 }
+    ensures { result.count ≡ row.now.index + 1 }
+{
+    let at = row.at;
     ImageRows {
         compact: with_table_row(&rows.compact, [DT_RELR, DT_RELRSZ, DT_RELRENT], at, entry),
         plain: with_table_row(&rows.plain, [DT_REL, DT_RELSZ, DT_RELENT], at, entry),
@@ -124,7 +137,7 @@ fn with_row(rows: &ImageRows, at: u64, entry: &Dyn) -> ImageRows {
         text: first_of(rows.text, DT_TEXTREL, at, entry),
         flags: first_of(rows.flags, DT_FLAGS, at, entry),
         relative: first_of(rows.relative, DT_RELACOUNT, at, entry),
-        count: rows.count + 1,
+        count: row.index + 1,
     }
 }
 

@@ -1,4 +1,8 @@
 //! The relocation types that a loader applies (x86-64 psABI, Relocation Types).
+ghost use Rattle.std.specs.Prelude.{◌≡◌, ℕ, List};
+ghost use Rattle.elf_model.specs.ImageValues.{changed_size, dynamic_type, is_thread_local, uses_no_symbol};
+ghost use Rattle.elf_record.specs.Sym.{IsSym};
+
 use elf_model::DynamicType;
 use elf_record::Sym;
 use elf_record::gnu_numbers::{
@@ -10,10 +14,14 @@ use elf_record::numbers::{
 };
 
 /// Returns the relocation type of a number, if it is one that a loader applies.
-pub(crate) fn dynamic_type(kind: u32) -> Option<DynamicType> {
+#[tactic(auto, unfolding(elf_model::specs::ImageValues::dynamic_type, elf_model::specs::ImageValues::dynamic_type_in, elf_model::specs::ImageValues::dynamic_types))]
+pub(crate) fn dynamic_type(kind: u32) -> Option<DynamicType>
+    ensures { result ≡ dynamic_type kind }
+{
     match kind {
         R_X86_64_64 => Some(DynamicType::Absolute),
-        R_X86_64_PC32 | R_X86_64_32 => Some(DynamicType::Narrow),
+        R_X86_64_PC32 => Some(DynamicType::RelativeLow),
+        R_X86_64_32 => Some(DynamicType::Low),
         R_X86_64_COPY => Some(DynamicType::Copy),
         R_X86_64_GLOB_DAT => Some(DynamicType::Address),
         R_X86_64_JUMP_SLOT => Some(DynamicType::Call),
@@ -28,12 +36,16 @@ pub(crate) fn dynamic_type(kind: u32) -> Option<DynamicType> {
 }
 
 /// Returns `true` if a type does not use the symbol of its entry.
-pub(crate) fn uses_no_symbol(found: DynamicType) -> bool {
+pub(crate) fn uses_no_symbol(found: DynamicType) -> bool
+    ensures { result ≡ uses_no_symbol found }
+{
     matches!(found, DynamicType::Relative | DynamicType::Resolved)
 }
 
 /// Returns `true` if the symbol of a type is a thread-local one.
-pub(crate) fn is_thread_local(found: DynamicType) -> bool {
+pub(crate) fn is_thread_local(found: DynamicType) -> bool
+    ensures { result ≡ is_thread_local found }
+{
     matches!(
         found,
         DynamicType::Module
@@ -44,9 +56,13 @@ pub(crate) fn is_thread_local(found: DynamicType) -> bool {
 }
 
 /// Returns how many bytes an entry of a type may change, by its symbol.
-pub(crate) fn changed_size(found: DynamicType, symbol: &Sym) -> u64 {
+#[tactic(auto, unfolding(elf_model::specs::ImageValues::changed_size))]
+pub(crate) fn changed_size(found: DynamicType, symbol: &Sym) -> u64
+    ensures { (file : List ℕ) (at : ℕ) → IsSym file at symbol.now →
+        result ≡ changed_size found file at }
+{
     match found {
-        DynamicType::Narrow => 4,
+        DynamicType::Low | DynamicType::RelativeLow => 4,
         DynamicType::Copy => symbol.st_size,
         DynamicType::Descriptor => 16,
         _ => 8,

@@ -1,4 +1,9 @@
 //! The relocation entries in the order in which a loader applies them.
+ghost use Rattle.std.specs.Prelude.{◌≡◌, ◌+◌, ◌<◌, ◌≤◌, ℕ, IfOk, length};
+ghost use Rattle.elf_source.specs.Prelude.{KeepsSource};
+ghost use Rattle.elf_image.specs.Within.{EntriesAlive, RangesWithin, StepsEntries, TableWithin};
+ghost use Rattle.elf_image.specs.declared.entries.EntryStep.TheVariants.{Past};
+
 use crate::ranges::EntryRanges;
 use elf_record::gnu_numbers::R_X86_64_IRELATIVE;
 use elf_record::numbers::R_X86_64_RELATIVE;
@@ -25,22 +30,35 @@ pub(crate) struct OrderedEntry {
     pub(crate) at: u64,
 }
 
+/// A step of a cursor over entries.
+#[derive(Clone, Copy)]
+pub(crate) enum EntryStep {
+    /// The next entry.
+    Entry(OrderedEntry),
+    /// Nothing: the cursor continues.
+    Nothing,
+    /// There are no more entries.
+    Past,
+}
+
 /// A cursor over the entries of two ranges in the order in which a loader applies them: in each
 /// range those that are not of R_X86_64_IRELATIVE, and then the others.
 #[derive(Drop)]
 pub(crate) struct OrderedEntries {
-    ranges: EntryRanges,
-    cursor: Cursor,
+    pub(crate) ranges: EntryRanges,
+    pub(crate) cursor: Cursor,
     part: EntryPart,
     /// How many parts were begun, of four.
-    begun: u8,
+    pub(crate) begun: u8,
     /// Whether the first table has an entry of R_X86_64_IRELATIVE, and whether the second has.
     indirect: (bool, bool),
 }
 
 impl OrderedEntries {
     /// Creates a cursor before the first entry.
-    pub(crate) fn new(ranges: EntryRanges) -> OrderedEntries {
+    pub(crate) fn new(ranges: EntryRanges) -> OrderedEntries
+        ensures { (size : ℕ) → RangesWithin size ranges → EntriesAlive size result }
+    {
         let table = Table::new(0, 0, RELOCATION_BYTES);
         OrderedEntries {
             ranges,
@@ -55,36 +73,51 @@ impl OrderedEntries {
         }
     }
 
-    /// Returns the next entry, or `None` after the last.
+    /// Takes one step: to the next entry, over one that has another turn, or to the next part.
     ///
     /// # Errors
     /// Returns `Unsupported` at one of the first entries that is not of R_X86_64_RELATIVE, as it
     /// should be. Otherwise returns a fault of the read, or the refusal `Budget`.
-    pub(crate) fn next<S: Source>(
-        &mut self,
-        src: &mut Counted<S>,
-    ) -> Result<Option<OrderedEntry>, Fault> {
-        'steps: loop {
-            if !self.cursor.advance(src)? {
-                if self.begun == 4 {
-                    return Ok(None);
-                }
-                self.begin_part();
-            } else if let Some(entry) = self.taken()? {
-                return Ok(Some(entry));
-            }
+    pub(crate) fn step<S: Source>(&mut self, src: &mut Counted<S>) -> Result<EntryStep, Fault>
+        requires { EntriesAlive src.old.seen.size self.old }
+        ensures keeps { KeepsSource src.old.seen src.new.seen }
+        ensures alive { IfOk result (λ _. EntriesAlive src.old.seen.size self.new) }
+        ensures steps { IfOk result (StepsEntries self.old self.new) }
+    {
+        if self.cursor.advance(src)? {
+            return self.taken();
         }
+        if self.begun >= 4 {
+            return Ok(EntryStep::Past);
+        }
+        self.begin_part();
+        Ok(EntryStep::Nothing)
     }
 
     /// Begins the next part; one without entries of its type has no rows.
-    fn begin_part(&mut self) {
-        self.part = self.part_of(self.begun);
+    fn begin_part(&mut self)
+        requires { self.old.begun < 4 }
+        ensures ranges { self.new.ranges ≡ self.old.ranges }
+        ensures begun { self.new.begun ≡ self.old.begun + 1 }
+        ensures within { (size : ℕ) → RangesWithin size self.old.ranges →
+            TableWithin 24 size self.new.cursor.table }
+        ensures few { self.new.cursor.left
+            ≤ self.old.ranges.first.count + self.old.ranges.second.count }
+    {
+        let part = self.part_of(self.begun);
+        let cursor = Cursor::new(part.table);
+        self.part = part;
         self.begun += 1;
-        self.cursor = Cursor::new(self.part.table);
+        self.cursor = cursor;
     }
 
     /// Returns the part of a number below 4.
-    fn part_of(&self, number: u8) -> EntryPart {
+    fn part_of(&self, number: u8) -> EntryPart
+        ensures within { (size : ℕ) → RangesWithin size self.now.ranges →
+            TableWithin 24 size result.table }
+        ensures few { result.table.count
+            ≤ self.now.ranges.first.count + self.now.ranges.second.count }
+    {
         let joined = self.ranges.joined;
         let (second, indirect) = match number {
             0 => (false, false),
@@ -124,7 +157,14 @@ impl OrderedEntries {
     }
 
     /// Returns the entry that was read, if it belongs to the part.
-    fn taken(&mut self) -> Result<Option<OrderedEntry>, Fault> {
+    fn taken(&mut self) -> Result<EntryStep, Fault>
+        requires index { 0 < self.old.cursor.index }
+        requires whole { length self.old.cursor.row ≡ 24 }
+        ensures cursor { self.new.cursor ≡ self.old.cursor }
+        ensures ranges { self.new.ranges ≡ self.old.ranges }
+        ensures begun { self.new.begun ≡ self.old.begun }
+        ensures goes { IfOk result (λ step. step ≡ Past → ⊥) }
+    {
         let row = self.cursor.row();
         let at = row.at;
         let index = row.index;
@@ -137,13 +177,18 @@ impl OrderedEntries {
             self.note_indirect();
         }
         if is_indirect != self.part.indirect {
-            return Ok(None);
+            return Ok(EntryStep::Nothing);
         }
-        Ok(Some(OrderedEntry { entry, at }))
+        Ok(EntryStep::Entry(OrderedEntry { entry, at }))
     }
 
     /// Notes that the table of the part has an entry of R_X86_64_IRELATIVE.
-    fn note_indirect(&mut self) {
+    fn note_indirect(&mut self)
+        ensures cursor { self.new.cursor ≡ self.old.cursor }
+        ensures ranges { self.new.ranges ≡ self.old.ranges }
+        ensures begun { self.new.begun ≡ self.old.begun }
+        ensures part { self.new.part ≡ self.old.part }
+    {
         if self.part.second {
             self.indirect.1 = true;
         } else {

@@ -1,4 +1,7 @@
 //! What a relocation entry changes.
+ghost use Rattle.elf_source.specs.Prelude.{KeepsSource};
+ghost use Rattle.elf_image.specs.Within.{ImageWithin};
+
 use crate::changes::{EntryResult, ImageChange, ImageFile, StoredBytes};
 use crate::dynamic_types::{changed_size, dynamic_type, is_thread_local, uses_no_symbol};
 use crate::place::{HeldRange, checked_place};
@@ -20,11 +23,14 @@ use elf_table::{Fault, refused};
 /// to the symbol.
 pub(crate) fn entry_result<'a, S: Source>(
     src: &mut Counted<S>,
-    image: &ImageFile<'a>,
+    image: &ImageFile<'_, 'a>,
     last: &mut Option<HeldRange>,
     entry: &Rela,
     at: u64,
-) -> Result<EntryResult<'a>, Fault> {
+) -> Result<EntryResult<'a>, Fault>
+    requires { ImageWithin src.old.seen.size image.now }
+    ensures { KeepsSource src.old.seen src.new.seen }
+{
     let kind = entry.kind();
     if kind == R_X86_64_NONE {
         return Ok(EntryResult::Nothing);
@@ -48,11 +54,14 @@ pub(crate) fn entry_result<'a, S: Source>(
 /// Reads the symbol of an index, if the type of the entry at `at` uses it.
 fn entry_symbol<S: Source>(
     src: &mut Counted<S>,
-    image: &ImageFile<'_>,
+    image: &ImageFile<'_, '_>,
     found: DynamicType,
     index: u32,
     at: u64,
-) -> Result<Sym, Fault> {
+) -> Result<Sym, Fault>
+    requires { ImageWithin src.old.seen.size image.now }
+    ensures { KeepsSource src.old.seen src.new.seen }
+{
     if uses_no_symbol(found) {
         return Ok(no_symbol());
     }
@@ -62,12 +71,12 @@ fn entry_symbol<S: Source>(
         }
         return refused(at, Cause::Unsupported);
     }
-    read_symbol(src, image.symbols, index, at)
+    read_symbol(src, image.told.symbols, index, at)
 }
 
 /// Returns the result of an entry whose bytes are not known, for a cause.
 fn without_bytes<'a>(
-    image: &ImageFile<'a>,
+    image: &ImageFile<'_, 'a>,
     at: u64,
     cause: Cause,
 ) -> Result<EntryResult<'a>, Fault> {

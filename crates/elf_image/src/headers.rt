@@ -1,4 +1,12 @@
 //! The checks of a file's headers before its image is made.
+ghost use Rattle.std.specs.Prelude.{◌≡◌, ◌+◌, ◌<◌, ◌≤◌, ℕ, List, None, length, IfOk};
+ghost use Rattle.elf_model.specs.Image.{segment_load_checks};
+ghost use Rattle.elf_model.specs.Checks.{first_refusal};
+ghost use Rattle.elf_record.specs.Phdr.{IsPhdr};
+ghost use Rattle.elf_source.specs.Prelude.{KeepsSource};
+ghost use Rattle.elf_hash.specs.Loading.{FitsSource};
+ghost use Rattle.elf_image.specs.Headers.{refusal_for};
+
 use elf_hash::load_by_segments;
 use elf_record::numbers::{EM_X86_64, ET_DYN, ET_EXEC, PT_LOAD};
 use elf_record::{Cause, Phdr};
@@ -14,10 +22,11 @@ const PAGE_BYTES: u64 = 4096;
 /// # Errors
 /// Returns the first check that fails: those of [`load_by_segments`], otherwise a fault of a read,
 /// or the refusal `Budget`, at the offset of the read.
-pub(crate) fn load_image<S: Source>(
-    src: &mut Counted<S>,
-    store: &mut HeaderStore,
-) -> Result<Loaded, Fault> {
+pub fn load_image<S: Source>(src: &mut Counted<S>, store: &mut HeaderStore) -> Result<Loaded, Fault>
+    ensures keeps { KeepsSource src.old.seen src.new.seen }
+    ensures slots { store.new.slots ≡ store.old.slots }
+    ensures fits { IfOk result (FitsSource src.old.seen.size store.new) }
+{
     load_by_segments(src, store)
 }
 
@@ -53,7 +62,10 @@ fn check_loads(view: &ExecutionView<'_>) -> Result<(), Fault> {
 /// Returns why a program header is refused in a file of `size` bytes, if it is one of a LOAD
 /// segment: its bytes and addresses differ modulo the size of a page, they are more than it has in
 /// memory, they end past the end of the file, or the addresses end above 2^64.
-fn load_fault(header: &Phdr, size: u64) -> Option<Cause> {
+fn load_fault(header: &Phdr, size: u64) -> Option<Cause>
+    ensures { (file : List ℕ) (at : ℕ) → IsPhdr file at header.now → size ≡ length file →
+        first_refusal (segment_load_checks file at) ≡ refusal_for at result }
+{
     if header.p_type != PT_LOAD {
         return None;
     }
@@ -78,13 +90,19 @@ pub(crate) fn wanted_segment(
     view: &ExecutionView<'_>,
     segment: u16,
     most: u64,
-) -> Result<Phdr, Fault> {
+) -> Result<Phdr, Fault>
+    ensures within { IfOk result (λ header.
+        header.p_offset + header.p_filesz ≤ view.now.loaded.size) }
+{
     if segment >= view.segments() {
         return refused(0x38, Cause::BadLink);
     }
     let header = view.segment(segment);
     if header.p_type != PT_LOAD {
         return refused(0x38, Cause::BadLink);
+    }
+    if is_out_of_bounds(view.loaded.size(), header.p_offset, header.p_filesz) {
+        return refused(view.place(segment), Cause::TableOutside);
     }
     if header.p_memsz > most {
         return refused(view.place(segment), Cause::Budget);

@@ -1,11 +1,16 @@
 //! The entries that lack an item.
-use crate::changes::{ImageFile, image_file};
-use crate::headers::{check_headers, load_image};
+ghost use Rattle.std.specs.Prelude.{IfOk};
+ghost use Rattle.elf_source.specs.Prelude.{KeepsSource};
+ghost use Rattle.elf_hash.specs.Loading.{FitsSource};
+ghost use Rattle.elf_image.specs.Missing.{IsAliveIn, StepsMissing};
+
+use crate::changes::{ImageFile, told_relocations};
+use crate::headers::check_headers;
 use crate::image_items::ImageItems;
 use crate::walk::{ImageWalk, WalkStep};
 use elf_record::Cause;
 use elf_source::{Counted, Source};
-use elf_table::{ExecutionView, Fault, HeaderStore};
+use elf_table::{ExecutionView, Fault, HeaderStore, Loaded};
 
 /// An entry that lacks an item.
 #[derive(Clone, Copy)]
@@ -25,27 +30,38 @@ pub struct LackingEntry {
 /// An iterator over the entries of a file that lack an item, in the order in which a loader applies
 /// them.
 #[derive(Drop)]
-pub struct MissingEntries<'a> {
-    image: ImageFile<'a>,
-    walk: ImageWalk,
+pub struct MissingEntries<'v, 'a> {
+    pub(crate) image: ImageFile<'v, 'a>,
+    pub(crate) walk: ImageWalk,
 }
 
-impl<'a> MissingEntries<'a> {
-    /// Reads the headers and the dynamic entries of a file and checks them. The fields of the file
-    /// header that locate section headers are masked ([`Counted::mask_section_headers`]), also
-    /// while the entries are read.
+impl<'v, 'a> MissingEntries<'v, 'a> {
+    /// Reads the dynamic entries of a loaded file, and checks its headers and these. The fields of
+    /// the file header that locate section headers are masked ([`Counted::mask_section_headers`]),
+    /// also while the entries are read.
     ///
     /// # Errors
     /// Returns the first check that fails, or a fault of a read.
     pub fn open<S: Source>(
         src: &mut Counted<S>,
-        store: &'a mut HeaderStore<'_>,
+        store: &'v HeaderStore<'v>,
+        loaded: Loaded,
         items: &'a ImageItems<'a>,
-    ) -> Result<MissingEntries<'a>, Fault> {
-        let loaded = load_image(src, store)?;
+    ) -> Result<MissingEntries<'v, 'a>, Fault>
+        requires fits { FitsSource src.old.seen.size store.now loaded }
+        ensures keeps { KeepsSource src.old.seen src.new.seen }
+        ensures alive { IfOk result (IsAliveIn src.old.seen.size) }
+    {
         let view = ExecutionView { loaded, store };
         check_headers(&view)?;
-        let image = image_file(src, view, items, true)?;
+        let told = told_relocations(src, &view)?;
+        let image = ImageFile {
+            view,
+            items,
+            base: items.base(),
+            leaves: true,
+            told,
+        };
         let walk = ImageWalk::new(&image);
         Ok(MissingEntries { image, walk })
     }
@@ -54,7 +70,12 @@ impl<'a> MissingEntries<'a> {
     ///
     /// # Errors
     /// Returns the first refusal of an entry, or a fault of a read.
-    pub fn next<S: Source>(&mut self, src: &mut Counted<S>) -> Result<Option<LackingEntry>, Fault> {
+    pub fn next<S: Source>(&mut self, src: &mut Counted<S>) -> Result<Option<LackingEntry>, Fault>
+        requires { IsAliveIn src.old.seen.size self.old }
+        ensures keeps { KeepsSource src.old.seen src.new.seen }
+        ensures alive { IfOk result (λ _. IsAliveIn src.old.seen.size self.new) }
+        ensures steps { IfOk result (StepsMissing self.old self.new) }
+    {
         'steps: loop {
             match self.walk.step(src, &self.image)? {
                 WalkStep::Lacks(ordered, cause) => {

@@ -1,4 +1,13 @@
 //! The place of a relocation: the LOAD segment that holds it in memory.
+ghost use Rattle.std.specs.Prelude.{◌≡◌, ◌<◌, ◌≤◌, ℕ, List, IfSome, true};
+ghost use Rattle.elf_model.specs.Image.{holder_of, holds_in_memory};
+ghost use Rattle.elf_model.specs.Prelude.{has_bits};
+ghost use Rattle.elf_model.specs.TraitNumbers.{PF_W};
+ghost use Rattle.elf_model.specs.Records.{p_flags, p_vaddr};
+ghost use Rattle.elf_record.specs.Phdr.{IsPhdr};
+ghost use Rattle.elf_table.specs.Load.{HoldsProgramHeaders};
+ghost use Rattle.elf_table.specs.Store.{segment_bytes};
+
 use crate::changes::ImageFile;
 use elf_record::numbers::PT_LOAD;
 use elf_record::{Cause, Phdr, SegmentFlags};
@@ -27,7 +36,9 @@ pub(crate) struct HeldRange {
 
 impl HeldRange {
     /// Returns `true` if the segment holds `width` bytes at an address in memory.
-    fn holds(&self, address: u64, width: u64) -> bool {
+    fn holds(&self, address: u64, width: u64) -> bool
+        ensures above { result ≡ true → self.now.first ≤ address }
+    {
         self.first <= address && u128::from(address) + u128::from(width) <= self.end
     }
 }
@@ -40,7 +51,7 @@ impl HeldRange {
 /// file without text relocations; `TableWritten` if the segment holds a table that says how the
 /// file is relocated, or the place meets the dynamic entries.
 pub(crate) fn checked_place(
-    image: &ImageFile<'_>,
+    image: &ImageFile<'_, '_>,
     last: &mut Option<HeldRange>,
     address: u64,
     width: u64,
@@ -53,7 +64,7 @@ pub(crate) fn checked_place(
     if !range.permits {
         return refused(at, Cause::PlaceOutside);
     }
-    if range.has_table || image.meets_dynamic(address, width) {
+    if range.has_table || image.told.meets_dynamic(address, width) {
         return refused(at, Cause::TableWritten);
     }
     Ok(Place {
@@ -65,11 +76,13 @@ pub(crate) fn checked_place(
 /// Returns the LOAD segment that holds `width` bytes at an address in memory, if there is one: no
 /// other than `last` if that holds them.
 fn held_range(
-    image: &ImageFile<'_>,
+    image: &ImageFile<'_, '_>,
     last: &Option<HeldRange>,
     address: u64,
     width: u64,
-) -> Option<HeldRange> {
+) -> Option<HeldRange>
+    ensures above { IfSome result (λ range. range.first ≤ address) }
+{
     if let Some(range) = last {
         if width > 0 && range.holds(address, width) {
             return Some(*range);
@@ -79,23 +92,33 @@ fn held_range(
 }
 
 /// Returns the LOAD segment of a program header.
-fn range_of(image: &ImageFile<'_>, segment: u16) -> HeldRange {
+fn range_of(image: &ImageFile<'_, '_>, segment: u16) -> HeldRange
+    requires { segment < image.now.view.store.now.segments }
+    ensures { result.first ≡ p_vaddr (segment_bytes image.now.view.store.now segment) 0 }
+{
     let header = image.view.segment(segment);
     HeldRange {
         segment,
         first: header.p_vaddr,
         end: u128::from(header.p_vaddr) + u128::from(header.p_memsz),
-        permits: image.writes_text || is_writable(&header),
-        has_table: image.has_table(segment),
+        permits: image.told.writes_text || is_writable(&header),
+        has_table: image.told.has_table(segment),
     }
 }
 
 /// Returns the index of the LOAD program header whose segment holds `width` bytes at an address in
 /// memory, if there is one.
-pub(crate) fn holder(view: &ExecutionView<'_>, address: u64, width: u64) -> Option<u16> {
-    for segment in 0..view.segments() {
-        if holds_place(&view.segment(segment), address, width) {
-            return Some(segment);
+pub(crate) fn holder(view: &ExecutionView<'_>, address: u64, width: u64) -> Option<u16>
+    ensures below { IfSome result (λ segment. segment < view.now.store.now.segments) }
+    ensures above { IfSome result (λ segment.
+        p_vaddr (segment_bytes view.now.store.now segment) 0 ≤ address) }
+    ensures held { (file : List ℕ) →
+        HoldsProgramHeaders file view.now.loaded view.now.store.now →
+        result ≡ holder_of file address width }
+{
+    for index in 0..view.segments() {
+        if holds_place(&view.segment(index), address, width) {
+            return Some(index);
         }
     }
     None
@@ -103,7 +126,11 @@ pub(crate) fn holder(view: &ExecutionView<'_>, address: u64, width: u64) -> Opti
 
 /// Returns `true` if the segment is a LOAD segment that holds `width` bytes at an address in
 /// memory.
-fn holds_place(header: &Phdr, address: u64, width: u64) -> bool {
+fn holds_place(header: &Phdr, address: u64, width: u64) -> bool
+    ensures value { (file : List ℕ) (at : ℕ) → IsPhdr file at header.now →
+        result ≡ holds_in_memory file at address width }
+    ensures above { result ≡ true → header.now.p_vaddr ≤ address }
+{
     let end = u128::from(header.p_vaddr) + u128::from(header.p_memsz);
     header.p_type == PT_LOAD
         && header.p_vaddr <= address
@@ -111,6 +138,9 @@ fn holds_place(header: &Phdr, address: u64, width: u64) -> bool {
 }
 
 /// Returns `true` if a segment is writable.
-fn is_writable(header: &Phdr) -> bool {
+fn is_writable(header: &Phdr) -> bool
+    ensures { (file : List ℕ) (at : ℕ) → IsPhdr file at header.now →
+        result ≡ has_bits (p_flags file at) PF_W }
+{
     header.p_flags & SegmentFlags::W.0 == SegmentFlags::W.0
 }

@@ -1,4 +1,7 @@
 //! The ranges of relocation entries, in the order of a loader.
+ghost use Rattle.std.specs.Prelude.{◌≡◌, ◌≤◌, ℕ, IfOk};
+ghost use Rattle.elf_image.specs.Within.{RangesWithin, TableWithin, TablesWithin};
+
 use crate::dynamic_rows::ImageRows;
 use crate::tables::{ImageTables, MappedTable};
 use elf_record::Cause;
@@ -24,32 +27,50 @@ pub(crate) struct EntryRanges {
 ///
 /// # Errors
 /// Returns `Unsupported` at DT_JMPREL if the calls end where the others end, and begin before them.
-pub(crate) fn entry_ranges(tables: &ImageTables, rows: &ImageRows) -> Result<EntryRanges, Fault> {
-    let relative = match rows.relative {
-        Some(row) => row.value,
-        None => 0,
-    };
+pub(crate) fn entry_ranges(tables: &ImageTables, rows: &ImageRows) -> Result<EntryRanges, Fault>
+    requires widths { (tables.now.addends.rows.entry ≡ 24) × (tables.now.calls.rows.entry ≡ 24) }
+    ensures within { (size : ℕ) → TablesWithin size tables.now → IfOk result (RangesWithin size) }
+{
     let end = end_of(&tables.addends);
-    let begin = u128::from(tables.calls.address);
-    let mut ranges = EntryRanges {
+    let has_both = !tables.addends.rows.is_empty() && !tables.calls.rows.is_empty();
+    if has_both && end == end_of(&tables.calls) {
+        return cut_ranges(tables, rows);
+    }
+    Ok(EntryRanges {
         first: tables.addends.rows,
         second: tables.calls.rows,
-        joined: false,
-        relative,
-    };
-    if tables.addends.rows.is_empty() || tables.calls.rows.is_empty() {
-        return Ok(ranges);
-    }
-    ranges.joined = end == begin;
-    if end != end_of(&tables.calls) {
-        return Ok(ranges);
-    }
-    if tables.calls.rows.len() > tables.addends.rows.len() {
+        joined: has_both && end == u128::from(tables.calls.address),
+        relative: relative_count(rows),
+    })
+}
+
+/// Returns the ranges if the calls end where the other entries end.
+///
+/// # Errors
+/// Returns `Unsupported` at DT_JMPREL if the calls begin before the other entries.
+fn cut_ranges(tables: &ImageTables, rows: &ImageRows) -> Result<EntryRanges, Fault>
+    requires widths { (tables.now.addends.rows.entry ≡ 24) × (tables.now.calls.rows.entry ≡ 24) }
+    ensures within { (size : ℕ) → TablesWithin size tables.now → IfOk result (RangesWithin size) }
+{
+    let count = tables.calls.rows.len();
+    if count > tables.addends.rows.len() {
         return refused(calls_row(rows), Cause::Unsupported);
     }
-    ranges.joined = true;
-    ranges.first = front_of(&tables.addends.rows, tables.calls.rows.len());
-    Ok(ranges)
+    let first = front_of(&tables.addends.rows, count);
+    Ok(EntryRanges {
+        first,
+        second: tables.calls.rows,
+        joined: true,
+        relative: relative_count(rows),
+    })
+}
+
+/// Returns the value of DT_RELACOUNT, 0 without it.
+fn relative_count(rows: &ImageRows) -> u64 {
+    match rows.relative {
+        Some(row) => row.value,
+        None => 0,
+    }
 }
 
 /// Returns the address at which a table of entries ends.
@@ -66,6 +87,11 @@ fn calls_row(rows: &ImageRows) -> u64 {
 }
 
 /// Returns a table without its last rows, as many as `count`.
-fn front_of(table: &Table, count: u64) -> Table {
+fn front_of(table: &Table, count: u64) -> Table
+    requires entry { table.now.entry ≡ 24 }
+    requires few { count ≤ table.now.count }
+    ensures within { (size : ℕ) → TableWithin 24 size table.now → TableWithin 24 size result }
+{
+    let _ = table.entry();
     Table::new(table.at(), table.len() - count, RELOCATION_BYTES)
 }

@@ -1,4 +1,9 @@
 //! The rows of relative relocations.
+ghost use Rattle.std.specs.Prelude.{◌≡◌, ◌+◌, ◌*◌, ◌^◌, ◌<◌, ◌≤◌, ℕ, IfOk, IfSome, length};
+ghost use Rattle.elf_source.specs.Prelude.{KeepsSource, SameView};
+ghost use Rattle.elf_table.specs.Prelude.{IsOfCheck};
+ghost use Rattle.elf_image.specs.Within.{RowsAlive, StepsRows, TableWithin, row_steps};
+
 use elf_record::{Cause, u64_at};
 use elf_source::{Counted, Source};
 use elf_table::{Cursor, Fault, Table, refused};
@@ -7,8 +12,6 @@ use elf_table::{Cursor, Fault, Table, refused};
 const MAX_ADDRESS: u128 = 0xffff_ffff_ffff_fff8;
 /// The number of bits of a bitmap, after its lowest one.
 const BITMAP_BITS: u32 = 63;
-/// The number of bytes in memory that a bitmap is about.
-const BITMAP_BYTES: u128 = 504;
 
 /// A row of relative relocations: the address of a word of 8 bytes in memory, and the file offset
 /// of the word of the table that gives it.
@@ -18,25 +21,38 @@ pub(crate) struct RelativeRow {
     pub(crate) address: u64,
 }
 
+/// A step of a cursor over rows.
+#[derive(Clone, Copy)]
+pub(crate) enum RelativeStep {
+    /// The next row.
+    Row(RelativeRow),
+    /// Nothing: the cursor continues.
+    Nothing,
+    /// There are no more rows.
+    Ended,
+}
+
 /// A cursor over the rows of a table of relative relocations (gABI 4, Relative Relocation Table).
 #[derive(Drop)]
 pub(crate) struct RelativeRows {
-    cursor: Cursor,
-    /// The word that was read last, a bitmap, without the bits that were seen.
+    pub(crate) cursor: Cursor,
+    /// The bits that are left of the word that was read last, if it is a bitmap.
     bits: u64,
-    /// How many bits of it are left.
-    left: u32,
+    /// How many they are.
+    pub(crate) left: u32,
     /// The offset of the word in the file.
     at: u64,
-    /// The address of the bitmap's next bit, or of the next bitmap's first one, if there is one.
-    next: Option<u128>,
+    /// The address of the next bit, if there is one.
+    pub(crate) next: Option<u128>,
     /// The lowest address that the next row may have.
     low: u128,
 }
 
 impl RelativeRows {
     /// Creates a cursor before the first row of a table of words of 8 bytes.
-    pub(crate) fn new(table: Table) -> RelativeRows {
+    pub(crate) fn new(table: Table) -> RelativeRows
+        ensures { (size : ℕ) → TableWithin 8 size table → RowsAlive size result }
+    {
         RelativeRows {
             cursor: Cursor::new(table),
             bits: 0,
@@ -47,66 +63,86 @@ impl RelativeRows {
         }
     }
 
-    /// Returns the next row, or `None` after the last.
+    /// Takes one step: to the next row, over a bit that is not set, or to the next word.
     ///
     /// # Errors
     /// Returns `Relr` at the word for a bitmap without an address, an address above 2^64 - 8, and
     /// one that is not at least 8 above the one before it. Otherwise returns a fault of the read.
-    pub(crate) fn next<S: Source>(
-        &mut self,
-        src: &mut Counted<S>,
-    ) -> Result<Option<RelativeRow>, Fault> {
-        'steps: loop {
-            if self.left == 0 {
-                if !self.cursor.advance(src)? {
-                    return Ok(None);
-                }
-                if let Some(address) = self.begin_word()? {
-                    return self.row(address);
-                }
-            } else if let Some(address) = self.bit() {
-                return self.row(address);
-            }
+    pub(crate) fn step<S: Source>(&mut self, src: &mut Counted<S>) -> Result<RelativeStep, Fault>
+        requires { RowsAlive src.old.seen.size self.old }
+        ensures keeps { KeepsSource src.old.seen src.new.seen }
+        ensures alive { IfOk result (λ _. RowsAlive src.old.seen.size self.new) }
+        ensures steps { IfOk result (StepsRows self.old self.new) }
+    {
+        if self.left > 0 {
+            return self.bit();
         }
+        if !self.cursor.advance(src)? {
+            return Ok(RelativeStep::Ended);
+        }
+        self.word()
     }
 
-    /// Begins the word that was read. Returns its address if it is one.
-    fn begin_word(&mut self) -> Result<Option<u128>, Fault> {
+    /// Begins the word that was read, and returns its row if it is an address.
+    fn word(&mut self) -> Result<RelativeStep, Fault>
+        requires index { 0 < self.old.cursor.index }
+        requires whole { length self.old.cursor.row ≡ 8 }
+        requires left { self.old.left ≡ 0 }
+        ensures cursor { self.new.cursor ≡ self.old.cursor }
+        ensures index { self.old.cursor.index ≤ 2 ^ 64 }
+        ensures few { self.new.left ≤ 63 }
+        ensures next { IfSome self.old.next (λ address.
+            address + 504 ≤ 2 ^ 64 + 504 * self.old.cursor.index) →
+            IfSome self.new.next (λ address.
+            address + 8 * self.new.left ≤ 2 ^ 64 + 504 * self.old.cursor.index) }
+    {
         let row = self.cursor.row();
         let word = u64_at(row.bytes, 0);
         self.at = row.at;
         if word % 2 == 0 {
             self.next = Some(u128::from(word) + 8);
-            return Ok(Some(u128::from(word)));
+            return self.row(u128::from(word));
         }
         if self.next.is_none() {
             return refused(self.at, Cause::Relr);
         }
         self.bits = word >> 1;
         self.left = BITMAP_BITS;
-        Ok(None)
+        Ok(RelativeStep::Nothing)
     }
 
-    /// Goes on to the next bit of a bitmap. Returns the address if it is set.
-    fn bit(&mut self) -> Option<u128> {
-        let base = self.next.unwrap_or(0);
-        let address = base + 8 * u128::from(BITMAP_BITS - self.left);
+    /// Goes on to the next bit of a bitmap, and returns its row if it is set.
+    fn bit(&mut self) -> Result<RelativeStep, Fault>
+        requires left { (0 < self.old.left) × (self.old.left ≤ 63) }
+        requires fits { IfSome self.old.next (λ address. address + 8 < 2 ^ 128) }
+        ensures cursor { self.new.cursor ≡ self.old.cursor }
+        ensures left { self.new.left + 1 ≡ self.old.left }
+        ensures next { (most : ℕ) → 504 ≤ most →
+            IfSome self.old.next (λ address. address + 8 * self.old.left ≤ most) →
+            IfSome self.new.next (λ address. address + 8 * self.new.left ≤ most) }
+    {
+        let address = self.next.unwrap_or(0);
         let is_set = self.bits % 2 == 1;
         self.bits /= 2;
         self.left -= 1;
-        if self.left == 0 {
-            self.next = Some(base + BITMAP_BYTES);
+        self.next = Some(address + 8);
+        if is_set {
+            return self.row(address);
         }
-        if is_set { Some(address) } else { None }
+        Ok(RelativeStep::Nothing)
     }
 
     /// Returns the row of an address.
-    fn row(&mut self, address: u128) -> Result<Option<RelativeRow>, Fault> {
+    fn row(&mut self, address: u128) -> Result<RelativeStep, Fault>
+        ensures cursor { self.new.cursor ≡ self.old.cursor }
+        ensures left { self.new.left ≡ self.old.left }
+        ensures next { self.new.next ≡ self.old.next }
+    {
         if address > MAX_ADDRESS || address < self.low {
             return refused(self.at, Cause::Relr);
         }
         self.low = address + 8;
-        Ok(Some(RelativeRow {
+        Ok(RelativeStep::Row(RelativeRow {
             at: self.at,
             address: address as u64,
         }))

@@ -1,30 +1,61 @@
 //! The bytes that a relocation entry stores.
+ghost use Rattle.std.specs.Prelude.{◌≡◌, ◌<◌, ◌/◌, ◌^◌, ℕ, List};
+ghost use Rattle.elf_model.specs.Bytes.{little};
+ghost use Rattle.elf_model.specs.ImageItems.{bytes_for, is_looked_up};
+ghost use Rattle.elf_model.specs.ImageValues.{copied_bytes, descriptor_bytes, low_bytes, placed, stored_bytes, word_if_bound, word_of};
+ghost use Rattle.elf_model.specs.Placing.{address_in};
+ghost use Rattle.elf_model.specs.Records.{r_addend, st_size, twos_complement};
+ghost use Rattle.elf_record.specs.Rela.{IsRela};
+ghost use Rattle.elf_record.specs.Sym.{IsSym};
+ghost use Rattle.elf_image.specs.Values.{IsBased, IsUsed, bytes_or_cause, items_of, stored_as};
+
 use crate::changes::{ImageFile, StoredBytes};
 use crate::image_items::ItemKind;
 use crate::symbols::is_looked_up;
 use crate::values::{bound_value, called_value, thread_value};
 use elf_model::DynamicType;
+use elf_record::numbers::{R_X86_64_32, R_X86_64_PC32};
 use elf_record::{Cause, Rela, Sym};
-use elf_reloc::{Patch, value};
+use elf_reloc::{Patch, ValueFault, value};
 
 /// Returns the bytes that an entry of a type stores.
 ///
 /// # Errors
 /// Returns `Undefined` or `Unplaced` if an item is missing, `Overflow` if a value does not fit.
+#[tactic(auto, unfolding(elf_model::specs::ImageValues::stored_bytes, crate::specs::Items::said_by))]
 pub(crate) fn stored_bytes<'a>(
-    image: &ImageFile<'a>,
+    image: &ImageFile<'_, 'a>,
     found: DynamicType,
     entry: &Rela,
     symbol: &Sym,
-) -> Result<StoredBytes<'a>, Cause> {
+) -> Result<StoredBytes<'a>, Cause>
+    ensures { (file : List ℕ) (rela at : ℕ) → IsRela file rela entry.now →
+        r_addend file rela < 2 ^ 64 →
+        IsUsed found file at (entry.now.r_info / 2 ^ 32) symbol.now → IsBased image.now →
+        bytes_or_cause result ≡ stored_bytes found file (items_of image.now) rela at }
+{
     let index = entry.symbol();
-    let addend = entry.r_addend;
+    let addend = entry.r_addend.cast_unsigned();
+    let place = image.base.wrapping_add(entry.r_offset);
     match found {
         DynamicType::Relative => word_of(Ok(image.base), addend),
         DynamicType::Absolute => word_of(bound_value(image, index, symbol), addend),
         DynamicType::Address => word_of(bound_value(image, index, symbol), 0),
         DynamicType::Call => word_of(called_value(image, index, symbol), 0),
-        DynamicType::Narrow => narrow_bytes(image, entry, bound_value(image, index, symbol)),
+        DynamicType::Low => low_bytes(
+            R_X86_64_32,
+            bound_value(image, index, symbol),
+            entry.r_addend,
+            place,
+        ),
+        DynamicType::RelativeLow => {
+            low_bytes(
+                R_X86_64_PC32,
+                bound_value(image, index, symbol),
+                entry.r_addend,
+                place,
+            )
+        }
         DynamicType::Resolved => word_of(resolved_value(image, addend), 0),
         DynamicType::Copy => copied_bytes(image, index, symbol),
         DynamicType::Module => {
@@ -44,9 +75,11 @@ pub(crate) fn stored_bytes<'a>(
 }
 
 /// Returns the eight bytes of a value and an addend modulo 2^64, if there is a value.
-fn word_of<'a>(value: Result<u64, Cause>, addend: i64) -> Result<StoredBytes<'a>, Cause> {
+fn word_of<'a>(value: Result<u64, Cause>, addend: u64) -> Result<StoredBytes<'a>, Cause>
+    ensures { bytes_or_cause result ≡ word_of value addend }
+{
     match value {
-        Ok(value) => Ok(word(value.wrapping_add_signed(addend))),
+        Ok(value) => Ok(word(value.wrapping_add(addend))),
         Err(cause) => Err(cause),
     }
 }
@@ -54,51 +87,66 @@ fn word_of<'a>(value: Result<u64, Cause>, addend: i64) -> Result<StoredBytes<'a>
 /// Does the same; without a value there are no bytes.
 fn word_if_bound<'a>(
     value: Result<Option<u64>, Cause>,
-    addend: i64,
-) -> Result<StoredBytes<'a>, Cause> {
+    addend: u64,
+) -> Result<StoredBytes<'a>, Cause>
+    ensures { bytes_or_cause result ≡ word_if_bound value addend }
+{
     match value {
-        Ok(Some(value)) => Ok(word(value.wrapping_add_signed(addend))),
+        Ok(Some(value)) => Ok(word(value.wrapping_add(addend))),
         Ok(None) => Ok(StoredBytes::Value(Patch::None)),
         Err(cause) => Err(cause),
     }
 }
 
 /// Returns the bytes of a word.
-fn word<'a>(number: u64) -> StoredBytes<'a> {
+#[tactic(auto, unfolding(elf_model::specs::Bytes::little))]
+fn word<'a>(number: u64) -> StoredBytes<'a>
+    ensures { stored_as result ≡ little 8 number }
+{
     StoredBytes::Value(Patch::Word64(number.to_le_bytes()))
 }
 
-/// Returns the four bytes of an entry, by the value of its symbol.
-fn narrow_bytes<'a>(
-    image: &ImageFile<'a>,
-    entry: &Rela,
+/// Returns the bytes of a type of which elf_reloc computes the value, by its number.
+fn low_bytes<'a>(
+    number: u32,
     address: Result<u64, Cause>,
-) -> Result<StoredBytes<'a>, Cause> {
+    addend: i64,
+    place: u64,
+) -> Result<StoredBytes<'a>, Cause>
+    ensures { (bits : ℕ) → addend ≡ twos_complement bits →
+        bytes_or_cause result ≡ low_bytes number address bits place }
+{
     let address = address?;
-    let place = image.base.wrapping_add(entry.r_offset);
-    match value(entry.kind(), address, address, entry.r_addend, place) {
+    match value(number, address, address, addend, place) {
         Ok(patch) => Ok(StoredBytes::Value(patch)),
-        Err(_) => Err(Cause::Overflow),
+        Err(ValueFault::Unsupported) => Err(Cause::Unsupported),
+        Err(ValueFault::Overflow) => Err(Cause::Overflow),
     }
 }
 
 /// Returns the answer of the resolver at an address.
-fn resolved_value(image: &ImageFile<'_>, address: i64) -> Result<u64, Cause> {
-    match image
-        .items
-        .number(ItemKind::Resolver, address.cast_unsigned())
-    {
+#[tactic(auto, unfolding(crate::specs::Items::said_by))]
+fn resolved_value(image: &ImageFile<'_, '_>, address: u64) -> Result<u64, Cause>
+    ensures { result ≡ placed (address_in (items_of image.now).resolved address) }
+{
+    match image.items.number(ItemKind::Resolver, address) {
         Some(answer) => Ok(answer),
         None => Err(Cause::Unplaced),
     }
 }
 
 /// Returns the bytes of a copied object, at most as many as the symbol has.
+#[tactic(auto, unfolding(elf_model::specs::ImageValues::copied_bytes, crate::specs::Items::said_by))]
 fn copied_bytes<'a>(
-    image: &ImageFile<'a>,
+    image: &ImageFile<'_, 'a>,
     index: u32,
     symbol: &Sym,
-) -> Result<StoredBytes<'a>, Cause> {
+) -> Result<StoredBytes<'a>, Cause>
+    ensures { (file : List ℕ) (at : ℕ) → IsSym file at symbol.now →
+        bytes_or_cause result
+        ≡ copied_bytes (is_looked_up file at) (bytes_for (items_of image.now).copies index)
+        (st_size file at) }
+{
     if !is_looked_up(symbol) {
         return Err(Cause::Undefined);
     }
@@ -111,16 +159,19 @@ fn copied_bytes<'a>(
 
 /// Returns the bytes of a descriptor: its function, and the offset of the symbol from the thread
 /// pointer with the addend.
+#[tactic(auto, unfolding(elf_model::specs::ImageValues::descriptor_bytes))]
 fn descriptor_bytes<'a>(
     function: Option<u64>,
     offset: Result<Option<u64>, Cause>,
-    addend: i64,
-) -> Result<StoredBytes<'a>, Cause> {
+    addend: u64,
+) -> Result<StoredBytes<'a>, Cause>
+    ensures { bytes_or_cause result ≡ descriptor_bytes function offset addend }
+{
     let Some(offset) = offset? else {
         return Err(Cause::Undefined);
     };
     match function {
-        Some(function) => Ok(StoredBytes::Pair(function, offset.wrapping_add_signed(addend))),
+        Some(function) => Ok(StoredBytes::Pair(function, offset.wrapping_add(addend))),
         None => Err(Cause::Unplaced),
     }
 }

@@ -1,4 +1,10 @@
 //! The dynamic symbol that an entry refers to.
+ghost use Rattle.std.specs.Prelude.{◌≡◌, ℕ, List, IfSome};
+ghost use Rattle.elf_model.specs.ImageItems.{is_looked_up};
+ghost use Rattle.elf_record.specs.Sym.{IsSym};
+ghost use Rattle.elf_source.specs.Source.{ReadsUpTo};
+ghost use Rattle.elf_image.specs.Within.{TableWithin};
+
 use elf_record::numbers::STB_LOCAL;
 use elf_record::{Cause, Sym};
 use elf_source::{Counted, Source};
@@ -32,7 +38,10 @@ pub(crate) fn read_symbol<S: Source>(
     symbols: Option<Table>,
     index: u32,
     at: u64,
-) -> Result<Sym, Fault> {
+) -> Result<Sym, Fault>
+    requires { IfSome symbols (TableWithin 24 src.old.seen.size) }
+    ensures { ReadsUpTo src.old src.new 24 }
+{
     let Some(table) = symbols else {
         return refused(at, Cause::BadLink);
     };
@@ -45,7 +54,10 @@ pub(crate) fn read_symbol<S: Source>(
 
 /// Returns `true` if a loader looks a symbol up in all objects: it is not local, and its visibility
 /// is DEFAULT or PROTECTED (gABI 4, Symbol Binding).
-pub(crate) fn is_looked_up(symbol: &Sym) -> bool {
+pub(crate) fn is_looked_up(symbol: &Sym) -> bool
+    ensures { (file : List ℕ) (at : ℕ) → IsSym file at symbol.now →
+        result ≡ is_looked_up file at }
+{
     let visibility = symbol.visibility();
     symbol.binding() != STB_LOCAL && (visibility == STV_DEFAULT || visibility == STV_PROTECTED)
 }

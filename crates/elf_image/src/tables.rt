@@ -1,4 +1,7 @@
 //! The tables that say how a file is relocated, with their checks.
+ghost use Rattle.std.specs.Prelude.{◌≡◌, ◌<◌, ◌≤◌, IfOk, IfSome};
+ghost use Rattle.elf_image.specs.Within.{TableWithin, TablesWithin};
+
 use crate::dynamic_rows::{ImageRows, TableRows};
 use elf_hash::DynEntry;
 use elf_record::Cause;
@@ -33,10 +36,9 @@ pub(crate) struct ImageTables {
 /// # Errors
 /// Returns the first check that fails: `Unsupported` at DT_REL for entries without addends, and at
 /// DT_PLTREL for such calls; those of each table; those of [`ExecutionView::rest`] for the symbols.
-pub(crate) fn image_tables(
-    view: &ExecutionView<'_>,
-    rows: &ImageRows,
-) -> Result<ImageTables, Fault> {
+pub(crate) fn image_tables(view: &ExecutionView<'_>, rows: &ImageRows) -> Result<ImageTables, Fault>
+    ensures within { IfOk result (TablesWithin view.now.loaded.size) }
+{
     if let Some(at) = unsupported_row(rows) {
         return refused(at, Cause::Unsupported);
     }
@@ -94,7 +96,11 @@ fn checked_mapped_table(
     rows: &TableRows,
     entry: u64,
     told: u64,
-) -> Result<MappedTable, Fault> {
+) -> Result<MappedTable, Fault>
+    requires { (0 < entry) × (entry ≤ 4096) }
+    ensures within { IfOk result (λ table.
+        TableWithin entry view.now.loaded.size table.rows) }
+{
     let Some(address) = rows.address else {
         return Ok(empty_table(0, entry));
     };
@@ -120,7 +126,10 @@ fn checked_mapped_table(
 }
 
 /// Returns a table without rows.
-fn empty_table(address: u64, entry: u64) -> MappedTable {
+fn empty_table(address: u64, entry: u64) -> MappedTable
+    requires { (0 < entry) × (entry ≤ 4096) }
+    ensures { result.rows ≡ record { at = 0; count = 0; entry = entry } }
+{
     MappedTable {
         address,
         rows: Table::new(0, 0, entry),
@@ -128,10 +137,10 @@ fn empty_table(address: u64, entry: u64) -> MappedTable {
 }
 
 /// Returns the symbols from an address to the end of its segment, if a dynamic entry has it.
-fn checked_symbols(
-    view: &ExecutionView<'_>,
-    row: Option<DynEntry>,
-) -> Result<Option<Table>, Fault> {
+fn checked_symbols(view: &ExecutionView<'_>, row: Option<DynEntry>) -> Result<Option<Table>, Fault>
+    ensures within { IfOk result (λ found.
+        IfSome found (TableWithin 24 view.now.loaded.size)) }
+{
     let Some(row) = row else {
         return Ok(None);
     };

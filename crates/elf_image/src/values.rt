@@ -1,4 +1,11 @@
 //! The values of symbols in an image.
+ghost use Rattle.std.specs.Prelude.{◌≡◌, ℕ, List};
+ghost use Rattle.elf_model.specs.ImageItems.{ThreadValue, bound_value, called_value, item_of, lacks_item, may_be_unbound, or_unplaced};
+ghost use Rattle.elf_model.specs.ImageItems.{own_thread_symbol, own_thread_value, own_value, thread_value};
+ghost use Rattle.elf_record.specs.Sym.{IsSym};
+ghost use Rattle.elf_image.specs.Items.{kind_number, of_kind};
+ghost use Rattle.elf_image.specs.Values.{IsBased, IsSymbolOf, ThreadKind, items_of};
+
 use crate::changes::ImageFile;
 use crate::image_items::ItemKind;
 use crate::symbols::is_looked_up;
@@ -9,7 +16,11 @@ use elf_record::{Cause, Sym};
 ///
 /// # Errors
 /// Returns `Undefined` if the symbol has no definition, `Unplaced` if its value is not known.
-pub(crate) fn bound_value(image: &ImageFile<'_>, index: u32, symbol: &Sym) -> Result<u64, Cause> {
+#[tactic(auto, unfolding(elf_model::specs::ImageItems::bound_value, crate::specs::Items::said_by))]
+pub(crate) fn bound_value(image: &ImageFile<'_, '_>, index: u32, symbol: &Sym) -> Result<u64, Cause>
+    ensures { (file : List ℕ) (at : ℕ) → IsSym file at symbol.now → IsBased image.now →
+        result ≡ bound_value file (items_of image.now) index at }
+{
     match item_of(image, ItemKind::Symbol, index, symbol) {
         Some(value) => Ok(value),
         None => own_value(image, symbol),
@@ -20,7 +31,11 @@ pub(crate) fn bound_value(image: &ImageFile<'_>, index: u32, symbol: &Sym) -> Re
 ///
 /// # Errors
 /// Those of [`bound_value`].
-pub(crate) fn called_value(image: &ImageFile<'_>, index: u32, symbol: &Sym) -> Result<u64, Cause> {
+#[tactic(auto, unfolding(elf_model::specs::ImageItems::called_value, crate::specs::Items::said_by))]
+pub(crate) fn called_value(image: &ImageFile<'_, '_>, index: u32, symbol: &Sym) -> Result<u64, Cause>
+    ensures { (file : List ℕ) (at : ℕ) → IsSym file at symbol.now → IsBased image.now →
+        result ≡ called_value file (items_of image.now) index at }
+{
     match item_of(image, ItemKind::Call, index, symbol) {
         Some(value) => Ok(value),
         None => bound_value(image, index, symbol),
@@ -28,7 +43,10 @@ pub(crate) fn called_value(image: &ImageFile<'_>, index: u32, symbol: &Sym) -> R
 }
 
 /// Returns the item of a kind of the symbol of an index, if it is looked up.
-fn item_of(image: &ImageFile<'_>, kind: ItemKind, index: u32, symbol: &Sym) -> Option<u64> {
+fn item_of(image: &ImageFile<'_, '_>, kind: ItemKind, index: u32, symbol: &Sym) -> Option<u64>
+    ensures { (file : List ℕ) (at : ℕ) → IsSym file at symbol.now →
+        result ≡ item_of (of_kind (kind_number kind) image.now.items.now.numbers.now) file index at }
+{
     if !is_looked_up(symbol) {
         return None;
     }
@@ -36,17 +54,28 @@ fn item_of(image: &ImageFile<'_>, kind: ItemKind, index: u32, symbol: &Sym) -> O
 }
 
 /// Returns `true` if the items do not say where a symbol is bound.
-fn lacks_item(image: &ImageFile<'_>, symbol: &Sym) -> bool {
+#[tactic(auto, unfolding(crate::specs::Items::said_by))]
+fn lacks_item(image: &ImageFile<'_, '_>, symbol: &Sym) -> bool
+    ensures { (file : List ℕ) (at : ℕ) → IsSym file at symbol.now →
+        result ≡ lacks_item file (items_of image.now) at }
+{
     image.leaves && is_looked_up(symbol)
 }
 
 /// Returns `true` if a symbol may be bound to nothing.
-fn may_be_unbound(symbol: &Sym) -> bool {
+fn may_be_unbound(symbol: &Sym) -> bool
+    ensures { (file : List ℕ) (at : ℕ) → IsSym file at symbol.now →
+        result ≡ may_be_unbound file at }
+{
     is_looked_up(symbol) && symbol.binding() == STB_WEAK
 }
 
 /// Returns S of a symbol without an item.
-fn own_value(image: &ImageFile<'_>, symbol: &Sym) -> Result<u64, Cause> {
+#[tactic(auto, unfolding(elf_model::specs::ImageItems::own_value, crate::specs::Items::said_by))]
+fn own_value(image: &ImageFile<'_, '_>, symbol: &Sym) -> Result<u64, Cause>
+    ensures { (file : List ℕ) (at : ℕ) → IsSym file at symbol.now → IsBased image.now →
+        result ≡ own_value file (items_of image.now) at }
+{
     if lacks_item(image, symbol) {
         return Err(Cause::Undefined);
     }
@@ -70,12 +99,17 @@ fn own_value(image: &ImageFile<'_>, symbol: &Sym) -> Result<u64, Cause> {
 ///
 /// # Errors
 /// Returns `Undefined` if the symbol has no definition, `Unplaced` if its value is not known.
+#[tactic(auto, unfolding(elf_model::specs::ImageItems::thread_value, crate::specs::Items::said_by))]
 pub(crate) fn thread_value(
-    image: &ImageFile<'_>,
+    image: &ImageFile<'_, '_>,
     kind: ItemKind,
     index: u32,
     symbol: &Sym,
-) -> Result<Option<u64>, Cause> {
+) -> Result<Option<u64>, Cause>
+    ensures { (said : ThreadValue) → ThreadKind kind said → (file : List ℕ) (at : ℕ) →
+        IsSymbolOf file at index symbol.now →
+        result ≡ thread_value said file (items_of image.now) index at }
+{
     if index == 0 {
         return own_thread_value(image, kind, 0);
     }
@@ -86,11 +120,16 @@ pub(crate) fn thread_value(
 }
 
 /// Returns the value of a thread-local symbol without an item.
+#[tactic(auto, unfolding(elf_model::specs::ImageItems::own_thread_symbol, crate::specs::Items::said_by))]
 fn own_thread_symbol(
-    image: &ImageFile<'_>,
+    image: &ImageFile<'_, '_>,
     kind: ItemKind,
     symbol: &Sym,
-) -> Result<Option<u64>, Cause> {
+) -> Result<Option<u64>, Cause>
+    ensures { (said : ThreadValue) → ThreadKind kind said → (file : List ℕ) (at : ℕ) →
+        IsSym file at symbol.now →
+        result ≡ own_thread_symbol said file (items_of image.now) at }
+{
     if lacks_item(image, symbol) {
         return Err(Cause::Undefined);
     }
@@ -104,11 +143,15 @@ fn own_thread_symbol(
 }
 
 /// Returns the value of a thread-local symbol of the file itself, whose `st_value` is `value`.
+#[tactic(auto, unfolding(elf_model::specs::ImageItems::own_thread_value, crate::specs::Items::said_by))]
 fn own_thread_value(
-    image: &ImageFile<'_>,
+    image: &ImageFile<'_, '_>,
     kind: ItemKind,
     value: u64,
-) -> Result<Option<u64>, Cause> {
+) -> Result<Option<u64>, Cause>
+    ensures { (said : ThreadValue) → ThreadKind kind said →
+        result ≡ or_unplaced (own_thread_value said (items_of image.now) value) }
+{
     if kind == ItemKind::Value {
         return Ok(Some(value));
     }

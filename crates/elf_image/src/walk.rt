@@ -1,9 +1,14 @@
 //! The walk over what a file's relocations change, in the order in which a loader applies them.
+ghost use Rattle.std.specs.Prelude.{◌≡◌, ℕ, IfOk};
+ghost use Rattle.elf_source.specs.Prelude.{KeepsSource};
+ghost use Rattle.elf_image.specs.Within.{ImageWithin, StepsImageWalk, WalkAlive};
+ghost use Rattle.elf_image.specs.declared.walk.WalkStep.TheVariants.{End};
+
 use crate::changes::{EntryResult, ImageChange, ImageFile, StoredBytes};
-use crate::entries::{OrderedEntries, OrderedEntry};
+use crate::entries::{EntryStep, OrderedEntries, OrderedEntry};
 use crate::entry::entry_result;
 use crate::place::{HeldRange, checked_place};
-use crate::relative_rows::{RelativeRow, RelativeRows};
+use crate::relative_rows::{RelativeRow, RelativeRows, RelativeStep};
 use elf_source::{Counted, Source};
 use elf_table::Fault;
 
@@ -11,10 +16,10 @@ use elf_table::Fault;
 /// those of the entries.
 #[derive(Drop)]
 pub(crate) struct ImageWalk {
-    rows: RelativeRows,
-    entries: OrderedEntries,
+    pub(crate) rows: RelativeRows,
+    pub(crate) entries: OrderedEntries,
     /// Whether there are no more relative relocations.
-    past_rows: bool,
+    pub(crate) past_rows: bool,
     /// The segment of the last place.
     last: Option<HeldRange>,
 }
@@ -34,10 +39,14 @@ pub(crate) enum WalkStep<'a> {
 
 impl ImageWalk {
     /// Creates a walk before the first relocation of a file.
-    pub(crate) fn new(image: &ImageFile<'_>) -> ImageWalk {
+    pub(crate) fn new(image: &ImageFile<'_, '_>) -> ImageWalk
+        ensures { (size : ℕ) → ImageWithin size image.now → WalkAlive size result }
+    {
+        let rows = RelativeRows::new(image.told.compact);
+        let entries = OrderedEntries::new(image.told.ranges);
         ImageWalk {
-            rows: RelativeRows::new(image.compact),
-            entries: OrderedEntries::new(image.ranges),
+            rows,
+            entries,
             past_rows: false,
             last: None,
         }
@@ -50,14 +59,23 @@ impl ImageWalk {
     pub(crate) fn step<'a, S: Source>(
         &mut self,
         src: &mut Counted<S>,
-        image: &ImageFile<'a>,
-    ) -> Result<WalkStep<'a>, Fault> {
+        image: &ImageFile<'_, 'a>,
+    ) -> Result<WalkStep<'a>, Fault>
+        requires image { ImageWithin src.old.seen.size image.now }
+        requires walk { WalkAlive src.old.seen.size self.old }
+        ensures keeps { KeepsSource src.old.seen src.new.seen }
+        ensures alive { IfOk result (λ _. WalkAlive src.old.seen.size self.new) }
+        ensures steps { IfOk result (StepsImageWalk self.old self.new) }
+    {
         if self.past_rows {
             return self.entry_step(src, image);
         }
-        match self.rows.next(src)? {
-            Some(row) => Ok(WalkStep::Stores(row_change(image, &mut self.last, row)?)),
-            None => {
+        match self.rows.step(src)? {
+            RelativeStep::Row(row) => {
+                Ok(WalkStep::Stores(row_change(image, &mut self.last, row)?))
+            }
+            RelativeStep::Nothing => Ok(WalkStep::Nothing),
+            RelativeStep::Ended => {
                 self.past_rows = true;
                 Ok(WalkStep::Nothing)
             }
@@ -68,11 +86,35 @@ impl ImageWalk {
     fn entry_step<'a, S: Source>(
         &mut self,
         src: &mut Counted<S>,
-        image: &ImageFile<'a>,
-    ) -> Result<WalkStep<'a>, Fault> {
-        let Some(ordered) = self.entries.next(src)? else {
-            return Ok(WalkStep::End);
-        };
+        image: &ImageFile<'_, 'a>,
+    ) -> Result<WalkStep<'a>, Fault>
+        requires image { ImageWithin src.old.seen.size image.now }
+        requires walk { WalkAlive src.old.seen.size self.old }
+        ensures keeps { KeepsSource src.old.seen src.new.seen }
+        ensures alive { IfOk result (λ _. WalkAlive src.old.seen.size self.new) }
+        ensures steps { IfOk result (StepsImageWalk self.old self.new) }
+    {
+        match self.entries.step(src)? {
+            EntryStep::Past => Ok(WalkStep::End),
+            EntryStep::Nothing => Ok(WalkStep::Nothing),
+            EntryStep::Entry(ordered) => self.entry_change(src, image, ordered),
+        }
+    }
+
+    /// Returns what an entry changes.
+    fn entry_change<'a, S: Source>(
+        &mut self,
+        src: &mut Counted<S>,
+        image: &ImageFile<'_, 'a>,
+        ordered: OrderedEntry,
+    ) -> Result<WalkStep<'a>, Fault>
+        requires image { ImageWithin src.old.seen.size image.now }
+        ensures keeps { KeepsSource src.old.seen src.new.seen }
+        ensures rows { self.new.rows ≡ self.old.rows }
+        ensures entries { self.new.entries ≡ self.old.entries }
+        ensures past { self.new.past_rows ≡ self.old.past_rows }
+        ensures goes { IfOk result (λ step. step ≡ End → ⊥) }
+    {
         match entry_result(src, image, &mut self.last, &ordered.entry, ordered.at)? {
             EntryResult::Nothing => Ok(WalkStep::Nothing),
             EntryResult::Stores(change) => Ok(WalkStep::Stores(change)),
@@ -83,7 +125,7 @@ impl ImageWalk {
 
 /// Returns what a relative relocation changes.
 fn row_change<'a>(
-    image: &ImageFile<'a>,
+    image: &ImageFile<'_, 'a>,
     last: &mut Option<HeldRange>,
     row: RelativeRow,
 ) -> Result<ImageChange<'a>, Fault> {

@@ -1,7 +1,7 @@
 -- The items of a whole listing: the file header's, and what follows it.
 use Rattle.std.proofs.lemmas.Bool.{cases_Bool, eqb-true, or_left, or_right}
 use Rattle.std.proofs.Common.{◌≡◌, ℕ, ◌==◌, ◌||◌, inl, inr, true, List, [], ◌∷◌, ◌++◌, None, Err, false, sym, ap, ◌∙◌, refl, append-nil, append_assoc}
-use Rattle.elf_model.specs.Prelude.{DYNAMIC, Fault, HEADER, HeaderTable, IsBudgetRefusal, ListingItem, ListingStyle, NOTES, SEGMENTS, TableHeaders, TableKind, VERSIONS, e_phnum, e_shnum, each, fault_of, file_sections, file_segments, first_refusal, has, has_tables, header_checks, header_row, kinds_rows, known_parts, listing, load_checks, load_items, loaded_items, records_rows, segment_dynamic, segment_kinds, segment_notes, segment_row, symbol_versions, table_headers, table_items, table_rows, version_definitions, version_needs, view_checks, viewed as view_of, where_asked}
+use Rattle.elf_model.specs.Prelude.{DYNAMIC, e_phnum, e_shnum, each, Fault, fault_of, file_sections, file_segments, first_refusal, has, has_tables, HEADER, header_checks, header_row, HeaderTable, IsBudgetRefusal, kinds_rows, known_parts, lies_in_segments, listing, ListingItem, ListingStyle, load_checks, load_items, loaded_items, located_items, NOTES, records_rows, segment_dynamic, segment_kinds, segment_notes, segment_row, SEGMENTS, symbol_versions, table_headers, table_items, table_rows, TableHeaders, TableKind, version_definitions, version_needs, VERSIONS, view_checks, viewed as view_of, where_asked}
 use Rattle.elf_model.specs.declared.formats.Format.{Format}
 use Rattle.elf_model.specs.declared.causes.Refusal.{Refusal}
 use Rattle.elf_model.proofs.VersionNameLaws.{back-none, front-none, records-none}
@@ -66,7 +66,7 @@ abbrev pub of_headers : List ℕ → ListingStyle → ℕ → PartListed → ℕ
 of_headers file style parts part count = where_asked parts part.bit (part_items part style count file)
 
 abbrev pub segment_part : List ℕ → ListingStyle → ℕ → List ListingItem
-segment_part file style parts = where_asked parts SEGMENTS (each (segment_row file style) 0 (e_phnum file))
+segment_part file style parts = where_asked parts SEGMENTS (each (segment_row file style) 0 (e_phnum file)) ++ located_items file style parts
 
 nothing_asked : (parts part : ℕ) → where_asked parts part [] ≡ []
 nothing_asked parts part = elim (cases_Bool (has parts part)) [ inl asked ↦ rw (asked, where_asked) refl | inr other ↦ rw (other, where_asked) refl ]
@@ -125,27 +125,27 @@ none_listed of (kind ∷ kinds) file style parts store zero =
     rw (none_of file style parts (of kind) ((of kind).count store) (zero kind)) (none_listed of kinds file style parts store zero)
 
 -- if a part needs the program headers of a file without sections, they are loaded
-viewed_where : (parts : ℕ) (loaded : LoadedFile) → (loaded.header.e_shnum == 0) ≡ true → (has parts SEGMENTS || (has parts NOTES || has parts DYNAMIC)) ≡ true
-    → viewed_headers parts loaded ≡ loaded.header.e_phnum
-viewed_where parts loaded none asked = rw (none, asked) refl
+viewed_where : (style : ListingStyle) (parts : ℕ) (loaded : LoadedFile) → (loaded.header.e_shnum == 0) ≡ true → (has parts SEGMENTS || lies_in_segments style parts) ≡ true
+    → viewed_headers style parts loaded ≡ loaded.header.e_phnum
+viewed_where style parts loaded none asked = rw (none, asked) refl
 
-pub viewed_none : (parts : ℕ) (loaded : LoadedFile) → (loaded.header.e_shnum == 0) ≡ false → viewed_headers parts loaded ≡ 0
-viewed_none parts loaded some = rw some refl
+pub viewed_none : (style : ListingStyle) (parts : ℕ) (loaded : LoadedFile) → (loaded.header.e_shnum == 0) ≡ false → viewed_headers style parts loaded ≡ 0
+viewed_none style parts loaded some = rw some refl
 
-pub viewed_segments : (parts : ℕ) (loaded : LoadedFile) → (loaded.header.e_shnum == 0) ≡ true → has parts SEGMENTS ≡ true → viewed_headers parts loaded ≡ loaded.header.e_phnum
-viewed_segments parts loaded none asked = rw (none, asked) refl
+pub viewed_segments : (style : ListingStyle) (parts : ℕ) (loaded : LoadedFile) → (loaded.header.e_shnum == 0) ≡ true → has parts SEGMENTS ≡ true → viewed_headers style parts loaded ≡ loaded.header.e_phnum
+viewed_segments style parts loaded none asked = rw (none, asked) refl
 
 -- the parts of the kinds of tables of segments need the program headers
-segments_held : (parts : ℕ) (held : Type 0) → ((has parts SEGMENTS || (has parts NOTES || has parts DYNAMIC)) ≡ true → held) → AreHeld segment_kinds parts held
+segments_held : (style : ListingStyle) (parts : ℕ) (held : Type 0) → ((has parts SEGMENTS || lies_in_segments style parts) ≡ true → held) → AreHeld segment_kinds parts held
 unfolding segment_notes segment_dynamic
-segments_held parts held all = (λ asked. all (or_right _ _ (or_left _ _ asked)), (λ asked. all (or_right _ _ (or_right _ _ asked)), tt))
+segments_held style parts held all = (λ asked. all (or_right _ _ (or_left _ _ asked)), (λ asked. all (or_right _ _ (or_right _ _ (or_left _ _ asked))), tt))
 
 -- what program headers list, if they are those of the file
-segments_listed_are : (file : List ℕ) (style : ListingStyle) (parts : ℕ) (loaded : LoadedFile) (store : StoreState) → HoldsSectionHeaders file loaded store → store.segments ≡ viewed_headers parts loaded
+segments_listed_are : (file : List ℕ) (style : ListingStyle) (parts : ℕ) (loaded : LoadedFile) (store : StoreState) → HoldsSectionHeaders file loaded store → store.segments ≡ viewed_headers style parts loaded
     → (e_shnum file == 0) ≡ true → kinds_rows segment_kinds (file_segments file) file style parts ≡ kinds_items parts segments_parts store style file
 segments_listed_are file style parts loaded store belongs view none =
-    let all = viewed_where parts loaded (ap (λ n. n == 0) belongs.header.e_shnum ∙ none) in
-    segments_listed_by segment_kinds file style parts store (segments_held parts (store.segments ≡ e_phnum file) (λ asked. view ∙ (all asked ∙ belongs.header.e_phnum)))
+    let all = viewed_where style parts loaded (ap (λ n. n == 0) belongs.header.e_shnum ∙ none) in
+    segments_listed_by segment_kinds file style parts store (segments_held style parts (store.segments ≡ e_phnum file) (λ asked. view ∙ (all asked ∙ belongs.header.e_phnum)))
 
 -- the tables of the headers in the store, but the section headers and the program headers
 abbrev kinds_by_store : List ℕ → ListingStyle → ℕ → StoreState → List ListingItem
@@ -160,7 +160,7 @@ unfolding kinds_items kinds_listed
 last_listed file style parts store = append-nil _
 
 -- the tables of all kinds are those of the headers in the store
-kinds_are : (file : List ℕ) (style : ListingStyle) (parts : ℕ) (loaded : LoadedFile) (store : StoreState) → HoldsSectionHeaders file loaded store → store.segments ≡ viewed_headers parts loaded
+kinds_are : (file : List ℕ) (style : ListingStyle) (parts : ℕ) (loaded : LoadedFile) (store : StoreState) → HoldsSectionHeaders file loaded store → store.segments ≡ viewed_headers style parts loaded
     → kinds_rows (table_headers style.gnu style.versions file).kinds (table_headers style.gnu style.versions file).headers file style parts ≡ kinds_by_store file style parts store
 kinds_are file style parts loaded store belongs view =
     let count : store.loaded ≡ e_shnum file = belongs.count ∙ belongs.header.e_shnum in
@@ -173,7 +173,7 @@ kinds_are file style parts loaded store belongs view =
           ap (λ (tables : TableHeaders). kinds_rows tables.kinds tables.headers file style parts) (headers_none style.gnu style.versions file none)
           ∙ (segments_listed_are file style parts loaded store belongs view none ∙ sym (rw (first, records, last) (append-nil _)))
       | inr some ↦
-          let zero : store.segments ≡ 0 = view ∙ viewed_none parts loaded (ap (λ n. n == 0) belongs.header.e_shnum ∙ some) in
+          let zero : store.segments ≡ 0 = view ∙ viewed_none style parts loaded (ap (λ n. n == 0) belongs.header.e_shnum ∙ some) in
           let sections = file_sections file in
           let listed = λ (kinds : List TableKind). sections_listed_by kinds file style parts store count in
           ap (λ (tables : TableHeaders). kinds_rows tables.kinds tables.headers file style parts) (headers_some style.gnu style.versions file some)
@@ -185,6 +185,9 @@ kinds_are file style parts loaded store belongs view =
 regrouped : (a b c d e : List ListingItem) → a ++ (b ++ (c ++ (d ++ e))) ≡ (((a ++ b) ++ c) ++ d) ++ e
 regrouped a b c d e = simp append_assoc
 
+grouped : (a b c : List ListingItem) → (a ++ b) ++ c ≡ a ++ (b ++ c)
+grouped a b c = simp append_assoc
+
 -- the tables of the headers in the store
 abbrev pub by_store : List ℕ → ListingStyle → ℕ → StoreState → List ListingItem
 by_store file style parts store =
@@ -195,13 +198,14 @@ by_store file style parts store =
     ++ of_headers file style parts (of_sections symbol_versions) store.loaded
 
 -- the tables of a loaded file
-pub tables_are : (file : List ℕ) (style : ListingStyle) (parts : ℕ) (loaded : LoadedFile) (store : StoreState) → HoldsSectionHeaders file loaded store → store.segments ≡ viewed_headers parts loaded
+pub tables_are : (file : List ℕ) (style : ListingStyle) (parts : ℕ) (loaded : LoadedFile) (store : StoreState) → HoldsSectionHeaders file loaded store → store.segments ≡ viewed_headers style parts loaded
     → table_items file style parts ≡ by_store file style parts store
 unfolding table_items
 tables_are file style parts loaded store belongs view =
     let count : e_shnum file ≡ store.loaded = sym (belongs.count ∙ belongs.header.e_shnum) in
     let first : List ListingItem = of_headers file style parts section_headers_part store.loaded ++ segment_part file style parts in
-    ap (λ n. (of_headers file style parts section_headers_part n ++ segment_part file style parts) ++ kinds_rows (table_headers style.gnu style.versions file).kinds (table_headers style.gnu style.versions file).headers file style parts) count
+    ap (λ (rows : List ListingItem). rows ++ kinds_rows (table_headers style.gnu style.versions file).kinds (table_headers style.gnu style.versions file).headers file style parts) (grouped (of_headers file style parts section_headers_part (e_shnum file)) (where_asked parts SEGMENTS (each (segment_row file style) 0 (e_phnum file))) (located_items file style parts))
+    ∙ ap (λ n. (of_headers file style parts section_headers_part n ++ segment_part file style parts) ++ kinds_rows (table_headers style.gnu style.versions file).kinds (table_headers style.gnu style.versions file).headers file style parts) count
     ∙ (ap (λ rest. first ++ rest) (kinds_are file style parts loaded store belongs view) ∙ regrouped first _ _ _ _)
 
 -- if the rows of definitions and needs are listed and have no fault, they have none at all

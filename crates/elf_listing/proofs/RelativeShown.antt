@@ -1,7 +1,7 @@
 -- The rows of words of relative relocations.
 use Rattle.std.proofs.Common.{◌≡◌, ℕ, ◌+◌, ◌-◌, ◌*◌, ◌/◌, ◌%◌, ◌^◌, ◌<◌, ◌≤◌, ◌==◌, ◌||◌, ◌++◌, length, if◌then◌else◌, Bool, true, false, List, [], ◌∷◌, suc, Option, None, Some, Result, Ok, Err, refl, sym, ap, ◌∙◌, arith}
 use Rattle.std.proofs.lemmas.Bool.{eqb-true, le-ltb, lt-ltb}
-use Rattle.elf_model.specs.Prelude.{Fault as FaultItem, LAST_ADDRESS, ListingItem, ListingStyle, all_checks, base_after, bit_row, bitmap_base, chosen_row, each, entry_count, field, first_refusal, guarded, relr_table, sh_size, unless_empty, either_kind, entries_kind, entry_at, gnu_relocations, relative_relocations, sh_type, no_name, place_of_relr, placed_choice, relr_prefix, relr_row, relr_rows, relr_word, section_at, sh_offset, slice, table_checks, table_cost, table_rows, word_rows}
+use Rattle.elf_model.specs.Prelude.{Fault as FaultItem, LAST_ADDRESS, ListingItem, ListingStyle, all_checks, base_after, bit_row, bitmap_base, chosen_row, each, entry_count, field, first_refusal, guarded, relr_table, sh_size, unless_empty, either_kind, entries_kind, entry_at, gnu_relocations, relative_relocations, sh_type, no_name, place_of_relr, placed_choice, relr_prefix, relr_row, relr_rows, relr_rows_at, relr_word, section_at, sh_offset, slice, table_checks, table_cost, table_rows, word_rows}
 use Rattle.elf_model.specs.HeaderTables.{TableKind}
 use Rattle.elf_model.specs.declared.causes.Cause.TheVariants.{Relr}
 use Rattle.elf_model.proofs.RelativeKinds.{either_costs, entries_have}
@@ -70,12 +70,17 @@ unfolding word_rows
 bitmap_word file style section at base word odd = rw odd refl
 
 -- the rows of a word of the file
-pub word_is : (file : List ℕ) (style : ListingStyle) (section at place index word : ℕ) (base : Option ℕ) → place ≡ sh_offset file at + index * 8 → word ≡ relr_word file place
-    → base ≡ bitmap_base file (sh_offset file at) index → relr_rows file style section at index ≡ word_rows file style section place base word
-unfolding relr_rows
-word_is file style section at place index word base here is from =
-    let same : place ≡ entry_at file at 8 index = omega (arith, here) in
+pub word_is : (file : List ℕ) (style : ListingStyle) (header table_at place index word : ℕ) (base : Option ℕ) → place ≡ table_at + index * 8 → word ≡ relr_word file place
+    → base ≡ bitmap_base file table_at index → relr_rows_at file style header table_at index ≡ word_rows file style header place base word
+word_is file style header table_at place index word base here is from =
+    let same : place ≡ table_at + 8 * index = omega (arith, here) in
     rw (is, from, same) refl
+
+-- the words of a section's table
+pub section_words : (file : List ℕ) (style : ListingStyle) (section at table_at count : ℕ) → table_at ≡ sh_offset file at
+    → each (relr_rows file style section at) 0 count ≡ each (relr_rows_at file style section table_at) 0 count
+unfolding relr_rows
+section_words file style section at table_at count is = rw is refl
 
 -- the row that a cursor gave is a word of the file
 module _ (file : List ℕ) (table_at place i index word : ℕ) (base : Option ℕ) (bytes : List ℕ) (here : place ≡ table_at + i * 8) (held : bytes ≡ slice file place 8)
@@ -83,11 +88,8 @@ module _ (file : List ℕ) (table_at place i index word : ℕ) (base : Option �
   read_is : word ≡ relr_word file place
   read_is = read ∙ first_field_in file place 8 bytes 8 held (omega arith)
 
-  pub given_word : (style : ListingStyle) (section : ℕ) → table_at ≡ sh_offset file (section_at file section)
-      → relr_rows file style section (section_at file section) i ≡ word_rows file style section place base word
-  given_word style section is =
-      word_is file style section (section_at file section) place i word base (here ∙ ap (λ (n : ℕ). n + i * 8) is) read_is
-      (from ∙ (ap (bitmap_base file table_at) (sym same) ∙ ap (λ (n : ℕ). bitmap_base file n i) is))
+  pub given_word : (style : ListingStyle) (header : ℕ) → relr_rows_at file style header table_at i ≡ word_rows file style header place base word
+  given_word style header = word_is file style header table_at place i word base here read_is (from ∙ ap (bitmap_base file table_at) (sym same))
 
   pub next_base : (next : ℕ) → next ≡ index + 1 → base_after base word ≡ bitmap_base file table_at next
   unfolding bitmap_base

@@ -1,5 +1,5 @@
 -- What the tables of a loaded file read, by the section headers in the store.
-use Rattle.elf_model.specs.Prelude.{Check, DYNAMIC, HeaderTable, ListingStyle, NOTES, PT_DYNAMIC, SECTIONS, SEGMENTS, TableKind, after_header, ceiling, cost_where, e_phnum, e_shnum, early_checks, file_segments, first_refusal, has, has_tables, header_checks, held_headers, is_loadable, is_outside, kind_by_kind, kinds_cost, known_parts, listing_cost, name_bytes, p_filesz, p_offset, p_type, pass, range_checks_of, refuse, section_kinds, section_name_checks, sections_cost, segment_dynamic, segment_kinds, segments_cost, sh_offset, sh_size, style_ceiling, suffixes_most, sum_over, symbol_versions, table_checks_of, table_cost, tables_cost, viewed as view_of, whole_checks_of}
+use Rattle.elf_model.specs.Prelude.{Check, HeaderTable, ListingStyle, PT_DYNAMIC, RELOCS, SECTIONS, SEGMENTS, TableKind, after_header, ceiling, cost_where, e_phnum, e_shnum, early_checks, file_segments, first_refusal, follows_dynamic, has, has_tables, header_checks, held_headers, is_loadable, is_outside, kind_by_kind, kinds_cost, known_parts, lies_in_segments, listing_cost, located_cost, located_most, name_bytes, p_filesz, p_offset, p_type, pass, range_checks_of, refuse, section_kinds, section_name_checks, sections_cost, segment_dynamic, segment_kinds, segments_cost, sh_offset, sh_size, style_ceiling, suffixes_most, sum_over, symbol_versions, table_checks_of, table_cost, tables_ceiling, tables_cost, viewed as view_of, whole_checks_of}
 use Rattle.elf_model.specs.declared.causes.Cause.TheVariants.{SizeNotWhole, TableOutside}
 use Rattle.std.proofs.Common.{◌≡◌, ℕ, ◌+◌, ◌-◌, ◌*◌, ◌/◌, ◌%◌, ◌<◌, ◌≤◌, ◌==◌, ◌&&◌, ◌||◌, ◌⊎◌, inl, inr, not, if◌then◌else◌, Bool, true, false, List, [], ◌∷◌, ◌++◌, length, Option, None, Some, Result, Ok, refl, sym, ap, ◌∙◌, arith}
 use Rattle.std.proofs.lemmas.Bool.{cases_Bool, eqb-true}
@@ -13,7 +13,7 @@ use Rattle.elf_record.specs.declared.ehdr.Ehdr.{Ehdr}
 use Rattle.elf_table.specs.Prelude.{HoldsSectionHeaders, HoldsSegments, IsOpened, LoadedFile, StoreState, StringTableRange, TableRange, byte_rows, checked, dynamic_of, early_of, load_cost, row, rows, segment_bytes, table_of}
 use Rattle.elf_table.specs.declared.fault.Fault.{Fault}
 use Rattle.elf_table.proofs.RelocationLaws.{passed_first}
-use Rattle.elf_listing.specs.Prelude.{asked_cost, first_kinds, kinds_asked, kinds_listed, name_cost, needs_segment_view, of_sections, of_segments, record_kinds, sections_listed, store_sections, store_segments, tables_listed, view_cost, viewed_headers}
+use Rattle.elf_listing.specs.Prelude.{asked_cost, first_kinds, kinds_asked, kinds_listed, located_asked, name_cost, needs_segment_view, of_sections, of_segments, record_kinds, sections_listed, store_sections, store_segments, tables_listed, view_cost, viewed_headers}
 use Rattle.elf_listing.proofs.FileShown.{viewed_none}
 use Rattle.elf_table.proofs.LoadLaws.{early_is}
 
@@ -106,9 +106,9 @@ segments_sum loaded store most parts = sum_over (λ i. kinds_cost segment_kinds 
 abbrev pub names_asked : LoadedFile → ℕ → ℕ → ℕ → ℕ
 names_asked loaded count most parts = cost_where (has parts SECTIONS && not (loaded.header.e_shstrndx == 0)) (count * name_bytes most)
 
-abbrev pub segments_asked : LoadedFile → ℕ → ℕ
-segments_asked loaded parts =
-    cost_where (has parts SEGMENTS || (loaded.header.e_shnum == 0 && (has parts NOTES || has parts DYNAMIC))) (56 * loaded.header.e_phnum)
+abbrev pub segments_asked : LoadedFile → ListingStyle → ℕ → ℕ
+segments_asked loaded style parts =
+    cost_where (has parts SEGMENTS || (loaded.header.e_shnum == 0 && lies_in_segments style parts)) (56 * loaded.header.e_phnum)
 
 -- the names of all sections
 names_listed : (asked named : Bool) (n count : ℕ) → cost_where asked (sum_over (λ i. cost_where named n) 0 count) ≤ cost_where (asked && named) (count * n)
@@ -117,14 +117,13 @@ names_listed true false n count = omega (arith, sum_of_equal 0 count)
 names_listed false named n count = omega arith
 
 -- the program headers are read once, however they are read
-segments_once : (none p n d : Bool) (amount : ℕ)
-    → cost_where (none && (p || (n || d))) amount + cost_where (p && not none) amount ≤ cost_where (p || (none && (n || d))) amount
-segments_once true true n d amount = omega arith
-segments_once true false true d amount = omega arith
-segments_once true false false true amount = omega arith
-segments_once true false false false amount = omega arith
-segments_once false true n d amount = omega arith
-segments_once false false n d amount = omega arith
+segments_once : (none p others : Bool) (amount : ℕ)
+    → cost_where (none && (p || others)) amount + cost_where (p && not none) amount ≤ cost_where (p || (none && others)) amount
+segments_once true true others amount = omega arith
+segments_once true false true amount = omega arith
+segments_once true false false amount = omega arith
+segments_once false true others amount = omega arith
+segments_once false false others amount = omega arith
 
 sum_of_none : (amount : ℕ → ℕ) (count : ℕ) → count ≡ 0 → sum_over amount 0 count ≡ 0
 unfolding sum_over
@@ -155,12 +154,16 @@ unfolding kind_by_kind
 last_cost_listed loaded store most parts = omega arith
 
 -- what is listed reads the names, the program headers, and the tables of all kinds
-listed_parts : (gnu versions : Bool) (loaded : LoadedFile) (store : StoreState) (most parts : ℕ)
-    → view_cost parts loaded + tables_listed parts loaded store most gnu versions
-    ≤ names_asked loaded store.loaded most parts + segments_asked loaded parts + sections_sum gnu versions loaded store most parts + segments_sum loaded store most parts
-listed_parts gnu versions loaded store most parts =
+listed_parts : (style : ListingStyle) (loaded : LoadedFile) (store : StoreState) (parts : ℕ)
+    → view_cost style parts loaded + tables_listed style parts loaded store
+    ≤ names_asked loaded store.loaded style.cap parts + segments_asked loaded style parts + located_asked style parts loaded + sections_sum style.gnu style.versions loaded store style.cap parts
+    + segments_sum loaded store style.cap parts
+listed_parts style loaded store parts =
+    let gnu : Bool = style.gnu in
+    let versions : Bool = style.versions in
+    let most : ℕ = style.cap in
     let names = names_listed (has parts SECTIONS) (not (loaded.header.e_shstrndx == 0)) (name_bytes most) store.loaded in
-    let once = segments_once (loaded.header.e_shnum == 0) (has parts SEGMENTS) (has parts NOTES) (has parts DYNAMIC) (56 * loaded.header.e_phnum) in
+    let once = segments_once (loaded.header.e_shnum == 0) (has parts SEGMENTS) (lies_in_segments style parts) (56 * loaded.header.e_phnum) in
     let sections = by_kind (section_kinds gnu versions) (store_sections store) loaded.size most parts store.loaded in
     let segments = by_kind segment_kinds (store_segments store) loaded.size most parts store.segments in
     let all = kinds_cost_append (first_kinds gnu versions) (record_kinds ++ (symbol_versions ∷ [])) (store_sections store) loaded.size most parts store.loaded in
@@ -170,21 +173,21 @@ listed_parts gnu versions loaded store most parts =
     omega (arith, names, once, sections, segments, all, last, first, records, segments_cost_listed segment_kinds loaded store most parts, last_cost_listed loaded store most parts)
 
 -- all program headers are in the store, or none
-viewed_is : (parts : ℕ) (loaded : LoadedFile) → (viewed_headers parts loaded ≡ 0) ⊎ (viewed_headers parts loaded ≡ loaded.header.e_phnum)
-viewed_is parts loaded = by_cases (needs_segment_view parts loaded)
+viewed_is : (style : ListingStyle) (parts : ℕ) (loaded : LoadedFile) → (viewed_headers style parts loaded ≡ 0) ⊎ (viewed_headers style parts loaded ≡ loaded.header.e_phnum)
+viewed_is style parts loaded = by_cases (needs_segment_view style parts loaded)
   where
     by_cases : (needs : Bool) → ((if needs then loaded.header.e_phnum else 0) ≡ 0) ⊎ ((if needs then loaded.header.e_phnum else 0) ≡ loaded.header.e_phnum)
     by_cases true = inr refl
     by_cases false = inl refl
 
-pub viewed_all : (parts : ℕ) (loaded : LoadedFile) (store : StoreState) → store.segments ≡ viewed_headers parts loaded → 0 < store.segments → store.segments ≡ loaded.header.e_phnum
-viewed_all parts loaded store view some = elim (viewed_is parts loaded) [ inl none ↦ absurd (omega arith) | inr all ↦ view ∙ all ]
+pub viewed_all : (style : ListingStyle) (parts : ℕ) (loaded : LoadedFile) (store : StoreState) → store.segments ≡ viewed_headers style parts loaded → 0 < store.segments → store.segments ≡ loaded.header.e_phnum
+viewed_all style parts loaded store view some = elim (viewed_is style parts loaded) [ inl none ↦ absurd (omega arith) | inr all ↦ view ∙ all ]
 
 -- the tables of the headers in the store are those of the file
 module _ (file : List ℕ) (loaded : LoadedFile) (store : StoreState) (style : ListingStyle) (parts : ℕ) (belongs : HoldsSectionHeaders file loaded store) (held : HoldsSegments file store)
-    (view : store.segments ≡ viewed_headers parts loaded) where
+    (view : store.segments ≡ viewed_headers style parts loaded) where
   few_segments : segments_sum loaded store style.cap parts ≤ sum_over (λ i. kinds_cost segment_kinds (file_segments file) i (length file) style.cap parts) 0 (e_phnum file)
-  few_segments = elim (viewed_is parts loaded) [
+  few_segments = elim (viewed_is style parts loaded) [
     | inl none ↦
         let zero = sum_of_none (λ i. kinds_cost segment_kinds (store_segments store) i loaded.size style.cap parts) store.segments (view ∙ none) in
         omega (arith, zero)
@@ -205,7 +208,7 @@ module _ (file : List ℕ) (loaded : LoadedFile) (store : StoreState) (style : L
             let same = ap (tables_by file style.cap parts) (headers_none style.gnu style.versions file none) in
             omega (arith, zero, same, few_segments)
         | inr some ↦
-            let unviewed = view ∙ viewed_none parts loaded (ap (λ n. n == 0) belongs.header.e_shnum ∙ some) in
+            let unviewed = view ∙ viewed_none style parts loaded (ap (λ n. n == 0) belongs.header.e_shnum ∙ some) in
             let zero = sum_of_none (λ i. kinds_cost segment_kinds (store_segments store) i loaded.size style.cap parts) store.segments unviewed in
             let tables = rows_cost file (row store) style.gnu style.versions style.cap parts (λ i below. belongs.rows i (omega (arith, count))) in
             let same : sections_sum style.gnu style.versions loaded store style.cap parts ≡ sum_over (λ i. kinds_cost (section_kinds style.gnu style.versions) (held_headers (e_shnum file) (row store)) i (length file) style.cap parts) 0 (e_shnum file) = rw (count, belongs.size) refl in
@@ -217,19 +220,38 @@ slots_below size headers style =
     let all = any_rows (held_headers 0 (λ i. [])) style size headers 0 headers 0 (omega arith) (omega arith) in omega arith
 
 -- versions after the names of symbols lower no ceiling
-ceiling_below : (size headers : ℕ) (style : ListingStyle) → ceiling size headers style.cap ≤ style_ceiling size headers style
-unfolding style_ceiling
+ceiling_below : (size headers : ℕ) (style : ListingStyle)
+    → ceiling size headers style.cap + cost_where (follows_dynamic style) (located_most size style.cap) ≤ style_ceiling size headers style
+unfolding style_ceiling tables_ceiling
 ceiling_below size headers style = by_cases style.versions
   where
-    by_cases : (versions : Bool) → ceiling size headers style.cap ≤ (if versions then ceiling size headers style.cap + headers * suffixes_most size style.cap else ceiling size headers style.cap)
+    by_cases : (versions : Bool)
+        → ceiling size headers style.cap + cost_where (follows_dynamic style) (located_most size style.cap)
+        ≤ (if versions then ceiling size headers style.cap + headers * suffixes_most size style.cap else ceiling size headers style.cap)
+        + cost_where (follows_dynamic style) (located_most size style.cap)
     by_cases true = omega arith
     by_cases false = omega arith
 
+-- what dynamic entries locate, if the style follows them and the file has no sections
+located_most_asked : (none follows asked : Bool) (most : ℕ) → cost_where (none && (follows && asked)) most ≤ cost_where follows most
+located_most_asked true true true most = omega arith
+located_most_asked true true false most = omega arith
+located_most_asked true false asked most = omega arith
+located_most_asked false follows asked most = omega arith
+
+located_sectioned : (style : ListingStyle) (parts : ℕ) (loaded : LoadedFile) → (loaded.header.e_shnum == 0) ≡ false → located_asked style parts loaded ≡ 0
+located_sectioned style parts loaded some = rw some refl
+
+located_is : (file : List ℕ) (style : ListingStyle) (parts : ℕ) (loaded : LoadedFile) (store : StoreState) → HoldsSectionHeaders file loaded store
+    → located_asked style parts loaded ≡ located_cost file style parts
+unfolding located_cost
+located_is file style parts loaded store belongs = rw (belongs.header.e_shnum, belongs.size) refl
+
 -- the section headers with their names, and the program headers
-headers_within : (file : List ℕ) (loaded : LoadedFile) (most parts : ℕ) → IsEhdr file 0 loaded.header
-    → 64 * loaded.header.e_shnum + names_asked loaded loaded.header.e_shnum most parts + segments_asked loaded parts ≤ sections_cost file most parts + segments_cost file parts
+headers_within : (file : List ℕ) (loaded : LoadedFile) (style : ListingStyle) (parts : ℕ) → IsEhdr file 0 loaded.header
+    → 64 * loaded.header.e_shnum + names_asked loaded loaded.header.e_shnum style.cap parts + segments_asked loaded style parts ≤ sections_cost file style.cap parts + segments_cost file style parts
 unfolding sections_cost segments_cost
-headers_within file loaded most parts is = rw (is.e_shnum, is.e_phnum, is.e_shstrndx) (omega arith)
+headers_within file loaded style parts is = rw (is.e_shnum, is.e_phnum, is.e_shstrndx) (omega arith)
 
 -- if the checks before the load and the first of the load pass, what is read after the header
 -- counts
@@ -242,7 +264,7 @@ pub load_within : (file : List ℕ) (header : Ehdr) (size slots : ℕ) (style : 
     → load_cost header size slots ≤ after_header file slots style parts
 load_within file header size slots style parts is same passed tables =
     cost_where-within (pass (early_of header size slots)) (64 * header.e_shnum) _ (λ early.
-    let headers = headers_within file (record { size = size; header = header }) style.cap parts is in
+    let headers = headers_within file (record { size = size; header = header }) style parts is in
     rw (tables, loadable file slots passed (ap is_none (sym (early_is file header size slots is same)) ∙ early)) (omega (arith, headers)))
 
 pub load_below : (header : Ehdr) (size slots : ℕ) (style : ListingStyle) → 64 + load_cost header size slots ≤ style_ceiling size slots style
@@ -254,48 +276,50 @@ module _ (file : List ℕ) (loaded : LoadedFile) (store : StoreState) (slots : �
   loads : first_refusal (header_checks file) ≡ None → is_loadable file slots ≡ true
   loads passed = rw (← same) (loadable file store.slots passed (ap is_none (passes_front (early_checks file store.slots) (section_name_checks file) belongs.passes)))
 
-  pub loaded_within : HoldsSegments file store → store.segments ≡ viewed_headers parts loaded → first_refusal (header_checks file) ≡ None → has_tables parts ≡ true
-      → 64 * loaded.header.e_shnum + (view_cost parts loaded + tables_listed parts loaded store style.cap style.gnu style.versions) ≤ after_header file slots style parts
+  pub loaded_within : HoldsSegments file store → store.segments ≡ viewed_headers style parts loaded → first_refusal (header_checks file) ≡ None → has_tables parts ≡ true
+      → 64 * loaded.header.e_shnum + (view_cost style parts loaded + tables_listed style parts loaded store) ≤ after_header file slots style parts
   loaded_within held view passed tables =
       let within = tables_within file loaded store style parts belongs held view in
-      let headers = headers_within file loaded style.cap parts belongs.header in
-      let listed = listed_parts style.gnu style.versions loaded store style.cap parts in
+      let headers = headers_within file loaded style parts belongs.header in
+      let listed = listed_parts style loaded store parts in
       let names = ap (λ n. names_asked loaded n style.cap parts) belongs.count in
-      rw (tables, loads passed) (omega (arith, within, headers, listed, names))
+      let located = located_is file style parts loaded store belongs in
+      rw (tables, loads passed) (omega (arith, within, headers, listed, names, located))
 
-  pub view_within : first_refusal (header_checks file) ≡ None → has_tables parts ≡ true → 64 * loaded.header.e_shnum + view_cost parts loaded ≤ after_header file slots style parts
+  pub view_within : first_refusal (header_checks file) ≡ None → has_tables parts ≡ true → 64 * loaded.header.e_shnum + view_cost style parts loaded ≤ after_header file slots style parts
   view_within passed tables =
-      let once = segments_once (loaded.header.e_shnum == 0) (has parts SEGMENTS) (has parts NOTES) (has parts DYNAMIC) (56 * loaded.header.e_phnum) in
-      let headers = headers_within file loaded style.cap parts belongs.header in
+      let once = segments_once (loaded.header.e_shnum == 0) (has parts SEGMENTS) (lies_in_segments style parts) (56 * loaded.header.e_phnum) in
+      let headers = headers_within file loaded style parts belongs.header in
       rw (tables, loads passed) (omega (arith, once, headers))
 
 -- and within the ceiling, for any source
 pub loaded_below : (loaded : LoadedFile) (store : StoreState) (size slots : ℕ) (style : ListingStyle) (parts : ℕ) → loaded.size ≡ size → store.slots ≡ slots → store.loaded ≡ loaded.header.e_shnum
-    → loaded.header.e_shnum ≤ slots → loaded.header.e_phnum ≤ slots → store.segments ≡ viewed_headers parts loaded
-    → 64 + (64 * loaded.header.e_shnum + (view_cost parts loaded + tables_listed parts loaded store style.cap style.gnu style.versions)) ≤ style_ceiling size slots style
+    → loaded.header.e_shnum ≤ slots → loaded.header.e_phnum ≤ slots → store.segments ≡ viewed_headers style parts loaded
+    → 64 + (64 * loaded.header.e_shnum + (view_cost style parts loaded + tables_listed style parts loaded store)) ≤ style_ceiling size slots style
 loaded_below loaded store size slots style parts same slotted count few some view =
-    let listed = listed_parts style.gnu style.versions loaded store style.cap parts in
+    let listed = listed_parts style loaded store parts in
     let names = cost_where-le (has parts SECTIONS && not (loaded.header.e_shstrndx == 0)) (store.loaded * name_bytes style.cap) in
-    let asked = cost_where-le (has parts SEGMENTS || (loaded.header.e_shnum == 0 && (has parts NOTES || has parts DYNAMIC))) (56 * loaded.header.e_phnum) in
+    let asked = cost_where-le (has parts SEGMENTS || (loaded.header.e_shnum == 0 && lies_in_segments style parts)) (56 * loaded.header.e_phnum) in
     rw (← same) (elim (cases_Bool (loaded.header.e_shnum == 0)) [
       | inl none ↦
           let zero : store.loaded ≡ 0 = count ∙ eqb-true loaded.header.e_shnum 0 none in
           let tables = sum_of_none (λ i. kinds_cost (section_kinds style.gnu style.versions) (store_sections store) i loaded.size style.cap parts) store.loaded zero in
           let unnamed : store.loaded * name_bytes style.cap ≡ 0 = rw zero (omega arith) in
-          let within = cost_where-le (needs_segment_view parts loaded) loaded.header.e_phnum in
+          let within = cost_where-le (needs_segment_view style parts loaded) loaded.header.e_phnum in
           let more = sums_grow (λ i. kinds_cost segment_kinds (store_segments store) i loaded.size style.cap parts) 0 store.segments loaded.header.e_phnum (omega (arith, within, view)) in
           let all = any_segments (store_segments store) loaded.size slots style.cap parts loaded.header.e_phnum some in
-          omega (arith, zero, count, tables, names, unnamed, listed, asked, more, all, ceiling_below loaded.size slots style)
+          let located = located_most_asked (loaded.header.e_shnum == 0) (follows_dynamic style) (has parts RELOCS) (located_most loaded.size style.cap) in
+          omega (arith, zero, count, tables, names, unnamed, listed, asked, more, all, located, ceiling_below loaded.size slots style)
       | inr sectioned ↦
-          let zero = sum_of_none (λ i. kinds_cost segment_kinds (store_segments store) i loaded.size style.cap parts) store.segments (view ∙ viewed_none parts loaded sectioned) in
+          let zero = sum_of_none (λ i. kinds_cost segment_kinds (store_segments store) i loaded.size style.cap parts) store.segments (view ∙ viewed_none style parts loaded sectioned) in
           let all = any_rows (store_sections store) style loaded.size slots parts store.loaded loaded.header.e_phnum (omega (arith, count)) some in
-          omega (arith, zero, count, names, listed, asked, all)
+          omega (arith, zero, count, names, listed, asked, all, located_sectioned style parts loaded sectioned)
     ])
 
 pub view_below : (loaded : LoadedFile) (size slots : ℕ) (style : ListingStyle) (parts : ℕ) → loaded.header.e_shnum ≤ slots → loaded.header.e_phnum ≤ slots
-    → 64 + (64 * loaded.header.e_shnum + view_cost parts loaded) ≤ style_ceiling size slots style
+    → 64 + (64 * loaded.header.e_shnum + view_cost style parts loaded) ≤ style_ceiling size slots style
 view_below loaded size slots style parts few some =
-    let store : StoreState = record { slots = slots; loaded = loaded.header.e_shnum; rows = []; segments = viewed_headers parts loaded; segment_rows = [] } in
+    let store : StoreState = record { slots = slots; loaded = loaded.header.e_shnum; rows = []; segments = viewed_headers style parts loaded; segment_rows = [] } in
     let below = loaded_below (record { size = size; header = loaded.header }) store size slots style parts refl refl refl few some refl in
     omega (arith, below)
 

@@ -15,38 +15,38 @@ not_by true n b = cc
 not_by false n b = cc
 
 -- if the style uses them the file has no sections, and if the parts need them they are loaded
-needed : (file : List ℕ) (parts : ℕ) (loaded : LoadedFile) (store : StoreState) → HoldsSectionHeaders file loaded store → e_shnum file ≡ 0
-    → needs_segments file parts ≡ needs_segment_view parts loaded
-needed file parts loaded store belongs none =
+needed : (file : List ℕ) (style : ListingStyle) (parts : ℕ) (loaded : LoadedFile) (store : StoreState) → HoldsSectionHeaders file loaded store → e_shnum file ≡ 0
+    → needs_segments file style parts ≡ needs_segment_view style parts loaded
+needed file style parts loaded store belongs none =
     let told : (e_shnum file == 0) ≡ true = eq-eqb (e_shnum file) 0 none in
     let held : (loaded.header.e_shnum == 0) ≡ true = eq-eqb loaded.header.e_shnum 0 (belongs.header.e_shnum ∙ none) in
     rw (held, told) refl
 
 checks_by : (file : List ℕ) (style : ListingStyle) (parts : ℕ) (loaded : LoadedFile) (store : StoreState) (by : Bool) → style.by_segments ≡ by
     → HoldsSectionHeaders file loaded store → (by ≡ true → e_shnum file ≡ 0)
-    → view_checks file style parts ≡ (if by && needs_segment_view parts loaded then overlap_checks file else [])
+    → view_checks file style parts ≡ (if by && needs_segment_view style parts loaded then overlap_checks file else [])
 unfolding view_checks
 checks_by file style parts loaded store true by belongs none =
-    let same = needed file parts loaded store belongs (none refl) in
-    ap (λ (b : Bool). if b && needs_segments file parts then overlap_checks file else []) by
+    let same = needed file style parts loaded store belongs (none refl) in
+    ap (λ (b : Bool). if b && needs_segments file style parts then overlap_checks file else []) by
     ∙ ap (λ (b : Bool). if b then overlap_checks file else []) same
 checks_by file style parts loaded store false by belongs none =
-    ap (λ (b : Bool). if b && needs_segments file parts then overlap_checks file else []) by
+    ap (λ (b : Bool). if b && needs_segments file style parts then overlap_checks file else []) by
 
 module _ (file : List ℕ) (style : ListingStyle) (parts : ℕ) (loaded : LoadedFile) (store : StoreState) (belongs : HoldsSectionHeaders file loaded store)
     (none : style.by_segments ≡ true → e_shnum file ≡ 0) where
   -- which checks are made
-  pub unchecked : style.by_segments && needs_segment_view parts loaded ≡ false → first_refusal (view_checks file style parts) ≡ None
+  pub unchecked : style.by_segments && needs_segment_view style parts loaded ≡ false → first_refusal (view_checks file style parts) ≡ None
   unchecked other =
       ap first_refusal (checks_by file style parts loaded store style.by_segments refl belongs none
       ∙ ap (λ (b : Bool). if b then overlap_checks file else []) other)
 
-  pub checked : style.by_segments && needs_segment_view parts loaded ≡ true → view_checks file style parts ≡ overlap_checks file
+  pub checked : style.by_segments && needs_segment_view style parts loaded ≡ true → view_checks file style parts ≡ overlap_checks file
   checked asked =
       checks_by file style parts loaded store style.by_segments refl belongs none
       ∙ ap (λ (b : Bool). if b then overlap_checks file else []) asked
 
 -- and all of them are loaded
-pub all_viewed : (by : Bool) (parts : ℕ) (loaded : LoadedFile) → by && needs_segment_view parts loaded ≡ true → viewed_headers parts loaded ≡ loaded.header.e_phnum
-all_viewed true parts loaded h = ap (λ (b : Bool). if b then loaded.header.e_phnum else 0) h
-all_viewed false parts loaded h = cc
+pub all_viewed : (by : Bool) (style : ListingStyle) (parts : ℕ) (loaded : LoadedFile) → by && needs_segment_view style parts loaded ≡ true → viewed_headers style parts loaded ≡ loaded.header.e_phnum
+all_viewed true style parts loaded h = ap (λ (b : Bool). if b then loaded.header.e_phnum else 0) h
+all_viewed false style parts loaded h = cc

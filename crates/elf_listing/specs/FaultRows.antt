@@ -10,13 +10,13 @@ use Rattle.elf_table.specs.declared.run_fault.RunFault.TheVariants.{Out, Refused
 use Rattle.elf_listing.specs.Parts.{store_sections, store_segments}
 
 -- the headers in the store say of a refusal which row it is in, if it is not for lack of budget
-abbrev pub HoldsFaultRow : {X : Type 0} → List ℕ → (parts : ℕ) → StoreState → Result X RunFault → Type 0
-HoldsFaultRow file parts store (Ok x) = Unit {0}
-HoldsFaultRow file parts store (Err (Refused refusal)) =
+abbrev pub HoldsFaultRow : {X : Type 0} → List ℕ → ListingStyle → (parts : ℕ) → StoreState → Result X RunFault → Type 0
+HoldsFaultRow file style parts store (Ok x) = Unit {0}
+HoldsFaultRow file style parts store (Err (Refused refusal)) =
     (IsBudgetRefusal refusal → ⊥)
-    → row_among (counts_in file) (store_sections store) (store_segments store) refusal.at ≡ fault_row file parts refusal.at
-HoldsFaultRow file parts store (Err (Source fault at)) = Unit {0}
-HoldsFaultRow file parts store (Err (Out fault)) = Unit {0}
+    → row_among (counts_in file) (store_sections store) (store_segments store) refusal.at ≡ fault_row file style parts refusal.at
+HoldsFaultRow file style parts store (Err (Source fault at)) = Unit {0}
+HoldsFaultRow file style parts store (Err (Out fault)) = Unit {0}
 
 -- the row of a refusal: that of the listing; none for lack of budget
 pub record IsFaultRow (file : List ℕ) (style : ListingStyle) (parts : ℕ) (refusal : Refusal) (row : FaultRow) : Type 0 where

@@ -1,12 +1,12 @@
 -- The effect of a call that lists the tables of a file, part by part and header by header.
-use Rattle.std.specs.Prelude.{ℕ, List, [], ◌∷◌, ◌++◌, Result}
-use Rattle.elf_model.specs.Prelude.{ListingItem, ListingStyle, SEGMENTS, e_phnum, each, segment_row, table_items, where_asked}
+use Rattle.std.specs.Prelude.{ℕ, ◌+◌, List, [], ◌∷◌, ◌++◌, Result}
+use Rattle.elf_model.specs.Prelude.{ListingItem, ListingStyle, SEGMENTS, e_phnum, each, located_items, segment_row, table_items, where_asked}
 use Rattle.elf_options.specs.Permitted.{style_of}
 use Rattle.elf_table.specs.Prelude.{StoreState}
 use Rattle.elf_table.specs.declared.run_fault.RunFault.{RunFault}
 use Rattle.elf_source.specs.declared.source.Source.{Ghosts as Sources}
 use Rattle.elf_source.specs.declared.sink.Sink.{Ghosts as Sinks}
-use Rattle.elf_listing.specs.Parts.{PartListed, asked_cost, kinds_asked, part_cost, part_items, segments_listed, tables_listed}
+use Rattle.elf_listing.specs.Parts.{PartListed, asked_cost, kinds_asked, located_asked, part_cost, part_items, segments_listed, tables_listed}
 use Rattle.elf_listing.specs.Shows.{ListingCalls, ListingWrote}
 use Rattle.elf_listing.specs.declared.listing.Listing.{Listing}
 
@@ -48,8 +48,21 @@ ListsSegments parts old new result =
     ListingCalls old new result (segments_listed parts old.file.loaded)
     (ListingWrote old new result (λ file. where_asked parts SEGMENTS (each (segment_row file (style_of old.style)) 0 (e_phnum file))))
 
+-- the program headers, if they are among the parts, and what dynamic entries locate
+abbrev pub ListsView : {S W X : Type 0} {s : Sources S} {w : Sinks W} → ℕ → Listing S W s w → Listing S W s w → Result X RunFault → Type 0
+ListsView parts old new result =
+    ListingCalls old new result (segments_listed parts old.file.loaded + located_asked (style_of old.style) parts old.file.loaded)
+    (ListingWrote old new result (λ file.
+    where_asked parts SEGMENTS (each (segment_row file (style_of old.style)) 0 (e_phnum file)) ++ located_items file (style_of old.style) parts))
+
+-- what dynamic entries locate, if it is among the parts
+abbrev pub ListsLocated : {S W X : Type 0} {s : Sources S} {w : Sinks W} → ℕ → Listing S W s w → Listing S W s w → Result X RunFault → Type 0
+ListsLocated parts old new result =
+    ListingCalls old new result (located_asked (style_of old.style) parts old.file.loaded)
+    (ListingWrote old new result (λ file. located_items file (style_of old.style) parts))
+
 -- all tables among the parts
 abbrev pub ListsTables : {S W X : Type 0} {s : Sources S} {w : Sinks W} → ℕ → Listing S W s w → Listing S W s w → Result X RunFault → Type 0
 ListsTables parts old new result =
-    ListingCalls old new result (tables_listed parts old.file.loaded old.file.store.now old.style.cap.bytes old.style.gnu old.style.versions)
+    ListingCalls old new result (tables_listed (style_of old.style) parts old.file.loaded old.file.store.now)
     (ListingWrote old new result (λ file. table_items file (style_of old.style) parts))

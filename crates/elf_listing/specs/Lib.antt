@@ -2,6 +2,7 @@ pub mod Choosing
 pub mod Fetched
 pub mod HeadersListed
 pub mod Notes
+pub mod Located
 pub mod Numbered
 pub mod Parts
 pub mod FaultRows

@@ -5,7 +5,7 @@ unfoldable pub use Rattle.elf_listing.specs.HeadersListed.{kinds_items}
 pub use Rattle.elf_listing.specs.Notes.{IsNoteRow, WrittenBefore, note_items}
 unfoldable pub use Rattle.elf_listing.specs.Numbered.{reported_row, version_told}
 unfoldable pub use Rattle.elf_listing.specs.Parts.{kinds_asked, kinds_listed}
-pub use Rattle.elf_listing.specs.Parts.{AreRecordsListed, PartListed, asked_cost, first_kinds, name_cost, of_sections, of_segments, part_items, program_headers_part, record_kinds, relocations_part, section_headers_part, sections_listed, segments_listed, segments_parts, shown_in, store_sections, store_segments, symbols_part, tables_listed, entries_part, further_part, relative_part}
+pub use Rattle.elf_listing.specs.Parts.{AreRecordsListed, PartListed, asked_cost, first_kinds, name_cost, of_sections, of_segments, part_items, located_asked, program_headers_part, record_kinds, relocations_part, section_headers_part, sections_listed, segments_listed, segments_parts, shown_in, store_sections, store_segments, symbols_part, tables_listed, entries_part, further_part, relative_part}
 pub use Rattle.elf_listing.specs.Reports.{AsksWithin, FaultSays, KeepsSourceUnlimited, ReturnsStop, ReturnsStopIn, WroteRefusal, WroteRefusalIn, WroteReport, WroteText}
 pub use Rattle.elf_listing.specs.RowCursors.{AdvancesRows, EndsListed, GivesListed, reading, rows_to_give}
 pub use Rattle.elf_listing.specs.RowLayouts.{program_header_layout}

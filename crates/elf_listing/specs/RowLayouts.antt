@@ -1,6 +1,6 @@
 -- The rows of each kind of table.
 use Rattle.std.specs.Prelude.{ℕ, ◌≡◌, ◌==◌, ◌+◌, ◌*◌, ◌<◌, ◌^◌, IfSome}
-use Rattle.elf_model.specs.Prelude.{DYNAMIC_SIZE, RELR_SIZE, SHT_DYNSYM, SYMBOL_SIZE, VERSYM_SIZE, dynamic_at, dynamic_count, dynamic_row, e_phoff, name_bytes, relocation_row, relocation_row_with_version, relocation_size, relr_rows, section_at, segment_row, sh_link, sh_offset, sh_type, strings_of, symbol_row, symbol_row_with_version}
+use Rattle.elf_model.specs.Prelude.{DYNAMIC_SIZE, RELR_SIZE, SHT_DYNSYM, SYMBOL_SIZE, VERSYM_SIZE, dynamic_at, dynamic_count, dynamic_row, e_phoff, name_bytes, relocation_row, relocation_row_with_version, relocation_size, relr_rows_at, section_at, segment_row, sh_link, sh_offset, sh_type, strings_of, symbol_row, symbol_row_with_version}
 use Rattle.elf_table.specs.Prelude.{RefersTo, StringsInBounds, SymbolTableInBounds, strings_in}
 use Rattle.elf_listing.specs.Numbered.{NumberedWithin, reported_row}
 use Rattle.elf_listing.specs.Strings.{AreOf, AreWithin, strings_reported}
@@ -50,16 +50,16 @@ relocation_layout rows = record {
       × (table_at ≡ sh_offset file (section_at file rows.section)) × IfSome versions (AreSuffixes file (sh_link file (section_at file rows.section)));
 }
 
--- the words of relative relocations of a section
-abbrev pub relr_layout : (section : ℕ) → RowLayout
-relr_layout section = record {
+-- the words of relative relocations of a table that a header of an index describes
+abbrev pub relr_layout : (header : ℕ) → RowLayout
+relr_layout header = record {
   size = RELR_SIZE;
   listed = λ file table. table.count;
   fits = λ index. Unit {0};
   own_cost = λ versions cap. 0;
-  items = λ versions file style table_at index. relr_rows file style section (section_at file section) index;
+  items = λ versions file style table_at. relr_rows_at file style header table_at;
   within = λ versions size. Unit {0};
-  here = λ versions file table_at. table_at ≡ sh_offset file (section_at file section);
+  here = λ versions file table_at. Unit {0};
 }
 
 -- dynamic entries, up to the last one that is listed

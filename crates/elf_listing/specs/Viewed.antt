@@ -1,23 +1,23 @@
 -- The program headers that are loaded besides a file's section headers: where they describe its
 -- tables.
 use Rattle.std.specs.Prelude.{ℕ, ◌≡◌, ◌*◌, ◌<◌, ◌≤◌, ◌==◌, ◌&&◌, ◌||◌, Bool, List, Option, None, Some, Result, Ok, Err, if◌then◌else◌}
-use Rattle.elf_model.specs.Prelude.{Check, DYNAMIC, IsBudgetRefusal, NOTES, SEGMENTS, cost_where, first_refusal, has}
+use Rattle.elf_model.specs.Prelude.{Check, IsBudgetRefusal, ListingStyle, SEGMENTS, cost_where, first_refusal, has, lies_in_segments}
 use Rattle.elf_source.specs.Source.{CountedState}
 use Rattle.elf_table.specs.Prelude.{HoldsSegments, IsOpen, LoadedFile, SegmentsInBounds, StoreState}
 use Rattle.elf_table.specs.declared.fault.Fault.{Fault}
 use Rattle.elf_table.specs.declared.fault.Fault.TheVariants.{Refused, Source}
 
--- the parts of a file without sections need its program headers
-abbrev pub needs_segment_view : ℕ → LoadedFile → Bool
-needs_segment_view parts loaded = loaded.header.e_shnum == 0 && (has parts SEGMENTS || (has parts NOTES || has parts DYNAMIC))
+-- the parts of a file without sections, in a style, need its program headers
+abbrev pub needs_segment_view : ListingStyle → ℕ → LoadedFile → Bool
+needs_segment_view style parts loaded = loaded.header.e_shnum == 0 && (has parts SEGMENTS || lies_in_segments style parts)
 
 -- how many program headers are loaded
-abbrev pub viewed_headers : ℕ → LoadedFile → ℕ
-viewed_headers parts loaded = if needs_segment_view parts loaded then loaded.header.e_phnum else 0
+abbrev pub viewed_headers : ListingStyle → ℕ → LoadedFile → ℕ
+viewed_headers style parts loaded = if needs_segment_view style parts loaded then loaded.header.e_phnum else 0
 
 -- how many bytes that reads
-abbrev pub view_cost : ℕ → LoadedFile → ℕ
-view_cost parts loaded = cost_where (needs_segment_view parts loaded) (56 * loaded.header.e_phnum)
+abbrev pub view_cost : ListingStyle → ℕ → LoadedFile → ℕ
+view_cost style parts loaded = cost_where (needs_segment_view style parts loaded) (56 * loaded.header.e_phnum)
 
 -- if program headers are loaded, all of them are, and they are those of the source's file
 pub record IsViewed (file : Option (List ℕ)) (loaded : LoadedFile) (store : StoreState) : Type 0 where
@@ -41,8 +41,8 @@ pub record MayLoadView (size : ℕ) (loaded : LoadedFile) (store : StoreState) :
 
 -- what holds when the tables of a file are listed: what was loaded is its source's, with the
 -- program headers if the parts need them
-pub record IsReady (parts : ℕ) (src : CountedState) (loaded : LoadedFile) (store : StoreState) : Type 0 where
+pub record IsReady (style : ListingStyle) (parts : ℕ) (src : CountedState) (loaded : LoadedFile) (store : StoreState) : Type 0 where
   pub opened : IsOpen src loaded store
   pub whole : store.loaded ≡ loaded.header.e_shnum
-  pub counted : store.segments ≡ viewed_headers parts loaded
+  pub counted : store.segments ≡ viewed_headers style parts loaded
   pub viewed : IsViewed src.seen.file loaded store

@@ -3,6 +3,7 @@
 
 mod buffers;
 mod dynamic;
+mod dynamic_relocations;
 mod dynamic_string_table;
 mod fault_line;
 mod fault_rows;

@@ -4,6 +4,7 @@ ghost use Rattle.elf_listing.specs.HeadersListed.{ListsHeader, ListsSegments};
 ghost use Rattle.elf_listing.specs.Parts.{program_headers_part};
 ghost use Rattle.elf_listing.specs.RowLayouts.{program_header_layout};
 ghost use Rattle.elf_listing.specs.Viewed.{viewed_headers};
+ghost use Rattle.elf_options.specs.Permitted.{style_of};
 
 use crate::listed_kind::{ListedKind, list_headers};
 use crate::listing::Listing;
@@ -77,7 +78,8 @@ impl<'f, S: Source, W: Sink> Listing<'_, '_, 'f, '_, S, W> {
     /// Shows the program headers, if `parts` has them. Those of a file without sections are in the
     /// store.
     pub(crate) fn program_headers(&mut self, parts: Parts) -> Result<(), RunFault>
-        requires { self.old.file.store.now.segments ≡ viewed_headers parts.0 self.old.file.loaded }
+        requires { self.old.file.store.now.segments
+            ≡ viewed_headers (style_of self.old.style) parts.0 self.old.file.loaded }
         ensures { ListsSegments parts.0 self.old self.new result }
     {
         if !parts.contains(Parts::SEGMENTS) {

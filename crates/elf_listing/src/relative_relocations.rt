@@ -54,7 +54,7 @@ pub(crate) fn list_relative<S: Source, W: Sink>(
 }
 
 /// Shows the rows of the words of a table in the rendering of the style.
-fn list_words<S: Source, W: Sink>(
+pub(crate) fn list_words<S: Source, W: Sink>(
     listing: &mut Listing<'_, '_, '_, '_, S, W>,
     table: Table,
     section: u16,

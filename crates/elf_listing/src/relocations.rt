@@ -78,7 +78,7 @@ impl TableRows for Relocations {
 }
 
 /// Reads the fields of a relocation entry, and its addend if entries have addends.
-fn decode_entry(row: &Row<'_>, has_addends: bool) -> (Rel, Option<i64>)
+pub(crate) fn decode_entry(row: &Row<'_>, has_addends: bool) -> (Rel, Option<i64>)
     requires { length row.now.bytes.now ≡ relocation_size has_addends }
     ensures { (file : List ℕ) →
         row.now.bytes.now ≡ slice file row.now.at (relocation_size has_addends) →
@@ -247,7 +247,7 @@ impl<S: Source, W: Sink> Listing<'_, '_, '_, '_, S, W> {
     /// Reads the name of the symbol at an index, which is empty for symbol 0 (gABI 4, Symbol
     /// Table), and returns whether the symbol is defined. If there is no such symbol, the refusal
     /// is at `at`; if the name is refused, it is at the symbol.
-    fn read_linked(
+    pub(crate) fn read_linked(
         &mut self,
         linked: LinkedSymbolTable,
         symbol: u32,

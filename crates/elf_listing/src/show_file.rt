@@ -216,7 +216,8 @@ fn list_by_segments<S: Source, W: Sink>(
         (load_items (view_of (style_of style.entry) file)
         store.old.slots (style_of style.entry) parts.0) }
     ensures row { (file : List ℕ) → src.old.seen.file ≡ Some file →
-        HoldsFaultRow (view_of (style_of style.entry) file) parts.0 store.new result }
+        HoldsFaultRow (view_of (style_of style.entry) file) (style_of style.entry) parts.0
+        store.new result }
 {
     if !style.by_segments {
         return list_by_sections(src, store, header, style, parts, out);
@@ -254,7 +255,7 @@ fn list_by_sections<S: Source, W: Sink>(
         WroteSome out.old out.new result
         (load_items file store.old.slots (style_of style.entry) parts.0) }
     ensures row { (file : List ℕ) → src.old.seen.file ≡ Some file →
-        HoldsFaultRow file parts.0 store.new result }
+        HoldsFaultRow file (style_of style.entry) parts.0 store.new result }
 {
     if !parts.intersects(TABLES) {
         return Ok(());
@@ -273,11 +274,10 @@ fn list_tables<S: Source, W: Sink>(
     style: ListingStyle,
     parts: Parts,
 ) -> Result<(), RunFault>
-    requires { IsReady parts.0 src.old loaded store.now }
+    requires { IsReady (style_of style) parts.0 src.old loaded store.now }
     ensures grows { OutGrows out.old out.new }
     ensures costs { ListingCosts src.old src.new out.new result
-        (tables_listed parts.0 loaded store.now
-        style.entry.cap.bytes style.entry.gnu style.entry.versions) }
+        (tables_listed (style_of style.entry) parts.0 loaded store.now) }
     ensures text { (file : List ℕ) → src.old.seen.file ≡ Some file →
         WroteSome out.old out.new result (table_items file (style_of style.entry) parts.0) }
 {

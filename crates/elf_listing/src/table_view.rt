@@ -1,6 +1,6 @@
 //! The program headers that describe the tables of a listing.
 ghost use Rattle.std.specs.Prelude.{◌≡◌, ◌&&◌, ◌||◌, true, ℕ, List, Some, IfErr, OnOk};
-ghost use Rattle.elf_model.specs.Prelude.{DYNAMIC, NOTES, SEGMENTS, e_shnum, has, view_checks};
+ghost use Rattle.elf_model.specs.Prelude.{SEGMENTS, e_shnum, follows_dynamic, has, lies_in_segments, view_checks};
 ghost use Rattle.elf_source.specs.Source.{ReadsUpTo};
 ghost use Rattle.elf_table.specs.Prelude.{ChecksDecide, HoldsSectionHeaders, HoldsSegments, IsOfCheck, IsOfRead, IsReadFault};
 ghost use Rattle.elf_options.specs.Permitted.{style_of};
@@ -12,7 +12,7 @@ use elf_source::{Counted, Source};
 use elf_table::{ExecutionView, Fault, HeaderStore, ListingStyle, Loaded};
 
 /// Loads the program headers of a file without sections, if the parts need them: to be shown, or to
-/// find its notes and its dynamic entries. If the style finds tables by them, no LOAD segment
+/// find its notes, its dynamic entries and what these locate. If the style finds tables by them, no LOAD segment
 /// overlaps another.
 ///
 /// # Errors
@@ -28,9 +28,11 @@ pub(crate) fn load_view<S: Source>(
     requires { MayLoadView src.old.seen.size loaded.now store.old }
     ensures slots { store.new.slots ≡ store.old.slots }
     ensures loaded { store.new.loaded ≡ store.old.loaded }
-    ensures segments { OnOk result (store.new.segments ≡ viewed_headers parts.0 loaded.now) }
-    ensures reads { ReadsUpTo src.old src.new (view_cost parts.0 loaded.now) }
-    ensures says { IfErr result (IsReadFault src.old src.new (view_cost parts.0 loaded.now)) }
+    ensures segments { OnOk result
+        (store.new.segments ≡ viewed_headers (style_of style.entry) parts.0 loaded.now) }
+    ensures reads { ReadsUpTo src.old src.new (view_cost (style_of style.entry) parts.0 loaded.now) }
+    ensures says { IfErr result
+        (IsReadFault src.old src.new (view_cost (style_of style.entry) parts.0 loaded.now)) }
     ensures held { (file : List ℕ) → src.old.seen.file ≡ Some file →
         HoldsSectionHeaders file loaded.now store.old → OnOk result
         (HoldsSectionHeaders file loaded.now store.new × HoldsSegments file store.new) }
@@ -39,7 +41,7 @@ pub(crate) fn load_view<S: Source>(
         (style.entry.by_segments ≡ true → e_shnum file ≡ 0) →
         ChecksView (view_checks file (style_of style.entry) parts.0) result }
 {
-    read_view(src, store, loaded, parts)?;
+    read_view(src, store, loaded, style, parts)?;
     check_view(store, loaded, style, parts)
 }
 
@@ -53,7 +55,7 @@ fn check_view(
     style: ListingStyle,
     parts: Parts,
 ) -> Result<(), Fault>
-    requires { store.now.segments ≡ viewed_headers parts.0 loaded.now }
+    requires { store.now.segments ≡ viewed_headers (style_of style) parts.0 loaded.now }
     ensures checked { (file : List ℕ) → HoldsSectionHeaders file loaded.now store.now →
         HoldsSegments file store.now → (style.entry.by_segments ≡ true → e_shnum file ≡ 0) →
         ChecksDecide (view_checks file (style_of style.entry) parts.0) result }
@@ -68,9 +70,9 @@ fn check_view(
 
 /// Returns `true` if the style finds tables by the program headers, and the parts need them.
 fn is_checked(loaded: &Loaded, style: ListingStyle, parts: Parts) -> bool
-    ensures { result ≡ (style.entry.by_segments && needs_segment_view parts.0 loaded.now) }
+    ensures { result ≡ (style.entry.by_segments && needs_segment_view (style_of style.entry) parts.0 loaded.now) }
 {
-    style.by_segments && loaded.header().e_shnum == 0 && needs_segment_view(parts)
+    style.by_segments && loaded.header().e_shnum == 0 && needs_segment_view(style, parts)
 }
 
 /// Loads the program headers of a file without sections, if the parts need them.
@@ -78,30 +80,41 @@ fn read_view<S: Source>(
     src: &mut Counted<S>,
     store: &mut HeaderStore,
     loaded: &Loaded,
+    style: ListingStyle,
     parts: Parts,
 ) -> Result<(), Fault>
     requires { MayLoadView src.old.seen.size loaded.now store.old }
     ensures slots { store.new.slots ≡ store.old.slots }
     ensures loaded { store.new.loaded ≡ store.old.loaded }
-    ensures segments { OnOk result (store.new.segments ≡ viewed_headers parts.0 loaded.now) }
-    ensures reads { ReadsUpTo src.old src.new (view_cost parts.0 loaded.now) }
-    ensures says { IfErr result (IsReadFault src.old src.new (view_cost parts.0 loaded.now)) }
+    ensures segments { OnOk result
+        (store.new.segments ≡ viewed_headers (style_of style.entry) parts.0 loaded.now) }
+    ensures reads { ReadsUpTo src.old src.new (view_cost (style_of style.entry) parts.0 loaded.now) }
+    ensures says { IfErr result
+        (IsReadFault src.old src.new (view_cost (style_of style.entry) parts.0 loaded.now)) }
     ensures fault { IfErr result IsOfRead }
     ensures held { (file : List ℕ) → src.old.seen.file ≡ Some file →
         HoldsSectionHeaders file loaded.now store.old → OnOk result
         (HoldsSectionHeaders file loaded.now store.new × HoldsSegments file store.new) }
 {
-    if loaded.header().e_shnum != 0 || !needs_segment_view(parts) {
+    if loaded.header().e_shnum != 0 || !needs_segment_view(style, parts) {
         return Ok(());
     }
     loaded.load_segments(src, store)
 }
 
 /// Returns `true` if the parts of a file without sections need its program headers.
-fn needs_segment_view(parts: Parts) -> bool
-    ensures { result ≡ (has parts.0 SEGMENTS || (has parts.0 NOTES || has parts.0 DYNAMIC)) }
+fn needs_segment_view(style: ListingStyle, parts: Parts) -> bool
+    ensures { result ≡ (has parts.0 SEGMENTS || lies_in_segments (style_of style.entry) parts.0) }
 {
     parts.contains(Parts::SEGMENTS)
         || parts.contains(Parts::NOTES)
         || parts.contains(Parts::DYNAMIC)
+        || (follows_dynamic(style) && parts.contains(Parts::RELOCS))
+}
+
+/// Returns `true` if the style lists what dynamic entries locate, in a file without sections.
+pub(crate) fn follows_dynamic(style: ListingStyle) -> bool
+    ensures { result ≡ follows_dynamic (style_of style.entry) }
+{
+    style.gnu || style.by_segments
 }

@@ -2,6 +2,7 @@
 ghost use Rattle.std.specs.Prelude.{◌≡◌};
 ghost use Rattle.elf_listing.specs.HeadersListed.{ListsTables};
 ghost use Rattle.elf_listing.specs.Viewed.{viewed_headers};
+ghost use Rattle.elf_options.specs.Permitted.{style_of};
 
 use crate::kind_list::KindList;
 use crate::listed_kind::list_kind;
@@ -23,13 +24,14 @@ impl<S: Source, W: Sink> Listing<'_, '_, '_, '_, S, W> {
     ///
     /// Section headers describe the kinds of the first list and of the last, in the order of the
     /// definition's `section_kinds`. Program headers describe those of the second, in the order of
-    /// `segment_kinds`, if a file has no section headers.
+    /// `segment_kinds`, if a file has no section headers; before them is what dynamic entries locate.
     pub(crate) fn tables(&mut self, parts: Parts) -> Result<(), RunFault>
-        requires { self.old.file.store.now.segments ≡ viewed_headers parts.0 self.old.file.loaded }
+        requires { self.old.file.store.now.segments
+            ≡ viewed_headers (style_of self.old.style) parts.0 self.old.file.loaded }
         ensures { ListsTables parts.0 self.old self.new result }
     {
         list_kind::<SectionHeaders, S, W>(self, parts)?;
-        self.program_headers(parts)?;
+        self.view_headers(parts)?;
         <kinds![
             crate::symbols::Symbols,
             crate::relocations::Relocations,

@@ -118,11 +118,10 @@ module _ (source : ImageSource) where
   lack_allowed rela cause true = tt
   lack_allowed rela cause false = tt
 
-  by_allowed : (rela size : ℕ) (found : Result (Option (List ℕ)) Cause) → first_refusal (place_checks source.file source.at rela (r_offset source.file rela) size) ≡ None
-      → ((bytes : List ℕ) → found ≡ Ok (Some bytes) → length bytes ≤ size) → Allowed (change_by source rela size found)
+  by_allowed : (rela size : ℕ) (found : Result (List ℕ) Cause) → first_refusal (place_checks source.file source.at rela (r_offset source.file rela) size) ≡ None
+      → ((bytes : List ℕ) → found ≡ Ok bytes → length bytes ≤ size) → Allowed (change_by source rela size found)
   unfolding change_by
-  by_allowed rela size (Ok None) passes fits = kept_allowed
-  by_allowed rela size (Ok (Some bytes)) passes fits =
+  by_allowed rela size (Ok bytes) passes fits =
       place_allowed source.file source.at rela (r_offset source.file rela) size bytes (holder_of source.file (r_offset source.file rela) size) refl passes (fits bytes refl)
   by_allowed rela size (Err cause) passes fits = lack_allowed rela cause (is_lack cause)
 
@@ -274,7 +273,7 @@ none_stored file segment (write ∷ writes) all closed =
       | inl same ↦
           let equal : write.segment ≡ segment = eqb-true write.segment segment same in
           let opened : (permits file PF_W segment || has_text_relocations file) ≡ true
-              = subst (λ i. (permits file PF_W i || has_text_relocations file) ≡ true) equal (All-head (IsPermitted file) write writes all) in
+          = subst (λ i. (permits file PF_W i || has_text_relocations file) ≡ true) equal (All-head (IsPermitted file) write writes all) in
           absurd (cc)
       | inr other ↦ rw other (none_stored file segment writes (All-tail (IsPermitted file) write writes all) closed)
     ]

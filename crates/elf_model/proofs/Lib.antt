@@ -34,8 +34,9 @@ pub mod OnLinks
 pub mod OnLiterals
 pub mod OnLoader
 pub mod OnImage
-mod ImageValues
-mod ImageLaws
+pub mod ImageValues
+pub mod ImageLaws
+pub mod ImageHolders
 mod OneRule
 pub mod OverlapLemmas
 pub mod PatchLaws

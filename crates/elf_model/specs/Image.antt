@@ -135,7 +135,7 @@ linkage_checks file at = elim (rela_table file at) [
   | Some entries ↦ elim (linkage_table file at) [
     | None ↦ []
     | Some calls ↦ checks_of_row (tagged_row file at DT_JMPREL) (λ row.
-      refuse (entries_end calls == entries_end entries && nat_lt entries.count calls.count) row Unsupported ∷ [])
+        refuse (entries_end calls == entries_end entries && nat_lt entries.count calls.count) row Unsupported ∷ [])
   ]
 ]
 
@@ -305,9 +305,8 @@ is_lack Unplaced = true
 is_lack _ = false
 
 -- what an entry does by the bytes that it stores at its place, of this many bytes
-unfoldable pub change_by : ImageSource → (rela size : ℕ) → Result (Option (List ℕ)) Cause → ImageChange
-change_by source rela size (Ok (Some bytes)) = stored_at source.file (r_offset source.file rela) size bytes
-change_by source rela size (Ok None) = Keeps
+unfoldable pub change_by : ImageSource → (rela size : ℕ) → Result (List ℕ) Cause → ImageChange
+change_by source rela size (Ok bytes) = stored_at source.file (r_offset source.file rela) size bytes
 change_by source rela size (Err cause) =
     elim (is_lack cause) [ true ↦ Lacks (record { at = rela; cause = cause }) | false ↦ Refuses (record { at = rela; cause = cause }) ]
 

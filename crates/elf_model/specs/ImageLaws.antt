@@ -5,10 +5,12 @@ use Rattle.std.specs.List.{list_any}
 use Rattle.elf_model.specs.Apply.{StoredBytes, patched}
 use Rattle.elf_model.specs.ApplyLaws.{AllInside, clipped}
 use Rattle.elf_model.specs.Bytes.{slice}
-use Rattle.elf_model.specs.Image.{SegmentWrite, has_table, image, image_changes, read_addresses, relocated_segment, stored_in, unrelocated, writes_of}
+use Rattle.elf_model.specs.Checks.{pass}
+use Rattle.elf_model.specs.Image.{SegmentWrite, has_table, holder_of, holds_in_memory, image, image_changes, read_addresses, relocated_segment, stored_in, unrelocated, writes_of}
 use Rattle.elf_model.specs.ImageItems.{ImageItems}
 use Rattle.elf_model.specs.LoaderScope.{dynamic_segment_index}
-use Rattle.elf_model.specs.Records.{p_memsz, segment_at}
+use Rattle.elf_model.specs.Overlaps.{overlap_checks}
+use Rattle.elf_model.specs.Records.{e_phnum, p_memsz, segment_at}
 use Rattle.elf_model.specs.Style.{without_sections}
 use Rattle.elf_model.specs.TraitNumbers.{PF_W}
 use Rattle.elf_model.specs.Traits.{has_text_relocations, permits}
@@ -71,3 +73,9 @@ WindowsAreParts =
     → low + n ≤ length (unrelocated whole file (segment_at file segment))
     → slice (relocated_segment whole file segment writes) low n
     ≡ patched (map (clipped low n) (stored_in segment writes)) (slice (unrelocated whole file (segment_at file segment)) low n)
+
+-- if LOAD segments do not overlap, the one that has bytes at an address in memory is the only one
+abbrev pub HolderIsOne : Type 0
+HolderIsOne =
+    (file : List ℕ) (address size i : ℕ) → pass (overlap_checks file) ≡ true → 0 < size → i < e_phnum file
+    → holds_in_memory file (segment_at file i) address size ≡ true → holder_of file address size ≡ Some i

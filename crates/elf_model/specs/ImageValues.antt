@@ -67,24 +67,19 @@ dynamic_symbol_checks type file at rela =
     ∷ []
 
 -- the eight bytes of a value and an addend, if there is a value
-abbrev pub word_of : Result ℕ Cause → (addend : ℕ) → Result (Option (List ℕ)) Cause
-word_of (Ok value) addend = Ok (Some (little 8 ((value + addend) % 2 ^ 64)))
+abbrev pub word_of : Result ℕ Cause → (addend : ℕ) → Result (List ℕ) Cause
+word_of (Ok value) addend = Ok (little 8 ((value + addend) % 2 ^ 64))
 word_of (Err cause) addend = Err cause
 
--- the same, or nothing
-abbrev pub word_if_bound : Result (Option ℕ) Cause → (addend : ℕ) → Result (Option (List ℕ)) Cause
-word_if_bound (Ok (Some value)) addend = Ok (Some (little 8 ((value + addend) % 2 ^ 64)))
-word_if_bound (Ok None) addend = Ok None
+-- the same, or no bytes
+abbrev pub word_if_bound : Result (Option ℕ) Cause → (addend : ℕ) → Result (List ℕ) Cause
+word_if_bound (Ok (Some value)) addend = Ok (little 8 ((value + addend) % 2 ^ 64))
+word_if_bound (Ok None) addend = Ok []
 word_if_bound (Err cause) addend = Err cause
 
--- bytes, if there are some
-abbrev pub some_bytes : Result (List ℕ) Cause → Result (Option (List ℕ)) Cause
-some_bytes (Ok bytes) = Ok (Some bytes)
-some_bytes (Err cause) = Err cause
-
 -- the bytes of a type of `apply` whose B is S, by its number
-abbrev pub low_bytes : (number : ℕ) → Result ℕ Cause → (addend place : ℕ) → Result (Option (List ℕ)) Cause
-low_bytes number (Ok s) addend place = some_bytes (value number s 0 (twos_complement addend) place)
+abbrev pub low_bytes : (number : ℕ) → Result ℕ Cause → (addend place : ℕ) → Result (List ℕ) Cause
+low_bytes number (Ok s) addend place = value number s s (twos_complement addend) place
 low_bytes number (Err cause) addend place = Err cause
 
 -- an address, or no place
@@ -93,25 +88,25 @@ placed (Some address) = Ok address
 placed None = Err Unplaced
 
 -- the bytes of an object, if its symbol is looked up: no more than the symbol has
-unfoldable pub copied_bytes : Bool → Option (List ℕ) → (size : ℕ) → Result (Option (List ℕ)) Cause
+unfoldable pub copied_bytes : Bool → Option (List ℕ) → (size : ℕ) → Result (List ℕ) Cause
 copied_bytes false bytes size = Err Undefined
 copied_bytes true None size = Err Undefined
-copied_bytes true (Some bytes) size = if nat_lt size (length bytes) then Err Overflow else Ok (Some bytes)
+copied_bytes true (Some bytes) size = if nat_lt size (length bytes) then Err Overflow else Ok bytes
 
 -- a descriptor: the function, and what it is called with
-unfoldable pub descriptor_bytes : Option ℕ → Result (Option ℕ) Cause → (addend : ℕ) → Result (Option (List ℕ)) Cause
+unfoldable pub descriptor_bytes : Option ℕ → Result (Option ℕ) Cause → (addend : ℕ) → Result (List ℕ) Cause
 descriptor_bytes function (Err cause) addend = Err cause
 descriptor_bytes function (Ok None) addend = Err Undefined
 descriptor_bytes None (Ok (Some value)) addend = Err Unplaced
-descriptor_bytes (Some function) (Ok (Some value)) addend = Ok (Some (little 8 function ++ little 8 ((value + addend) % 2 ^ 64)))
+descriptor_bytes (Some function) (Ok (Some value)) addend = Ok (little 8 function ++ little 8 ((value + addend) % 2 ^ 64))
 
 -- P, the place of an entry in memory
 abbrev pub place_of_entry : List ℕ → ImageItems → (rela : ℕ) → ℕ
 place_of_entry file items rela = (items.base + r_offset file rela) % 2 ^ 64
 
--- WHAT AN ENTRY STORES, by its type, A and the index and the offset of its symbol, if anything; or the
--- cause for which it has no value
-unfoldable pub stored_bytes : DynamicType → List ℕ → ImageItems → (rela symbol : ℕ) → Result (Option (List ℕ)) Cause
+-- WHAT AN ENTRY STORES, by its type, A and the index and the offset of its symbol; or the cause for
+-- which it has no value
+unfoldable pub stored_bytes : DynamicType → List ℕ → ImageItems → (rela symbol : ℕ) → Result (List ℕ) Cause
 stored_bytes Relative file items rela symbol = word_of (Ok items.base) (r_addend file rela)
 stored_bytes Absolute file items rela symbol = word_of (bound_value file items (r_sym file rela) symbol) (r_addend file rela)
 stored_bytes Address file items rela symbol = word_of (bound_value file items (r_sym file rela) symbol) 0

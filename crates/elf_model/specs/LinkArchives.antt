@@ -1,7 +1,7 @@
 -- What an archive is to a link, by its bytes: its index, and its members as objects; and the answer
 -- for inputs by their bytes.
-use Rattle.std.specs.Prelude.{ℕ, zero, suc, ◌+◌, ◌-◌, ◌*◌, ◌==◌, ◌&&◌, ◌||◌, not, nat_lt, if◌then◌else◌, Bool, true, false, List, [], ◌∷◌, ◌++◌, codes, drop, take, get_or, length, position, reverse, Option, None, Some, Result, Ok, Err}
-use Rattle.elf_model.specs.Archive.{FileRange, Member, Members, MemberWalkState, archive_checks, before_members, behind, bytes_in, is_elf, is_name_table, members_of, next_member}
+use Rattle.std.specs.Prelude.{ℕ, zero, suc, ◌+◌, ◌*◌, ◌==◌, ◌&&◌, ◌||◌, not, nat_lt, if◌then◌else◌, Bool, true, false, List, [], ◌∷◌, ◌++◌, codes, drop, take, get_or, length, position, reverse, Option, None, Some, Result, Ok, Err}
+use Rattle.elf_model.specs.Archive.{FileRange, Member, MemberWalkState, archive_checks, before_members, behind, bytes_in, is_name_table, members_of, next_member}
 use Rattle.elf_model.specs.Archive.NextMember.{Ends, Broken, OneMember}
 use Rattle.elf_model.specs.Bytes.{field, number, slice}
 use Rattle.elf_model.specs.Causes.{cause_word}
@@ -9,7 +9,6 @@ use Rattle.elf_model.specs.Checks.{first_refusal}
 use Rattle.elf_model.specs.Lines.{fault_line, named_line}
 use Rattle.elf_model.specs.LinkInputs.{IndexSymbol, InputFile, LinkInputs, Linking, linked}
 use Rattle.elf_model.specs.LinkInputs.InputFile.{ObjectFile, SearchedFile, WholeFile, MissingFile}
-use Rattle.elf_model.specs.LinkKeys.{LinkKeys}
 use Rattle.elf_model.specs.LinkLines.{FileNames, LinkOutput, file_front, file_lines, keys_lines, name_of_row}
 use Rattle.elf_model.specs.LinkObjects.{LinkObject}
 use Rattle.elf_model.specs.LinkPasses.{ArchiveMembers}

@@ -1,8 +1,8 @@
 -- The inputs of a link in their order, and groups of them.
-use Rattle.std.specs.Prelude.{ℕ, zero, suc, ◌+◌, ◌==◌, if◌then◌else◌, Bool, true, false, List, [], ◌∷◌, ◌++◌, length, map, replicate, Option, None, Some}
+use Rattle.std.specs.Prelude.{ℕ, zero, suc, ◌+◌, ◌==◌, if◌then◌else◌, Bool, false, List, [], ◌∷◌, ◌++◌, length, map, replicate, Option, None, Some}
 use Rattle.elf_model.specs.LinkKeys.{LinkKeys, LinkSymbol, entered, index_of, no_keys, symbols_taken}
 use Rattle.elf_model.specs.LinkObjects.{LinkObject, object_taken}
-use Rattle.elf_model.specs.LinkPasses.{ArchiveMembers, ArchivePass, LinkArchive, archive_searched, untaken}
+use Rattle.elf_model.specs.LinkPasses.{ArchiveMembers, ArchivePass, archive_searched, untaken}
 use Rattle.elf_model.specs.declared.link_states.IndexEntry.{IndexEntry}
 use Rattle.elf_model.specs.declared.link_states.LinkRow.{LinkRow}
 use Rattle.elf_model.specs.declared.link_states.RowKind.{RowKind}

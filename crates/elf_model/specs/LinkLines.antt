@@ -1,5 +1,5 @@
 -- The lines of a link: the files that were taken, and the state of each key.
-use Rattle.std.specs.Prelude.{ℕ, ◌+◌, ◌==◌, ◌&&◌, ◌||◌, not, nat_le, if◌then◌else◌, Bool, true, false, List, [], ◌∷◌, ◌++◌, codes, drop, take, get_or, length, map, is_some, Option, None, Some, bytes_eq}
+use Rattle.std.specs.Prelude.{ℕ, ◌+◌, ◌==◌, ◌&&◌, ◌||◌, not, if◌then◌else◌, Bool, true, false, List, [], ◌∷◌, ◌++◌, codes, drop, take, get_or, length, map, is_some, Option, None, Some, bytes_eq}
 use Rattle.std.specs.List.{filter, list_any}
 use Rattle.elf_model.specs.LinkInputs.{Linking, OpenArchive}
 use Rattle.elf_model.specs.LinkKeys.{LinkKeys, entry_of}

@@ -6,7 +6,6 @@ use Rattle.elf_model.specs.LinkKeys.{LinkKeys, LinkSymbol, entered, entry_of, in
 use Rattle.elf_model.specs.declared.link_states.KeyEntry.{KeyEntry}
 use Rattle.elf_model.specs.declared.link_states.SymbolRole.{SymbolRole}
 use Rattle.elf_model.specs.declared.link_states.SymbolRole.TheVariants.{WeakReference, Reference, WeakDefinition, Definition}
-use Rattle.elf_model.specs.declared.link_states.SymbolUse.{SymbolUse}
 
 -- A SECTION GROUP of which only one is kept: its signature, and its sections; or a link-once section,
 -- whose signature is its name

@@ -1,5 +1,5 @@
 -- The members of an archive that a linker takes by the archive's index.
-use Rattle.std.specs.Prelude.{ℕ, zero, suc, ◌==◌, ◌&&◌, ◌||◌, not, if◌then◌else◌, Bool, true, false, List, [], ◌∷◌, ◌++◌, codes, drop, length, get_or, Option, None, Some}
+use Rattle.std.specs.Prelude.{ℕ, zero, suc, ◌==◌, ◌&&◌, not, if◌then◌else◌, Bool, true, false, List, [], ◌∷◌, ◌++◌, codes, drop, length, get_or, Some}
 use Rattle.std.specs.List.{count_by}
 use Rattle.std.proofs.Math.ListN.{set}
 use Rattle.elf_model.specs.LinkKeys.{LinkKeys, entry_of}

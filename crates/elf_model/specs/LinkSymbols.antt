@@ -1,6 +1,6 @@
 -- What an object is to a link, by its bytes: its section groups, the names of its sections, and its
 -- symbols; or the first fault.
-use Rattle.std.specs.Prelude.{ℕ, zero, suc, ◌+◌, ◌-◌, ◌*◌, ◌/◌, ◌%◌, ◌==◌, ◌&&◌, ◌||◌, bit_and, not, nat_le, nat_lt, if◌then◌else◌, Bool, true, false, List, [], ◌∷◌, ◌++◌, codes, drop, take, length, position, slice_index, Option, None, Some, Result, Ok, Err, bytes_eq}
+use Rattle.std.specs.Prelude.{ℕ, zero, suc, ◌+◌, ◌-◌, ◌/◌, ◌==◌, ◌&&◌, ◌||◌, bit_and, not, nat_le, nat_lt, if◌then◌else◌, Bool, true, false, List, [], ◌∷◌, ◌++◌, codes, drop, take, length, position, slice_index, Option, None, Some, Result, Ok, Err, bytes_eq}
 use Rattle.std.specs.List.{list_all}
 use Rattle.elf_model.specs.Bytes.{field}
 use Rattle.elf_model.specs.Checks.{Check, early_checks, first_refusal, header_checks, refuse, section_name_checks, whole_checks_of}
@@ -10,9 +10,8 @@ use Rattle.elf_model.specs.LinkObjects.{LinkObject, NamedSection, ObjectSymbol, 
 use Rattle.elf_model.specs.Names.{shown}
 use Rattle.elf_model.specs.Names.DisplayedName.{Whole, Cut}
 use Rattle.elf_model.specs.Numbers.{EM_X86_64, ET_REL, SHN_ABS, SHN_COMMON, SHN_LORESERVE, SHN_UNDEF, SHT_SYMTAB, STB_GLOBAL, STB_GNU_UNIQUE, STB_WEAK, STT_FUNC, STT_GNU_IFUNC, STT_SECTION, STV_DEFAULT}
-use Rattle.elf_model.specs.Records.{e_machine, e_shnum, e_shstrndx, e_type, section_at, sh_flags, sh_info, sh_link, sh_name, sh_offset, sh_size, sh_type, st_bind, st_name, st_shndx, st_size, st_type, st_value, st_visibility}
+use Rattle.elf_model.specs.Records.{e_machine, e_shnum, e_shstrndx, e_type, section_at, sh_flags, sh_info, sh_name, sh_offset, sh_size, sh_type, st_bind, st_name, st_shndx, st_size, st_type, st_value, st_visibility}
 use Rattle.elf_model.specs.Tables.{SYMBOL_SIZE, entry_at, entry_count, has_symbols, linked_at, section_bytes, strings_of, symbol_table_checks}
-use Rattle.elf_model.specs.declared.causes.Cause.{Cause}
 use Rattle.elf_model.specs.declared.causes.Cause.TheVariants.{BadLink, SymbolIndex, TooLong}
 use Rattle.elf_model.specs.declared.causes.Refusal.{Refusal}
 use Rattle.elf_model.specs.declared.link_states.LinkCause.{LinkCause}

@@ -1,5 +1,5 @@
 //! Laws of images, each proved from the definitions.
-ghost use Rattle.elf_model.specs.ImageLaws.{ImageIsWhole, OthersAreKept, TablesAreKept, UnlinkedIsKept, UnwrittenIsKept, WindowsAreParts, WritesAreInside};
+ghost use Rattle.elf_model.specs.ImageLaws.{HolderIsOne, ImageIsWhole, OthersAreKept, TablesAreKept, UnlinkedIsKept, UnwrittenIsKept, WindowsAreParts, WritesAreInside};
 
 /// What is stored in a segment lies in its bytes in memory.
 pub fn writes_are_inside()
@@ -34,4 +34,9 @@ pub fn others_are_kept()
 /// A window of a relocated segment, of any size, is made of the parts that fall into it.
 pub fn windows_are_parts()
     ensures { WindowsAreParts }
+{}
+
+/// If LOAD segments do not overlap, the one that has bytes at an address in memory is the only one.
+pub fn holder_is_one()
+    ensures { HolderIsOne }
 {}

@@ -1,2 +1,11 @@
 pub mod ListLaws
+pub mod KeyLaws
 pub mod TableLaws
+pub mod SymbolLaws
+pub mod PassLaws
+pub mod PassingLaws
+pub mod StateLaws
+pub mod EntryLaws
+pub mod FollowLaws
+pub mod LeftLaws
+pub mod StatedLaws

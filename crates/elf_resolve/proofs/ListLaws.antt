@@ -1,6 +1,6 @@
 -- Lists with one more element, and with another one at an index.
-use Rattle.std.proofs.Common.{◌≡◌, ℕ, zero, suc, ◌+◌, ◌<◌, Bool, true, false, List, [], ◌∷◌, ◌++◌, length, length-append, get_or, set, count_by, refl, sym, ap, ◌∙◌, arith}
-use Rattle.std.specs.Prelude.{Option, None, Some, position}
+use Rattle.std.proofs.Common.{◌≡◌, ℕ, zero, suc, ◌+◌, ◌<◌, Bool, true, false, List, [], ◌∷◌, ◌++◌, length, length-append, get_or, set, count_by, refl, arith}
+use Rattle.std.specs.Prelude.{None, Some, position}
 use Rattle.std.proofs.lemmas.Grind.{common_steps}
 use Rattle.std.proofs.lemmas.List.Folds.{position_or_len_push}
 use Rattle.std.proofs.lemmas.List.Sums.{count_by-le-length, prefix_len-le-length}
@@ -35,3 +35,9 @@ pub count_by_less : {X : Type 0} (p : X → Bool) (xs : List X) (i : ℕ) (d : X
 count_by_less p [] i d there fails = absurd (omega arith)
 count_by_less p (y ∷ xs) zero d there fails = grind (arith, common_steps, fails, count_by-le-length)
 count_by_less p (y ∷ xs) (suc i) d there fails = grind (arith, common_steps, count_by_less p xs i d (omega (arith, there)) fails)
+
+-- an element does not depend on what is in place of one that is missing
+pub get_or_either : {X : Type 0} (xs : List X) (i : ℕ) (d e : X) → i < length xs → get_or xs i d ≡ get_or xs i e
+get_or_either [] i d e there = absurd (omega arith)
+get_or_either (x ∷ xs) zero d e there = refl
+get_or_either (x ∷ xs) (suc i) d e there = get_or_either xs i d e (omega (arith, there))

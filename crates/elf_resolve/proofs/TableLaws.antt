@@ -1,11 +1,14 @@
 -- Names that are entered in a table of keys, and keys that are used.
-use Rattle.std.proofs.Common.{◌≡◌, ℕ, ◌+◌, ◌<◌, Bool, true, false, cond, List, [], ◌∷◌, ◌++◌, length, map, Bor, refl, sym, ap, subst, ◌∙◌, arith}
-use Rattle.std.specs.Prelude.{None, Some, bytes_eq}
+use Rattle.std.proofs.Common.{◌≡◌, ℕ, ◌+◌, Bool, true, false, cond, List, [], ◌∷◌, ◌++◌, length, Bor, refl, sym, ap, subst, ◌∙◌, arith}
+use Rattle.std.specs.Prelude.{Option, None, Some, bytes_eq}
 use Rattle.std.specs.Map.{lookup}
 use Rattle.std.proofs.lemmas.Slice.Eq.{bytes_eq-Decides}
-use Rattle.elf_model.specs.LinkKeys.{LinkKeys, entered, entered_at, index_of, index_or, key_in, new_key}
+use Rattle.elf_model.specs.LinkKeys.{entered, entered_at, entry_of, index_of, index_or, key_in, key_used, name_used, new_key, with_entry}
+use Rattle.elf_model.specs.LinkObjects.{is_kept, kept, name_noted, signature_kept}
 use Rattle.elf_model.specs.declared.link_states.KeyEntry.{KeyEntry}
-use Rattle.elf_resolve.specs.KeyTables.{Entered, Finds, NotEntered, Table, fresh, fresh_or}
+use Rattle.elf_model.specs.declared.link_states.SymbolUse.{SymbolUse}
+use Rattle.elf_resolve.specs.KeyTables.{Entered, Finds, KeptGroup, NotedSection, Table, fresh, fresh_or}
+use Rattle.elf_resolve.specs.Symbols.{UsedName}
 use Rattle.elf_resolve.proofs.ListLaws.{position_push_new, position_push_other}
 
 -- a name that is known
@@ -31,13 +34,6 @@ new_name old new name index absent keys next most most_further room = record {
   most_further = most_further;
   room = subst (λ o. new.room + length (fresh_or o name) ≡ old.room) (sym absent) room;
 }
-
--- names and entries that are equal are those of equal keys
-pub keys_as : (keys : LinkKeys) (old names others : List (List ℕ)) (entries : List KeyEntry) → old ≡ keys.names → names ≡ others
-    → record { names = names; entries = entries; order = keys.order; asked = keys.asked; further = keys.further }
-    ≡ (let same : LinkKeys = record { names = others; entries = entries; order = keys.order; asked = keys.asked; further = keys.further } in same)
-keys_as keys old names others entries before same =
-    let by : List (List ℕ) → LinkKeys = λ n. record { names = n; entries = entries; order = keys.order; asked = keys.asked; further = keys.further } in ap by same
 
 -- a test that fails in one order fails in the other
 not_back : (xs ys : List ℕ) (back : Bool) → bytes_eq ys xs ≡ back → bytes_eq xs ys ≡ false → back ≡ false
@@ -65,3 +61,52 @@ pub finds_more : (places others : List (Bor (List ℕ) × ℕ)) (names : List (L
     → Finds others (names ++ name ∷ [])
 finds_more places others names name next finds absent is_next updates q =
     finds_by places others names name next finds absent is_next updates q (bytes_eq name q) refl
+
+-- a group kept at the key of its signature, and a section noted at that of its name
+pub group_kept : (old now new : Table) (signature : List ℕ) (is_link_once : Bool) (index : ℕ) (entry after : KeyEntry) (dropped : Bool) → Entered old now signature index
+    → entry ≡ entry_of now.keys index → after ≡ kept is_link_once entry → new ≡ record now { keys = with_entry now.keys index after } → dropped ≡ is_kept is_link_once entry
+    → KeptGroup old new signature is_link_once dropped
+unfolding signature_kept
+group_kept old now new signature is_link_once index entry after dropped before known kept_is new_is dropped_is = record {
+  keys =
+      ap (λ (t : Table). t.keys) new_is
+      ∙ ap (λ a. with_entry now.keys index a) (kept_is ∙ ap (λ e. kept is_link_once e) known)
+      ∙ ap (λ k. with_entry k index (kept is_link_once (entry_of k index))) before.keys
+      ∙ ap (λ i. with_entry (entered old.keys signature) i (kept is_link_once (entry_of (entered old.keys signature) i))) before.index_is;
+  dropped_is =
+      dropped_is
+      ∙ ap (λ e. is_kept is_link_once e) known
+      ∙ ap (λ k. is_kept is_link_once (entry_of k index)) before.keys
+      ∙ ap (λ i. is_kept is_link_once (entry_of (entered old.keys signature) i)) before.index_is;
+  most = ap (λ (t : Table). t.most) new_is ∙ before.most;
+  most_further = ap (λ (t : Table). t.most_further) new_is ∙ before.most_further;
+}
+
+pub section_noted : (old now new : Table) (name : List ℕ) (index : ℕ) (entry after : KeyEntry) → Entered old now name index
+    → entry ≡ entry_of now.keys index → after ≡ record entry { is_section = true } → new ≡ record now { keys = with_entry now.keys index after }
+    → NotedSection old new name
+unfolding name_noted
+section_noted old now new name index entry after before known noted_is new_is =
+    let noted : KeyEntry → KeyEntry = λ e. record e { is_section = true } in
+    record {
+      keys =
+          ap (λ (t : Table). t.keys) new_is
+          ∙ ap (λ a. with_entry now.keys index a) (noted_is ∙ ap noted known)
+          ∙ ap (λ k. with_entry k index (noted (entry_of k index))) before.keys
+          ∙ ap (λ i. with_entry (entered old.keys name) i (noted (entry_of (entered old.keys name) i))) before.index_is;
+      most = ap (λ (t : Table). t.most) new_is ∙ before.most;
+      most_further = ap (λ (t : Table). t.most_further) new_is ∙ before.most_further;
+    }
+
+-- a name used
+pub name_used_by : (old now new : Table) (name : List ℕ) (index : ℕ) (symbol : SymbolUse) (row : Option ℕ) → Entered old now name index
+    → new ≡ record now { keys = key_used now.keys index symbol row } → UsedName old new name symbol row
+unfolding name_used
+name_used_by old now new name index symbol row before new_is = record {
+  keys =
+      ap (λ (t : Table). t.keys) new_is
+      ∙ ap (λ k. key_used k index symbol row) before.keys
+      ∙ ap (λ i. key_used (entered old.keys name) i symbol row) before.index_is;
+  most = ap (λ (t : Table). t.most) new_is ∙ before.most;
+  most_further = ap (λ (t : Table). t.most_further) new_is ∙ before.most_further;
+}

@@ -1,5 +1,5 @@
 -- Worked links of files by their bytes.
-use Rattle.std.specs.Prelude.{ℕ, ◌≡◌, false, List, [], ◌∷◌, ◌++◌, codes, get_or, Option, None, Some}
+use Rattle.std.specs.Prelude.{ℕ, ◌≡◌, false, List, [], ◌∷◌, ◌++◌, codes, get_or, Some}
 use Rattle.elf_model.specs.LinkArchives.{LinkFiles, link_answer}
 use Rattle.elf_model.specs.LinkInputs.{LinkInputs}
 use Rattle.elf_model.specs.LinkInputs.LinkInputs.{NoInputs, Input}

@@ -1,13 +1,11 @@
 -- Worked links of small files.
-use Rattle.std.specs.Prelude.{ℕ, ◌≡◌, ◌==◌, ◌&&◌, if◌then◌else◌, Bool, true, false, List, [], ◌∷◌, ◌++◌, codes, get_or, length, Option, None, Some, bytes_eq}
+use Rattle.std.specs.Prelude.{ℕ, ◌≡◌, Bool, true, false, List, [], ◌∷◌, codes, get_or, length, Option, None, Some, bytes_eq}
 use Rattle.std.specs.List.{list_any}
 use Rattle.elf_model.specs.LinkInputs.{IndexSymbol, InputFile, LinkInputs, linked}
 use Rattle.elf_model.specs.LinkInputs.InputFile.{ObjectFile, SearchedFile, WholeFile, MissingFile}
 use Rattle.elf_model.specs.LinkInputs.LinkInputs.{NoInputs, Input, Group}
-use Rattle.elf_model.specs.LinkKeys.{LinkSymbol}
 use Rattle.elf_model.specs.LinkLines.{FileNames, LinkOutput, link_fails, link_lines}
-use Rattle.elf_model.specs.LinkObjects.{LinkObject, NamedSection, ObjectSymbol, SectionGroup}
-use Rattle.elf_model.specs.LinkPasses.{ArchiveMembers}
+use Rattle.elf_model.specs.LinkObjects.{LinkObject, ObjectSymbol}
 use Rattle.elf_model.specs.Names.DisplayedName.{Whole}
 use Rattle.elf_model.specs.declared.formats.Format.TheVariants.{Columns}
 use Rattle.elf_model.specs.declared.link_states.SymbolRole.{SymbolRole}

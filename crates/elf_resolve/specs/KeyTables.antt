@@ -3,8 +3,9 @@ use Rattle.std.specs.Prelude.{ℕ, ◌≡◌, ◌+◌, ◌≤◌, ◌<◌, ◌^�
 use Rattle.std.specs.Borrow.{Bor}
 use Rattle.std.specs.List.{count_by}
 use Rattle.std.specs.Map.{lookup}
-use Rattle.elf_model.specs.LinkKeys.{LinkKeys, entered, entry_of, index_of, is_further, key_in, key_used}
+use Rattle.elf_model.specs.LinkKeys.{LinkKeys, entered, entry_of, further_after, index_of, key_in, key_used}
 use Rattle.elf_model.specs.LinkObjects.{is_kept, name_noted, signature_kept}
+use Rattle.elf_model.specs.declared.link_states.FurtherDefinition.{FurtherDefinition}
 use Rattle.elf_model.specs.declared.link_states.KeyEntry.{KeyEntry}
 use Rattle.elf_model.specs.declared.link_states.SymbolUse.{SymbolUse}
 use Rattle.elf_resolve.specs.declared.table.KeyFault.{KeyFault}
@@ -70,6 +71,20 @@ pub record NotEntered (old new : Table) (name : List ℕ) (fault : KeyFault) : T
 abbrev pub Enters : Table → Table → List ℕ → Result ℕ KeyFault → Type 0
 Enters old new name (Ok index) = Entered old new name index
 Enters old new name (Err fault) = NotEntered old new name fault
+
+-- A FURTHER DEFINITION ADDED, if it is one
+pub record AddedFurther (old new : List FurtherDefinition) (most : ℕ) (definition : FurtherDefinition) (is_one : Bool) : Type 0 where
+  pub items : new ≡ further_after old definition.key definition.row is_one
+  pub within : length new ≤ most
+
+pub record NotAddedFurther (old new : List FurtherDefinition) (most : ℕ) (fault : KeyFault) : Type 0 where
+  pub same : new ≡ old
+  pub fault_is : fault ≡ TooManyFurther
+  pub full : length old ≡ most
+
+abbrev pub AddsFurther : List FurtherDefinition → List FurtherDefinition → (most : ℕ) → FurtherDefinition → (is_one : Bool) → Result (Unit {0}) KeyFault → Type 0
+AddsFurther old new most definition is_one (Ok done) = AddedFurther old new most definition is_one
+AddsFurther old new most definition is_one (Err fault) = NotAddedFurther old new most fault
 
 -- a key was not used: it is defined once more, and there is no room
 pub record NotUsed (old new : Table) (index : ℕ) (symbol : SymbolUse) (fault : KeyFault) : Type 0 where

@@ -2,6 +2,9 @@ pub mod KeyTables
 pub mod RowTables
 pub mod Symbols
 pub mod Passing
+pub mod KeyStates
+pub mod KeyOrders
+pub mod LinkLaws
 pub mod ExamplesLinks
 pub mod ExamplesFiles
 pub mod LinkMembers

@@ -3,7 +3,8 @@ ghost use Rattle.elf_resolve.specs.ExamplesFiles.{MembersAreTakenByBytes, Refuse
 ghost use Rattle.elf_resolve.specs.ExamplesLinks.{ArchivesAreSearchedOnce, CommonsTakeDefinitions, DefaultVersionsDefineNames, DroppedGroupsDefineNothing, FurtherDefinitionsAreListed, GroupsAreSearchedAgain, SecondPassTakes, UndefinedKeysAreListed, WholeArchivesAreTaken};
 
 /// Works out the lines of some links.
-#[tactic(auto, unfolding(elf_model::proofs::OnLiterals::on_literals, elf_model::proofs::OnLinks::on_links))]
+#[tactic(auto, unfolding(elf_model::proofs::OnLiterals::on_literals,
+    elf_model::proofs::OnLinks::on_links))]
 pub fn small_links()
     ensures second_pass_takes { SecondPassTakes }
     ensures further_definitions_are_listed { FurtherDefinitionsAreListed }
@@ -17,7 +18,8 @@ pub fn small_links()
 {}
 
 /// Works out the answers for some files.
-#[tactic(auto, unfolding(elf_model::proofs::OnLiterals::on_literals, elf_model::proofs::OnLinks::on_links))]
+#[tactic(auto, unfolding(elf_model::proofs::OnLiterals::on_literals,
+    elf_model::proofs::OnLinks::on_links))]
 pub fn small_files()
     ensures members_are_taken_by_bytes { MembersAreTakenByBytes }
     ensures refused_files_end_the_answer { RefusedFilesEndTheAnswer }

@@ -14,6 +14,7 @@ mod key_states;
 mod lines;
 mod link_faults;
 mod link_files;
+mod link_laws;
 mod linker_names;
 mod member_names;
 mod members;

@@ -125,6 +125,7 @@ fn narrow_to<S: Source>(
 
 impl<S: Source> Objects for ArchiveMembers<'_, S> {
     ghost members = { unknown_members };
+    ghost known = { λ s. ⊥ };
 
     fn take<'a>(
         &mut self,

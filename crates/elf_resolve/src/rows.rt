@@ -33,7 +33,10 @@ impl RowTable {
         ensures { IfOk result (λ table. table ≡ record { rows = []; most = most }) }
     {
         let most = most as usize;
-        Ok(RowTable { rows: Vec::with_capacity(alloc, most)?, most })
+        Ok(RowTable {
+            rows: Vec::with_capacity(alloc, most)?,
+            most,
+        })
     }
 
     /// Returns the rows.

@@ -1,9 +1,11 @@
 //! What a symbol makes of its key.
 ghost use Rattle.std.specs.Prelude.{◌≡◌};
-ghost use Rattle.elf_model.specs.LinkKeys.{change_of as change_in, changed as changed_to, first_row as first_of, is_further as is_further_of, is_same_value as same_value, noted as noted_by, prepared as prepared_for, references_by as referenced_by, removed as removed_from, used as used_by};
-ghost use Rattle.elf_model.specs.LinkSteps.{common_over, defined_over, ends_at as ends_of, shared_over, state_change as change_by, weak_over};
+ghost use Rattle.elf_model.specs.LinkKeys.{asks_after as asked_by, change_of as change_in, changed as changed_to, first_row as first_of, is_further as is_further_of, is_same_value as same_value, is_shared as shared_role, noted as noted_by, prepared as prepared_for, references_by as referenced_by, removed as removed_from, used as used_by};
+ghost use Rattle.elf_model.specs.LinkSteps.{common_over, defined_over, ends_at as ends_of, is_absolute as absolute_kind, shared_over, state_change as change_by, weak_over};
 
-use elf_model::{KeyEntry, KeyState, SharedDefinition, SharedKind, StateChange, SymbolRole, SymbolUse};
+use elf_model::{
+    KeyEntry, KeyState, SharedDefinition, SharedKind, StateChange, SymbolRole, SymbolUse,
+};
 
 /// Returns what a symbol changes in a state.
 fn state_change(state: KeyState, role: SymbolRole) -> StateChange
@@ -137,7 +139,7 @@ pub fn ends_at(state: KeyState, role: SymbolRole) -> bool
 
 /// Returns whether a definition of a shared library is absolute, and no function.
 fn is_absolute(kind: SharedKind) -> bool
-    ensures { result ≡ Rattle.elf_model.specs.LinkSteps.is_absolute kind }
+    ensures { result ≡ absolute_kind kind }
 {
     matches!(kind, SharedKind::Absolute)
 }
@@ -186,14 +188,14 @@ pub fn change_of(entry: KeyEntry, symbol: SymbolUse) -> StateChange
 
 /// Returns whether a symbol is a definition of a shared library.
 fn is_shared(role: SymbolRole) -> bool
-    ensures { result ≡ Rattle.elf_model.specs.LinkKeys.is_shared role }
+    ensures { result ≡ shared_role role }
 {
     matches!(role, SymbolRole::Shared(_))
 }
 
 /// Returns whether a state that is made of another asks for a definition.
 fn asks_after(before: KeyState, made: KeyState) -> bool
-    ensures { result ≡ Rattle.elf_model.specs.LinkKeys.asks_after before made }
+    ensures { result ≡ asked_by before made }
 {
     match made {
         KeyState::Undefined => true,
@@ -208,7 +210,10 @@ fn changed(entry: KeyEntry, symbol: SymbolUse, row: Option<u32>, change: StateCh
 {
     match change {
         StateChange::Stays | StateChange::Multiple => entry,
-        StateChange::Enlarged(size) => KeyEntry { state: KeyState::Common(size), ..entry },
+        StateChange::Enlarged(size) => KeyEntry {
+            state: KeyState::Common(size),
+            ..entry
+        },
         StateChange::Becomes(state) => KeyEntry {
             state,
             row,
@@ -238,14 +243,20 @@ fn with_reference(entry: KeyEntry, symbol: SymbolUse, row: Option<u32>) -> KeyEn
             if symbol.dropped {
                 entry
             } else {
-                KeyEntry { reference: first_row(entry.reference, row), ..entry }
+                KeyEntry {
+                    reference: first_row(entry.reference, row),
+                    ..entry
+                }
             }
         }
         SymbolRole::WeakReference => {
             if symbol.dropped {
                 entry
             } else {
-                KeyEntry { weak_reference: first_row(entry.weak_reference, row), ..entry }
+                KeyEntry {
+                    weak_reference: first_row(entry.weak_reference, row),
+                    ..entry
+                }
             }
         }
         _ => entry,

@@ -1,10 +1,11 @@
 //! The symbols of a file.
 ghost use Rattle.std.specs.Prelude.{◌≡◌, OnOk, map};
+ghost use Rattle.elf_model.specs.LinkKeys.{entry_named as named_entry};
 ghost use Rattle.elf_resolve.specs.Symbols.{TookSymbol, TookSymbols, UsedName, symbol_of};
 
 use crate::steps::{ends_at, prepared};
 use crate::table::{KeyFault, KeyTable, NEW_KEY};
-use elf_model::SymbolUse;
+use elf_model::{KeyEntry, SymbolUse};
 
 /// A symbol of a file.
 #[derive(Clone, Copy)]
@@ -18,15 +19,32 @@ pub struct Symbol<'a> {
 }
 
 impl<'a> KeyTable<'a> {
+    /// Returns what is known of a name.
+    #[tactic(auto, unfolding(elf_model::specs::LinkKeys::entry_named))]
+    pub fn entry_named(&self, name: &[u8]) -> KeyEntry
+        ensures { result ≡ named_entry self.now.keys name.now }
+    {
+        match self.find(name) {
+            None => NEW_KEY,
+            Some(index) => self.entry(index),
+        }
+    }
+
     /// Uses a name by a symbol of a row.
     ///
     /// # Errors
     /// Returns a `KeyFault` if there is no room.
-    pub fn use_name(&mut self, name: &[u8], symbol: SymbolUse, row: Option<u32>) -> Result<(), KeyFault>
+    pub fn use_name(
+        &mut self,
+        name: &[u8],
+        symbol: SymbolUse,
+        row: Option<u32>,
+    ) -> Result<(), KeyFault>
         ensures { OnOk result (UsedName self.old self.new name.now symbol row) }
     {
         let index = self.enter(name)?;
-        self.use_key(index, symbol, row)
+        self.use_key(index, symbol, row)?;
+        Ok(())
     }
 
     /// Takes a symbol of a row.
@@ -36,10 +54,7 @@ impl<'a> KeyTable<'a> {
     pub fn take(&mut self, symbol: Symbol, row: Option<u32>) -> Result<(), KeyFault>
         ensures { OnOk result (TookSymbol self.old self.new (symbol_of symbol.entry) row) }
     {
-        let entry = match self.find(symbol.name) {
-            None => NEW_KEY,
-            Some(index) => self.entry(index),
-        };
+        let entry = self.entry_named(symbol.name);
         self.use_name(symbol.name, symbol.symbol, row)?;
         let Some(name) = symbol.default_name else {
             return Ok(());
@@ -47,7 +62,8 @@ impl<'a> KeyTable<'a> {
         if ends_at(prepared(entry, symbol.symbol).state, symbol.symbol.role) {
             return Ok(());
         }
-        self.use_name(name, symbol.symbol, row)
+        self.use_name(name, symbol.symbol, row)?;
+        Ok(())
     }
 
     /// Takes the symbols of a file in order.

@@ -1,7 +1,8 @@
 //! The table of keys.
-ghost use Rattle.std.specs.Prelude.{◌≡◌, ◌+◌, ◌<◌, ◌≤◌, IfOk, OnOk, length, [], get_or};
-ghost use Rattle.elf_model.specs.LinkKeys.{entry_of, key_in, no_keys};
-ghost use Rattle.elf_resolve.specs.KeyTables.{Enters, KeptGroup, NotedSection, UsesKey};
+ghost use Rattle.std.specs.Prelude.{◌≡◌, ◌+◌, ◌<◌, ◌≤◌, ◌^◌, false, vec_capacity, IfOk, OnOk, length, [], get_or};
+ghost use Rattle.elf_model.specs.LinkKeys.{asked_after as asked_of, entry_of, key_in, no_keys, order_after, with_entry};
+ghost use Rattle.elf_model.specs.LinkObjects.{is_kept as is_kept_at, kept as kept_at};
+ghost use Rattle.elf_resolve.specs.KeyTables.{AddsFurther, Enters, KeptGroup, NotedSection, UsesKey};
 
 use crate::steps::{is_further, used};
 use elf_model::{FurtherDefinition, KeyEntry, KeyState, SymbolUse};
@@ -83,9 +84,10 @@ impl<'a> Model for KeyTable<'a> {
       most_further = t.most_further;
     } };
 
-    ghost invariant = { λ t. Holds t.places.entries (map (λ n. n.now) t.names.items) t.entries.items (length t.names.items) (length t.order.items) t.asked
-        t.most (vec_capacity t.names) (vec_capacity t.entries) (vec_capacity t.order) (spare t.places)
-        (length t.further.items) t.most_further (vec_capacity t.further) };
+    ghost invariant = { λ t. Holds t.places.entries (map (λ n. n.now) t.names.items) t.entries.items
+        (length t.names.items) (length t.order.items) t.asked t.most (vec_capacity t.names)
+        (vec_capacity t.entries) (vec_capacity t.order) (spare t.places) (length t.further.items)
+        t.most_further (vec_capacity t.further) };
 }
 
 impl<'a> KeyTable<'a> {
@@ -210,25 +212,27 @@ impl<'a> KeyTable<'a> {
     /// Returns [`KeyFault::TooManyFurther`] if the key is defined once more and there is no room:
     /// nothing changes.
     #[tactic(auto, unfolding(elf_model::specs::LinkKeys::key_used))]
-    pub fn use_key(&mut self, index: u32, symbol: SymbolUse, row: Option<u32>) -> Result<(), KeyFault>
+    pub fn use_key(
+        &mut self,
+        index: u32,
+        symbol: SymbolUse,
+        row: Option<u32>,
+    ) -> Result<(), KeyFault>
         requires { index < length self.old.keys.names }
         ensures { UsesKey self.old self.new index symbol row result }
     {
         let place = index as usize;
         let entry = self.entries[place];
-        if is_further(entry, symbol) {
-            if self.further.len() >= self.most_further {
-                return Err(KeyFault::TooManyFurther);
-            }
-            self.further.push(FurtherDefinition { key: index, row }).unwrap();
-        }
-        if !entry.is_met {
-            self.order.push(index).unwrap();
-        }
+        let further = FurtherDefinition { key: index, row };
+        add_further(
+            &mut self.further,
+            self.most_further,
+            further,
+            is_further(entry, symbol),
+        )?;
+        add_order(&mut self.order, index, entry.is_met);
         let after = used(entry, symbol, row);
-        if after.is_asked && !entry.is_asked {
-            self.asked += 1;
-        }
+        self.asked = asked_after(self.asked, entry, after);
         self.entries[place] = after;
         Ok(())
     }
@@ -241,9 +245,14 @@ impl<'a> KeyTable<'a> {
         ensures { OnOk result (NotedSection self.old self.new name.now) }
     {
         let index = self.enter(name)?;
-        let place = index as usize;
-        let entry = self.entries[place];
-        self.entries[place] = KeyEntry { is_section: true, ..entry };
+        let entry = self.entry(index);
+        self.set_entry(
+            index,
+            KeyEntry {
+                is_section: true,
+                ..entry
+            },
+        );
         Ok(())
     }
 
@@ -253,17 +262,51 @@ impl<'a> KeyTable<'a> {
     /// # Errors
     /// Returns a `KeyFault` if the name is new and there is no room: nothing changes.
     pub fn drop_group(&mut self, signature: &[u8], is_link_once: bool) -> Result<bool, KeyFault>
-        ensures { IfOk result (λ dropped. KeptGroup self.old self.new signature.now is_link_once dropped) }
+        ensures { IfOk result
+            (λ dropped. KeptGroup self.old self.new signature.now is_link_once dropped) }
     {
         let index = self.enter(signature)?;
-        let place = index as usize;
-        let entry = self.entries[place];
-        if is_link_once {
-            self.entries[place] = KeyEntry { is_link_once: true, ..entry };
-            return Ok(entry.is_link_once);
+        let entry = self.entry(index);
+        self.set_entry(index, kept(is_link_once, entry));
+        Ok(is_kept(is_link_once, entry))
+    }
+
+    /// Sets what is known of a key, except what is counted.
+    fn set_entry(&mut self, index: u32, entry: KeyEntry)
+        requires within { index < length self.old.keys.names }
+        requires same_met { entry.is_met ≡ (entry_of self.old.keys index).is_met }
+        requires same_asked { entry.is_asked ≡ (entry_of self.old.keys index).is_asked }
+        ensures { self.new ≡ record self.old { keys = with_entry self.old.keys index entry } }
+    {
+        self.entries[index as usize] = entry;
+    }
+}
+
+/// Returns whether a group, or a link-once section, is kept at a key.
+fn is_kept(is_link_once: bool, entry: KeyEntry) -> bool
+    ensures { result ≡ is_kept_at is_link_once entry }
+{
+    if is_link_once {
+        entry.is_link_once
+    } else {
+        entry.is_group
+    }
+}
+
+/// Returns the entry of a key at which a group, or a link-once section, is kept.
+fn kept(is_link_once: bool, entry: KeyEntry) -> KeyEntry
+    ensures { result ≡ kept_at is_link_once entry }
+{
+    if is_link_once {
+        KeyEntry {
+            is_link_once: true,
+            ..entry
         }
-        self.entries[place] = KeyEntry { is_group: true, ..entry };
-        Ok(entry.is_group)
+    } else {
+        KeyEntry {
+            is_group: true,
+            ..entry
+        }
     }
 }
 
@@ -278,4 +321,48 @@ fn keep<'a>(rest: &mut &'a mut [u8], name: &[u8]) -> &'a [u8]
     };
     kept.copy_from_slice(name);
     kept
+}
+
+/// Adds a further definition, if it is one.
+fn add_further(
+    further: &mut Vec<FurtherDefinition>,
+    most: usize,
+    definition: FurtherDefinition,
+    is_one: bool,
+) -> Result<(), KeyFault>
+    requires fits { most ≤ vec_capacity further.old }
+    requires within { length further.old.items ≤ most }
+    ensures adds { AddsFurther further.old.items further.new.items most definition is_one result }
+    ensures capacity { vec_capacity further.old ≤ vec_capacity further.new }
+{
+    if !is_one {
+        return Ok(());
+    }
+    if further.len() >= most {
+        return Err(KeyFault::TooManyFurther);
+    }
+    further.push(definition).unwrap();
+    Ok(())
+}
+
+/// Adds a key that is first named to the order.
+fn add_order(order: &mut Vec<u32>, index: u32, is_met: bool)
+    requires { is_met ≡ false → length order.old.items < vec_capacity order.old }
+    ensures order { order.new.items ≡ order_after order.old.items index is_met }
+    ensures capacity { vec_capacity order.old ≤ vec_capacity order.new }
+{
+    if !is_met {
+        order.push(index).unwrap();
+    }
+}
+
+/// Returns how many keys have been asked for after a change of one.
+fn asked_after(asked: usize, before: KeyEntry, after: KeyEntry) -> usize
+    requires { asked < 2 ^ 32 }
+    ensures { result ≡ asked_of asked before after }
+{
+    if after.is_asked && !before.is_asked {
+        return asked + 1;
+    }
+    asked
 }

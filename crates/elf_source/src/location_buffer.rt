@@ -1,5 +1,5 @@
 //! A buffer with the location of rows.
-ghost use Rattle.std.specs.Prelude.{◌≡◌, [], length};
+ghost use Rattle.std.specs.Prelude.{◌≡◌, ◌≤◌, ◌+◌, ◌++◌, [], length, take};
 ghost use Rattle.elf_model.specs.Located.{location_text};
 ghost use Rattle.elf_source.specs.Located.{file_location, row_location};
 
@@ -72,9 +72,18 @@ impl LocationText {
     {
         self.row = self.file;
         if text.len() <= self.room.len() - self.file {
-            let end = self.file + text.len();
-            self.room[self.file..end].copy_from_slice(text);
-            self.row = end;
+            put_at(&mut self.room, self.file, text);
+            self.row = self.file + text.len();
         }
     }
+}
+
+/// Writes bytes at an index of others, which have room for them there.
+fn put_at(room: &mut [u8], at: usize, text: &[u8])
+    requires { at + length text.now ≤ length room.old }
+    ensures before { take at room.new ≡ take at room.old }
+    ensures whole { take (at + length text.now) room.new ≡ take at room.old ++ text.now }
+    ensures room { length room.new ≡ length room.old }
+{
+    room[at..at + text.len()].copy_from_slice(text);
 }

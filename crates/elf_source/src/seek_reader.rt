@@ -66,7 +66,10 @@ impl<R: Read + Seek> ReadAt for SeekReader<R> {
         ensures place { self.new.place ≡ None }
     {
         self.place = None;
-        self.inner.seek(SeekFrom::End(0)).map_err(why)
+        match self.inner.seek(SeekFrom::End(0)) {
+            Ok(place) => Ok(place),
+            Err(fault) => Err(why(fault)),
+        }
     }
 
     /// Seeks, unless it is at the offset, and reads, by the position and bytes of the stream below.
@@ -77,7 +80,10 @@ impl<R: Read + Seek> ReadAt for SeekReader<R> {
             self.new.inner at out.new result }
     {
         self.go(at)?;
-        let answer = self.inner.read(out).map_err(why);
+        let answer = match self.inner.read(out) {
+            Ok(count) => Ok(count),
+            Err(fault) => Err(why(fault)),
+        };
         self.place = match answer {
             Ok(0) | Err(ReadAtFault::Failed) => None,
             Ok(count) => at.checked_add(count as u64),

@@ -1,8 +1,8 @@
 //! Tests of what no contract says of the libraries and of requests: how often and for how much at
 //! once readers and writers are called, how faults of each read and write are reported, whole
 //! answers with and without a budget, and the public surface by its names. Sources, readers and
-//! writers for them fail, end early, are interrupted or give little. They are in a crate of their
-//! own, since a crate with tests is proved twice.
+//! writers for them fail, end early, are interrupted or give little. A crate with tests is proved
+//! twice, once without them, so all of this one is for tests.
 #![tactic(auto)]
 
 #[cfg(test)]
@@ -23,6 +23,7 @@ mod callers;
 mod chains;
 #[cfg(test)]
 mod endings;
+#[cfg(test)]
 mod faulty_source;
 #[cfg(test)]
 mod lines;
@@ -36,10 +37,13 @@ mod lookups;
 mod names;
 #[cfg(test)]
 mod notes;
+#[cfg(test)]
 mod pieces;
+#[cfg(test)]
 mod printer;
 #[cfg(test)]
 mod requests;
+#[cfg(test)]
 mod script;
 #[cfg(test)]
 mod segments;
@@ -51,14 +55,9 @@ mod streams;
 mod surface;
 #[cfg(test)]
 mod tables;
+#[cfg(test)]
 mod tape;
 #[cfg(test)]
 mod turns;
 #[cfg(test)]
 mod versions;
-
-pub use faulty_source::FaultySource;
-pub use pieces::ChunkedReader;
-pub use printer::ShortWriter;
-pub use script::{FaultScript, InjectedFault};
-pub use tape::{EndlessReader, stands_at};

@@ -1,16 +1,20 @@
 //! Segments as a loader leaves them, and what their images lack.
+ghost use Rattle.elf_hash.specs.Loading.{FitsSource};
+
 use crate::layouts::{read_list, told};
 use elf_cli::{
     CANNOT_OPEN, CommandArgs, ExitLine, OUT_OF_MEMORY, allocate, allocate_pages, end_answer,
     open_by_pages,
 };
 use elf_format::show_lacking;
-use elf_image::{ImageItems, ImageRequest, ItemList, ItemListFault, MissingEntries, write_image};
+use elf_image::{
+    ImageItems, ImageRequest, ItemList, ItemListFault, MissingEntries, load_image, write_image,
+};
 use elf_layout::{LayoutFileFault, TextEnd};
 use elf_listing::show_stop;
 use elf_model::Format;
 use elf_source::{Counted, Out, Sink, Source, WriteSink};
-use elf_table::{HeaderStore, RunFault};
+use elf_table::{Fault, HeaderStore, Loaded, RunFault};
 use std::io::{self, BufWriter, Stderr, Write};
 use std::os::unix::fs::FileExt;
 use std::rt::Files;
@@ -188,10 +192,10 @@ fn write_job<S: Source + Drop, W: Write + Drop>(
 ///
 /// # Errors
 /// A refusal of the file, or a fault of the source or of the output.
-fn answer_job<'a, S: Source, W: Sink>(
-    job: &'a ImageJob<'a>,
+fn answer_job<S: Source, W: Sink>(
+    job: &ImageJob<'_>,
     src: &mut Counted<S>,
-    store: &'a mut HeaderStore<'_>,
+    store: &mut HeaderStore<'_>,
     window: &mut [u8],
     out: &mut Out<W>,
 ) -> Result<(), RunFault> {
@@ -212,17 +216,78 @@ fn answer_job<'a, S: Source, W: Sink>(
     }
 }
 
+/// Writes a line for each entry that lacks an item, once all entries were checked.
+///
+/// # Errors
+/// A refusal of the file, with nothing written, or a fault of the source or of the output.
+fn write_missing<S: Source, W: Sink>(
+    job: &ImageJob<'_>,
+    src: &mut Counted<S>,
+    store: &mut HeaderStore<'_>,
+    out: &mut Out<W>,
+) -> Result<(), RunFault> {
+    check_entries(job, src, store)?;
+    write_entries(job, src, store, out)
+}
+
+/// Checks all entries.
+///
+/// # Errors
+/// A refusal of the file, or a fault of the source.
+fn check_entries<S: Source>(
+    job: &ImageJob<'_>,
+    src: &mut Counted<S>,
+    store: &mut HeaderStore<'_>,
+) -> Result<(), Fault> {
+    let loaded = load_image(src, store)?;
+    count_entries(job, src, loaded, store)
+}
+
+/// Goes through all entries of a loaded file that lack an item.
+///
+/// # Errors
+/// A refusal of the file, or a fault of the source.
+fn count_entries<S: Source>(
+    job: &ImageJob<'_>,
+    src: &mut Counted<S>,
+    loaded: Loaded,
+    store: &HeaderStore<'_>,
+) -> Result<(), Fault>
+    requires { FitsSource src.old.seen.size store.now loaded }
+{
+    let mut missing = MissingEntries::open(src, store, loaded, job.items)?;
+    'entries: while missing.next(src)?.is_some() {}
+    Ok(())
+}
+
 /// Writes a line for each entry that lacks an item.
 ///
 /// # Errors
 /// A refusal of the file, or a fault of the source or of the output.
-fn write_missing<'a, S: Source, W: Sink>(
-    job: &'a ImageJob<'a>,
+fn write_entries<S: Source, W: Sink>(
+    job: &ImageJob<'_>,
     src: &mut Counted<S>,
-    store: &'a mut HeaderStore<'_>,
+    store: &mut HeaderStore<'_>,
     out: &mut Out<W>,
 ) -> Result<(), RunFault> {
-    let mut missing = MissingEntries::open(src, store, job.items)?;
+    let loaded = load_image(src, store)?;
+    write_lines(job, src, loaded, store, out)
+}
+
+/// Writes a line for each entry of a loaded file that lacks an item.
+///
+/// # Errors
+/// A refusal of the file, or a fault of the source or of the output.
+fn write_lines<S: Source, W: Sink>(
+    job: &ImageJob<'_>,
+    src: &mut Counted<S>,
+    loaded: Loaded,
+    store: &HeaderStore<'_>,
+    out: &mut Out<W>,
+) -> Result<(), RunFault>
+    requires { FitsSource src.old.seen.size store.now loaded }
+{
+    let mut missing = MissingEntries::open(src, store, loaded, job.items)?;
     'entries: while let Some(entry) = missing.next(src)? {
         show_lacking(
             entry.at,

@@ -1,5 +1,5 @@
 -- A step takes the first of the notes that are left.
-use Rattle.std.proofs.Common.{◌≡◌, ℕ, ◌+◌, ◌≤◌, length, drop, refl, ap, sym, ◌∙◌, arith, length-take}
+use Rattle.std.proofs.Common.{ℕ, ◌+◌, ◌≤◌, length, drop, refl, ap, sym, ◌∙◌, arith, length-take}
 use Rattle.elf_model.specs.Prelude.{descriptor_start, first_note, note_align, slice}
 use Rattle.elf_note.specs.NoteCursors.{AreNoteParts}
 use Rattle.elf_record.specs.NoteHead.{IsNoteHead}

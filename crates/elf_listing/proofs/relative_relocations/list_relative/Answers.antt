@@ -5,7 +5,7 @@ use Rattle.std.proofs.lemmas.Result.{err_from_is_err_and}
 use Rattle.elf_options.specs.Permitted.{style_of}
 use Rattle.elf_model.specs.Prelude.{each, relative_relocations, relr_rows, section_at, sh_size, table_checks}
 use Rattle.elf_listing.proofs.ListsLaws.{ListingCalls-nothing, ListingCalls-refused, ListingCalls-within}
-use Rattle.elf_listing.proofs.RelativeShown.{relr_table_is}
+use Rattle.elf_listing.proofs.RelativeShown.{relr_table_is, section_words}
 use Rattle.elf_listing.proofs.RowLaws.{WroteSome-as}
 use Rattle.elf_listing.proofs.SectionCosts.{section_within}
 use Rattle.elf_listing.proofs.SectionShown.{empty_fails, no_table, table_fails, table_passes}
@@ -48,5 +48,6 @@ returns g c =
     let at = section_at file c.args.index in
     let kind = sym (c.section.ensures.stands file belongs).sh_type ∙ c.if-section-ne-SHT_RELR.false in
     let is = relr_table_is file at _ (sym (c.in_ok-table.ensures.held file belongs)) in
-    WroteSome-as _ _ _ (table_passes relative_relocations file style c.args.index at (eq-eqb _ _ kind) is.0 ∙ ap (each (relr_rows file style c.args.index at) 0) (sym is.1.0))
-    (c.list_words.ensures.shows file held (λ some. is.1.1)))
+    WroteSome-as _ _ _ (table_passes relative_relocations file style c.args.index at (eq-eqb _ _ kind) is.0 ∙ (ap (each (relr_rows file style c.args.index at) 0) (sym is.1.0)
+    ∙ section_words file style c.args.index at _ _ is.1.1))
+    (c.list_words.ensures.shows file held (λ some. tt)))

@@ -88,7 +88,7 @@ returns-in_err-word_rows g c =
           let this = turn file style kind versions c.args.table old new c.row-row.result _ _ step c.row-row.ensures now (known.agrees file held) known.same_table c.requires.table.entry known.counted (known.listed file held) of_kind (known.text file held of_kind) in
           rw (p.1, p.2)
           (turn_stopped file style c.words.listing.style kind versions c.args.table old new c.row-row.result _ _ _ _ known.keeps.same_style this (λ here is_row.
-          let given = given_word file c.args.table.at c.row-row.result.at c.row-row.result.index (reading old).index c.u64_at.result c.words.base c.row-row.result.bytes.now is_row.here is_row.bytes c.u64_at.ensures this.index (known.based file held of_kind) (style_of c.words.listing.style) c.args.section here in
+          let given = given_word file c.args.table.at c.row-row.result.at c.row-row.result.index (reading old).index c.u64_at.result c.words.base c.row-row.result.bytes.now is_row.here is_row.bytes c.u64_at.ensures this.index (known.based file held of_kind) (style_of c.words.listing.style) c.args.section in
           subst (λ (items : List ListingItem). WroteUntilStop c.words.listing.out.now c.word_rows.new.listing.out.now c.in_err-word_rows.field-0.0 items) (sym given) (row.shows file (a.reads.keeps.same_file ∙ now))));
     }
 
@@ -134,7 +134,7 @@ words-preserved g c =
           let style = c.args.listing.now.style in
           let this = turn file style kind versions c.args.table old new c.row-row.result _ _ step c.row-row.ensures now (known.agrees file held) known.same_table c.requires.table.entry known.counted (known.listed file held) of_kind (known.text file held of_kind) in
           turn_more file style c.words.listing.style kind versions c.args.table old new c.row-row.result _ _ _ known.keeps.same_style this (λ here is_row.
-          let given = given_word file c.args.table.at c.row-row.result.at c.row-row.result.index (reading old).index c.u64_at.result c.words.base c.row-row.result.bytes.now is_row.here is_row.bytes c.u64_at.ensures this.index (known.based file held of_kind) (style_of c.words.listing.style) c.args.section here in
+          let given = given_word file c.args.table.at c.row-row.result.at c.row-row.result.index (reading old).index c.u64_at.result c.words.base c.row-row.result.bytes.now is_row.here is_row.bytes c.u64_at.ensures this.index (known.based file held of_kind) (style_of c.words.listing.style) c.args.section in
           subst (λ (items : List ListingItem). WroteItems c.words.listing.out.now c.word_rows.new.listing.out.now items) (sym given) (row.shows file (a.reads.keeps.same_file ∙ now)));
       based = λ file held of_kind.
           let now = known.spends.reads.keeps.same_file ∙ held in

@@ -61,7 +61,7 @@ returns-in_err-load_view-clause-below g c =
     let below = view_below c.in_ok-loaded.loaded size c.args.store.now.slots (style_of c.args.style) c.args.parts.0 few.0 few.1 in
     let most = load_most c.args.header.now size c.args.store.now.slots in
     let same = ap (λ (header : Ehdr). header.e_shnum) opens.same_header in
-    let asked = view_cost c.args.parts.0 c.in_ok-loaded.loaded in
+    let asked = view_cost (style_of c.args.style) c.args.parts.0 c.in_ok-loaded.loaded in
     rw (p.1, p.2) (ListingCosts-later _ _ _ c.args.out.now _ _ asked _ (load_pays _ _ c.load.ensures.reads.at_most most same (rest_pays below)) c.load.ensures.reads c.load_view.ensures.reads c.in_err-load_view.ensures.says)
 
 pub returns-in_err-load_view-clause-cost : goal.returns-in_err-load_view-clause-cost
@@ -73,7 +73,7 @@ returns-in_err-load_view-clause-cost g c = λ file held.
     let within = view_within file c.in_ok-loaded.loaded c.load.new.store c.args.store.now.slots (style_of c.args.style) c.args.parts.0 belongs c.load.ensures.slots read.0 tables in
     let most = load_most c.args.header.now c.args.src.now.seen.size c.args.store.now.slots in
     let same = ap (λ (header : Ehdr). header.e_shnum) c.in_ok-loaded.ensures.opens.same_header in
-    let asked = view_cost c.args.parts.0 c.in_ok-loaded.loaded in
+    let asked = view_cost (style_of c.args.style) c.args.parts.0 c.in_ok-loaded.loaded in
     rw (p.1, p.2) (ListingCosts-later _ _ _ c.args.out.now _ _ asked _ (load_pays _ _ c.load.ensures.reads.at_most most same within) c.load.ensures.reads c.load_view.ensures.reads c.in_err-load_view.ensures.says)
 
 pub returns-in_err-load_view-clause-text : goal.returns-in_err-load_view-clause-text
@@ -101,7 +101,7 @@ list_tables-requires g c =
       whole = c.load_view.ensures.loaded ∙ (opens.count ∙ sym (ap (λ (header : Ehdr). header.e_shnum) opens.same_header));
       counted = c.in_ok-load_view.ensures.segments;
       viewed = record {
-        all = viewed_all c.args.parts.0 c.in_ok-loaded.loaded c.load_view.new.store c.in_ok-load_view.ensures.segments;
+        all = viewed_all (style_of c.args.style) c.args.parts.0 c.in_ok-loaded.loaded c.load_view.new.store c.in_ok-load_view.ensures.segments;
         held = λ file held.
             let loaded = sym c.load_view.ensures.reads.keeps.same_file ∙ held in
             let before = sym c.load.ensures.reads.keeps.same_file ∙ loaded in
@@ -176,7 +176,7 @@ returns-clause-alone g c = λ none. absurd (false≢true (sym none ∙ (sym (c.i
 pub returns-in_err-loaded-clause-row : goal.returns-in_err-loaded-clause-row
 returns-in_err-loaded-clause-row g c = λ file held.
     let p = err_from_is_err_and c.from_residual.result c.from_residual.ensures.1 in
-    rw (p.1, p.2) (load_row_held file c.args.parts.0 c.load.new.store _ (c.in_err-loaded.ensures.held file held (c.requires.header file held).1))
+    rw (p.1, p.2) (load_row_held file (style_of c.args.style) c.args.parts.0 c.load.new.store _ (c.in_err-loaded.ensures.held file held (c.requires.header file held).1))
 
 pub returns-in_err-load_view-clause-row : goal.returns-in_err-load_view-clause-row
 returns-in_err-load_view-clause-row g c = λ file held.
@@ -190,4 +190,4 @@ pub returns-clause-row : goal.returns-clause-row
 returns-clause-row g c = λ file held.
     let loaded = c.load.ensures.reads.keeps.same_file ∙ held in
     let both = c.in_ok-load_view.ensures.held file loaded (c.in_ok-loaded.ensures.held file held (c.requires.header file held).1) in
-    tables_row_held file c.args.parts.0 c.in_ok-loaded.loaded c.load_view.new.store _ both.0 c.in_ok-load_view.ensures.segments both.1
+    tables_row_held file (style_of c.args.style) c.args.parts.0 c.in_ok-loaded.loaded c.load_view.new.store _ both.0 c.in_ok-load_view.ensures.segments both.1

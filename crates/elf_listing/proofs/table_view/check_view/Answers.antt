@@ -12,6 +12,6 @@ returns-then-not-is_checked-clause-checked c = λ file belongs rows none.
 pub returns-clause-checked : goal.returns-clause-checked
 returns-clause-checked c = λ file belongs rows none.
     let asked = sym c.is_checked.ensures ∙ c.if-not-is_checked.false in
-    let all = all_viewed c.args.style.by_segments c.args.parts.0 c.args.loaded.now asked in
+    let all = all_viewed c.args.style.by_segments (style_of c.args.style) c.args.parts.0 c.args.loaded.now asked in
     rw (checked file (style_of c.args.style) c.args.parts.0 c.args.loaded.now c.args.store.now belongs none asked)
     (c.check_overlaps.ensures.held file (record { belongs = belongs; count = c.requires ∙ all; rows = rows }))

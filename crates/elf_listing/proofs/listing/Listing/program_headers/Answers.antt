@@ -30,7 +30,7 @@ returns-then-sections-eq0 g c = record {
       let zero : f.loaded.header.e_shnum ≡ 0 = sym belongs.count ∙ (sym c.sections.ensures ∙ c.if-sections-eq0.true) in
       let none : (f.loaded.header.e_shnum == 0) ≡ true = ap (λ n. n == 0) zero in
       let asked : has c.args.parts.0 SEGMENTS ≡ true = sym (c.contains.ensures tt) ∙ c.if-not-contains.false in
-      let all : f.store.now.segments ≡ e_phnum file = c.requires ∙ (viewed_segments c.args.parts.0 f.loaded none asked ∙ belongs.header.e_phnum) in
+      let all : f.store.now.segments ≡ e_phnum file = c.requires ∙ (viewed_segments (style_of c.args.self.now.style) c.args.parts.0 f.loaded none asked ∙ belongs.header.e_phnum) in
       WroteSome-as _ _ _ (ap (λ b. elim b [ true ↦ each (segment_row file (style_of c.args.self.now.style)) 0 (e_phnum file) | false ↦ [] ]) asked ∙ ap (each (segment_row file (style_of c.args.self.now.style)) 0) (sym all))
       (c.list_headers.ensures.shows file held);
 }

@@ -10,6 +10,8 @@ use Rattle.elf_note.proofs.SpendsLaws.{SpendsAtMost-none, SpendsAtMost-then}
 use Rattle.elf_table.proofs.OpenLaws.{still_open}
 use Rattle.elf_table.specs.declared.names.NameEnd.{NameEnd}
 use Rattle.elf_listing.proofs.ViewedLaws.{still_viewed}
+use Rattle.elf_table.specs.Prelude.{known_symbols}
+use Rattle.elf_listing.proofs.LocatedShown.{among_zero, read_among, refuses_among}
 use Rattle.elf_listing.proofs.SymbolNamed.{named_zero, read_named, refuses_named, says_after}
 use Rattle.elf_listing.proofs.listing.Listing.read_linked.Goals as goal
 
@@ -20,6 +22,7 @@ returns-in_err-found g c =
     (record {
       fetches = (record { same_src = refl; same_out = refl; same_file = refl; same_style = refl }, refl, SpendsAtMost-none _ _ _ _ (omega arith), grind (arith, c.in_err-found.ensures.refusal));
       read = λ file header held linked. refuses_named file c.args.self.now.style.cap.bytes header c.args.at c.args.symbol _ (c.in_err-found.ensures.held file header linked);
+      among = λ file held. refuses_among file c.args.self.now.style.cap.bytes c.args.at c.args.symbol c.args.linked _ c.in_err-found.ensures.among;
       defined = λ file header held linked some. tt;
     })
 
@@ -29,6 +32,9 @@ returns-in_default g c = record {
   read = λ file header held linked.
       let zero = rw (none-of _ c.in_default.not-Some) at (c.in_ok-found.ensures.held file header linked) in
       rw (named_zero file c.args.self.now.style.cap.bytes header c.args.at c.args.symbol zero) (ap (λ name. Ok (Whole name)) (sym c.clear.ensures));
+  among = λ file held.
+      let zero = rw (none-of _ c.in_default.not-Some) at c.in_ok-found.ensures.among in
+      rw (among_zero file c.args.self.now.style.cap.bytes c.args.at c.args.symbol (known_symbols file c.args.linked) zero) (ap (λ name. Ok (Whole name)) (sym c.clear.ensures));
   defined = λ file header held linked some.
       let zero = eq-eqb c.args.symbol 0 (rw (none-of _ c.in_default.not-Some) at (c.in_ok-found.ensures.held file header linked)) in absurd cc;
 }
@@ -51,6 +57,13 @@ returns-in_err-end g c =
           let decoded = c.in_ok-entry.ensures.read file held (c.args.self.now.held file held) in
           read_named file c.args.self.now.style.cap.bytes header c.args.at c.args.symbol _ _ _ (Err c.in_err-end.field-0.0) [] found.0 found.1 (c.at.ensures ∙ found.2) (c.from.ensures ∙ (decoded.st_name ∙ ap (st_name file) (sym c.at.ensures))) found.3
           (c.in_err-end.ensures.read file (c.in_ok-entry.ensures.ahead.costs.spends.reads.keeps.same_file ∙ held));
+      among = λ file held.
+          let is = rw c.in-Some.is at c.in_ok-found.ensures.among in
+          let within = rw c.in-Some.is at (c.in_ok-found.ensures.within _ c.requires) in
+          let decoded = c.in_ok-entry.ensures.read file held (c.args.self.now.held file held) in
+          read_among file c.args.self.now.style.cap.bytes c.args.at c.args.symbol c.args.linked _ _ _ _ _ (Err c.in_err-end.field-0.0) [] is.0 is.1 is.2 within.0.0 is.3 c.at.ensures
+          (c.from.ensures ∙ (decoded.st_name ∙ ap (st_name file) (sym c.at.ensures)))
+          (c.in_err-end.ensures.read file (c.in_ok-entry.ensures.ahead.costs.spends.reads.keeps.same_file ∙ held));
       defined = λ file header held linked some. tt;
     })
 
@@ -69,6 +82,13 @@ returns g c =
           let found = rw c.in-Some.is at (c.in_ok-found.ensures.held file header linked) in
           let decoded = c.in_ok-entry.ensures.read file held (c.args.self.now.held file held) in
           read_named file c.args.self.now.style.cap.bytes header c.args.at c.args.symbol _ _ _ (Ok c.in_ok-end.end) _ found.0 found.1 (c.at.ensures ∙ found.2) (c.from.ensures ∙ (decoded.st_name ∙ ap (st_name file) (sym c.at.ensures))) found.3
+          (c.in_ok-end.ensures.read file (c.in_ok-entry.ensures.ahead.costs.spends.reads.keeps.same_file ∙ held));
+      among = λ file held.
+          let is = rw c.in-Some.is at c.in_ok-found.ensures.among in
+          let within = rw c.in-Some.is at (c.in_ok-found.ensures.within _ c.requires) in
+          let decoded = c.in_ok-entry.ensures.read file held (c.args.self.now.held file held) in
+          read_among file c.args.self.now.style.cap.bytes c.args.at c.args.symbol c.args.linked _ _ _ _ _ (Ok c.in_ok-end.end) _ is.0 is.1 is.2 within.0.0 is.3 c.at.ensures
+          (c.from.ensures ∙ (decoded.st_name ∙ ap (st_name file) (sym c.at.ensures)))
           (c.in_ok-end.ensures.read file (c.in_ok-entry.ensures.ahead.costs.spends.reads.keeps.same_file ∙ held));
       defined = λ file header held linked some.
           let found = rw c.in-Some.is at (c.in_ok-found.ensures.held file header linked) in

@@ -1,0 +1,3 @@
+pub mod AliveSteps
+pub mod ItemSteps
+pub mod StoredSteps

@@ -1,0 +1,6 @@
+pub mod Headers
+pub mod Items
+pub mod Values
+pub mod Within
+pub mod Images
+pub mod Missing
