@@ -42,7 +42,8 @@ class Opened:
 class Link:
     """The files of a link, and the keys that they make."""
 
-    def __init__(self, words, most=65279):
+    def __init__(self, words, most=65279, takes_shared=False):
+        self.takes_shared = takes_shared
         self.words, self.most, self.keys, self.rows, self.refusal = words, most, Keys(), [], None
         self.known, self.sections, self.libraries, self.listed, self.archives, self.spare = set(), set(), {}, [], [], []
         self.is_missing = self.has_library = False
@@ -122,7 +123,7 @@ class Link:
 
     def open_elf(self, path, content, as_needed):
         row = self.row(path)
-        if content[16:18] == b"\3\0":
+        if content[16:18] == b"\3\0" and self.takes_shared:
             library = SharedLibrary(content, self.most)
             opened = Opened(row)
             opened.library, opened.as_needed = library, as_needed

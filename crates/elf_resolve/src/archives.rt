@@ -36,8 +36,6 @@ pub(crate) struct ArchiveTables {
     pub archives: Vec<LinkArchive>,
     /// The file offset of the header of each member in its archive.
     pub members: Vec<u64>,
-    /// Whether each member is taken.
-    pub taken: Vec<bool>,
     /// The entries.
     pub entries: Vec<IndexEntry>,
     most: usize,
@@ -53,7 +51,6 @@ impl ArchiveTables {
         Ok(ArchiveTables {
             archives: Vec::with_capacity(alloc, rows as usize)?,
             members: Vec::with_capacity(alloc, most)?,
-            taken: Vec::with_capacity(alloc, most)?,
             entries: Vec::with_capacity(alloc, most)?,
             most,
         })
@@ -96,7 +93,6 @@ impl ArchiveTables {
             return refused(at, LinkCause::TooManyRows);
         }
         let _ = self.members.push(at);
-        let _ = self.taken.push(false);
         Ok(())
     }
 

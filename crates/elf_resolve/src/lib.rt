@@ -21,6 +21,7 @@ mod members;
 mod object;
 mod object_symbols;
 mod passes;
+mod problem_rows;
 mod resolver;
 mod room;
 mod rows;

@@ -16,7 +16,8 @@ use elf_source::{Out, OutFault, Sink};
 pub struct LinkLines {
     /// The format: columns or objects.
     pub format: Format,
-    /// Whether only the lines that make the status 1 are written.
+    /// Whether only the lines that make the status 1 are written, and those of the files that they
+    /// name.
     pub problems: bool,
 }
 
@@ -76,8 +77,8 @@ fn show_rows<F: LinkFiles, W: Sink, R: Render>(
         if matches!(row.kind, RowKind::Missing) {
             status = 1;
         }
-        if !problems || word == "missing" || word == "refused" {
-            show_row::<F, W, R>(link, files, index, word, out)?;
+        if !problems || word == "missing" || word == "refused" || link.is_in_problem(index) {
+            show_row::<F, W, R>(link, files, index, word, !problems, out)?;
         }
     }
     Ok(status)
@@ -102,7 +103,7 @@ fn row_word(link: &Resolver<'_>, index: u32, row: &LinkRow) -> &'static str {
     }
 }
 
-/// Writes the line of a row, and of a member the line of why it was taken.
+/// Writes the line of a row and, if requested, of a member the line of why it was taken.
 ///
 /// # Errors
 /// A fault of the output.
@@ -111,6 +112,7 @@ fn show_row<F: LinkFiles, W: Sink, R: Render>(
     files: &F,
     index: u32,
     word: &'static str,
+    has_reasons: bool,
     out: &mut Out<W>,
 ) -> Result<(), OutFault> {
     let Some(row) = link.link.rows.rows().get(index as usize).copied() else {
@@ -124,12 +126,12 @@ fn show_row<F: LinkFiles, W: Sink, R: Render>(
     put_index::<R>(line, b"archive", row.archive);
     put_index::<R>(line, b"member", row.member);
     let (path, is_cut) = match row.member {
-        Some(_) => link.names.name(index),
+        Some(_) => link.room.names.name(index),
         None => (files.path(row.input), false),
     };
     show_named(&mut front, path, is_cut, out)?;
     match row.reason {
-        Some(reason) if word != "refused" => {
+        Some(reason) if has_reasons && word != "refused" => {
             let name = link.link.keys.name(reason.key);
             show_reason::<W, R>(index, reason.row, name, out)
         }

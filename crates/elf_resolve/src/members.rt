@@ -3,7 +3,6 @@ ghost use Rattle.elf_resolve.specs.LinkMembers.{unknown_members};
 
 use crate::archives::{LinkArchive, read_header_at};
 use crate::link_faults::{LinkFault, file_refused, in_member};
-use crate::member_names::MemberNames;
 use crate::object::{load_headers, read_tables, take_object};
 use crate::object_symbols::{global_in, is_data_definition};
 use crate::room::LinkRoom;
@@ -27,8 +26,6 @@ pub(crate) struct ArchiveMembers<'r, S: Source> {
     pub src: &'r mut Counted<RangeSource<S>>,
     /// Memory for one member.
     pub room: &'r mut LinkRoom,
-    /// The names of the members that are taken.
-    pub names: &'r mut MemberNames,
     /// The archive.
     pub archive: LinkArchive,
     /// The file offsets of the members' headers.
@@ -75,7 +72,7 @@ impl<S: Source> ArchiveMembers<'_, S> {
     ) -> Result<(), LinkFault> {
         let at = self.place(member)?;
         self.src.widen();
-        let extent = self.names.read(self.src, self.archive.names, at, row)?;
+        let extent = self.room.names.read(self.src, self.archive.names, at, row)?;
         narrow_to(self.src, extent)?;
         let taken = take_object(self.src, self.room, keys, row, ET_REL);
         self.src.widen();

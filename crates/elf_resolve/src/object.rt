@@ -5,7 +5,6 @@ use crate::link_faults::{LinkFault, refused};
 use crate::object_symbols::take_symbols;
 use crate::room::LinkRoom;
 use crate::section_groups::{drop_groups, note_sections};
-use crate::section_marks::SectionMarks;
 use crate::string_buffer::{HeldText, StringBuffer, part_of};
 use elf_model::LinkCause;
 use elf_record::Sym;
@@ -55,15 +54,6 @@ pub(crate) struct LinkObject<'v> {
     pub sections: Option<HeldText>,
 }
 
-/// Where names of keys are kept while an object is taken.
-#[derive(Drop)]
-pub(crate) struct ObjectRoom<'r> {
-    /// The tables.
-    pub strings: &'r mut StringBuffer,
-    /// Which sections are dropped.
-    pub marks: &'r mut SectionMarks,
-}
-
 /// Takes the section groups and the symbols of an object, which has the row `row`.
 ///
 /// # Errors
@@ -80,6 +70,7 @@ pub(crate) fn take_object<S: Source>(
         headers,
         strings,
         marks,
+        names: _,
     } = room;
     let mut store = headers.store();
     let loaded = load_headers(src, &mut store, wanted)?;
@@ -88,11 +79,10 @@ pub(crate) fn take_object<S: Source>(
         store: &store,
     };
     let object = read_tables(src, view, SHT_SYMTAB, strings)?;
-    let mut held = ObjectRoom { strings, marks };
-    held.marks.clear(object.view.sections());
-    drop_groups(src, &object, &mut held, keys)?;
-    note_sections(&object, &mut held, keys)?;
-    take_symbols(&object, &mut held, keys, row)
+    marks.clear(object.view.sections());
+    drop_groups(src, &object, strings, marks, keys)?;
+    note_sections(&object, strings, marks, keys)?;
+    take_symbols(&object, strings, marks, keys, row)
 }
 
 /// Loads the section headers of a file for x86-64 of a type.

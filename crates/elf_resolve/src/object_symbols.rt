@@ -1,7 +1,8 @@
 //! The symbols of an object.
 
 use crate::link_faults::{LinkFault, full, refused};
-use crate::object::{LinkObject, ObjectRoom, symbol_in};
+use crate::object::{LinkObject, symbol_in};
+use crate::section_marks::SectionMarks;
 use crate::string_buffer::{HeldText, StringBuffer, split_version};
 use elf_model::{LinkCause, SymbolRole, SymbolUse};
 use elf_record::Sym;
@@ -29,7 +30,8 @@ const LTO_MARK: &[u8] = b"__gnu_lto_slim";
 /// The first fault of a symbol or its name; there is no room for a key.
 pub(crate) fn take_symbols(
     object: &LinkObject<'_>,
-    room: &mut ObjectRoom<'_>,
+    strings: &mut StringBuffer,
+    marks: &SectionMarks,
     keys: &mut KeyTable<'_>,
     row: u32,
 ) -> Result<(), LinkFault> {
@@ -37,10 +39,11 @@ pub(crate) fn take_symbols(
         return Ok(());
     };
     for index in symbols.first..symbols.count {
-        let rows = room.strings.bytes(symbols.rows);
-        if let Some(symbol) = global_in(rows, index) {
+        if let Some(symbol) = global_in(strings.bytes(symbols.rows), index) {
             let at = symbols.place(index);
-            take_symbol(&symbol, symbols.names, at, room, keys, row)?;
+            let used = use_of(&symbol, is_in_dropped(&symbol, marks));
+            let name = strings.name(symbols.names, u64::from(symbol.st_name), at)?;
+            take_symbol(name, used, at, strings, keys, row)?;
         }
     }
     Ok(())
@@ -58,44 +61,41 @@ pub(crate) fn global_in(rows: &[u8], index: u64) -> Option<Sym> {
 /// Takes a symbol at a file offset, if it has a name.
 ///
 /// # Errors
-/// Those of its name; there is no room for its keys.
+/// `Lto` if it is the mark of an object with intermediate code alone; there is no room for its keys.
 fn take_symbol(
-    symbol: &Sym,
-    names: HeldText,
+    name: HeldText,
+    symbol: SymbolUse,
     at: u64,
-    room: &mut ObjectRoom<'_>,
+    strings: &mut StringBuffer,
     keys: &mut KeyTable<'_>,
     row: u32,
 ) -> Result<(), LinkFault> {
-    let name = room.strings.name(names, u64::from(symbol.st_name), at)?;
-    if room.strings.bytes(name) == LTO_MARK {
+    if strings.bytes(name) == LTO_MARK {
         return refused(at, LinkCause::Lto);
     }
     if name.size == 0 {
         return Ok(());
     }
-    let symbol = use_of(symbol, is_in_dropped(symbol, room));
-    let (name, default) = key_names(room.strings, name, symbol.role, at)?;
-    let default_name = default.map(|default| room.strings.bytes(default));
-    let name = room.strings.bytes(name);
-    let taken = keys.take(
-        Symbol {
-            name,
-            default_name,
-            symbol,
-        },
-        Some(row),
-    );
-    match taken {
+    let (name, default) = key_names(strings, name, symbol.role, at)?;
+    let default_name = match default {
+        Some(default) => Some(strings.bytes(default)),
+        None => None,
+    };
+    let symbol = Symbol {
+        name: strings.bytes(name),
+        default_name,
+        symbol,
+    };
+    match keys.take(symbol, Some(row)) {
         Ok(()) => Ok(()),
         Err(fault) => Err(full(at, fault)),
     }
 }
 
 /// Returns `true` if a symbol is defined in a section that is dropped.
-fn is_in_dropped(symbol: &Sym, room: &ObjectRoom<'_>) -> bool {
+fn is_in_dropped(symbol: &Sym, marks: &SectionMarks) -> bool {
     let section = symbol.st_shndx;
-    section != SHN_UNDEF && section < SHN_LORESERVE && room.marks.is_dropped(u32::from(section))
+    section != SHN_UNDEF && section < SHN_LORESERVE && marks.is_dropped(u32::from(section))
 }
 
 /// Returns how a symbol uses its key; a definition in a dropped section is a reference.

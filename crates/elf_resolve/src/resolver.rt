@@ -6,7 +6,6 @@ use crate::key_chains::KeyChains;
 use crate::link_faults::{LinkFault, full, refused};
 use crate::link_files::{InputKind, LinkFiles, LinkInput, LinkPlan, LinkStep, OpenFault};
 use crate::linker_names::LinkOutput;
-use crate::member_names::MemberNames;
 use crate::members::ArchiveMembers;
 use crate::object::take_object;
 use crate::room::{LinkCaps, LinkRoom};
@@ -59,12 +58,13 @@ pub struct LinkEnd {
 pub struct Resolver<'a> {
     pub(crate) link: Link<'a>,
     pub(crate) tables: ArchiveTables,
-    pub(crate) names: MemberNames,
+    taken: Vec<bool>,
     pub(crate) offers: KeyChains,
     pub(crate) further: KeyChains,
     pub(crate) room: LinkRoom,
     pub(crate) output: LinkOutput,
     pub(crate) end: Option<LinkEnd>,
+    pub(crate) problems: Vec<bool>,
     states: Vec<InputState>,
     groups: Vec<OpenGroup>,
     left: Option<u64>,
@@ -91,12 +91,13 @@ impl<'a> Resolver<'a> {
                 rows: RowTable::new(alloc, caps.rows)?,
             },
             tables: ArchiveTables::new(alloc, caps.index, caps.rows)?,
-            names: MemberNames::new(alloc, caps.rows)?,
+            taken: vec![in alloc; false; caps.index as usize]?,
             offers: KeyChains::new(alloc, caps.keys, (caps.index as usize).saturating_mul(2))?,
             further: KeyChains::new(alloc, caps.keys, caps.index as usize)?,
             room: LinkRoom::new(alloc, caps)?,
             output,
             end: None,
+            problems: vec![in alloc; false; caps.rows as usize]?,
             states: vec![in alloc; InputState::New; steps]?,
             groups: Vec::with_capacity(alloc, steps)?,
             left: caps.budget,
@@ -127,6 +128,7 @@ impl<'a> Resolver<'a> {
     ) -> Result<(), LinkFault> {
         let taken = self.take_all(files, asked, plan);
         self.chain_entries();
+        self.mark_problems();
         match taken {
             Ok(()) => Ok(()),
             Err(LinkFault::Refused(refusal)) => {
@@ -390,36 +392,17 @@ impl<'a> Resolver<'a> {
         src: &mut Counted<RangeSource<S>>,
         archive: LinkArchive,
     ) -> Result<(), LinkFault> {
-        let ArchiveTables {
-            members,
-            taken,
-            entries,
-            ..
-        } = &mut self.tables;
-        let mut objects = ArchiveMembers {
-            src,
-            room: &mut self.room,
-            names: &mut self.names,
-            archive,
-            members: range_of(members, archive.members),
-            fault: None,
-            asked: None,
-        };
-        let input = ArchiveInput {
-            input: archive.input,
-            row: archive.row,
-        };
-        let found = search_archive(
+        let found = search_members(
             &mut self.link,
-            input,
-            range_of_mut(taken, archive.members),
-            range_of(entries, archive.entries),
-            &mut objects,
+            &mut self.room,
+            &self.tables,
+            &mut self.taken,
+            src,
+            archive,
         );
-        let (fault, asked) = (objects.fault, objects.asked);
-        match found {
+        match found.ended {
             Ok(()) => Ok(()),
-            Err(stop) => self.stopped(archive, stop, fault, asked),
+            Err(stop) => self.stopped(archive, stop, found.fault, found.asked),
         }
     }
 
@@ -461,25 +444,37 @@ impl<'a> Resolver<'a> {
     ) -> Result<(), LinkFault> {
         let count = range_of(&self.tables.members, archive.members).len();
         for number in 0..u32::try_from(count).unwrap_or(u32::MAX) {
-            let mut objects = ArchiveMembers {
-                src,
-                room: &mut self.room,
-                names: &mut self.names,
-                archive,
-                members: range_of(&self.tables.members, archive.members),
-                fault: None,
-                asked: None,
-            };
-            if objects.is_file(number)? {
-                let Some(row) = self.link.rows.add(member_row(archive, number)) else {
-                    self.row = None;
-                    return refused(0, LinkCause::TooManyRows);
-                };
-                self.row = Some(row);
-                objects.take_member(number, row, &mut self.link.keys)?;
-            }
+            self.take_if_file(src, archive, number)?;
         }
         Ok(())
+    }
+
+    /// Takes a member of an archive, if it is a file.
+    ///
+    /// # Errors
+    /// The first fault of the member.
+    fn take_if_file<S: Source>(
+        &mut self,
+        src: &mut Counted<RangeSource<S>>,
+        archive: LinkArchive,
+        member: u32,
+    ) -> Result<(), LinkFault> {
+        let mut objects = ArchiveMembers {
+            src,
+            room: &mut self.room,
+            archive,
+            members: range_of(&self.tables.members, archive.members),
+            fault: None,
+            asked: None,
+        };
+        if !objects.is_file(member)? {
+            return Ok(());
+        }
+        self.row = self.link.rows.add(member_row(archive, member));
+        match self.row {
+            Some(row) => objects.take_member(member, row, &mut self.link.keys),
+            None => refused(0, LinkCause::TooManyRows),
+        }
     }
 
     /// Lists by their keys the entries of indexes, and the further definitions.
@@ -494,6 +489,50 @@ impl<'a> Resolver<'a> {
         for (place, further) in self.link.keys.further().iter().enumerate().rev() {
             self.further.add(further.key, place);
         }
+    }
+}
+
+/// How a search of an archive ended: its result, and if a member cannot be read its fault, and the
+/// member, if it is one that is not taken.
+#[derive(Drop)]
+struct SearchEnd {
+    ended: Result<(), LinkStop>,
+    fault: Option<LinkFault>,
+    asked: Option<u32>,
+}
+
+/// Takes the members of an archive that its index asks for.
+fn search_members<S: Source>(
+    link: &mut Link<'_>,
+    room: &mut LinkRoom,
+    tables: &ArchiveTables,
+    taken: &mut [bool],
+    src: &mut Counted<RangeSource<S>>,
+    archive: LinkArchive,
+) -> SearchEnd {
+    let mut objects = ArchiveMembers {
+        src,
+        room,
+        archive,
+        members: range_of(&tables.members, archive.members),
+        fault: None,
+        asked: None,
+    };
+    let input = ArchiveInput {
+        input: archive.input,
+        row: archive.row,
+    };
+    let ended = search_archive(
+        link,
+        input,
+        range_of_mut(taken, archive.members),
+        range_of(&tables.entries, archive.entries),
+        &mut objects,
+    );
+    SearchEnd {
+        ended,
+        fault: objects.fault,
+        asked: objects.asked,
     }
 }
 

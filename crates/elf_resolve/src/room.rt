@@ -1,5 +1,6 @@
 //! The limits of a link, and the memory for one file at a time.
 
+use crate::member_names::MemberNames;
 use crate::section_marks::SectionMarks;
 use crate::string_buffer::StringBuffer;
 use elf_table::HeaderBuffer;
@@ -22,13 +23,14 @@ pub struct LinkCaps {
     pub budget: Option<u64>,
 }
 
-/// Memory for reading one file: its section headers, its string tables, and which of its sections
-/// are dropped.
+/// Memory for reading one file: its section headers, its tables, and which of its sections are
+/// dropped; and the names of the members that were taken.
 #[derive(Drop)]
 pub struct LinkRoom {
     pub(crate) headers: HeaderBuffer,
     pub(crate) strings: StringBuffer,
     pub(crate) marks: SectionMarks,
+    pub(crate) names: MemberNames,
 }
 
 impl LinkRoom {
@@ -41,6 +43,7 @@ impl LinkRoom {
             headers: HeaderBuffer::new(alloc, caps.headers)?,
             strings: StringBuffer::new(alloc, caps.key_bytes)?,
             marks: SectionMarks::new(alloc, caps.headers)?,
+            names: MemberNames::new(alloc, caps.rows)?,
         })
     }
 }

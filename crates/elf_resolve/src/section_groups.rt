@@ -2,10 +2,11 @@
 ghost use Rattle.std.specs.Prelude.{◌<◌};
 
 use crate::link_faults::{LinkFault, file_refused, full};
-use crate::object::{LinkObject, ObjectRoom, SymbolRows, read_names, read_rows, symbol_in};
-use crate::string_buffer::{HeldText, NO_TEXT};
+use crate::object::{LinkObject, SymbolRows, read_names, read_rows, symbol_in};
+use crate::section_marks::SectionMarks;
+use crate::string_buffer::{HeldText, NO_TEXT, StringBuffer};
 use elf_record::numbers::{SHT_GROUP, STT_SECTION};
-use elf_record::{Cause, Shdr, word};
+use elf_record::{Cause, word};
 use crate::table::KeyTable;
 use elf_source::{Counted, Source};
 use elf_table::{Names, Table, checked_rows};
@@ -41,15 +42,15 @@ struct GroupSymbol {
 pub(crate) fn drop_groups<S: Source>(
     src: &mut Counted<S>,
     object: &LinkObject<'_>,
-    room: &mut ObjectRoom<'_>,
+    strings: &mut StringBuffer,
+    marks: &mut SectionMarks,
     keys: &mut KeyTable<'_>,
 ) -> Result<(), LinkFault> {
     for section in 0..object.view.sections() {
-        let header = object.view.section(section);
-        if header.sh_type == SHT_GROUP {
-            take_group(src, object, section, room, keys)?;
+        if object.view.section(section).sh_type == SHT_GROUP {
+            take_group(src, object, section, strings, marks, keys)?;
         } else {
-            take_link_once(object, section, &header, room, keys)?;
+            take_link_once(object, section, strings, marks, keys)?;
         }
     }
     Ok(())
@@ -63,7 +64,8 @@ fn take_group<S: Source>(
     src: &mut Counted<S>,
     object: &LinkObject<'_>,
     section: u16,
-    room: &mut ObjectRoom<'_>,
+    strings: &mut StringBuffer,
+    marks: &mut SectionMarks,
     keys: &mut KeyTable<'_>,
 ) -> Result<(), LinkFault>
     requires { section < object.now.view.store.now.loaded }
@@ -85,12 +87,12 @@ fn take_group<S: Source>(
     if symbol.index >= table.len() {
         return file_refused(at, Cause::SymbolIndex);
     }
-    let used = room.strings.used();
-    let words = room.strings.read(src, words.at(), header.sh_size, at)?;
-    if is_comdat(room.strings.bytes(words)) && is_known(src, object, symbol, room, keys)? {
-        drop_sections(words, room);
+    let used = strings.used();
+    let words = strings.read(src, words.at(), header.sh_size, at)?;
+    if is_comdat(strings.bytes(words)) && is_known(src, object, symbol, strings, keys)? {
+        drop_sections(words, strings, marks);
     }
-    room.strings.forget_after(used);
+    strings.forget_after(used);
     Ok(())
 }
 
@@ -103,10 +105,10 @@ fn is_comdat(words: &[u8]) -> bool {
 }
 
 /// Marks the sections in the words of a group, after the first.
-fn drop_sections(words: HeldText, room: &mut ObjectRoom<'_>) {
-    for section in room.strings.bytes(words).chunks(4).skip(1) {
+fn drop_sections(words: HeldText, strings: &StringBuffer, marks: &mut SectionMarks) {
+    for section in strings.bytes(words).chunks(4).skip(1) {
         if let Some(number) = section.first_chunk() {
-            room.marks.drop_section(word(number));
+            marks.drop_section(word(number));
         }
     }
 }
@@ -119,11 +121,11 @@ fn is_known<S: Source>(
     src: &mut Counted<S>,
     object: &LinkObject<'_>,
     symbol: GroupSymbol,
-    room: &mut ObjectRoom<'_>,
+    strings: &mut StringBuffer,
     keys: &mut KeyTable<'_>,
 ) -> Result<bool, LinkFault> {
-    let name = signature(src, object, symbol, room)?;
-    match keys.drop_group(room.strings.bytes(name), false) {
+    let name = signature(src, object, symbol, strings)?;
+    match keys.drop_group(strings.bytes(name), false) {
         Ok(is_known) => Ok(is_known),
         Err(fault) => Err(full(symbol.at, fault)),
     }
@@ -138,18 +140,16 @@ fn signature<S: Source>(
     src: &mut Counted<S>,
     object: &LinkObject<'_>,
     symbol: GroupSymbol,
-    room: &mut ObjectRoom<'_>,
+    strings: &mut StringBuffer,
 ) -> Result<HeldText, LinkFault> {
-    let symbols = linked_symbols(src, object, symbol, room)?;
+    let symbols = linked_symbols(src, object, symbol, strings)?;
     let place = symbols.place(symbol.index);
-    let Some(fields) = symbol_in(room.strings.bytes(symbols.rows), symbol.index) else {
+    let Some(fields) = symbol_in(strings.bytes(symbols.rows), symbol.index) else {
         return file_refused(symbol.at, Cause::SymbolIndex);
     };
-    let name = room
-        .strings
-        .name(symbols.names, u64::from(fields.st_name), place)?;
+    let name = strings.name(symbols.names, u64::from(fields.st_name), place)?;
     if name.size == 0 && fields.kind() == STT_SECTION && fields.st_shndx < object.view.sections() {
-        return section_name(object, fields.st_shndx, room);
+        return section_name(object, fields.st_shndx, strings);
     }
     Ok(name)
 }
@@ -162,15 +162,15 @@ fn linked_symbols<S: Source>(
     src: &mut Counted<S>,
     object: &LinkObject<'_>,
     symbol: GroupSymbol,
-    room: &mut ObjectRoom<'_>,
+    strings: &mut StringBuffer,
 ) -> Result<SymbolRows, LinkFault> {
     if let Some(symbols) = object.symbols {
         if u32::from(symbols.section) == symbol.link {
             return Ok(symbols);
         }
     }
-    let rows = read_rows(src, symbol.table, room.strings)?;
-    let names = read_names(src, symbol.names, symbol.at, room.strings)?;
+    let rows = read_rows(src, symbol.table, strings)?;
+    let names = read_names(src, symbol.names, symbol.at, strings)?;
     Ok(SymbolRows {
         section: 0,
         at: symbol.table.at(),
@@ -188,7 +188,7 @@ fn linked_symbols<S: Source>(
 fn section_name(
     object: &LinkObject<'_>,
     section: u16,
-    room: &ObjectRoom<'_>,
+    strings: &StringBuffer,
 ) -> Result<HeldText, LinkFault>
     requires { section < object.now.view.store.now.loaded }
 {
@@ -196,7 +196,7 @@ fn section_name(
         return Ok(NO_TEXT);
     };
     let index = u64::from(object.view.section(section).sh_name);
-    room.strings.name(names, index, object.view.place(section))
+    strings.name(names, index, object.view.place(section))
 }
 
 /// Drops a link-once section in no group whose name is known, or makes it known.
@@ -206,20 +206,20 @@ fn section_name(
 fn take_link_once(
     object: &LinkObject<'_>,
     section: u16,
-    header: &Shdr,
-    room: &mut ObjectRoom<'_>,
+    strings: &StringBuffer,
+    marks: &mut SectionMarks,
     keys: &mut KeyTable<'_>,
 ) -> Result<(), LinkFault>
     requires { section < object.now.view.store.now.loaded }
 {
-    let name = section_name(object, section, room)?;
-    let text = room.strings.bytes(name);
-    if header.sh_flags & SHF_GROUP != 0 || !text.starts_with(LINK_ONCE) {
+    let name = section_name(object, section, strings)?;
+    let text = strings.bytes(name);
+    if object.view.section(section).sh_flags & SHF_GROUP != 0 || !text.starts_with(LINK_ONCE) {
         return Ok(());
     }
     match keys.drop_group(text, true) {
         Ok(true) => {
-            room.marks.drop_section(u32::from(section));
+            marks.drop_section(u32::from(section));
             Ok(())
         }
         Ok(false) => Ok(()),
@@ -234,13 +234,14 @@ fn take_link_once(
 /// Those of a name, at the section's header; there is no room for it.
 pub(crate) fn note_sections(
     object: &LinkObject<'_>,
-    room: &mut ObjectRoom<'_>,
+    strings: &StringBuffer,
+    marks: &SectionMarks,
     keys: &mut KeyTable<'_>,
 ) -> Result<(), LinkFault> {
     for section in 0..object.view.sections() {
-        let name = section_name(object, section, room)?;
-        let text = room.strings.bytes(name);
-        if is_identifier(text) && !room.marks.is_dropped(u32::from(section)) {
+        let name = section_name(object, section, strings)?;
+        let text = strings.bytes(name);
+        if is_identifier(text) && !marks.is_dropped(u32::from(section)) {
             if let Err(fault) = keys.note_section(text) {
                 return Err(full(object.view.place(section), fault));
             }
