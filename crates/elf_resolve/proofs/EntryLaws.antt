@@ -1,13 +1,12 @@
 -- What symbols make of the entry of one name among keys.
-use Rattle.std.proofs.Common.{◌≡◌, ℕ, zero, suc, ◌<◌, ◌≤◌, Bool, true, false, List, [], ◌∷◌, ◌++◌, length, length-append, get_or, set, refl, sym, ap, ◌∙◌, arith}
-use Rattle.std.specs.Prelude.{Option, None, Some, bytes_eq, ◌&&◌, if◌then◌else◌, position}
+use Rattle.std.proofs.Common.{◌≡◌, ℕ, zero, suc, ◌<◌, ◌≤◌, Bool, true, false, List, [], ◌∷◌, ◌++◌, length, length-append, get_or, refl, sym, ap, ◌∙◌, arith}
+use Rattle.std.specs.Prelude.{Option, None, Some, bytes_eq, ◌&&◌, if◌then◌else◌}
 use Rattle.std.proofs.lemmas.List.{get_or-set_other, get_or-set_same, get_or_past, length-set}
 use Rattle.std.proofs.lemmas.List.Quantifiers.{position-Some}
 use Rattle.std.proofs.lemmas.Slice.Eq.{bytes_eq-Decides}
 use Rattle.elf_model.specs.LinkKeys.{LinkKeys, LinkSymbol, key_change, key_changed, default_used, entered, entered_at, key_entry, entry_named, first_row, key_index, index_or, is_shared, key_in, key_used, name_used, new_key, prepared, references_by, removed, symbol_taken, symbols_taken, used}
 use Rattle.elf_model.specs.LinkSteps.{ends_at, key_state_after, state_change}
 use Rattle.elf_model.specs.declared.link_states.KeyEntry.{KeyEntry}
-use Rattle.elf_model.specs.declared.link_states.KeyState.{KeyState}
 use Rattle.elf_model.specs.declared.link_states.StateChange.{StateChange}
 use Rattle.elf_model.specs.declared.link_states.StateChange.TheVariants.{Stays, Multiple, Enlarged, BecomesState}
 use Rattle.elf_model.specs.declared.link_states.SymbolRole.{SymbolRole}
@@ -15,7 +14,6 @@ use Rattle.elf_model.specs.declared.link_states.SymbolRole.TheVariants.{WeakRefe
 use Rattle.elf_model.specs.declared.link_states.SymbolRole.TheVariants as role
 use Rattle.elf_model.specs.declared.link_states.SymbolUse.{SymbolUse}
 use Rattle.elf_resolve.specs.KeyStates.{ArePlain, IsOwn, IsPlainState, after, after_all, roles_of}
-use Rattle.elf_resolve.proofs.KeyLaws.{index_within}
 use Rattle.elf_resolve.proofs.ListLaws.{position_push, position_push_new, position_push_other}
 
 -- a new entry after others is what the lack of one is

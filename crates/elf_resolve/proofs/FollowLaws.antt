@@ -1,9 +1,8 @@
 -- How keys follow others while symbols of objects are taken: how many have been asked for grows, or
 -- nothing new is asked for.
-use Rattle.std.proofs.Common.{◌≡◌, ℕ, zero, suc, ◌+◌, ◌<◌, ◌≤◌, Bool, true, false, List, [], ◌∷◌, ◌++◌, ◌⊎◌, inl, inr, length, get_or, set, map, refl, sym, ap, subst, ◌∙◌, arith}
+use Rattle.std.proofs.Common.{◌≡◌, ℕ, zero, suc, ◌+◌, ◌≤◌, Bool, true, false, List, [], ◌∷◌, ◌⊎◌, inl, inr, get_or, set, map, refl, sym, ap, ◌∙◌, arith}
 use Rattle.std.specs.Prelude.{Option, None, Some, ◌&&◌, ◌||◌, not, nat_lt, if◌then◌else◌}
-use Rattle.std.proofs.lemmas.Bool.Decides.{nat_tests}
-use Rattle.elf_model.specs.LinkKeys.{LinkKeys, LinkSymbol, references_after, asks_after, key_change, key_changed, default_used, entered, entered_at, entry_named, entry_named_as, first_row, key_index, key_in, key_used, name_used, new_key, noted, prepared, references_by, removed, symbol_taken, symbols_taken, used, with_entry}
+use Rattle.elf_model.specs.LinkKeys.{LinkKeys, LinkSymbol, asks_after, key_change, key_changed, default_used, entered, entered_at, entry_named, entry_named_as, first_row, key_index, key_in, key_used, name_used, new_key, prepared, references_by, symbol_taken, symbols_taken, used, with_entry}
 use Rattle.elf_model.specs.LinkObjects.{DroppedSections, LinkObject, NamedSection, ObjectSymbol, SectionGroup, dropped_symbol, group_taken, groups_taken, is_dropped, kept, name_noted, object_taken, reference_role, section_noted, sections_noted, signature_kept, symbol_without}
 use Rattle.elf_model.specs.LinkPasses.{is_new}
 use Rattle.elf_model.specs.LinkSteps.{common_over, common_over_shared, defined_over, defined_over_shared, ends_at, key_state_after, state_change, weak_over, weak_over_shared}
@@ -320,7 +319,7 @@ follows_default row keys None symbol ends unrestricted own known = follows_itsel
 follows_default row keys (Some name) symbol true unrestricted own known = follows_itself keys known
 follows_default row keys (Some name) symbol false unrestricted own known = follows_name row keys name symbol unrestricted own known
 
-follows_symbol : (row : Option ℕ) (keys : LinkKeys) (s : LinkSymbol) → s.symbol.restricted ≡ false → IsOwn s.symbol.role → AskedAreKnown keys → Follows keys (symbol_taken row keys s)
+pub follows_symbol : (row : Option ℕ) (keys : LinkKeys) (s : LinkSymbol) → s.symbol.restricted ≡ false → IsOwn s.symbol.role → AskedAreKnown keys → Follows keys (symbol_taken row keys s)
 unfolding symbol_taken
 follows_symbol row keys s unrestricted own known =
     let first = follows_name row keys s.name s.symbol unrestricted own known in

@@ -1,11 +1,10 @@
 -- What is left after an archive is searched: no undefined key of its index, except of members that are
 -- taken.
-use Rattle.std.proofs.Common.{◌≡◌, ℕ, zero, suc, ◌+◌, ◌<◌, ◌≤◌, Bool, true, false, List, [], ◌∷◌, length, get_or, set, refl, sym, ap, subst, ◌∙◌, arith}
-use Rattle.std.specs.Prelude.{Contains, Some, ◌&&◌, ◌==◌, not, if◌then◌else◌}
+use Rattle.std.proofs.Common.{◌≡◌, ℕ, zero, suc, ◌<◌, Bool, true, false, List, [], ◌∷◌, length, get_or, set, refl, sym, ap, subst, ◌∙◌, arith}
+use Rattle.std.specs.Prelude.{Contains, Some, ◌==◌, not, if◌then◌else◌}
 use Rattle.std.proofs.lemmas.Bool.{eq-eqb, eqb-true}
 use Rattle.elf_model.specs.LinkKeys.{LinkKeys, entry_named_as}
-use Rattle.elf_model.specs.LinkObjects.{object_taken}
-use Rattle.elf_model.specs.LinkPasses.{ArchiveMembers, ArchivePass, LinkArchive, archive_searched, asks_for, entry_visited, index_name, index_passed, is_new, is_taken, key_of_entry, member_taken, passes_made, takes_member, takes_members, untaken}
+use Rattle.elf_model.specs.LinkPasses.{ArchivePass, LinkArchive, archive_searched, asks_for, entry_visited, index_name, index_passed, is_new, is_taken, key_of_entry, member_taken, passes_made, takes_member, takes_members, untaken}
 use Rattle.elf_model.specs.declared.link_states.IndexEntry.{IndexEntry}
 use Rattle.elf_model.specs.declared.link_states.KeyEntry.{KeyEntry}
 use Rattle.elf_model.specs.declared.link_states.KeyState.{KeyState}
@@ -41,7 +40,7 @@ module _ (archive : LinkArchive) (plain : (member : ℕ) → AreUnrestricted (ar
   unfolding entry_visited
   follows_visit p e known = visit_by p e (takes_member archive p e) known
 
-  follows_pass : (p : ArchivePass) (es : List IndexEntry) → AskedAreKnown p.keys → Follows p.keys (index_passed archive p es).keys
+  pub follows_pass : (p : ArchivePass) (es : List IndexEntry) → AskedAreKnown p.keys → Follows p.keys (index_passed archive p es).keys
   follows_pass p [] known = follows_itself p.keys known
   follows_pass p (e ∷ es) known =
       let first = follows_visit p e known in

@@ -5,7 +5,7 @@ use Rattle.std.specs.List.Sorted.{IsPermutation}
 use Rattle.std.proofs.lemmas.Bool.Decides.{nat_tests}
 use Rattle.std.proofs.lemmas.List.Sorted.{Contains-permutation, IsPermutation-sym}
 use Rattle.elf_resolve.specs.KeyStates.{AreOwn, IsOwn, IsOwnState, after, after_all, alone, is_above_state, rank, common_size}
-use Rattle.elf_model.specs.LinkSteps.{key_state_after, state_change}
+use Rattle.elf_model.specs.LinkSteps.{key_state_after}
 use Rattle.elf_model.specs.declared.link_states.StateChange.TheVariants.{Stays, BecomesState}
 use Rattle.elf_model.specs.declared.link_states.SymbolRole.{SymbolRole}
 use Rattle.elf_model.specs.declared.link_states.SymbolRole.TheVariants.{WeakReference, Reference, Common, Definition}

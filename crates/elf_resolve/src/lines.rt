@@ -34,7 +34,7 @@ pub fn show_link<F: LinkFiles, W: Sink>(
 ) -> Result<u8, OutFault> {
     match style.format {
         Format::Object => show_all::<F, W, Json>(link, files, style.problems, out),
-        Format::Columns | Format::KeyList => {
+        Format::Columns | Format::Table => {
             show_all::<F, W, Columns>(link, files, style.problems, out)
         }
     }

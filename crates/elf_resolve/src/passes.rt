@@ -1,7 +1,7 @@
 //! The members of an archive that its index asks for.
 ghost use Rattle.std.specs.Prelude.{◌≡◌, IfOk, OnOk};
 ghost use Rattle.elf_model.specs.LinkPasses.{ArchiveMembers, archive_searched, asks_for as asks_by, entry_visited, index_name, index_passed, is_new as is_new_of, is_taken as is_taken_of, key_of_entry as key_of, member_row as row_of};
-ghost use Rattle.elf_resolve.specs.Passing.{TookObject, searched_archive, pass_of};
+ghost use Rattle.elf_resolve.specs.Passing.{Moved, TookObject, searched_archive, pass_of};
 
 use crate::rows::RowTable;
 use crate::table::{KeyTable, LinkStop};
@@ -25,18 +25,22 @@ pub struct ArchiveInput {
     pub row: u32,
 }
 
-/// The objects that are the members of an archive.
+/// The objects that are the members of an archive. What is promised of them is promised if they are
+/// `known`.
 pub trait ArchiveObjects {
     ghost members: { Self → ArchiveMembers };
+
+    ghost known: { Self → Type 0 };
 
     /// TakesMembers the groups and the symbols of a member, which has the row `row`.
     ///
     /// # Errors
     /// Returns a `LinkStop` if the member can't be read, or there is no room for a key.
     fn take<'a>(&mut self, member: u32, row: u32, keys: &mut KeyTable<'a>) -> Result<(), LinkStop>
-        ensures takes { OnOk result
-            (TookObject ((members self.old).objects member) keys.old keys.new row) }
-        ensures same { members self.new ≡ members self.old };
+        ensures takes { known self.old
+            → OnOk result (TookObject ((members self.old).objects member) keys.old keys.new row) }
+        ensures same { members self.new ≡ members self.old }
+        ensures known { known self.old → known self.new };
 
     /// Returns whether the first symbol of an entry's name in the entry's member is a definition,
     /// not weak and no function.
@@ -44,9 +48,10 @@ pub trait ArchiveObjects {
     /// # Errors
     /// Returns a `LinkStop` if the member can't be read.
     fn defines<'a>(&mut self, entry: IndexEntry, keys: &KeyTable<'a>) -> Result<bool, LinkStop>
-        ensures defines { IfOk result (λ is_defined. is_defined
+        ensures defines { known self.old → IfOk result (λ is_defined. is_defined
             ≡ (members self.old).defines entry.member (index_name keys.now.keys entry)) }
-        ensures same { members self.new ≡ members self.old };
+        ensures same { members self.new ≡ members self.old }
+        ensures known { known self.old → known self.new };
 }
 
 /// Returns whether no symbol has a key in this state.
@@ -88,9 +93,10 @@ fn asks_for<'a, M: ArchiveObjects>(
     entry: IndexEntry,
     members: &mut M,
 ) -> Result<bool, LinkStop>
-    ensures asks { IfOk result
+    ensures asks { M.known members.old → IfOk result
         (λ asks. asks ≡ asks_by (M.members members.old) keys.now.keys entry) }
     ensures same { M.members members.new ≡ M.members members.old }
+    ensures known { M.known members.old → M.known members.new }
 {
     let known = keys.entry(key_of_entry(keys, entry));
     match known.state {
@@ -128,10 +134,12 @@ pub fn visit_entry<'a, M: ArchiveObjects>(
     entry: IndexEntry,
     members: &mut M,
 ) -> Result<(), LinkStop>
-    ensures visits { OnOk result (pass_of link.new taken.new
+    ensures moves { OnOk result (Moved (pass_of link.old taken.old) (pass_of link.new taken.new)) }
+    ensures visits { M.known members.old → OnOk result (pass_of link.new taken.new
         ≡ entry_visited (searched_archive archive (M.members members.old)) (pass_of link.old taken.old)
         entry) }
     ensures same { M.members members.new ≡ M.members members.old }
+    ensures known { M.known members.old → M.known members.new }
 {
     if is_taken(taken, entry.member) {
         return Ok(());
@@ -159,10 +167,12 @@ pub fn pass_index<'a, M: ArchiveObjects>(
     entries: &[IndexEntry],
     members: &mut M,
 ) -> Result<(), LinkStop>
-    ensures passes { OnOk result (pass_of link.new taken.new
+    ensures moves { OnOk result (Moved (pass_of link.old taken.old) (pass_of link.new taken.new)) }
+    ensures passes { M.known members.old → OnOk result (pass_of link.new taken.new
         ≡ index_passed (searched_archive archive (M.members members.old)) (pass_of link.old taken.old)
         entries.now) }
     ensures same { M.members members.new ≡ M.members members.old }
+    ensures known { M.known members.old → M.known members.new }
 {
     for i in 0..entries.len() {
         visit_entry(link, archive, taken, entries[i], members)?;
@@ -182,10 +192,11 @@ pub fn search_archive<'a, M: ArchiveObjects>(
     entries: &[IndexEntry],
     members: &mut M,
 ) -> Result<(), LinkStop>
-    ensures searches { OnOk result (pass_of link.new taken.new
+    ensures searches { M.known members.old → OnOk result (pass_of link.new taken.new
         ≡ archive_searched (searched_archive archive (M.members members.old)) entries.now
         (pass_of link.old taken.old)) }
     ensures same { M.members members.new ≡ M.members members.old }
+    ensures known { M.known members.old → M.known members.new }
 {
     loop {
         let before = link.keys.asked();

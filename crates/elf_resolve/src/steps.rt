@@ -76,9 +76,7 @@ fn common_change(state: KeyState, size: u64) -> StateChange
         KeyState::Defined => StateChange::Stays,
         KeyState::Shared(symbol) => match symbol.kind {
             SharedKind::Function => StateChange::BecomesState(KeyState::Common(size)),
-            SharedKind::NoBits(other) => StateChange::BecomesState(KeyState::Common(size.max(
-                other,
-            ))),
+            SharedKind::NoBits(other) => StateChange::BecomesState(KeyState::Common(size.max(other))),
             _ => {
                 if symbol.weak {
                     StateChange::BecomesState(KeyState::Common(size))
@@ -207,12 +205,7 @@ fn asks_after(before: KeyState, made: KeyState) -> bool
 }
 
 /// Returns the entry after a change of its state by a symbol of a row.
-fn key_changed(
-    entry: KeyEntry,
-    symbol: SymbolUse,
-    row: Option<u32>,
-    change: StateChange,
-) -> KeyEntry
+fn key_changed(entry: KeyEntry, symbol: SymbolUse, row: Option<u32>, change: StateChange) -> KeyEntry
     ensures { result ≡ changed_to entry symbol row change }
 {
     match change {

@@ -5,7 +5,7 @@ use Rattle.elf_resolve.proofs.passes.search_archive.Given as goal
 -- the passes that are left make the same of what is held as all passes make of what was held first
 abbrev pub invariant-loop : goal.invariant-loop
 invariant-loop g l =
-    PassedTo (g.M.ArchiveObjects.members l.initial.members) (g.M.ArchiveObjects.members l.members)
+    PassedTo (g.M.ArchiveObjects.members l.initial.members) (g.M.ArchiveObjects.members l.members) (g.M.ArchiveObjects.known l.initial.members) (g.M.ArchiveObjects.known l.members)
     (archive_searched (searched_archive l.archive (g.M.ArchiveObjects.members l.initial.members)) l.entries (pass_of l.initial.link l.initial.taken))
     (archive_searched (searched_archive l.archive (g.M.ArchiveObjects.members l.initial.members)) l.entries (pass_of l.link l.taken))
 

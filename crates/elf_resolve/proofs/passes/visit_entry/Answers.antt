@@ -9,19 +9,19 @@ use Rattle.elf_resolve.proofs.PassingLaws.{member_by}
 use Rattle.elf_resolve.proofs.passes.visit_entry.Goals as goal
 
 pub returns-then-is_taken-clause-visits : goal.returns-then-is_taken-clause-visits
-returns-then-is_taken-clause-visits g c =
+returns-then-is_taken-clause-visits g c known =
     sym (visited_again (searched_archive c.args.archive (g.M.ArchiveObjects.members c.args.members.now)) (pass_of c.args.link.now c.args.taken.now) c.args.entry (sym c.is_taken.ensures ∙ c.if-is_taken.true))
 
 pub returns-then-not-branch-clause-visits : goal.returns-then-not-branch-clause-visits
-returns-then-not-branch-clause-visits g c =
-    sym (visited_unasked (searched_archive c.args.archive (g.M.ArchiveObjects.members c.args.members.now)) (pass_of c.args.link.now c.args.taken.now) c.args.entry (sym c.in_ok-asks_for.ensures.asks ∙ c.if-not-branch.true))
+returns-then-not-branch-clause-visits g c known =
+    sym (visited_unasked (searched_archive c.args.archive (g.M.ArchiveObjects.members c.args.members.now)) (pass_of c.args.link.now c.args.taken.now) c.args.entry (sym (c.in_ok-asks_for.ensures.asks known) ∙ c.if-not-branch.true))
 
 pub returns-clause-visits : goal.returns-clause-visits
-returns-clause-visits g c =
+returns-clause-visits g c known =
     let archive = searched_archive c.args.archive (g.M.ArchiveObjects.members c.args.members.now) in
     let held = pass_of c.args.link.now c.args.taken.now in
     let added = c.in-Some.ensures in
-    let taken = c.in_ok-take.ensures.takes in
+    let taken = c.in_ok-take.ensures.takes (c.asks_for.ensures.known known) in
     let members : ArchiveMembers → LinkKeys = λ m. object_taken (Some c.in-Some.index) c.args.link.now.keys.keys (m.objects c.args.entry.member) in
     member_by archive held c.args.entry c.in-Some.index _ c.member_row-row.result _ added.index_is (taken.keys ∙ ap members c.in_ok-asks_for.ensures.same) c.member_row-row.ensures added.rows
-    ∙ sym (visited_takes archive held c.args.entry (sym c.in_ok-asks_for.ensures.asks ∙ c.if-not-branch.false) (sym c.is_taken.ensures ∙ c.if-is_taken.false))
+    ∙ sym (visited_takes archive held c.args.entry (sym (c.in_ok-asks_for.ensures.asks known) ∙ c.if-not-branch.false) (sym c.is_taken.ensures ∙ c.if-is_taken.false))
