@@ -5,7 +5,7 @@ use std::alloc::{AllocError, Global};
 /// The end of a list.
 const END: u32 = u32::MAX;
 
-/// For each key a list of numbers in ascending order, in memory that is allocated once.
+/// For each key a list of numbers, in memory that is allocated once.
 #[derive(Drop)]
 pub(crate) struct KeyChains {
     heads: Vec<u32>,
@@ -24,7 +24,7 @@ impl KeyChains {
         })
     }
 
-    /// Adds a number to the list of a key; numbers are added in descending order.
+    /// Adds a number to the list of a key, before the others.
     pub(crate) fn add(&mut self, key: u32, number: usize) {
         let Ok(own) = u32::try_from(number) else {
             return;

@@ -64,7 +64,33 @@ impl FoundState {
 }
 
 impl Resolver<'_> {
+    /// Returns the entry of a key at the end: an object's definition of a name defines its default
+    /// version too, though a shared library defines that.
+    pub(crate) fn settled(&self, key: u32) -> KeyEntry {
+        let entry = self.link.keys.entry(key);
+        let (KeyState::Shared(_), Some(default)) =
+            (entry.state, self.room.tables.marks.get(key).default_key)
+        else {
+            return entry;
+        };
+        let other = self.link.keys.entry(default);
+        match other.state {
+            KeyState::Defined | KeyState::WeakDefined => KeyEntry {
+                state: other.state,
+                row: other.row,
+                ..entry
+            },
+            _ => entry,
+        }
+    }
+
+    /// Returns `true` if an object has a symbol of a key.
+    pub(crate) fn is_own(&self, key: u32) -> bool {
+        self.room.tables.marks.get(key).is_own
+    }
+
     /// Returns what the link says of a key.
+    /// What counts is the entry of [`Resolver::settled`].
     pub(crate) fn state_of(&self, key: u32, entry: &KeyEntry) -> FoundState {
         match entry.state {
             KeyState::Shared(_) => FoundState::Shared,
@@ -88,10 +114,11 @@ impl Resolver<'_> {
         if !matches!(entry.state, KeyState::Undefined) {
             return FoundState::Weak;
         }
-        if entry.reference.is_none() && entry.weak_reference.is_none() {
+        let mark = self.room.tables.marks.get(key);
+        if mark.reference.is_none() && mark.weak_reference.is_none() {
             return FoundState::Unused;
         }
-        if self.offers.first(key).is_some() {
+        if self.offers.first(key).is_some() || self.spare.first(key).is_some() {
             return FoundState::Order;
         }
         FoundState::Undefined

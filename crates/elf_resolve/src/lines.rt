@@ -91,7 +91,7 @@ fn row_word(link: &Resolver<'_>, index: u32, row: &LinkRow) -> &'static str {
             return "refused";
         }
     }
-    match row.kind {
+    match link.kind_of(index, row.kind) {
         LinkRowKind::Object => "object",
         LinkRowKind::Shared => "shared",
         LinkRowKind::Unneeded => "unneeded",
@@ -192,8 +192,8 @@ fn show_keys<W: Sink, R: Render>(
 ) -> Result<u8, OutFault> {
     let mut status = 0;
     for key in link.link.keys.order() {
-        let entry = link.link.keys.entry(*key);
-        if entry.is_own {
+        let entry = link.settled(*key);
+        if link.is_own(*key) {
             let state = link.state_of(*key, &entry);
             if state.is_fault() {
                 status = 1;
@@ -219,9 +219,10 @@ fn show_key<W: Sink, R: Render>(
     out: &mut Out<W>,
 ) -> Result<(), OutFault> {
     let name = link.link.keys.name(key);
-    let referrer = match entry.reference {
+    let noted = link.room.tables.marks.get(key);
+    let referrer = match noted.reference {
         Some(row) => Some(row),
-        None => entry.weak_reference,
+        None => noted.weak_reference,
     };
     let mut front = LinePrefix::new();
     begin_named::<R>(&mut front, b"G", b"name");
@@ -234,6 +235,7 @@ fn show_key<W: Sink, R: Render>(
     }
     if state.has_offers() {
         show_offers::<W, R>(link, key, name, out)?;
+        show_spare::<W, R>(link, key, name, out)?;
     }
     Ok(())
 }
@@ -299,6 +301,31 @@ fn show_offers<W: Sink, R: Render>(
         put_index::<R>(&mut front.line, b"member", member);
         show_named(&mut front, name, false, out)?;
         next = link.offers.after(place);
+    }
+    Ok(())
+}
+
+/// Writes the lines of the libraries that are not needed and define a key.
+///
+/// # Errors
+/// A fault of the output.
+fn show_spare<W: Sink, R: Render>(
+    link: &Resolver<'_>,
+    key: u32,
+    name: &[u8],
+    out: &mut Out<W>,
+) -> Result<(), OutFault> {
+    let mut next = link.spare.first(key);
+    for _ in 0..link.spare.most() {
+        let Some(place) = next else {
+            break;
+        };
+        let mut front = LinePrefix::new();
+        begin_named::<R>(&mut front, b"O", b"name");
+        put_index::<R>(&mut front.line, b"index", link.spare.row(place));
+        put_index::<R>(&mut front.line, b"member", None);
+        show_named(&mut front, name, false, out)?;
+        next = link.spare.after(place);
     }
     Ok(())
 }

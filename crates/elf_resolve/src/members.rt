@@ -9,6 +9,7 @@ use crate::room::LinkRoom;
 use crate::string_buffer::{HeldText, StringBuffer, split_version};
 use elf_archive::{FileRange, MEMBER_HEADER_BYTES};
 use elf_model::{IndexEntry, LinkCause};
+use elf_record::numbers::ET_REL;
 use elf_record::{Cause, Sym};
 use crate::passes::ArchiveObjects;
 use crate::table::{KeyTable, LinkStop};
@@ -59,7 +60,7 @@ impl<S: Source> ArchiveMembers<'_, S> {
         Ok(!NO_FILES.iter().any(|name| header.starts_with(name)))
     }
 
-    /// TakesMembers a member.
+    /// Takes a member.
     ///
     /// # Errors
     /// Those of its header, its name and the object.
@@ -165,9 +166,9 @@ fn defines<S: Source>(
     keys: &KeyTable<'_>,
 ) -> Result<bool, LinkFault> {
     let LinkRoom {
-        headers, strings, ..
+        headers, tables, ..
     } = room;
-    match find_definition(src, &mut headers.store(), strings, entry, keys) {
+    match find_definition(src, &mut headers.store(), &mut tables.strings, entry, keys) {
         Ok(found) => Ok(found),
         Err(fault) if is_of_object(&fault) => Ok(false),
         Err(fault) => Err(fault),
@@ -197,7 +198,7 @@ fn find_definition<S: Source>(
     entry: IndexEntry,
     keys: &KeyTable<'_>,
 ) -> Result<bool, LinkFault> {
-    let loaded = load_headers(src, store)?;
+    let loaded = load_headers(src, store, ET_REL)?;
     let tables = read_tables(src, &SectionView { loaded, store }, strings)?;
     let Some(symbols) = tables.symbols else {
         return Ok(false);

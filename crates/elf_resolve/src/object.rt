@@ -3,9 +3,8 @@ ghost use Rattle.std.specs.Prelude.{◌≡◌, ◌<◌, IfOk};
 
 use crate::link_faults::{LinkFault, refused};
 use crate::object_symbols::take_symbols;
-use crate::room::LinkRoom;
+use crate::room::{LinkRoom, TableRoom};
 use crate::section_groups::{drop_groups, note_sections};
-use crate::section_marks::SectionMarks;
 use crate::string_buffer::{HeldText, StringBuffer, part_of};
 use elf_model::LinkCause;
 use elf_record::Sym;
@@ -52,7 +51,7 @@ pub(crate) struct ObjectTables {
     pub sections: Option<HeldText>,
 }
 
-/// TakesMembers the section groups and the symbols of an object, which has the row `row`.
+/// Takes the section groups and the symbols of an object, which has the row `row`.
 ///
 /// # Errors
 /// The first fault of its headers, its tables, its groups, the names of its sections or its
@@ -64,47 +63,50 @@ pub(crate) fn take_object<S: Source>(
     row: u32,
 ) -> Result<(), LinkFault> {
     let LinkRoom {
-        headers,
-        strings,
-        marks,
-        names: _,
+        headers, tables, ..
     } = room;
-    take_into(src, &mut headers.store(), strings, marks, keys, row)
+    take_into(src, &mut headers.store(), tables, keys, row)
 }
 
-/// TakesMembers an object, with its section headers in a store.
+/// Takes an object, with its section headers in a store.
 ///
 /// # Errors
 /// Those of [`take_object`].
 fn take_into<S: Source>(
     src: &mut Counted<S>,
     store: &mut HeaderStore,
-    strings: &mut StringBuffer,
-    marks: &mut SectionMarks,
+    room: &mut TableRoom,
     keys: &mut KeyTable<'_>,
     row: u32,
 ) -> Result<(), LinkFault> {
-    let loaded = load_headers(src, store)?;
+    let TableRoom {
+        strings,
+        sections,
+        marks,
+        ..
+    } = room;
+    let loaded = load_headers(src, store, ET_REL)?;
     let view = SectionView { loaded, store };
     let tables = read_tables(src, &view, strings)?;
-    marks.clear(view.sections());
-    drop_groups(src, &view, tables, strings, marks, keys)?;
-    note_sections(&view, tables, strings, marks, keys)?;
-    take_symbols(tables, strings, marks, keys, row)
+    sections.clear(view.sections());
+    drop_groups(src, &view, tables, strings, sections, keys)?;
+    note_sections(&view, tables, strings, sections, keys)?;
+    take_symbols(tables, strings, sections, keys, marks, row)
 }
 
-/// Loads the section headers of a relocatable file for x86-64.
+/// Loads the section headers of a file for x86-64 of a type.
 ///
 /// # Errors
 /// Those of the header, `FileType` at 16 and `Machine` at 18; those of loading.
 pub(crate) fn load_headers<S: Source>(
     src: &mut Counted<S>,
     store: &mut HeaderStore,
+    wanted: u16,
 ) -> Result<Loaded, LinkFault>
     ensures { IfOk result (λ loaded. store.new.loaded ≡ loaded.header.e_shnum) }
 {
     let head = header(src)?;
-    if head.e_type != ET_REL {
+    if head.e_type != wanted {
         return refused(TYPE_AT, LinkCause::FileType);
     }
     if head.e_machine != EM_X86_64 {
@@ -123,21 +125,22 @@ pub(crate) fn read_tables<S: Source>(
     strings: &mut StringBuffer,
 ) -> Result<ObjectTables, LinkFault> {
     strings.forget_after(0);
-    let symbols = read_first_symbols(src, view, strings)?;
+    let symbols = read_first_symbols(src, view, SHT_SYMTAB, strings)?;
     let sections = read_section_names(src, view, strings)?;
     Ok(ObjectTables { symbols, sections })
 }
 
-/// Reads the first symbol table, if there is one.
+/// Reads the first symbol table of a type, if there is one.
 ///
 /// # Errors
 /// Those of the table; there is no room for it.
-fn read_first_symbols<S: Source>(
+pub(crate) fn read_first_symbols<S: Source>(
     src: &mut Counted<S>,
     view: &SectionView<'_>,
+    kind: u32,
     strings: &mut StringBuffer,
 ) -> Result<Option<SymbolRows>, LinkFault> {
-    let Some(section) = view.first(SHT_SYMTAB) else {
+    let Some(section) = view.first(kind) else {
         return Ok(None);
     };
     let symbols = read_symbols(src, view, section, strings)?;

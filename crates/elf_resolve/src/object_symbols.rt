@@ -1,5 +1,6 @@
 //! The symbols of an object.
 
+use crate::key_marks::KeyMarks;
 use crate::link_faults::{LinkFault, full, refused};
 use crate::object::{ObjectTables, symbol_in};
 use crate::section_marks::SectionMarks;
@@ -24,15 +25,16 @@ const SHN_X86_64_LCOMMON: u16 = 0xff02;
 /// The symbol of an object with intermediate code alone.
 const LTO_MARK: &[u8] = b"__gnu_lto_slim";
 
-/// TakesMembers the symbols of an object that are not local, in order.
+/// Takes the symbols of an object that are not local, in order.
 ///
 /// # Errors
 /// The first fault of a symbol or its name; there is no room for a key.
 pub(crate) fn take_symbols(
     tables: ObjectTables,
     strings: &mut StringBuffer,
-    marks: &SectionMarks,
+    sections: &SectionMarks,
     keys: &mut KeyTable<'_>,
+    marks: &mut KeyMarks,
     row: u32,
 ) -> Result<(), LinkFault> {
     let Some(symbols) = tables.symbols else {
@@ -41,9 +43,12 @@ pub(crate) fn take_symbols(
     for index in symbols.first..symbols.count {
         if let Some(symbol) = global_in(strings.bytes(symbols.rows), index) {
             let at = symbols.place(index);
-            let used = use_of(&symbol, is_in_dropped(&symbol, marks));
-            let name = strings.name(symbols.names, u64::from(symbol.st_name), at)?;
-            take_symbol(name, used, at, strings, keys, row)?;
+            let named = NamedUse {
+                name: strings.name(symbols.names, u64::from(symbol.st_name), at)?,
+                symbol: use_of(&symbol, is_in_dropped(&symbol, sections)),
+                at,
+            };
+            take_symbol(named, strings, keys, marks, row)?;
         }
     }
     Ok(())
@@ -58,18 +63,26 @@ pub(crate) fn global_in(rows: &[u8], index: u64) -> Option<Sym> {
     }
 }
 
-/// TakesMembers a symbol at a file offset, if it has a name.
+/// A symbol of an object: its name, how it uses its keys, and its file offset.
+#[derive(Clone, Copy)]
+struct NamedUse {
+    name: HeldText,
+    symbol: SymbolUse,
+    at: u64,
+}
+
+/// Takes a symbol, if it has a name.
 ///
 /// # Errors
 /// `Lto` if it is the mark of an object with intermediate code alone; there is no room for its keys.
 fn take_symbol(
-    name: HeldText,
-    symbol: SymbolUse,
-    at: u64,
+    named: NamedUse,
     strings: &mut StringBuffer,
     keys: &mut KeyTable<'_>,
+    marks: &mut KeyMarks,
     row: u32,
 ) -> Result<(), LinkFault> {
+    let NamedUse { name, symbol, at } = named;
     if is_lto_mark(strings.bytes(name)) {
         return refused(at, LinkCause::Lto);
     }
@@ -77,19 +90,44 @@ fn take_symbol(
         return Ok(());
     }
     let (name, default) = key_names(strings, name, symbol.role, at)?;
-    let taken = take_names(strings, name, default, symbol, keys, row);
-    match taken {
-        Ok(()) => Ok(()),
+    match take_names(strings, name, default, symbol, keys, row) {
+        Ok(()) => {
+            note_names(strings, (name, default), symbol, keys, marks, row);
+            Ok(())
+        }
         Err(fault) => Err(full(at, fault)),
     }
 }
 
+/// Notes the keys that an object's symbol has used.
+fn note_names(
+    strings: &StringBuffer,
+    names: (HeldText, Option<HeldText>),
+    symbol: SymbolUse,
+    keys: &KeyTable<'_>,
+    marks: &mut KeyMarks,
+    row: u32,
+) {
+    let (name, default) = names;
+    if let Some(key) = keys.find(strings.bytes(name)) {
+        marks.note_object(key, symbol, row);
+    }
+    let Some(default) = default else {
+        return;
+    };
+    if let Some(key) = keys.find(strings.bytes(default)) {
+        if keys.entry(key).is_own {
+            marks.note_object(key, symbol, row);
+        }
+    }
+}
+
 /// Returns `true` if a name is the mark of an object with intermediate code alone.
-fn is_lto_mark(name: &[u8]) -> bool {
+pub(crate) fn is_lto_mark(name: &[u8]) -> bool {
     name == LTO_MARK
 }
 
-/// TakesMembers a symbol by its names, which are in a buffer.
+/// Takes a symbol by its names, which are in a buffer.
 ///
 /// # Errors
 /// There is no room for its keys.
@@ -105,7 +143,7 @@ fn take_names(
 }
 
 /// Returns a symbol with its names, which are in a buffer.
-fn symbol_record<'s>(
+pub(crate) fn symbol_record<'s>(
     strings: &'s StringBuffer,
     name: HeldText,
     default: Option<HeldText>,
@@ -127,9 +165,9 @@ fn held_bytes(strings: &StringBuffer, text: Option<HeldText>) -> Option<&[u8]> {
 }
 
 /// Returns `true` if a symbol is defined in a section that is dropped.
-fn is_in_dropped(symbol: &Sym, marks: &SectionMarks) -> bool {
+fn is_in_dropped(symbol: &Sym, sections: &SectionMarks) -> bool {
     let section = symbol.st_shndx;
-    section != SHN_UNDEF && section < SHN_LORESERVE && marks.is_dropped(u32::from(section))
+    section != SHN_UNDEF && section < SHN_LORESERVE && sections.is_dropped(u32::from(section))
 }
 
 /// Returns how a symbol uses its key; a definition in a dropped section is a reference.
@@ -178,8 +216,12 @@ pub(crate) fn is_data_definition(symbol: &Sym) -> bool {
     symbol.binding() != STB_WEAK
         && symbol.st_shndx != SHN_UNDEF
         && !is_common(symbol)
-        && symbol.kind() != STT_FUNC
-        && symbol.kind() != STT_GNU_IFUNC
+        && !is_function(symbol)
+}
+
+/// Returns `true` if a symbol is a function, or one that is found by a call.
+pub(crate) fn is_function(symbol: &Sym) -> bool {
+    symbol.kind() == STT_FUNC || symbol.kind() == STT_GNU_IFUNC
 }
 
 /// Returns the names of the keys of a symbol: of `NAME@@VERSION` the name `NAME@VERSION` and, unless

@@ -10,14 +10,16 @@ impl Resolver<'_> {
                 Some(key) => *key,
                 None => 0,
             };
-            let entry = self.link.keys.entry(key);
+            let entry = self.settled(key);
             let state = self.state_of(key, &entry);
-            if entry.is_own && state.is_fault() {
+            if self.is_own(key) && state.is_fault() {
+                let noted = self.room.tables.marks.get(key);
                 self.mark(entry.row);
-                self.mark(entry.reference);
-                self.mark(entry.weak_reference);
+                self.mark(noted.reference);
+                self.mark(noted.weak_reference);
                 self.mark_further(key);
                 self.mark_offers(key);
+                self.mark_spare(key);
             }
         }
     }
@@ -67,6 +69,19 @@ impl Resolver<'_> {
             let row = self.tables.row_of_entry(place / 2);
             self.mark(row);
             next = self.offers.after(place);
+        }
+    }
+
+    /// Marks the rows of the libraries that are not needed and have a key.
+    fn mark_spare(&mut self, key: u32) {
+        let mut next = self.spare.first(key);
+        for _ in 0..self.spare.most() {
+            let Some(place) = next else {
+                break;
+            };
+            let row = self.spare.row(place);
+            self.mark(row);
+            next = self.spare.after(place);
         }
     }
 

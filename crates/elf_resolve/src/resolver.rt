@@ -3,12 +3,15 @@
 use crate::archive_index::read_index;
 use crate::archives::{ArchiveTables, LinkArchive};
 use crate::key_chains::KeyChains;
+use crate::libraries::LibraryList;
 use crate::link_faults::{LinkFault, full, refused};
 use crate::link_files::{InputKind, LinkFiles, LinkInput, LinkPlan, LinkStep, OpenFault};
 use crate::linker_names::LinkOutput;
 use crate::members::ArchiveMembers;
+use crate::needed_libraries::NewLibrary;
 use crate::object::take_object;
 use crate::room::{LinkCaps, LinkRoom};
+use crate::spare_keys::SpareKeys;
 use elf_model::{LinkCause, LinkRefusal, LinkRow, LinkRowKind, SymbolRole, SymbolUse};
 use crate::passes::{ArchiveInput, Link, search_archive};
 use crate::rows::RowTable;
@@ -27,13 +30,15 @@ const ASKED: SymbolUse = SymbolUse {
 
 /// What is done at an input once more, in a further round of its group.
 #[derive(Clone, Copy)]
-enum InputState {
+pub(crate) enum InputState {
     /// It was not reached yet.
     New,
     /// Nothing.
     Done,
     /// The archive of an index is searched again.
     Archive(usize),
+    /// It is asked again whether the library of an index is needed.
+    Library(usize),
 }
 
 /// A group that is open: its first step, and how many keys had been asked for when it was begun.
@@ -64,10 +69,13 @@ pub struct Resolver<'a> {
     pub(crate) output: LinkOutput,
     pub(crate) end: Option<LinkEnd>,
     pub(crate) problems: Vec<bool>,
+    pub(crate) spare: SpareKeys,
+    pub(crate) libraries: LibraryList,
+    pub(crate) kinds: Vec<Option<LinkRowKind>>,
     states: Vec<InputState>,
     groups: Vec<OpenGroup>,
     left: Option<u64>,
-    row: Option<u32>,
+    pub(crate) row: Option<u32>,
 }
 
 impl<'a> Resolver<'a> {
@@ -97,6 +105,9 @@ impl<'a> Resolver<'a> {
             output,
             end: None,
             problems: vec![in alloc; false; caps.rows as usize]?,
+            spare: SpareKeys::new(alloc, caps.keys, caps.index)?,
+            libraries: LibraryList::new(alloc, caps.rows)?,
+            kinds: vec![in alloc; None; caps.rows as usize]?,
             states: vec![in alloc; InputState::New; steps]?,
             groups: Vec::with_capacity(alloc, steps)?,
             left: caps.budget,
@@ -115,7 +126,7 @@ impl<'a> Resolver<'a> {
         }
     }
 
-    /// TakesMembers all inputs in their order. The first refusal of a file ends that, and is kept.
+    /// Takes all inputs in their order. The first refusal of a file ends that, and is kept.
     ///
     /// # Errors
     /// A file cannot be opened or read.
@@ -125,7 +136,10 @@ impl<'a> Resolver<'a> {
         asked: &[&str],
         plan: &LinkPlan,
     ) -> Result<(), LinkFault> {
-        let taken = self.take_all(files, asked, plan);
+        let taken = match self.take_all(files, asked, plan) {
+            Ok(()) => self.offer_libraries(files),
+            Err(fault) => Err(fault),
+        };
         self.chain_entries();
         self.mark_problems();
         match taken {
@@ -206,7 +220,7 @@ impl<'a> Resolver<'a> {
         group.first
     }
 
-    /// TakesMembers an input, or what is left of it in a further round.
+    /// Takes an input, or what is left of it in a further round.
     ///
     /// # Errors
     /// The first fault of the input.
@@ -225,18 +239,22 @@ impl<'a> Resolver<'a> {
                 let archive = *archive;
                 self.search_again(files, archive)
             }
+            Some(InputState::Library(library)) => {
+                let library = *library;
+                self.ask_again(files, library)
+            }
             Some(InputState::Done) | None => Ok(()),
         }
     }
 
     /// Sets what is done at an input once more.
-    fn set_state(&mut self, input: u32, state: InputState) {
+    pub(crate) fn set_state(&mut self, input: u32, state: InputState) {
         if let Some(place) = self.states.get_mut(input as usize) {
             *place = state;
         }
     }
 
-    /// TakesMembers an input for the first time.
+    /// Takes an input for the first time.
     ///
     /// # Errors
     /// The first fault of the input.
@@ -258,7 +276,7 @@ impl<'a> Resolver<'a> {
             }
             InputKind::Object | InputKind::Shared | InputKind::Archive => {
                 let mut src = self.open(files, index)?;
-                let taken = self.take_file(&mut src, input, index);
+                let taken = self.take_file(files, &mut src, input, index);
                 self.close(&src);
                 taken
             }
@@ -269,7 +287,7 @@ impl<'a> Resolver<'a> {
     ///
     /// # Errors
     /// It cannot be opened.
-    fn open<F: LinkFiles>(
+    pub(crate) fn open<F: LinkFiles>(
         &mut self,
         files: &mut F,
         input: u32,
@@ -286,22 +304,35 @@ impl<'a> Resolver<'a> {
     }
 
     /// Subtracts from the budget what was requested of a file.
-    fn close<S: Source>(&mut self, src: &Counted<S>) {
+    pub(crate) fn close<S: Source>(&mut self, src: &Counted<S>) {
         self.left = src.left();
     }
 
-    /// TakesMembers the file of an input.
+    /// Takes the file of an input.
     ///
     /// # Errors
     /// The first fault of the file.
-    fn take_file<S: Source>(
+    fn take_file<F: LinkFiles>(
         &mut self,
-        src: &mut Counted<RangeSource<S>>,
+        files: &F,
+        src: &mut Counted<RangeSource<F::Opened>>,
         input: LinkInput,
         index: u32,
     ) -> Result<(), LinkFault> {
         match input.kind {
             InputKind::Archive => self.take_archive(src, input.is_whole, index),
+            InputKind::Shared => {
+                let row = self.add_row(LinkRowKind::Shared, index)?;
+                self.take_library(
+                    src,
+                    NewLibrary {
+                        input: index,
+                        row,
+                        path: files.path(index),
+                        as_needed: input.as_needed,
+                    },
+                )
+            }
             _ => {
                 let row = self.add_row(LinkRowKind::Object, index)?;
                 take_object(src, &mut self.room, &mut self.link.keys, row)
@@ -346,7 +377,7 @@ impl<'a> Resolver<'a> {
         let names = self.tables.walk(src)?;
         if !is_whole {
             let keys = &mut self.link.keys;
-            read_index(src, &mut self.tables, first, &mut self.room.strings, keys)?;
+            read_index(src, &mut self.tables, first, &mut self.room.tables.strings, keys)?;
         }
         let archive = LinkArchive {
             input,
@@ -382,7 +413,7 @@ impl<'a> Resolver<'a> {
         taken
     }
 
-    /// TakesMembers the members of an archive that its index asks for.
+    /// Takes the members of an archive that its index asks for.
     ///
     /// # Errors
     /// The first fault of a member that is taken.
@@ -432,7 +463,7 @@ impl<'a> Resolver<'a> {
         Err(fault)
     }
 
-    /// TakesMembers all members of an archive that are files, in order.
+    /// Takes all members of an archive that are files, in order.
     ///
     /// # Errors
     /// The first fault of a member.
@@ -448,7 +479,7 @@ impl<'a> Resolver<'a> {
         Ok(())
     }
 
-    /// TakesMembers a member of an archive, if it is a file.
+    /// Takes a member of an archive, if it is a file.
     ///
     /// # Errors
     /// The first fault of the member.
@@ -476,6 +507,21 @@ impl<'a> Resolver<'a> {
         }
     }
 
+    /// Sets the kind of a row.
+    pub(crate) fn set_kind(&mut self, row: u32, kind: LinkRowKind) {
+        if let Some(place) = self.kinds.get_mut(row as usize) {
+            *place = Some(kind);
+        }
+    }
+
+    /// Returns the kind of a row, which was added with another or with this one.
+    pub(crate) fn kind_of(&self, row: u32, first: LinkRowKind) -> LinkRowKind {
+        match self.kinds.get(row as usize) {
+            Some(Some(kind)) => *kind,
+            _ => first,
+        }
+    }
+
     /// Lists by their keys the entries of indexes, and the further definitions.
     fn chain_entries(&mut self) {
         for (place, entry) in self.tables.entries.iter().enumerate().rev() {
@@ -500,7 +546,7 @@ struct SearchEnd {
     asked: Option<u32>,
 }
 
-/// TakesMembers the members of an archive that its index asks for.
+/// Takes the members of an archive that its index asks for.
 fn search_members<S: Source>(
     link: &mut Link<'_>,
     room: &mut LinkRoom,
@@ -546,7 +592,7 @@ fn range_of<T>(elements: &[T], range: (usize, usize)) -> &[T] {
     }
 }
 
-/// Returns the elements from an index to another, to be key_changed; none if there are not so many.
+/// Returns the elements from an index to another, to be changed; none if there are not so many.
 fn range_of_mut(elements: &mut [bool], range: (usize, usize)) -> &mut [bool] {
     match elements.split_at_mut_checked(range.1) {
         Some((front, _)) => match front.split_at_mut_checked(range.0) {

@@ -1,8 +1,10 @@
 //! The limits of a link, and the memory for one file at a time.
 
+use crate::key_marks::KeyMarks;
 use crate::member_names::MemberNames;
 use crate::section_marks::SectionMarks;
 use crate::string_buffer::StringBuffer;
+use crate::version_names::VersionNames;
 use elf_table::HeaderBuffer;
 use std::alloc::{AllocError, Global};
 
@@ -23,13 +25,22 @@ pub struct LinkCaps {
     pub budget: Option<u64>,
 }
 
-/// Memory for reading one file: its section headers, its tables, and which of its sections are
-/// dropped; and the names of the members that were taken.
+/// Memory for the tables of one file: the tables, which sections are dropped, and the names of its
+/// versions; and what is noted of keys.
+#[derive(Drop)]
+pub(crate) struct TableRoom {
+    pub(crate) strings: StringBuffer,
+    pub(crate) sections: SectionMarks,
+    pub(crate) versions: VersionNames,
+    pub(crate) marks: KeyMarks,
+}
+
+/// Memory for reading one file: its section headers and its tables; and the names of the members
+/// that were taken.
 #[derive(Drop)]
 pub struct LinkRoom {
     pub(crate) headers: HeaderBuffer,
-    pub(crate) strings: StringBuffer,
-    pub(crate) marks: SectionMarks,
+    pub(crate) tables: TableRoom,
     pub(crate) names: MemberNames,
 }
 
@@ -41,8 +52,12 @@ impl LinkRoom {
     pub fn new(alloc: Global, caps: &LinkCaps) -> Result<LinkRoom, AllocError> {
         Ok(LinkRoom {
             headers: HeaderBuffer::new(alloc, caps.headers)?,
-            strings: StringBuffer::new(alloc, caps.key_bytes)?,
-            marks: SectionMarks::new(alloc, caps.headers)?,
+            tables: TableRoom {
+                strings: StringBuffer::new(alloc, caps.key_bytes)?,
+                sections: SectionMarks::new(alloc, caps.headers)?,
+                versions: VersionNames::new(alloc)?,
+                marks: KeyMarks::new(alloc, caps.keys)?,
+            },
             names: MemberNames::new(alloc, caps.rows)?,
         })
     }
