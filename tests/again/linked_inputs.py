@@ -194,16 +194,17 @@ class SharedLibrary(ElfFile):
         super().__init__(content, most, DYN)
         self.soname, self.needed = None, []
         self.read_dynamic()
-        self.versions = next((header for header in self.headers if header.type == VERSYM), None)
+        self.versions = self.first(VERSYM)
         self.defined, self.wanted = {}, {}
-        if self.versions is not None and self.table is not None:
+        if self.versions is not None and self.versions.size:
             self.versions.check_rows(2)
+        if self.versions is not None and self.table is not None:
             self.read_definitions()
             self.read_needs()
 
     def read_dynamic(self):
-        header = next((header for header in self.headers if header.type == DYNAMIC), None)
-        if header is None:
+        header = self.first(DYNAMIC)
+        if header is None or not header.size:
             return
         header.check_rows(16)
         strings = checked_strings(self.headers, header.link, header.at)
@@ -217,48 +218,62 @@ class SharedLibrary(ElfFile):
                 self.soname = text_at(self.content, strings, value, at)
 
     def records(self, kind, size):
-        """The records of the first section of a kind, each with what leads to the ones in it."""
-        header = next((header for header in self.headers if header.type == kind), None)
+        """The header and the strings of the first section of version records of a kind, or None, and how many records fit it."""
+        header = self.first(kind)
         if header is None or not header.size:
-            return
+            return None
         header.check_inside()
-        strings = checked_strings(self.headers, header.link, header.at)
-        place, led_by, met = 0, header.at, 0
-        while True:
-            refuse_where(place + size > header.size or met >= header.size // size, led_by, "version-cut")
-            at = header.offset + place
-            refuse_where(struct.unpack_from("<H", self.content, at)[0] != 1, at, "version")
-            met += 1
-            behind, = struct.unpack_from("<I", self.content, at + size - 4)
-            yield header, strings, place, at
-            if not behind:
-                return
-            place, led_by = place + behind, at
+        return header, checked_strings(self.headers, header.link, header.at), header.size // size
 
     def read_definitions(self):
-        for header, strings, place, at in self.records(VERDEF, 20):
-            _, flags, number, _, _, first = struct.unpack_from("<4H2I", self.content, at)
+        found = self.records(VERDEF, 20)
+        if found is None:
+            return
+        header, strings, most = found
+        place, led_by = 0, header.at
+        for left in range(most, -1, -1):
+            refuse_where(place + 20 > header.size or not left, led_by, "version-cut")
+            at = header.offset + place
+            version, flags, number, _, _, first, behind = struct.unpack_from("<4H3I", self.content, at)
+            refuse_where(version != 1, at, "version")
             refuse_where(number % HIDDEN >= NUMBERS, at, "version-index")
             refuse_where(place + first + 8 > header.size, at, "version-cut")
             there = at + first
             name = text_at(self.content, strings, struct.unpack_from("<I", self.content, there)[0], there)
             if not flags & BASE:
                 self.defined.setdefault(number % HIDDEN, name)
+            if not behind:
+                return
+            place, led_by = place + behind, at
 
     def read_needs(self):
-        met = 0
-        for header, strings, place, at in self.records(VERNEED, 16):
-            inner, led_by = place + struct.unpack_from("<I", self.content, at + 8)[0], at
-            while True:
-                there = header.offset + inner
-                refuse_where(inner + 16 > header.size or met >= header.size // 16, led_by, "version-cut")
-                _, _, number, name, behind = struct.unpack_from("<I2H2I", self.content, there)
-                refuse_where(number % HIDDEN >= NUMBERS, there, "version-index")
-                met += 1
-                self.wanted.setdefault(number % HIDDEN, text_at(self.content, strings, name, there))
-                if not behind:
-                    break
-                inner, led_by = inner + behind, there
+        found = self.records(VERNEED, 16)
+        if found is None:
+            return
+        header, strings, left = found
+        place, led_by = 0, header.at
+        while True:
+            refuse_where(place + 16 > header.size or not left, led_by, "version-cut")
+            at = header.offset + place
+            version, _, _, first, behind = struct.unpack_from("<2H3I", self.content, at)
+            refuse_where(version != 1, at, "version")
+            left = self.read_versions(header, strings, place + first, at, left - 1)
+            if not behind:
+                return
+            place, led_by = place + behind, at
+
+    def read_versions(self, header, strings, place, led_by, left):
+        """The versions of a need; gives how many records may follow."""
+        while True:
+            refuse_where(place + 16 > header.size or not left, led_by, "version-cut")
+            at = header.offset + place
+            _, _, number, name, behind = struct.unpack_from("<I2H2I", self.content, at)
+            refuse_where(number % HIDDEN >= NUMBERS, at, "version-index")
+            left -= 1
+            self.wanted.setdefault(number % HIDDEN, text_at(self.content, strings, name, at))
+            if not behind:
+                return left
+            place, led_by = place + behind, at
 
     def events(self):
         for index, text, info, _, section, value, size in self.symbols():

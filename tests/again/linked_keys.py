@@ -65,16 +65,17 @@ class Keys:
             key = self.meet(name)
             key.is_own = True
             if not symbol.is_default:
-                self.close(key, row)
+                self.close(key)
             self.note_reference(key, symbol, row)
             if not self.step_own(key, symbol, row):
                 break
 
-    def close(self, key, row):
+    @staticmethod
+    def close(key):
         """A symbol of other visibility than the default: no definition of a shared library counts."""
         key.is_closed = True
         if key.is_shared:
-            key.becomes(UNDEF if key.was_undefined else NONE, row)
+            key.becomes(UNDEF if key.was_undefined else NONE, key.row)
 
     @staticmethod
     def note_reference(key, symbol, row):

@@ -42,8 +42,7 @@ class Opened:
 class Link:
     """The files of a link, and the keys that they make."""
 
-    def __init__(self, words, most=65279, takes_shared=False):
-        self.takes_shared = takes_shared
+    def __init__(self, words, most=65279):
         self.words, self.most, self.keys, self.rows, self.refusal = words, most, Keys(), [], None
         self.known, self.sections, self.libraries, self.listed, self.archives, self.spare = set(), set(), {}, [], [], []
         self.is_missing = self.has_library = False
@@ -123,7 +122,7 @@ class Link:
 
     def open_elf(self, path, content, as_needed):
         row = self.row(path)
-        if content[16:18] == b"\3\0" and self.takes_shared:
+        if content[16:18] == b"\3\0":
             library = SharedLibrary(content, self.most)
             opened = Opened(row)
             opened.library, opened.as_needed = library, as_needed
@@ -148,10 +147,10 @@ class Link:
         self.has_library = True
         if not is_again:
             self.listed += [(name, opened) for name in opened.library.needed]
+        if not is_again:
+            self.spare.append(opened)
         if opened.as_needed and not self.is_needed(opened):
             row.kind = "unneeded"
-            if opened not in self.spare:
-                self.spare.append(opened)
             return opened
         row.kind = "shared"
         self.libraries[opened.name] = opened
@@ -232,11 +231,11 @@ class Link:
                 for name in names:
                     found.setdefault(name, []).append((opened.row.index, number))
         for opened in self.spare:
-            if opened.library is not None:
+            if opened.row.kind == "unneeded":
                 for names, symbol in opened.events:
                     for name in names if symbol.sort == "definition" else ():
                         found.setdefault(name, []).append((opened.row.index, None))
-        return {name: sorted(places, key=lambda place: place[0]) for name, places in found.items()}
+        return found
 
     def is_of_linker(self, name):
         if name in OF_LINKER or name == b"_DYNAMIC" and (self.words.has_dynamic or self.has_library) \
