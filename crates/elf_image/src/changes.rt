@@ -4,7 +4,7 @@ ghost use Rattle.elf_source.specs.Prelude.{KeepsSource};
 ghost use Rattle.elf_image.specs.Within.{RelocationsWithin};
 
 use crate::image_items::{CopyBytes, ImageItems};
-use crate::image_rows_of::{ImageRows, image_rows, no_rows};
+use crate::dynamic_rows::{ImageRows, image_rows, no_rows};
 use crate::place::{Place, holder};
 use crate::ranges::{EntryRanges, entry_ranges};
 use crate::tables::{ImageTables, MappedTable, image_tables};

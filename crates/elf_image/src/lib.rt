@@ -10,7 +10,7 @@ mod entries;
 mod entry;
 mod headers;
 mod image_items;
-mod image_rows_of;
+mod dynamic_rows;
 mod item_list;
 mod items;
 mod marks;
