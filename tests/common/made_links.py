@@ -7,7 +7,8 @@ import made_archives
 WEAK, GLOBAL, UNIQUE = 2, 1, 10
 UNDEF, TEXT, DATA, ABS, COMMON, LARGE_COMMON = 0, 1, 2, 0xfff1, 0xfff2, 0xff02
 NOTYPE, OBJECT, FUNC, SECTION, IFUNC = 0, 1, 2, 3, 10
-PROGBITS, SYMTAB, STRTAB, GROUP = 1, 2, 3, 17
+PROGBITS, SYMTAB, STRTAB, RELA, GROUP = 1, 2, 3, 4, 17
+R_64 = 1
 IN_GROUP, ALLOC_WRITE, ALLOC_EXEC = 0x200, 3, 6
 
 
@@ -37,13 +38,14 @@ class Symbol:
 
 
 def relocatable(symbols, groups=(), sections=()):
-    """A relocatable file: sections 1 and 2 are its text and its data, then come those of groups, each of a name and a flag
-    word with one section of its own, and the given ones, by their names. Symbols of a group's section are given by a
-    section of `in_group` and its index."""
+    """A relocatable file: sections 1 and 2 are its text, with a reference to each undefined symbol, and its data, then come
+    those of groups, each of a name and a flag word with one section of its own, and the given ones, by their names. Symbols
+    of a group's section are given by a section of `in_group` and its index."""
     strings, names = Strings(), Strings()
-    headers = [(b"", 0, 0, b"", 0, 0, 0), (b".text", PROGBITS, ALLOC_EXEC, bytes(64), 0, 0, 0),
+    wanted = [index for index, symbol in enumerate(symbols) if symbol.section == UNDEF]
+    headers = [(b"", 0, 0, b"", 0, 0, 0), (b".text", PROGBITS, ALLOC_EXEC, bytes(64 + 8 * len(wanted)), 0, 0, 0),
                (b".data", PROGBITS, ALLOC_WRITE, bytes(64), 0, 0, 0)]
-    table = 3 + 2 * len(groups) + len(sections)
+    table = 4 + 2 * len(groups) + len(sections)
     rows = [bytes(24)]
     for index, (signature, flags) in enumerate(groups):
         place = 3 + 2 * index
@@ -53,6 +55,8 @@ def relocatable(symbols, groups=(), sections=()):
     headers += [(name, PROGBITS, ALLOC_WRITE, bytes(8), 0, 0, 0) for name in sections]
     local = len(rows)
     rows += [symbol.packed(strings) for symbol in symbols]
+    entries = [struct.pack("<2Qq", 8 * place, (local + index) << 32 | R_64, 0) for place, index in enumerate(wanted)]
+    headers.append((b".rela.text", RELA, 0, b"".join(entries), table, 1, 24))
     headers.append((b".symtab", SYMTAB, 0, b"".join(rows), table + 1, local, 24))
     headers.append((b".strtab", STRTAB, 0, bytes(strings.content), 0, 0, 0))
     headers.append((b".shstrtab", STRTAB, 0, None, 0, 0, 0))
@@ -93,15 +97,17 @@ def archive(members, entries, width=4):
 
 # Random jobs.
 
-NAMES = [b"f%d" % number for number in range(12)] + [b"_start", b"v@@V1", b"v@V1", b"w@@V2", b"etext", b"__start_kept"]
+PLAIN_NAMES = [b"f%d" % number for number in range(12)] + [b"_start", b"etext", b"__start_kept"]
+NAMES = PLAIN_NAMES + [b"v@@V1", b"v@V1", b"w@@V2"]
 
 
-def random_symbol(rng, groups):
-    """A symbol of any sort; `groups` is how many groups the file has."""
-    name, binding = rng.choice(NAMES), rng.choice((GLOBAL, GLOBAL, GLOBAL, WEAK, UNIQUE))
+def random_symbol(rng, groups, names):
+    """A symbol of any sort and one of some names; `groups` is how many groups the file has."""
+    name, binding = rng.choice(names), rng.choice((GLOBAL, GLOBAL, GLOBAL, WEAK, UNIQUE))
     sort = rng.randrange(10)
     if sort < 4:
-        return Symbol(name, UNDEF, WEAK if binding == WEAK else GLOBAL)
+        # An assembler gives no reference a default version.
+        return Symbol(name.replace(b"@@", b"@"), UNDEF, WEAK if binding == WEAK else GLOBAL)
     if sort == 4 and b"@" not in name:
         return Symbol(name, COMMON, GLOBAL, OBJECT, 8, rng.choice((4, 8, 16)))
     if sort == 5 and groups:
@@ -114,12 +120,12 @@ def random_symbol(rng, groups):
     return Symbol(name, section, binding, kind, rng.randrange(32), 4, visibility)
 
 
-def random_object(rng):
+def random_object(rng, names):
     """A file of a few symbols, each name once, and the names that it defines."""
     groups = [(b"g%d" % rng.randrange(3), rng.choice((1, 1, 1, 0))) for _ in range(rng.choice((0, 0, 1, 2)))]
     chosen = {}
     for _ in range(rng.randrange(1, 7)):
-        symbol = random_symbol(rng, len(groups))
+        symbol = random_symbol(rng, len(groups), names)
         chosen.setdefault(symbol.name.partition(b"@")[0], symbol)
     sections = [b"kept"] if rng.random() < 0.2 else []
     defined = [symbol.name for symbol in chosen.values() if symbol.section not in (UNDEF, COMMON)]
@@ -127,10 +133,10 @@ def random_object(rng):
     return relocatable(list(chosen.values()), groups, sections), defined + commons
 
 
-def random_archive(rng):
+def random_archive(rng, names):
     members, entries = [], []
     for number in range(rng.randrange(1, 6)):
-        data, defined = random_object(rng)
+        data, defined = random_object(rng, names)
         members.append((b"m%d.o" % number, data))
         entries += [(name, number) for name in defined]
     return archive(members, entries, rng.choice((4, 4, 4, 8)))
@@ -145,15 +151,15 @@ def random_words(rng, files, depth=0):
             words += [b"--start-group", *random_words(rng, files, depth + 1), b"--end-group"]
         elif chance < 0.3:
             words += [b"--whole-archive", rng.choice(files), b"--no-whole-archive"]
-        elif chance < 0.4 and depth == 0:
+        elif chance < 0.4:
             words += [b"-u", rng.choice(NAMES[:12])]
         else:
             words.append(rng.choice(files))
     return words
 
 
-def random_job(rng):
-    """Files by their names, and words over them."""
-    files = {b"o%d.o" % number: random_object(rng)[0] for number in range(rng.randrange(1, 4))}
-    files.update({b"l%d.a" % number: random_archive(rng) for number in range(rng.randrange(1, 4))})
-    return files, [b"o0.o", *random_words(rng, sorted(files))]
+def random_job(rng, names=NAMES, depth=2):
+    """Files by their names, and words over them, with groups of at most this depth."""
+    files = {b"o%d.o" % number: random_object(rng, names)[0] for number in range(rng.randrange(1, 4))}
+    files.update({b"l%d.a" % number: random_archive(rng, names) for number in range(rng.randrange(1, 4))})
+    return files, [b"o0.o", *random_words(rng, sorted(files), 2 - depth)]
