@@ -16,7 +16,7 @@ const MAGIC_BYTES: u64 = 8;
 
 /// An archive of a link.
 #[derive(Clone, Copy)]
-pub(crate) struct LinkArchive {
+pub(crate) struct OpenedArchive {
     /// The index of its input.
     pub input: u32,
     /// Its row.
@@ -33,7 +33,7 @@ pub(crate) struct LinkArchive {
 #[derive(Drop)]
 pub(crate) struct ArchiveTables {
     /// The archives, in the order in which they were opened.
-    pub archives: Vec<LinkArchive>,
+    pub archives: Vec<OpenedArchive>,
     /// The file offset of the header of each member in its archive.
     pub members: Vec<u64>,
     /// The entries.

@@ -7,6 +7,7 @@
 #![tactic(auto)]
 
 mod archive_index;
+mod archive_inputs;
 mod archives;
 mod examples;
 mod key_chains;
@@ -42,8 +43,8 @@ mod version_names;
 pub use examples::{small_files, small_links};
 pub use lines::{LinkLines, show_link};
 pub use link_faults::{LinkFault, link_cause_word};
-pub use link_files::{InputKind, LinkFiles, LinkInput, LinkPlan, LinkStep, OpenFault};
-pub use linker_names::LinkOutput;
+pub use link_files::{InputKind, InputFiles, LinkInput, LinkPlan, LinkStep, OpenFault};
+pub use linker_names::OutputKind;
 pub use passes::{ArchiveInput, ArchiveObjects, Link, pass_index, search_archive, visit_entry};
 pub use resolver::{LinkEnd, Resolver};
 pub use room::{LinkCaps, LinkRoom};

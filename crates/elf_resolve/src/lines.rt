@@ -2,7 +2,7 @@
 
 use crate::key_states::FoundState;
 use crate::link_faults::link_cause_word;
-use crate::link_files::LinkFiles;
+use crate::link_files::InputFiles;
 use crate::resolver::Resolver;
 use elf_format::{
     Columns, Json, LineBuf, LinePrefix, Render, begin, begin_named, put_closing, put_decimal,
@@ -26,7 +26,7 @@ pub struct LinkLines {
 ///
 /// # Errors
 /// A fault of the output, with a prefix of the lines written.
-pub fn show_link<F: LinkFiles, W: Sink>(
+pub fn show_link<F: InputFiles, W: Sink>(
     link: &Resolver<'_>,
     files: &F,
     style: LinkLines,
@@ -44,7 +44,7 @@ pub fn show_link<F: LinkFiles, W: Sink>(
 ///
 /// # Errors
 /// A fault of the output.
-fn show_all<F: LinkFiles, W: Sink, R: Render>(
+fn show_all<F: InputFiles, W: Sink, R: Render>(
     link: &Resolver<'_>,
     files: &F,
     problems: bool,
@@ -64,7 +64,7 @@ fn show_all<F: LinkFiles, W: Sink, R: Render>(
 ///
 /// # Errors
 /// A fault of the output.
-fn show_rows<F: LinkFiles, W: Sink, R: Render>(
+fn show_rows<F: InputFiles, W: Sink, R: Render>(
     link: &Resolver<'_>,
     files: &F,
     problems: bool,
@@ -107,7 +107,7 @@ fn row_word(link: &Resolver<'_>, index: u32, row: &LinkRow) -> &'static str {
 ///
 /// # Errors
 /// A fault of the output.
-fn show_row<F: LinkFiles, W: Sink, R: Render>(
+fn show_row<F: InputFiles, W: Sink, R: Render>(
     link: &Resolver<'_>,
     files: &F,
     index: u32,

@@ -58,7 +58,7 @@ pub enum OpenFault {
 }
 
 /// The files of a link, by the indexes of its inputs.
-pub trait LinkFiles {
+pub trait InputFiles {
     /// A file that is read at offsets.
     type Opened: Source + Drop;
 

@@ -27,7 +27,7 @@ const ALWAYS: [&[u8]; 22] = [
 ];
 
 /// The name of the dynamic entries.
-const DYNAMIC: &[u8] = b"_DYNAMIC";
+const DYNAMIC_NAME: &[u8] = b"_DYNAMIC";
 
 /// The name of a function whose calls a linker rewrites in a program.
 const TLS_CALL: &[u8] = b"__tls_get_addr";
@@ -37,7 +37,7 @@ const BOUNDS: [&[u8]; 2] = [b"__start_", b"__stop_"];
 
 /// What is made, which decides about some names.
 #[derive(Clone, Copy)]
-pub struct LinkOutput {
+pub struct OutputKind {
     /// Whether a shared library is made.
     pub is_shared: bool,
     /// Whether the output has dynamic entries: it is shared or position-independent, or there is a
@@ -46,8 +46,8 @@ pub struct LinkOutput {
 }
 
 /// Returns `true` if a linker defines a name, apart from the bounds of sections.
-pub(crate) fn is_linker_name(name: &[u8], output: LinkOutput) -> bool {
-    if name == DYNAMIC {
+pub(crate) fn is_linker_name(name: &[u8], output: OutputKind) -> bool {
+    if name == DYNAMIC_NAME {
         return output.is_dynamic;
     }
     if name == TLS_CALL {

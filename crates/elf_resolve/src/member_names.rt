@@ -25,7 +25,7 @@ struct NamePlace {
 
 /// The names of members by their rows, in memory that is allocated once.
 #[derive(Drop)]
-pub(crate) struct MemberNames {
+pub(crate) struct NamesOfMembers {
     places: Vec<NamePlace>,
     bytes: Vec<u8>,
     room: usize,
@@ -33,14 +33,14 @@ pub(crate) struct MemberNames {
     name: NameBuf,
 }
 
-impl MemberNames {
+impl NamesOfMembers {
     /// Creates room for the names of `rows` rows, which have 64 bytes each.
     ///
     /// # Errors
     /// Out of memory.
-    pub(crate) fn new(alloc: Global, rows: u32) -> Result<MemberNames, AllocError> {
+    pub(crate) fn new(alloc: Global, rows: u32) -> Result<NamesOfMembers, AllocError> {
         let room = (rows as usize).saturating_mul(64);
-        Ok(MemberNames {
+        Ok(NamesOfMembers {
             places: Vec::with_capacity(alloc, rows as usize)?,
             bytes: Vec::with_capacity(alloc, room)?,
             room,

@@ -1,7 +1,7 @@
 //! The members of an archive, as objects of a link.
 ghost use Rattle.elf_resolve.specs.LinkMembers.{unknown_members};
 
-use crate::archives::{LinkArchive, read_header_at};
+use crate::archives::{OpenedArchive, read_header_at};
 use crate::link_faults::{LinkFault, file_refused, in_member};
 use crate::object::{load_headers, read_tables, take_object};
 use crate::object_symbols::{global_in, is_data_definition};
@@ -21,13 +21,13 @@ const NO_FILES: [[u8; 16]; 3] = [*b"/               ", *b"//              ", *b"
 
 /// The members of an archive whose file is open.
 #[derive(Drop)]
-pub(crate) struct ArchiveMembers<'r, S: Source> {
+pub(crate) struct MembersOfArchive<'r, S: Source> {
     /// The file.
     pub src: &'r mut Counted<RangeSource<S>>,
     /// Memory for one member.
     pub room: &'r mut LinkRoom,
     /// The archive.
-    pub archive: LinkArchive,
+    pub archive: OpenedArchive,
     /// The file offsets of the members' headers.
     pub members: &'r [u64],
     /// The first fault, and the member that has it, if it is one that is not taken.
@@ -36,7 +36,7 @@ pub(crate) struct ArchiveMembers<'r, S: Source> {
     pub asked: Option<u32>,
 }
 
-impl<S: Source> ArchiveMembers<'_, S> {
+impl<S: Source> MembersOfArchive<'_, S> {
     /// Returns the file offset of the header of a member.
     ///
     /// # Errors
@@ -123,7 +123,7 @@ fn narrow_to<S: Source>(
     Ok(())
 }
 
-impl<S: Source> ArchiveObjects for ArchiveMembers<'_, S> {
+impl<S: Source> ArchiveObjects for MembersOfArchive<'_, S> {
     ghost members = { unknown_members };
     ghost known = { λ s. ⊥ };
 

@@ -6,7 +6,7 @@ use crate::libraries::{LibraryList, LinkLibrary};
 use crate::library::{LibraryTables, read_library};
 use crate::library_symbols::{LibrarySymbol, library_need, library_symbol, take_library_symbols};
 use crate::link_faults::LinkFault;
-use crate::link_files::LinkFiles;
+use crate::link_files::InputFiles;
 use crate::resolver::{InputState, Resolver};
 use crate::room::{LinkRoom, TableRoom};
 use crate::spare_keys::SpareKeys;
@@ -83,7 +83,7 @@ impl Resolver<'_> {
     ///
     /// # Errors
     /// It cannot be opened; the first fault of the library; there is no room for a key.
-    pub(crate) fn ask_again<F: LinkFiles>(
+    pub(crate) fn ask_again<F: InputFiles>(
         &mut self,
         files: &mut F,
         library: usize,
@@ -126,7 +126,7 @@ impl Resolver<'_> {
     ///
     /// # Errors
     /// One cannot be opened; the first fault of one; there is no room.
-    pub(crate) fn offer_libraries<F: LinkFiles>(&mut self, files: &mut F) -> Result<(), LinkFault> {
+    pub(crate) fn offer_libraries<F: InputFiles>(&mut self, files: &mut F) -> Result<(), LinkFault> {
         for library in (0..self.libraries.len()).rev() {
             if let Some(known) = self.libraries.get(library) {
                 if self.is_unneeded(known.row) {

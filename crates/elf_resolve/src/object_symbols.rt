@@ -23,7 +23,7 @@ const STT_GNU_IFUNC: u8 = 10;
 const SHN_X86_64_LCOMMON: u16 = 0xff02;
 
 /// The symbol of an object with intermediate code alone.
-const LTO_MARK: &[u8] = b"__gnu_lto_slim";
+const SLIM_MARK: &[u8] = b"__gnu_lto_slim";
 
 /// Takes the symbols of an object that are not local, in order.
 ///
@@ -124,7 +124,7 @@ fn note_names(
 
 /// Returns `true` if a name is the mark of an object with intermediate code alone.
 pub(crate) fn is_lto_mark(name: &[u8]) -> bool {
-    name == LTO_MARK
+    name == SLIM_MARK
 }
 
 /// Takes a symbol by its names, which are in a buffer.

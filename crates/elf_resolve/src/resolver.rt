@@ -1,21 +1,19 @@
 //! The inputs of a link in their order.
 
-use crate::archive_index::read_index;
-use crate::archives::{ArchiveTables, LinkArchive};
+use crate::archives::ArchiveTables;
 use crate::key_chains::KeyChains;
 use crate::libraries::LibraryList;
 use crate::link_faults::{LinkFault, full, refused};
-use crate::link_files::{InputKind, LinkFiles, LinkInput, LinkPlan, LinkStep, OpenFault};
-use crate::linker_names::LinkOutput;
-use crate::members::ArchiveMembers;
+use crate::link_files::{InputKind, InputFiles, LinkInput, LinkPlan, LinkStep, OpenFault};
+use crate::linker_names::OutputKind;
 use crate::needed_libraries::NewLibrary;
 use crate::object::take_object;
+use crate::passes::Link;
 use crate::room::{LinkCaps, LinkRoom};
-use crate::spare_keys::SpareKeys;
-use elf_model::{LinkCause, LinkRefusal, LinkRow, LinkRowKind, SymbolRole, SymbolUse};
-use crate::passes::{ArchiveInput, Link, search_archive};
 use crate::rows::RowTable;
-use crate::table::{KeyTable, LinkStop};
+use crate::spare_keys::SpareKeys;
+use crate::table::KeyTable;
+use elf_model::{LinkCause, LinkRefusal, LinkRow, LinkRowKind, SymbolRole, SymbolUse};
 use elf_source::{Counted, RangeSource, Source};
 use std::alloc::{AllocError, Global};
 use std::hash::RandomState;
@@ -62,11 +60,11 @@ pub struct LinkEnd {
 pub struct Resolver<'a> {
     pub(crate) link: Link<'a>,
     pub(crate) tables: ArchiveTables,
-    taken: Vec<bool>,
+    pub(crate) taken: Vec<bool>,
     pub(crate) offers: KeyChains,
     pub(crate) further: KeyChains,
     pub(crate) room: LinkRoom,
-    pub(crate) output: LinkOutput,
+    pub(crate) output: OutputKind,
     pub(crate) end: Option<LinkEnd>,
     pub(crate) problems: Vec<bool>,
     pub(crate) spare: SpareKeys,
@@ -87,7 +85,7 @@ impl<'a> Resolver<'a> {
         alloc: Global,
         hasher: RandomState,
         caps: &LinkCaps,
-        output: LinkOutput,
+        output: OutputKind,
         steps: usize,
         bytes: &'a mut [u8],
     ) -> Result<Resolver<'a>, AllocError> {
@@ -130,7 +128,7 @@ impl<'a> Resolver<'a> {
     ///
     /// # Errors
     /// A file cannot be opened or read.
-    pub fn resolve<F: LinkFiles>(
+    pub fn resolve<F: InputFiles>(
         &mut self,
         files: &mut F,
         asked: &[&str],
@@ -157,7 +155,7 @@ impl<'a> Resolver<'a> {
     ///
     /// # Errors
     /// The first fault.
-    fn take_all<F: LinkFiles>(
+    fn take_all<F: InputFiles>(
         &mut self,
         files: &mut F,
         asked: &[&str],
@@ -180,7 +178,7 @@ impl<'a> Resolver<'a> {
     ///
     /// # Errors
     /// The first fault of an input.
-    fn take_step<F: LinkFiles>(
+    fn take_step<F: InputFiles>(
         &mut self,
         files: &mut F,
         plan: &LinkPlan,
@@ -224,7 +222,7 @@ impl<'a> Resolver<'a> {
     ///
     /// # Errors
     /// The first fault of the input.
-    fn visit<F: LinkFiles>(
+    fn visit<F: InputFiles>(
         &mut self,
         files: &mut F,
         plan: &LinkPlan,
@@ -258,7 +256,7 @@ impl<'a> Resolver<'a> {
     ///
     /// # Errors
     /// The first fault of the input.
-    fn take_input<F: LinkFiles>(
+    fn take_input<F: InputFiles>(
         &mut self,
         files: &mut F,
         input: LinkInput,
@@ -287,7 +285,7 @@ impl<'a> Resolver<'a> {
     ///
     /// # Errors
     /// It cannot be opened.
-    pub(crate) fn open<F: LinkFiles>(
+    pub(crate) fn open<F: InputFiles>(
         &mut self,
         files: &mut F,
         input: u32,
@@ -312,7 +310,7 @@ impl<'a> Resolver<'a> {
     ///
     /// # Errors
     /// The first fault of the file.
-    fn take_file<F: LinkFiles>(
+    fn take_file<F: InputFiles>(
         &mut self,
         files: &F,
         src: &mut Counted<RangeSource<F::Opened>>,
@@ -344,7 +342,7 @@ impl<'a> Resolver<'a> {
     ///
     /// # Errors
     /// `TooManyRows` at 0 if there is no room for it.
-    fn add_row(&mut self, kind: LinkRowKind, input: u32) -> Result<u32, LinkFault> {
+    pub(crate) fn add_row(&mut self, kind: LinkRowKind, input: u32) -> Result<u32, LinkFault> {
         let row = LinkRow {
             kind,
             input,
@@ -357,152 +355,6 @@ impl<'a> Resolver<'a> {
                 self.row = Some(index);
                 Ok(index)
             }
-            None => refused(0, LinkCause::TooManyRows),
-        }
-    }
-
-    /// Reads the members of an archive, and takes those that are asked for, or all.
-    ///
-    /// # Errors
-    /// The first fault of the archive, its index and the members that are taken.
-    fn take_archive<S: Source>(
-        &mut self,
-        src: &mut Counted<RangeSource<S>>,
-        is_whole: bool,
-        input: u32,
-    ) -> Result<(), LinkFault> {
-        let row = self.add_row(LinkRowKind::Archive, input)?;
-        let first = self.tables.members.len();
-        let entries = self.tables.entries.len();
-        let names = self.tables.walk(src)?;
-        if !is_whole {
-            let keys = &mut self.link.keys;
-            read_index(src, &mut self.tables, first, &mut self.room.tables.strings, keys)?;
-        }
-        let archive = LinkArchive {
-            input,
-            row,
-            members: (first, self.tables.members.len()),
-            entries: (entries, self.tables.entries.len()),
-            names,
-        };
-        if is_whole {
-            return self.take_whole(src, archive);
-        }
-        let index = self.tables.archives.len();
-        self.set_state(input, InputState::Archive(index));
-        let _ = self.tables.archives.push(archive);
-        self.search(src, archive)
-    }
-
-    /// Searches an archive once more.
-    ///
-    /// # Errors
-    /// The first fault of the members that are taken.
-    fn search_again<F: LinkFiles>(
-        &mut self,
-        files: &mut F,
-        archive: usize,
-    ) -> Result<(), LinkFault> {
-        let Some(archive) = self.tables.archives.get(archive).copied() else {
-            return Ok(());
-        };
-        let mut src = self.open(files, archive.input)?;
-        let taken = self.search(&mut src, archive);
-        self.close(&src);
-        taken
-    }
-
-    /// Takes the members of an archive that its index asks for.
-    ///
-    /// # Errors
-    /// The first fault of a member that is taken.
-    fn search<S: Source>(
-        &mut self,
-        src: &mut Counted<RangeSource<S>>,
-        archive: LinkArchive,
-    ) -> Result<(), LinkFault> {
-        let found = search_members(
-            &mut self.link,
-            &mut self.room,
-            &self.tables,
-            &mut self.taken,
-            src,
-            archive,
-        );
-        match found.ended {
-            Ok(()) => Ok(()),
-            Err(stop) => self.stopped(archive, stop, found.fault, found.asked),
-        }
-    }
-
-    /// Returns the fault at which a search stopped, and keeps the row of the member that has it.
-    ///
-    /// # Errors
-    /// That fault.
-    fn stopped(
-        &mut self,
-        archive: LinkArchive,
-        stop: LinkStop,
-        fault: Option<LinkFault>,
-        asked: Option<u32>,
-    ) -> Result<(), LinkFault> {
-        self.row = None;
-        if matches!(stop, LinkStop::TooManyRows) {
-            return refused(0, LinkCause::TooManyRows);
-        }
-        let Some(fault) = fault else {
-            return Err(LinkFault::Read);
-        };
-        if let Some(member) = asked {
-            let row = member_row(archive, member);
-            self.row = self.link.rows.add(row);
-        } else {
-            self.row = self.link.rows.len().checked_sub(1);
-        }
-        Err(fault)
-    }
-
-    /// Takes all members of an archive that are files, in order.
-    ///
-    /// # Errors
-    /// The first fault of a member.
-    fn take_whole<S: Source>(
-        &mut self,
-        src: &mut Counted<RangeSource<S>>,
-        archive: LinkArchive,
-    ) -> Result<(), LinkFault> {
-        let count = range_of(&self.tables.members, archive.members).len();
-        for number in 0..u32::try_from(count).unwrap_or(u32::MAX) {
-            self.take_if_file(src, archive, number)?;
-        }
-        Ok(())
-    }
-
-    /// Takes a member of an archive, if it is a file.
-    ///
-    /// # Errors
-    /// The first fault of the member.
-    fn take_if_file<S: Source>(
-        &mut self,
-        src: &mut Counted<RangeSource<S>>,
-        archive: LinkArchive,
-        member: u32,
-    ) -> Result<(), LinkFault> {
-        let mut objects = ArchiveMembers {
-            src,
-            room: &mut self.room,
-            archive,
-            members: range_of(&self.tables.members, archive.members),
-            fault: None,
-            asked: None,
-        };
-        if !objects.is_file(member)? {
-            return Ok(());
-        }
-        self.row = self.link.rows.add(member_row(archive, member));
-        match self.row {
-            Some(row) => objects.take_member(member, row, &mut self.link.keys),
             None => refused(0, LinkCause::TooManyRows),
         }
     }
@@ -534,82 +386,5 @@ impl<'a> Resolver<'a> {
         for (place, further) in self.link.keys.further().iter().enumerate().rev() {
             self.further.add(further.key, place);
         }
-    }
-}
-
-/// How a search of an archive ended: its result, and if a member cannot be read its fault, and the
-/// member, if it is one that is not taken.
-#[derive(Drop)]
-struct SearchEnd {
-    ended: Result<(), LinkStop>,
-    fault: Option<LinkFault>,
-    asked: Option<u32>,
-}
-
-/// Takes the members of an archive that its index asks for.
-fn search_members<S: Source>(
-    link: &mut Link<'_>,
-    room: &mut LinkRoom,
-    tables: &ArchiveTables,
-    taken: &mut [bool],
-    src: &mut Counted<RangeSource<S>>,
-    archive: LinkArchive,
-) -> SearchEnd {
-    let mut objects = ArchiveMembers {
-        src,
-        room,
-        archive,
-        members: range_of(&tables.members, archive.members),
-        fault: None,
-        asked: None,
-    };
-    let input = ArchiveInput {
-        input: archive.input,
-        row: archive.row,
-    };
-    let ended = search_archive(
-        link,
-        input,
-        range_of_mut(taken, archive.members),
-        range_of(&tables.entries, archive.entries),
-        &mut objects,
-    );
-    SearchEnd {
-        ended,
-        fault: objects.fault,
-        asked: objects.asked,
-    }
-}
-
-/// Returns the elements from an index to another; none if there are not so many.
-fn range_of<T>(elements: &[T], range: (usize, usize)) -> &[T] {
-    match elements.split_at_checked(range.1) {
-        Some((front, _)) => match front.split_at_checked(range.0) {
-            Some((_, part)) => part,
-            None => &[],
-        },
-        None => &[],
-    }
-}
-
-/// Returns the elements from an index to another, to be changed; none if there are not so many.
-fn range_of_mut(elements: &mut [bool], range: (usize, usize)) -> &mut [bool] {
-    match elements.split_at_mut_checked(range.1) {
-        Some((front, _)) => match front.split_at_mut_checked(range.0) {
-            Some((_, part)) => part,
-            None => &mut [],
-        },
-        None => &mut [],
-    }
-}
-
-/// Returns the row of a member that is taken for no key.
-fn member_row(archive: LinkArchive, member: u32) -> LinkRow {
-    LinkRow {
-        kind: LinkRowKind::Member,
-        input: archive.input,
-        archive: Some(archive.row),
-        member: Some(member),
-        reason: None,
     }
 }

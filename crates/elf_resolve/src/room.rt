@@ -1,7 +1,7 @@
 //! The limits of a link, and the memory for one file at a time.
 
 use crate::key_marks::KeyMarks;
-use crate::member_names::MemberNames;
+use crate::member_names::NamesOfMembers;
 use crate::section_marks::SectionMarks;
 use crate::string_buffer::StringBuffer;
 use crate::version_names::VersionNames;
@@ -41,7 +41,7 @@ pub(crate) struct TableRoom {
 pub struct LinkRoom {
     pub(crate) headers: HeaderBuffer,
     pub(crate) tables: TableRoom,
-    pub(crate) names: MemberNames,
+    pub(crate) names: NamesOfMembers,
 }
 
 impl LinkRoom {
@@ -58,7 +58,7 @@ impl LinkRoom {
                 versions: VersionNames::new(alloc)?,
                 marks: KeyMarks::new(alloc, caps.keys)?,
             },
-            names: MemberNames::new(alloc, caps.rows)?,
+            names: NamesOfMembers::new(alloc, caps.rows)?,
         })
     }
 }

@@ -26,7 +26,7 @@ const LINK_ONCE: &[u8] = b".gnu.linkonce.";
 /// A section group: its header's file offset, its words, the index of its symbol, the section of its
 /// symbol table, that table, and the names of that.
 #[derive(Clone, Copy)]
-struct SectionGroup {
+struct GroupInFile {
     at: u64,
     words: (u64, u64),
     index: u64,
@@ -95,7 +95,7 @@ fn dropped_words<S: Source>(
 /// # Errors
 /// At the section's header: `SizeNotWhole` and `TableOutside` of its words, `BadLink` if it links to
 /// no symbol table; those of that table; `SymbolIndex` if that has no symbol of its index.
-fn group_at(view: &SectionView<'_>, section: u16) -> Result<SectionGroup, LinkFault>
+fn group_at(view: &SectionView<'_>, section: u16) -> Result<GroupInFile, LinkFault>
     requires { section < view.now.store.now.loaded }
 {
     let header = view.section(section);
@@ -109,7 +109,7 @@ fn group_at(view: &SectionView<'_>, section: u16) -> Result<SectionGroup, LinkFa
     if index >= table.len() {
         return file_refused(at, Cause::SymbolIndex);
     }
-    Ok(SectionGroup {
+    Ok(GroupInFile {
         at,
         words: (words.at(), header.sh_size),
         index,
@@ -148,7 +148,7 @@ fn signature<S: Source>(
     src: &mut Counted<S>,
     view: &SectionView<'_>,
     tables: ObjectTables,
-    group: SectionGroup,
+    group: GroupInFile,
     strings: &mut StringBuffer,
 ) -> Result<HeldText, LinkFault> {
     let (at, index) = (group.at, group.index);
@@ -172,7 +172,7 @@ fn signature<S: Source>(
 fn linked_symbols<S: Source>(
     src: &mut Counted<S>,
     tables: ObjectTables,
-    group: SectionGroup,
+    group: GroupInFile,
     strings: &mut StringBuffer,
 ) -> Result<SymbolRows, LinkFault> {
     if let Some(symbols) = tables.symbols {

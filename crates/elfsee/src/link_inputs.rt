@@ -3,7 +3,7 @@
 
 use crate::linker_scripts::{SCRIPT_BYTES, ScriptToken, ScriptTokens};
 use crate::linker_words::{LinkerWords, WordInput, WordState, WordStep};
-use elf_resolve::{InputKind, LinkFiles, LinkInput, LinkPlan, LinkStep, OpenFault};
+use elf_resolve::{InputKind, InputFiles, LinkInput, LinkPlan, LinkStep, OpenFault};
 use elf_source::{FileReader, Source, StreamSource, opened_path};
 use std::alloc::{AllocError, Global};
 use std::fs;
@@ -58,7 +58,7 @@ enum FoundFile {
 
 /// The inputs of a link, by their indexes.
 #[derive(Drop)]
-pub struct LinkInputs<'r, 'w, R> {
+pub struct FoundInputs<'r, 'w, R> {
     rt: &'r R,
     words: &'r LinkerWords<'w>,
     texts: Vec<u8>,
@@ -69,7 +69,7 @@ pub struct LinkInputs<'r, 'w, R> {
     most: usize,
 }
 
-impl<'r, 'w, R: Files> LinkInputs<'r, 'w, R>
+impl<'r, 'w, R: Files> FoundInputs<'r, 'w, R>
 where
     R::File: FileExt,
 {
@@ -82,8 +82,8 @@ where
         alloc: Global,
         words: &'r LinkerWords<'w>,
         rows: u32,
-    ) -> Result<LinkInputs<'r, 'w, R>, AllocError> {
-        Ok(LinkInputs {
+    ) -> Result<FoundInputs<'r, 'w, R>, AllocError> {
+        Ok(FoundInputs {
             rt,
             words,
             texts: Vec::new(alloc),
@@ -627,7 +627,7 @@ where
     }
 }
 
-impl<R: Files> LinkFiles for LinkInputs<'_, '_, R>
+impl<R: Files> InputFiles for FoundInputs<'_, '_, R>
 where
     R::File: FileExt,
 {

@@ -1,16 +1,16 @@
 //! The arguments of a linker: its inputs in their order, the directories that are searched for
 //! libraries, and the symbols that are asked for.
 
-use elf_resolve::LinkOutput;
+use elf_resolve::OutputKind;
 use std::alloc::{AllocError, Global};
 
 /// The symbol at which a program begins, unless the arguments say otherwise.
 const START: &str = "_start";
 
 /// Options for static libraries alone, and for both kinds.
-const STATIC: [&str; 4] = ["static", "Bstatic", "dn", "non_shared"];
+const STATIC_OPTIONS: [&str; 4] = ["static", "Bstatic", "dn", "non_shared"];
 
-const DYNAMIC: [&str; 3] = ["Bdynamic", "dy", "call_shared"];
+const SHARED_OPTIONS: [&str; 3] = ["Bdynamic", "dy", "call_shared"];
 
 /// Options whose value is the next argument, and which change nothing here.
 const PASSED: [&str; 13] = [
@@ -100,7 +100,7 @@ pub struct LinkerWords<'w> {
     /// The symbols that are asked for.
     pub asked: Vec<&'w str>,
     /// What is made; whether there is a shared library is not known here.
-    pub output: LinkOutput,
+    pub output: OutputKind,
     entry: &'w str,
     state: WordState,
     pushed: Vec<WordState>,
@@ -134,7 +134,7 @@ pub fn read_linker_words<'w>(
         steps: Vec::with_capacity(alloc, words.len())?,
         folders: Vec::with_capacity(alloc, words.len())?,
         asked: Vec::with_capacity(alloc, words.len() + 1)?,
-        output: LinkOutput {
+        output: OutputKind {
             is_shared: false,
             is_dynamic: false,
         },
@@ -201,11 +201,11 @@ impl<'w> LinkerWords<'w> {
     /// # Errors
     /// Out of memory.
     fn is_state(&mut self, name: &str) -> Result<bool, WordFault<'w>> {
-        if is_one_of(name, &STATIC) {
+        if is_one_of(name, &STATIC_OPTIONS) {
             self.state.is_static = true;
             return Ok(true);
         }
-        if is_one_of(name, &DYNAMIC) {
+        if is_one_of(name, &SHARED_OPTIONS) {
             self.state.is_static = false;
             return Ok(true);
         }

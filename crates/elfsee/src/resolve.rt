@@ -1,6 +1,6 @@
 //! Where the symbols of a link come from.
 
-use crate::link_inputs::LinkInputs;
+use crate::link_inputs::FoundInputs;
 use crate::linker_words::{LinkerWords, WordFault, read_linker_words};
 use elf_cli::{
     CANNOT_OPEN, CommandArgs, ERROR_LINE_BYTES, ExitLine, OUT_OF_MEMORY, OUTPUT_BYTES, READ_FAULT,
@@ -8,7 +8,7 @@ use elf_cli::{
 };
 use elf_format::{LinePrefix, line_of, show_named};
 use elf_resolve::{
-    LinkCaps, LinkFault, LinkFiles, LinkLines, LinkPlan, Resolver, show_link,
+    LinkCaps, LinkFault, InputFiles, LinkLines, LinkPlan, Resolver, show_link,
 };
 use elf_model::Format;
 use elf_source::{Out, WriteSink};
@@ -103,7 +103,7 @@ where
     let Ok(mut bytes) = key_memory(alloc, &caps) else {
         return Err(OUT_OF_MEMORY);
     };
-    let Ok(mut files) = LinkInputs::new(rt, alloc, words, caps.rows) else {
+    let Ok(mut files) = FoundInputs::new(rt, alloc, words, caps.rows) else {
         return Err(OUT_OF_MEMORY);
     };
     let Ok(plan) = files.find_all(alloc) else {
@@ -134,7 +134,7 @@ fn lines_of(asked: &CommandArgs<'_>) -> LinkLines {
 ///
 /// # Errors
 /// A file cannot be opened or read.
-fn resolve_into<F: LinkFiles>(
+fn resolve_into<F: InputFiles>(
     link: &mut Resolver<'_>,
     files: &mut F,
     words: &LinkerWords<'_>,
@@ -147,7 +147,7 @@ fn resolve_into<F: LinkFiles>(
 ///
 /// # Errors
 /// A file could not be opened or read.
-fn show_resolved<F: LinkFiles, W: Write + Drop>(
+fn show_resolved<F: InputFiles, W: Write + Drop>(
     link: &Resolver<'_>,
     files: &F,
     ended: Result<(), LinkFault>,
