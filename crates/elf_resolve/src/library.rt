@@ -5,7 +5,7 @@ use crate::libraries::LibraryList;
 use crate::link_faults::{LinkFault, file_refused};
 use crate::object::{SymbolRows, load_headers, read_first_symbols, read_names};
 use crate::string_buffer::{HeldText, StringBuffer, part_of};
-use crate::version_names::{RecordTable, VersionNames};
+use crate::version_names::{VersionRecordTable, VersionNames};
 use elf_record::Cause;
 use elf_record::gnu_numbers::{SHT_GNU_VERDEF, SHT_GNU_VERNEED, SHT_GNU_VERSYM};
 use elf_record::numbers::{DT_NEEDED, DT_NULL, DT_SONAME, ET_DYN, SHT_DYNAMIC, SHT_DYNSYM};
@@ -164,7 +164,7 @@ fn read_records<S: Source>(
     view: &SectionView<'_>,
     kind: u32,
     strings: &mut StringBuffer,
-) -> Result<Option<RecordTable>, LinkFault> {
+) -> Result<Option<VersionRecordTable>, LinkFault> {
     let Some(section) = view.first(kind) else {
         return Ok(None);
     };
@@ -179,7 +179,7 @@ fn read_records<S: Source>(
     let names = view.strings(section)?;
     let records = strings.read(src, at, sh_size, at)?;
     let names = read_names(src, names, at, strings)?;
-    Ok(Some(RecordTable {
+    Ok(Some(VersionRecordTable {
         records,
         strings: names,
         at,

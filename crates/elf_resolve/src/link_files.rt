@@ -60,13 +60,13 @@ pub enum OpenFault {
 /// The files of a link, by the indexes of its inputs.
 pub trait InputFiles {
     /// A file that is read at offsets.
-    type Opened: Source + Drop;
+    type InputSource: Source + Drop;
 
     /// Opens the file of an input.
     ///
     /// # Errors
     /// It cannot be opened.
-    fn open(&mut self, input: u32) -> Result<Self::Opened, OpenFault>;
+    fn open(&mut self, input: u32) -> Result<Self::InputSource, OpenFault>;
 
     /// Returns the path of an input, or its argument if there is no file.
     fn path(&self, input: u32) -> &[u8];

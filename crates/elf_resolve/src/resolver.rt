@@ -289,7 +289,7 @@ impl<'a> Resolver<'a> {
         &mut self,
         files: &mut F,
         input: u32,
-    ) -> Result<Counted<RangeSource<F::Opened>>, LinkFault> {
+    ) -> Result<Counted<RangeSource<F::InputSource>>, LinkFault> {
         match files.open(input) {
             Ok(source) => {
                 let mut src = Counted::new(RangeSource::new(source));
@@ -313,7 +313,7 @@ impl<'a> Resolver<'a> {
     fn take_file<F: InputFiles>(
         &mut self,
         files: &F,
-        src: &mut Counted<RangeSource<F::Opened>>,
+        src: &mut Counted<RangeSource<F::InputSource>>,
         input: LinkInput,
         index: u32,
     ) -> Result<(), LinkFault> {

@@ -30,7 +30,7 @@ pub(crate) struct VersionNames {
 /// A section of version records in a buffer: its bytes, the strings of its names, and its file
 /// offset and that of its header.
 #[derive(Clone, Copy)]
-pub(crate) struct RecordTable {
+pub(crate) struct VersionRecordTable {
     /// The records.
     pub records: HeldText,
     /// The strings.
@@ -85,7 +85,7 @@ impl VersionNames {
     pub(crate) fn read_definitions(
         &mut self,
         strings: &StringBuffer,
-        table: RecordTable,
+        table: VersionRecordTable,
     ) -> Result<(), LinkFault> {
         let mut next = first_record(table);
         for _ in 0..table.records.size / DEFINITION_BYTES {
@@ -104,7 +104,7 @@ impl VersionNames {
     fn read_definition(
         &mut self,
         strings: &StringBuffer,
-        table: RecordTable,
+        table: VersionRecordTable,
         place: RecordPlace,
     ) -> Result<Option<RecordPlace>, LinkFault> {
         let record = record_at::<DEFINITION_BYTES>(strings, table, place)?;
@@ -130,7 +130,7 @@ impl VersionNames {
     pub(crate) fn read_needs(
         &mut self,
         strings: &StringBuffer,
-        table: RecordTable,
+        table: VersionRecordTable,
     ) -> Result<(), LinkFault> {
         let most = table.records.size / NEED_BYTES;
         let mut left = most;
@@ -162,7 +162,7 @@ impl VersionNames {
     fn read_versions(
         &mut self,
         strings: &StringBuffer,
-        table: RecordTable,
+        table: VersionRecordTable,
         first: RecordPlace,
         left: usize,
     ) -> Result<usize, LinkFault> {
@@ -183,7 +183,7 @@ impl VersionNames {
 }
 
 /// Returns the first record of a section, if it has bytes.
-fn first_record(table: RecordTable) -> Option<RecordPlace> {
+fn first_record(table: VersionRecordTable) -> Option<RecordPlace> {
     if table.records.size == 0 {
         return None;
     }
@@ -223,7 +223,7 @@ fn past_all(next: Option<RecordPlace>) -> Result<(), LinkFault> {
 /// `VersionCut` at what leads to it if it is not in the section.
 fn bytes_at<const N: usize>(
     strings: &StringBuffer,
-    table: RecordTable,
+    table: VersionRecordTable,
     place: RecordPlace,
 ) -> Result<[u8; N], LinkFault> {
     match part_of(strings.bytes(table.records), place.start, N).first_chunk() {
@@ -238,7 +238,7 @@ fn bytes_at<const N: usize>(
 /// Those of [`bytes_at`]; `BadVersion` at it if it is of another form.
 fn record_at<const N: usize>(
     strings: &StringBuffer,
-    table: RecordTable,
+    table: VersionRecordTable,
     place: RecordPlace,
 ) -> Result<[u8; N], LinkFault> {
     let record = bytes_at::<N>(strings, table, place)?;

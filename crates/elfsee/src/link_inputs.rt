@@ -53,7 +53,7 @@ enum PendingStep {
 enum FoundFile {
     Missing,
     Kind(InputKind),
-    Script(usize),
+    LinkerScript(usize),
 }
 
 /// The inputs of a link, by their indexes.
@@ -200,7 +200,7 @@ where
         match self.look_at(path) {
             FoundFile::Missing => self.add_input(path, InputKind::Missing, state, plan),
             FoundFile::Kind(kind) => self.add_input(path, kind, state, plan),
-            FoundFile::Script(size) => self.take_script(path, size, state, plan),
+            FoundFile::LinkerScript(size) => self.take_script(path, size, state, plan),
         }
     }
 
@@ -348,7 +348,7 @@ where
             return FoundFile::Kind(InputKind::BadScript);
         }
         match source.fill(0, &mut self.script[..size as usize]) {
-            Ok(()) => FoundFile::Script(size as usize),
+            Ok(()) => FoundFile::LinkerScript(size as usize),
             Err(_) => FoundFile::Kind(InputKind::Object),
         }
     }
@@ -412,17 +412,17 @@ where
         while let Some(token) = tokens.next() {
             match token {
                 ScriptToken::Mark(b';') => {}
-                ScriptToken::Word(b"OUTPUT_FORMAT") => {
+                ScriptToken::Text(b"OUTPUT_FORMAT") => {
                     if !skip_list(&mut tokens) {
                         return Ok(false);
                     }
                 }
-                ScriptToken::Word(b"INPUT") => {
+                ScriptToken::Text(b"INPUT") => {
                     if !self.read_list(&mut tokens, path, state)? {
                         return Ok(false);
                     }
                 }
-                ScriptToken::Word(b"GROUP") => {
+                ScriptToken::Text(b"GROUP") => {
                     self.pending.push(PendingStep::Open)?;
                     if !self.read_list(&mut tokens, path, state)? {
                         return Ok(false);
@@ -451,7 +451,7 @@ where
                 ListPart::Bad => return Ok(false),
                 ListPart::End => return Ok(true),
                 ListPart::Inside => {}
-                ListPart::Word(word) => {
+                ListPart::Item(word) => {
                     let state = WordState {
                         as_needed: state.as_needed || depth > 1,
                         ..state
@@ -536,7 +536,7 @@ fn folder_size(path: &[u8]) -> usize {
 
 /// A part of a list in parentheses.
 enum ListPart<'s> {
-    Word(&'s [u8]),
+    Item(&'s [u8]),
     Inside,
     End,
     Bad,
@@ -562,14 +562,14 @@ fn next_in_list<'s>(tokens: &mut ScriptTokens<'s>, depth: &mut usize) -> ListPar
             ListPart::Inside
         }
         ScriptToken::Mark(_) => ListPart::Inside,
-        ScriptToken::Word(b"AS_NEEDED") => {
+        ScriptToken::Text(b"AS_NEEDED") => {
             if !matches!(tokens.next(), Some(ScriptToken::Open)) {
                 return ListPart::Bad;
             }
             *depth += 1;
             ListPart::Inside
         }
-        ScriptToken::Word(word) => ListPart::Word(word),
+        ScriptToken::Text(word) => ListPart::Item(word),
     }
 }
 
@@ -580,7 +580,7 @@ fn skip_list(tokens: &mut ScriptTokens<'_>) -> bool {
         match next_in_list(tokens, &mut depth) {
             ListPart::Bad => return false,
             ListPart::End => return true,
-            ListPart::Inside | ListPart::Word(_) => {}
+            ListPart::Inside | ListPart::Item(_) => {}
         }
     }
 }
@@ -631,9 +631,9 @@ impl<R: Files> InputFiles for FoundInputs<'_, '_, R>
 where
     R::File: FileExt,
 {
-    type Opened = StreamSource<FileReader<R::File>>;
+    type InputSource = StreamSource<FileReader<R::File>>;
 
-    fn open(&mut self, input: u32) -> Result<Self::Opened, OpenFault> {
+    fn open(&mut self, input: u32) -> Result<Self::InputSource, OpenFault> {
         let place = self.paths[input as usize];
         match str::from_utf8(self.text(place)) {
             Ok(path) => open_regular(self.rt, path),

@@ -7,7 +7,7 @@ pub const SCRIPT_BYTES: usize = 4096;
 #[derive(Clone, Copy)]
 pub enum ScriptToken<'s> {
     /// A word.
-    Word(&'s [u8]),
+    Text(&'s [u8]),
     /// An opening parenthesis.
     Open,
     /// A closing one.
@@ -40,7 +40,7 @@ impl<'s> ScriptTokens<'s> {
                 let size = word_size(self.rest);
                 let word = &self.rest[..size];
                 self.rest = &self.rest[size..];
-                Some(ScriptToken::Word(word))
+                Some(ScriptToken::Text(word))
             }
         }
     }

@@ -113,7 +113,7 @@ pub enum WordFault<'w> {
     /// Out of memory.
     Memory,
     /// This one changes what is linked, and is not known.
-    Word(&'w str),
+    Refused(&'w str),
 }
 
 impl From<AllocError> for WordFault<'_> {
@@ -246,7 +246,7 @@ impl<'w> LinkerWords<'w> {
             'e' => self.entry = value,
             _ => {
                 if value.starts_with('=') || value.starts_with("$SYSROOT") {
-                    return Err(WordFault::Word(word));
+                    return Err(WordFault::Refused(word));
                 }
                 push(&mut self.folders, value)?;
             }
@@ -264,7 +264,7 @@ impl<'w> LinkerWords<'w> {
             None => name,
         };
         if is_one_of(plain, &UNKNOWN) || word.starts_with("-T") || word.starts_with("-R") {
-            return Err(WordFault::Word(word));
+            return Err(WordFault::Refused(word));
         }
         if is_one_of(name, &PASSED) {
             return Ok(2);

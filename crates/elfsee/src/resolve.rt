@@ -48,7 +48,7 @@ where
     match read_linker_words(rt.alloc(), &asked.words) {
         Ok(words) => resolve_words(rt, asked, &words),
         Err(WordFault::Memory) => Err(OUT_OF_MEMORY),
-        Err(WordFault::Word(word)) => Err(report_word(rt.alloc(), word, errors)),
+        Err(WordFault::Refused(word)) => Err(report_word(rt.alloc(), word, errors)),
     }
 }
 
