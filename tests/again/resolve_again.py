@@ -71,12 +71,12 @@ class Jobs(Counts):
 
     def random_jobs(self, rng, count):
         for number in range(count):
-            files, words = made_links.random_job(rng)
+            files, words = made_links.random_job(rng, libraries=3 * (number % 2))
             self.compare(f"job {number}: {b' '.join(words).decode()}", files, words)
 
     def changed_copies(self, rng, count):
         for number in range(count):
-            files, words = made_links.random_job(rng)
+            files, words = made_links.random_job(rng, libraries=3 * (number % 2))
             name = rng.choice(sorted(set(words) & set(files)))
             files[name] = changed(rng, files[name])
             self.compare(f"copy {number} of {name.decode()}: {b' '.join(words).decode()}", files, words)

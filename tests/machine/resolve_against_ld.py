@@ -5,8 +5,8 @@
 
 Links are those of `gcc -###` on this machine, of a C and a C++ program, static, position-independent and against shared
 libraries, with a static and a shared OpenSSL, with libraries in a wrong order or missing, and with a whole archive, as far as
-their libraries are installed; and generated jobs of objects, archives, whole archives and groups (tests/common/made_links.py),
-1,000 of them or with --quick 100. Compared are the members of archives that ld takes, in their order, each with the file and
+their libraries are installed; and generated jobs of objects, archives, whole archives and groups, every other one with shared libraries
+(tests/common/made_links.py), 1,000 of them or with --quick 100. Compared are the members of archives that ld takes, in their order, each with the file and
 the symbol for which it is taken, from the map of the link; which file defines each symbol, from its cross references; and which
 symbols are undefined or defined more than once, from its messages. A symbol that no relocation uses is undefined for elfsee
 alone: those are counted.
@@ -81,7 +81,9 @@ class Linked:
             if os.path.exists(told):
                 with open(told, errors="surrogateescape") as file:
                     self.map = file.read()
-        self.undefined = set(re.findall(r"undefined reference to `(.*?)'", done.stderr))
+        # What a shared library lacks has no line.
+        told = [line for line in done.stderr.splitlines() if ".so: undefined reference" not in line]
+        self.undefined = set(re.findall(r"undefined reference to `(.*?)'", "\n".join(told)))
         self.multiple = sorted(re.findall(r"multiple definition of `(.*?)'", done.stderr))
 
     def included(self, head):
@@ -171,7 +173,7 @@ def main():
             if all(os.path.exists(word) for word in command if word.endswith(".o")):
                 links.compare(what, words_of(command), True)
         for number in range(count):
-            files, words = made_links.random_job(rng, made_links.PLAIN_NAMES, 1)
+            files, words = made_links.random_job(rng, made_links.PLAIN_NAMES, 1, 3 * (number % 2))
             for name, content in files.items():
                 with open(name, "wb") as file:
                     file.write(content)
