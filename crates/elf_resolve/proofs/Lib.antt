@@ -9,4 +9,5 @@ pub mod EntryLaws
 pub mod FollowLaws
 pub mod LeftLaws
 pub mod KnownLaws
+pub mod GroupLaws
 pub mod StatedLaws

@@ -1,6 +1,6 @@
 -- How keys follow others while symbols of objects are taken.
-use Rattle.std.specs.Prelude.{◌≡◌, ℕ, Bool, true, false, List, [], ◌∷◌}
-use Rattle.elf_model.specs.LinkInputs.{InputFile}
+use Rattle.std.specs.Prelude.{◌≡◌, ℕ, Bool, true, false, List, [], ◌∷◌, None}
+use Rattle.elf_model.specs.LinkInputs.{InputFile, OpenArchive, opened_at}
 use Rattle.elf_model.specs.LinkInputs.InputFile.{ObjectFile, SearchedFile, WholeFile, MissingFile}
 use Rattle.elf_model.specs.LinkKeys.{LinkKeys, entry_of}
 use Rattle.elf_model.specs.LinkObjects.{LinkObject, ObjectSymbol}
@@ -41,3 +41,8 @@ IsUnrestricted (ObjectFile object) = AreUnrestricted object.symbols
 IsUnrestricted (SearchedFile count symbols members) = (member : ℕ) → AreUnrestricted (members.objects member).symbols
 IsUnrestricted (WholeFile members) = AreUnrestrictedIn members
 IsUnrestricted MissingFile = Unit {0}
+
+-- no two archives are the same input
+abbrev pub AreDistinctInputs : List OpenArchive → Type 0
+AreDistinctInputs [] = Unit {0}
+AreDistinctInputs (archive ∷ archives) = (opened_at archives archive.input ≡ None) × AreDistinctInputs archives

@@ -1,13 +1,13 @@
 -- What is so of every link.
 use Rattle.std.specs.Prelude.{◌≡◌, ◌⊎◌, ◌<◌, ℕ, Contains, true, false, List, [], Option, length}
 use Rattle.std.specs.List.Sorted.{IsPermutation}
-use Rattle.elf_model.specs.LinkInputs.{IndexSymbol, InputFile, LinkInputs, index_entered, linked}
+use Rattle.elf_model.specs.LinkInputs.{IndexSymbol, InputFile, LinkInputs, Linking, group_settled, index_entered, inputs_again, linked, rounds_made, untaken_in}
 use Rattle.elf_model.specs.LinkKeys.{LinkKeys, LinkSymbol, entry_named, entry_of, symbols_taken}
 use Rattle.elf_model.specs.LinkPasses.{ArchivePass, LinkArchive, archive_searched, asks_for, is_taken, key_of_entry, member_taken, passes_made, untaken}
 use Rattle.elf_model.specs.declared.link_states.IndexEntry.{IndexEntry}
 use Rattle.elf_model.specs.declared.link_states.KeyState.TheVariants.{New, Undefined}
 use Rattle.elf_model.specs.declared.link_states.SymbolRole.{SymbolRole}
-use Rattle.elf_resolve.specs.KeyOrders.{AreUnrestricted, AskedAreKnown, IsUnrestricted}
+use Rattle.elf_resolve.specs.KeyOrders.{AreDistinctInputs, AreUnrestricted, AskedAreKnown, IsUnrestricted}
 use Rattle.elf_resolve.specs.KeyStates.{AreOwn, ArePlain, after_all, alone, is_above, roles_of}
 
 -- ONE STATE COMES FROM ANOTHER BY TAKING MEMBERS, each of which was not taken, and for an entry of the
@@ -62,3 +62,9 @@ OffersCameBefore = (archive : LinkArchive) (entries : List IndexEntry) (pass : A
     → ((member : ℕ) → AreUnrestricted (archive.members.objects member).symbols) → AskedAreKnown pass.keys → Contains entries entry
     → (let end = archive_searched archive entries pass in let known = entry_of end.keys (key_of_entry end.keys entry) in
     is_taken end.taken entry.member ≡ false → known.is_gone ≡ false → known.state ≡ Undefined → ⊥)
+
+-- a group is its inputs again until a round asks for nothing new: no more rounds than members change
+-- that
+abbrev pub GroupIsLeast : Type 0
+GroupIsLeast = (files : ℕ → InputFile) (group : LinkInputs) (link : Linking) (asked most : ℕ) → AreDistinctInputs link.archives → untaken_in link.archives < most
+    → rounds_made most (inputs_again files group) asked link ≡ group_settled (inputs_again files group) asked link

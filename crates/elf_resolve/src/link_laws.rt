@@ -1,5 +1,5 @@
 //! The laws of links.
-ghost use Rattle.elf_resolve.specs.LinkLaws.{AskedAreKnownInLinks, MembersAreAskedFor, NamesAreApart, NoneIsLeft, OffersCameBefore, OrderMeansNothing, SearchIsLeast, StateIsLargest};
+ghost use Rattle.elf_resolve.specs.LinkLaws.{AskedAreKnownInLinks, GroupIsLeast, MembersAreAskedFor, NamesAreApart, NoneIsLeft, OffersCameBefore, OrderMeansNothing, SearchIsLeast, StateIsLargest};
 
 /// A member is taken only for an entry of the index whose key asked for it just before.
 #[tactic(auto, using(crate::proofs::PassLaws::searched_reaches))]
@@ -48,4 +48,10 @@ pub fn search_is_least()
 #[tactic(auto, using(crate::proofs::StatedLaws::offers_came_before))]
 pub fn offers_came_before()
     ensures { OffersCameBefore }
+{}
+
+/// More rounds of a group than there are members that are not taken change nothing.
+#[tactic(auto, using(crate::proofs::GroupLaws::group_is_least))]
+pub fn group_is_least()
+    ensures { GroupIsLeast }
 {}
