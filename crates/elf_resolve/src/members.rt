@@ -9,12 +9,11 @@ use crate::room::LinkRoom;
 use crate::string_buffer::{HeldText, StringBuffer, split_version};
 use elf_archive::{FileRange, MEMBER_HEADER_BYTES};
 use elf_model::{IndexEntry, LinkCause};
-use elf_record::numbers::{ET_REL, SHT_SYMTAB};
 use elf_record::{Cause, Sym};
 use crate::passes::Objects;
 use crate::table::{KeyTable, LinkStop};
 use elf_source::{Counted, RangeSource, Source};
-use elf_table::SectionView;
+use elf_table::{HeaderStore, SectionView};
 
 /// The name fields of the members that are no files.
 const NO_FILES: [[u8; 16]; 3] = [*b"/               ", *b"//              ", *b"/SYM64/         "];
@@ -74,7 +73,7 @@ impl<S: Source> ArchiveMembers<'_, S> {
         self.src.widen();
         let extent = self.room.names.read(self.src, self.archive.names, at, row)?;
         narrow_to(self.src, extent)?;
-        let taken = take_object(self.src, self.room, keys, row, ET_REL);
+        let taken = take_object(self.src, self.room, keys, row);
         self.src.widen();
         match taken {
             Ok(()) => Ok(()),
@@ -165,7 +164,10 @@ fn defines<S: Source>(
     entry: IndexEntry,
     keys: &KeyTable<'_>,
 ) -> Result<bool, LinkFault> {
-    match find_definition(src, room, entry, keys) {
+    let LinkRoom {
+        headers, strings, ..
+    } = room;
+    match find_definition(src, &mut headers.store(), strings, entry, keys) {
         Ok(found) => Ok(found),
         Err(fault) if is_of_object(&fault) => Ok(false),
         Err(fault) => Err(fault),
@@ -190,24 +192,20 @@ fn is_of_object(fault: &LinkFault) -> bool {
 /// Those of its headers and its symbol table.
 fn find_definition<S: Source>(
     src: &mut Counted<S>,
-    room: &mut LinkRoom,
+    store: &mut HeaderStore,
+    strings: &mut StringBuffer,
     entry: IndexEntry,
     keys: &KeyTable<'_>,
 ) -> Result<bool, LinkFault> {
-    let mut store = room.headers.store();
-    let loaded = load_headers(src, &mut store, ET_REL)?;
-    let view = SectionView {
-        loaded,
-        store: &store,
-    };
-    let object = read_tables(src, view, SHT_SYMTAB, &mut room.strings)?;
+    let loaded = load_headers(src, store)?;
+    let object = read_tables(src, SectionView { loaded, store }, strings)?;
     let Some(symbols) = object.symbols else {
         return Ok(false);
     };
-    let rows = room.strings.bytes(symbols.rows);
+    let rows = strings.bytes(symbols.rows);
     for index in symbols.first..symbols.count {
         if let Some(symbol) = global_in(rows, index) {
-            if is_named(&symbol, symbols.names, &room.strings, entry, keys) {
+            if is_named(&symbol, symbols.names, strings, entry, keys) {
                 return Ok(is_data_definition(&symbol));
             }
         }

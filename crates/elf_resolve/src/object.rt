@@ -5,10 +5,11 @@ use crate::link_faults::{LinkFault, refused};
 use crate::object_symbols::take_symbols;
 use crate::room::LinkRoom;
 use crate::section_groups::{drop_groups, note_sections};
+use crate::section_marks::SectionMarks;
 use crate::string_buffer::{HeldText, StringBuffer, part_of};
 use elf_model::LinkCause;
 use elf_record::Sym;
-use elf_record::numbers::{EM_X86_64, SHT_SYMTAB};
+use elf_record::numbers::{EM_X86_64, ET_REL, SHT_SYMTAB};
 use crate::table::KeyTable;
 use elf_source::{Counted, Source};
 use elf_table::{HeaderStore, Loaded, Names, SectionView, Table, header, load};
@@ -64,7 +65,6 @@ pub(crate) fn take_object<S: Source>(
     room: &mut LinkRoom,
     keys: &mut KeyTable<'_>,
     row: u32,
-    wanted: u16,
 ) -> Result<(), LinkFault> {
     let LinkRoom {
         headers,
@@ -72,32 +72,41 @@ pub(crate) fn take_object<S: Source>(
         marks,
         names: _,
     } = room;
-    let mut store = headers.store();
-    let loaded = load_headers(src, &mut store, wanted)?;
-    let view = SectionView {
-        loaded,
-        store: &store,
-    };
-    let object = read_tables(src, view, SHT_SYMTAB, strings)?;
+    take_into(src, &mut headers.store(), strings, marks, keys, row)
+}
+
+/// Takes an object, with its section headers in a store.
+///
+/// # Errors
+/// Those of [`take_object`].
+fn take_into<S: Source>(
+    src: &mut Counted<S>,
+    store: &mut HeaderStore,
+    strings: &mut StringBuffer,
+    marks: &mut SectionMarks,
+    keys: &mut KeyTable<'_>,
+    row: u32,
+) -> Result<(), LinkFault> {
+    let loaded = load_headers(src, store)?;
+    let object = read_tables(src, SectionView { loaded, store }, strings)?;
     marks.clear(object.view.sections());
     drop_groups(src, &object, strings, marks, keys)?;
     note_sections(&object, strings, marks, keys)?;
     take_symbols(&object, strings, marks, keys, row)
 }
 
-/// Loads the section headers of a file for x86-64 of a type.
+/// Loads the section headers of a relocatable file for x86-64.
 ///
 /// # Errors
 /// Those of the header, `FileType` at 16 and `Machine` at 18; those of loading.
 pub(crate) fn load_headers<S: Source>(
     src: &mut Counted<S>,
     store: &mut HeaderStore,
-    wanted: u16,
 ) -> Result<Loaded, LinkFault>
     ensures { IfOk result (λ loaded. store.new.loaded ≡ loaded.header.e_shnum) }
 {
     let head = header(src)?;
-    if head.e_type != wanted {
+    if head.e_type != ET_REL {
         return refused(TYPE_AT, LinkCause::FileType);
     }
     if head.e_machine != EM_X86_64 {
@@ -106,18 +115,17 @@ pub(crate) fn load_headers<S: Source>(
     Ok(load(src, store, &head)?)
 }
 
-/// Reads the symbols of the first symbol table of a type and their names, and the names of sections.
+/// Reads the symbols of the first symbol table and their names, and the names of sections.
 ///
 /// # Errors
 /// Those of the tables; there is no room for them.
 pub(crate) fn read_tables<'v, S: Source>(
     src: &mut Counted<S>,
     view: SectionView<'v>,
-    kind: u32,
     strings: &mut StringBuffer,
 ) -> Result<LinkObject<'v>, LinkFault> {
     strings.forget_after(0);
-    let symbols = match view.first(kind) {
+    let symbols = match view.first(SHT_SYMTAB) {
         Some(section) => Some(read_symbols(src, &view, section, strings)?),
         None => None,
     };

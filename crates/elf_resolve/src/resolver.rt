@@ -10,7 +10,6 @@ use crate::members::ArchiveMembers;
 use crate::object::take_object;
 use crate::room::{LinkCaps, LinkRoom};
 use elf_model::{LinkCause, LinkRefusal, LinkRow, RowKind, SymbolRole, SymbolUse};
-use elf_record::numbers::ET_REL;
 use crate::passes::{ArchiveInput, Link, search_archive};
 use crate::rows::RowTable;
 use crate::table::{KeyTable, LinkStop};
@@ -305,7 +304,7 @@ impl<'a> Resolver<'a> {
             InputKind::Archive => self.take_archive(src, input.is_whole, index),
             _ => {
                 let row = self.add_row(RowKind::Object, index)?;
-                take_object(src, &mut self.room, &mut self.link.keys, row, ET_REL)
+                take_object(src, &mut self.room, &mut self.link.keys, row)
             }
         }
     }
